@@ -1,0 +1,18 @@
+//! The ground of every other crate: places, rules, limits, faults, outcomes and statuses by name,
+//! a list type that contracts see as a list, and the outside as two traits.
+//! Stands on nothing of this repository. docs/ARCHITECTURE.md has the map.
+#![tactic(auto)]
+
+mod limits;
+mod lists;
+mod outcomes;
+mod places;
+mod rules;
+mod statuses;
+
+pub use limits::{Excess, Limit};
+pub use lists::{Items, NoMemory};
+pub use outcomes::{FaultKind, Outcome};
+pub use places::Place;
+pub use rules::Rule;
+pub use statuses::Status;

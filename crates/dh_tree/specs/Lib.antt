@@ -1,0 +1,3 @@
+pub mod Names
+pub mod ThinTokens
+pub mod Thin

@@ -1,0 +1,74 @@
+//! The table of a program's memories.
+
+ghost use Rattle.std.specs.Prelude.{◌≡◌, string_bytes};
+
+use crate::kinds::Kind;
+use dh_base::Items;
+use std::marker::Model;
+
+/// A name of the language: an ASCII letter or `_`, then ASCII letters, digits and `_`. A contract
+/// sees its bytes.
+#[derive(Debug, Drop)]
+pub struct Name {
+    text: String,
+}
+
+impl Model for Name {
+    ghost use Rattle.std.specs.Prelude.{List, ℕ, string_bytes};
+
+    ghost Value = { List ℕ };
+
+    ghost view = { λ n. string_bytes n.text };
+}
+
+impl Name {
+    /// The name of this text.
+    pub fn new(text: String) -> Name
+        ensures { result ≡ string_bytes text }
+    {
+        Name { text }
+    }
+
+    /// The name's text.
+    pub fn as_str(&self) -> &str
+        ensures { result.now ≡ self.now }
+    {
+        self.text.as_str()
+    }
+}
+
+/// One dimension of a memory: `size` elements, dealt out over `banks` banks. `banks` divides `size`.
+#[derive(Clone, Copy, Debug, PartialEq, Eq)]
+pub struct Dim {
+    /// Elements, at least 1.
+    pub size: u64,
+    /// Banks, at least 1.
+    pub banks: u64,
+}
+
+/// The shape of a memory: the kind of its elements, the read/write ports of each bank, and its
+/// dimensions from the outside.
+#[derive(Debug, Drop)]
+pub struct Shape {
+    /// The kind of an element.
+    pub kind: Kind,
+    /// Ports of each bank, at least 1.
+    pub ports: u64,
+    /// The dimensions, the one of the first index first.
+    pub dims: Items<Dim>,
+}
+
+/// A memory of a program.
+#[derive(Debug, Drop)]
+pub struct MemEntry {
+    /// Its name.
+    pub name: Name,
+    /// Its shape.
+    pub shape: Shape,
+    /// Whether it is declared by `decl`, and so lies outside the program's module.
+    pub outside: bool,
+}
+
+/// The memories of a program: those of `decl` in text order, then the local ones. A memory is named
+/// by its number in this list, from 0.
+pub type MemTable = Items<MemEntry>;
