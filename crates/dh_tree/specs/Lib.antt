@@ -1,3 +1,4 @@
 pub mod Names
+pub mod Tables
 pub mod ThinTokens
 pub mod Thin

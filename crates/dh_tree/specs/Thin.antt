@@ -2,9 +2,9 @@
 use Rattle.std.specs.Prelude.{◌≡◌, ℕ, ◌+◌, ◌<◌, ◌≤◌, ◌^◌, ◌⊎◌, true, List, [], ◌∷◌, ◌++◌, length, slice_get, Option, Some, None}
 use Rattle.std.specs.List.{AllByRecursion}
 use Rattle.dh_tree.specs.Names.{IsName}
+use Rattle.dh_tree.specs.Tables.{line_of, HasDistinctNames}
 use Rattle.dh_tree.specs.ThinTokens.{HasTokens}
 use Rattle.dh_tree.specs.declared.kinds.Kind.TheVariants.{Unsigned}
-use Rattle.dh_tree.specs.declared.tables.Dim.{Dim}
 use Rattle.dh_tree.specs.declared.tables.MemEntry.{MemEntry}
 use Rattle.dh_tree.specs.declared.thin.Operand.{Operand}
 use Rattle.dh_tree.specs.declared.thin.Store.{Store}
@@ -12,23 +12,9 @@ use Rattle.dh_tree.specs.declared.thin.Program.{Program}
 use Rattle.dh_tree.specs.declared.thin.tokens.Token.{Token}
 use Rattle.dh_tree.specs.declared.thin.tokens.Token.TheVariants as token
 
--- one dimension of this size in one bank
-abbrev pub line_of : ℕ → List Dim
-line_of size = record { size = size; banks = 1 } ∷ []
-
 -- the memory that `decl name: ubit<32>[size];` declares
 abbrev pub entry_of : List ℕ → ℕ → MemEntry
 entry_of name size = record { name = name; shape = record { kind = Unsigned 32; ports = 1; dims = line_of size }; outside = true }
-
--- no entry has this name
-abbrev pub HasNoName : List ℕ → List MemEntry → Type 0
-HasNoName name [] = Unit {0}
-HasNoName name (e ∷ es) = (e.name ≡ name → ⊥) × HasNoName name es
-
--- all names differ
-abbrev pub HasDistinctNames : List MemEntry → Type 0
-HasDistinctNames [] = Unit {0}
-HasDistinctNames (e ∷ es) = HasNoName e.name es × HasDistinctNames es
 
 -- an outside memory of `ubit<32>` with 1 to 1024 elements
 pub record IsThinEntry (e : MemEntry) : Type 0 where

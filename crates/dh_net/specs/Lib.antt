@@ -1,0 +1,5 @@
+pub mod Valid
+pub mod Clock
+pub mod Ends
+pub mod Plays
+pub mod Reports

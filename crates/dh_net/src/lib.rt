@@ -1,0 +1,8 @@
+//! The netlist: its data, when it is valid, its clock, its runs, and in `specs/Plays.antt` what it
+//! is for a net to play a program.
+//! Stands on `dh_tree`. docs/NETLIST.md tells the netlist.
+#![tactic(auto)]
+
+mod nets;
+
+pub use nets::{Cell, CellForm, Driver, Net, Register};
