@@ -1,4 +1,9 @@
 pub mod Names
 pub mod Tables
+pub mod Tree
+pub mod Elements
+pub mod Effects
+pub mod Steps
 pub mod ThinTokens
 pub mod Thin
+pub mod ThinTree
