@@ -1,0 +1,3 @@
+pub mod Timetable
+pub mod Built
+pub mod ThinRun
