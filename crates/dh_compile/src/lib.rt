@@ -5,6 +5,7 @@
 //! Stands on `dh_net`. The whole compiler will take its place.
 #![tactic(auto)]
 
+mod drafts;
 mod uses;
 
 pub use uses::Use;
