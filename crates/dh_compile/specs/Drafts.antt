@@ -1,8 +1,9 @@
 -- What the cells of a net that is being built say of its wires. Cells are only appended, so each
 -- fact is stated for every solution of the cells' equations: what solves more cells solves fewer.
-use Rattle.std.specs.Prelude.{◌≡◌, ℕ, ◌≤◌, List, [], ◌∷◌, length, slice_get, slice_index, Some}
+use Rattle.std.specs.Prelude.{◌≡◌, ℕ, ◌≤◌, List, [], ◌∷◌, length, slice_get, slice_index, Option, Some, None}
 use Rattle.dh_tree.specs.declared.tables.MemEntry.{MemEntry}
-use Rattle.dh_net.specs.Valid.{HasWidth, FormFits, IsCell}
+use Rattle.dh_tree.specs.declared.thin.Operand.{Operand}
+use Rattle.dh_net.specs.Valid.{HasWidth, FormFits, IsCell, IsPort}
 use Rattle.dh_net.specs.Clock.{form_value}
 use Rattle.dh_net.specs.declared.nets.Cell.{Cell}
 use Rattle.dh_net.specs.declared.nets.CellForm.{CellForm}
@@ -58,3 +59,8 @@ pub record Adds (old new : Drafted) (wire width : ℕ) (value : List ℕ → Lis
 pub record IsClock (d : Drafted) (wire : ℕ) : Type 0 where
   pub wide : HasWidth d.cells wire 32
   pub is : Always d.cells (λ registers held wires. slice_index wires wire ≡ slice_index registers 0)
+
+-- there is such an element, and its memory has the port that it is read by
+abbrev pub IsHeld : List MemEntry → Option Operand → Type 0
+IsHeld table None = Unit {0}
+IsHeld table (Some o) = IsPort table o.memory 0 0 32

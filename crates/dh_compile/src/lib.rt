@@ -7,5 +7,6 @@
 
 mod drafts;
 mod uses;
+mod wires;
 
 pub use uses::Use;
