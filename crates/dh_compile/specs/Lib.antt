@@ -2,3 +2,4 @@ pub mod Timetable
 pub mod Built
 pub mod ThinRun
 pub mod Drafts
+pub mod Drivers

@@ -6,6 +6,7 @@
 #![tactic(auto)]
 
 mod drafts;
+mod ports;
 mod uses;
 mod wires;
 
