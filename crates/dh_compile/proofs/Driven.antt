@@ -4,7 +4,9 @@
 -- description goes on with the groups behind. Once no group is left, it says what the list does.
 use Rattle.std.proofs.Common.{◌≡◌, ℕ, zero, suc, ◌+◌, ◌-◌, ◌^◌, ◌<◌, ◌≤◌, ◌⊎◌, inl, inr, Some, None, Option, Result, Ok, Err, is_ok, IfOk, true, false, List, [], ◌∷◌, ◌++◌, length, get_or, drop, refl, sym, ap, subst, ◌∙◌, arith, append_assoc, add-one}
 use Rattle.std.specs.Prelude.{slice_get, slice_index, if◌then◌else◌, ◌==◌}
-use Rattle.std.proofs.Math.Seq.{drop-cons, drop-length}
+use Rattle.std.proofs.Math.ListN.{drop_of_length-le}
+use Rattle.std.proofs.Math.Seq.{drop-cons}
+use Rattle.std.proofs.lemmas.Option.{slice_get_read}
 use Rattle.std.proofs.lemmas.List.{append-nil}
 use Rattle.dh_tree.specs.declared.tables.MemEntry.{MemEntry}
 use Rattle.dh_tree.specs.declared.thin.Operand.{Operand}
@@ -17,7 +19,7 @@ use Rattle.dh_compile.specs.declared.uses.Use.TheVariants.{Reads, Writes}
 use Rattle.dh_compile.specs.Timetable.{Timed, timed, stored_from, use_in, group_length, total_length, put_use, uses_of}
 use Rattle.dh_compile.specs.Built.{EnabledAt, Does, Drives}
 use Rattle.dh_compile.specs.Drafts.{Drafted, Always, Extends, Grows, Adds}
-use Rattle.dh_compile.specs.Drivers.{use_clock, FitsUse, FitsGroup, FitsDriver, FitDrivers, AddsUse, AddsDriver, Leads, AddsGroup, AddsPort}
+use Rattle.dh_compile.specs.Drivers.{use_clock, FitsUse, FitsGroup, FitsGroups, FitsDriver, FitDrivers, AddsUse, AddsDriver, Leads, AddsGroup, AddsPort}
 use Rattle.dh_compile.proofs.Cells.{get_either, solves_fewer, later, width_later, grows_then, grows_none}
 
 driver_fits_later : (old new : List Cell) (wide : ℕ) (d : Driver) → Extends old new → FitsDriver old wide d → FitsDriver new wide d
@@ -108,3 +110,36 @@ group_pushed (Ok x) a b ds more d memory wide begin len at g u is long when h e 
     group_some a b ds more d memory wide begin g u is
       (subst (λ (x : ℕ). AddsDriver a b d wide x u) (when ∙ ap (λ x. use_clock begin x u) long) h) e
 group_pushed (Err f) a b ds more d memory wide begin len at g u is long when h e = tt
+
+-- what is left from an element on begins with it
+pub drop_at : {A : Type 0} (xs : List A) (i : ℕ) (x : A) → i < length xs → x ≡ get_or xs i x → drop i xs ≡ x ∷ drop (i + 1) xs
+drop_at xs i x lt is =
+    drop-cons xs i x lt ∙ (ap (λ y. y ∷ drop (suc i) xs) (sym is) ∙ ap (λ n. x ∷ drop n xs) (sym (add-one i)))
+
+-- the clocks before a group, its own and those behind it
+pub total_at : (groups : List (List Store)) (i : ℕ) (g : List Store) → i < length groups → g ≡ get_or groups i g
+    → total_length (drop i groups) ≡ group_length g + total_length (drop (i + 1) groups)
+total_at groups i g lt is = ap total_length (drop_at groups i g lt is)
+
+pub leads_on : (a b : Drafted) (ds more : List Driver) (memory wide begin next : ℕ) (groups : List (List Store)) (i : ℕ) (g : List Store) (all : List Timed)
+    → i < length groups → g ≡ get_or groups i g → next ≡ begin + group_length g → AddsGroup a b ds more memory wide begin g
+    → Leads a.cells ds (uses_of memory begin (drop i groups)) all → Leads b.cells more (uses_of memory next (drop (i + 1) groups)) all
+leads_on a b ds more memory wide begin next groups i g all lt is step h l =
+    h.leads (uses_of memory next (drop (i + 1) groups)) all
+      (subst (λ (n : ℕ). Leads a.cells ds (put_use begin (group_length g) (use_in g memory) (uses_of memory n (drop (i + 1) groups))) all) (sym step)
+        (subst (λ (x : List (List Store)). Leads a.cells ds (uses_of memory begin x) all) (drop_at groups i g lt is) l))
+
+-- a group that is there can be done where all groups can
+pub group_fits : (a b : Drafted) (memory wide : ℕ) (groups : List (List Store)) (i : ℕ) (g stores : List Store) → Grows a b → i < length groups
+    → g ≡ get_or groups i g → stores ≡ g → FitsGroups a.table memory wide groups → FitsGroup b.table memory wide stores
+group_fits a b memory wide groups i g stores h lt is same all u use_ =
+    subst (λ (t : List MemEntry). FitsUse t wide u) (sym h.table)
+      (all i g (slice_get_read groups (length groups) i g refl lt is) u (ap (λ x. use_in x memory) (sym same) ∙ use_))
+
+-- once no group is left the drivers do all
+pub leads_end : (cells : List Cell) (ds : List Driver) (memory begin i : ℕ) (groups : List (List Store)) (all : List Timed) → length groups ≤ i
+    → Leads cells ds (uses_of memory begin (drop i groups)) all
+    → Always cells (λ rs hs ws. Drives (slice_index rs 0) hs ws ds all)
+leads_end cells ds memory begin i groups all past l rs hs ws s =
+    let old : Leads cells ds [] all = subst (λ (x : List (List Store)). Leads cells ds (uses_of memory begin x) all) (drop_of_length-le groups past) l in
+    subst (λ (x : List Driver). Drives (slice_index rs 0) hs ws x all) (append-nil ds) (old rs hs ws s [] tt)

@@ -1,3 +1,4 @@
 pub mod Cells
 pub mod Pushes
 pub mod Driven
+pub mod Counted

@@ -64,3 +64,8 @@ pub record IsClock (d : Drafted) (wire : ℕ) : Type 0 where
 abbrev pub IsHeld : List MemEntry → Option Operand → Type 0
 IsHeld table None = Unit {0}
 IsHeld table (Some o) = IsPort table o.memory 0 0 32
+
+-- the wire has this width and this value
+pub record Shows (cells : List Cell) (wire width : ℕ) (value : List ℕ → List ℕ → List ℕ → ℕ) : Type 0 where
+  pub wide : HasWidth cells wire width
+  pub is : Always cells (λ registers held wires. slice_index wires wire ≡ value registers held wires)

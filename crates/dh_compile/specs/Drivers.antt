@@ -65,3 +65,7 @@ pub record AddsPort (old new : Drafted) (ds : List Driver) (memory wide : ℕ) (
   pub grows : Grows old new
   pub drives : Always new.cells (λ registers held wires. Drives (slice_index registers 0) held wires ds (uses_of memory 0 groups))
   pub fit : FitDrivers new.cells wide ds
+
+-- what the groups do can be done by the port of this memory
+abbrev pub FitsGroups : List MemEntry → (memory wide : ℕ) → List (List Store) → Type 0
+FitsGroups table memory wide groups = (k : ℕ) (g : List Store) → slice_get groups k ≡ Some g → FitsGroup table memory wide g

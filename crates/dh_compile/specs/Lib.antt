@@ -3,3 +3,4 @@ pub mod Built
 pub mod ThinRun
 pub mod Drafts
 pub mod Drivers
+pub mod Heads

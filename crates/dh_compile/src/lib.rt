@@ -5,8 +5,10 @@
 //! Stands on `dh_net`. The whole compiler will take its place.
 #![tactic(auto)]
 
+mod clocks;
 mod drafts;
 mod ports;
+mod rows;
 mod uses;
 mod wires;
 

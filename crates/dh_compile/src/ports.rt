@@ -5,7 +5,7 @@ ghost use Rattle.dh_tree.specs.declared.thin.Store.{Store as StoreValue};
 ghost use Rattle.dh_compile.specs.declared.uses.Use.TheVariants.{Reads, Writes};
 ghost use Rattle.dh_compile.specs.Timetable.{group_length, total_length};
 ghost use Rattle.dh_compile.specs.Drafts.{IsClock, IsHeld};
-ghost use Rattle.dh_compile.specs.Drivers.{use_clock, FitsUse, FitsGroup, AddsUse, AddsDriver, AddsGroup, AddsPort};
+ghost use Rattle.dh_compile.specs.Drivers.{use_clock, FitsUse, FitsGroup, FitsGroups, AddsUse, AddsDriver, AddsGroup, AddsPort};
 
 use crate::drafts::Draft;
 use crate::uses::{group_length, use_in, Use};
@@ -114,4 +114,24 @@ fn push_group(
             drivers.push(driver)
         }
     }
+}
+
+/// Adds the drivers of a memory's port: one for each group that uses the memory, in order.
+fn push_port(alloc: Global, draft: &mut Draft, port: Port, groups: &[Items<Store>]) -> Result<Items<Driver>, NoMemory>
+    requires clock { IsClock draft.old port.clock }
+    requires least { 1 ≤ port.row_width }
+    requires greatest { port.row_width ≤ 64 }
+    requires total { total_length groups.now < 2 ^ 32 }
+    requires fits { FitsGroups draft.old.table port.memory port.row_width groups.now }
+    ensures { IfOk result (λ drivers. AddsPort draft.old draft.new drivers port.memory port.row_width groups.now) }
+{
+    let mut drivers = Items::new(alloc);
+    let mut begin: u64 = 0;
+    for group in groups {
+        let stores = group.as_slice();
+        let length = group_length(stores);
+        push_group(draft, &mut drivers, port, begin, length, stores)?;
+        begin += length;
+    }
+    Ok(drivers)
 }
