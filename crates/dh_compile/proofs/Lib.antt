@@ -2,3 +2,4 @@ pub mod Cells
 pub mod Pushes
 pub mod Driven
 pub mod Counted
+pub mod Programs

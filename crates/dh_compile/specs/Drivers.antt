@@ -1,8 +1,9 @@
 -- What the drivers of a port say while a net is being built.
-use Rattle.std.specs.Prelude.{◌≡◌, ℕ, ◌+◌, ◌-◌, ◌<◌, ◌≤◌, ◌^◌, true, List, ◌∷◌, ◌++◌, slice_get, slice_index, Option, Some, None}
+use Rattle.std.specs.Prelude.{◌≡◌, ℕ, ◌+◌, ◌-◌, ◌<◌, ◌≤◌, ◌^◌, true, List, [], ◌∷◌, ◌++◌, length, slice_get, slice_index, slice_index_or, Option, Some, None}
 use Rattle.dh_tree.specs.declared.tables.MemEntry.{MemEntry}
 use Rattle.dh_tree.specs.declared.thin.Store.{Store}
-use Rattle.dh_net.specs.Valid.{HasWidth}
+use Rattle.dh_tree.specs.declared.thin.Program.{Program}
+use Rattle.dh_net.specs.Valid.{HasWidth, IsDriver}
 use Rattle.dh_net.specs.declared.nets.Cell.{Cell}
 use Rattle.dh_net.specs.declared.nets.Driver.{Driver}
 use Rattle.dh_compile.specs.declared.uses.Use.{Use}
@@ -69,3 +70,15 @@ pub record AddsPort (old new : Drafted) (ds : List Driver) (memory wide : ℕ) (
 -- what the groups do can be done by the port of this memory
 abbrev pub FitsGroups : List MemEntry → (memory wide : ℕ) → List (List Store) → Type 0
 FitsGroups table memory wide groups = (k : ℕ) (g : List Store) → slice_get groups k ≡ Some g → FitsGroup table memory wide g
+
+-- the ports of the first memories have their drivers
+pub record HasPorts (cells : List Cell) (ports : List (List Driver)) (p : Program) (memories : ℕ) : Type 0 where
+  pub all : length ports ≡ memories
+  pub drives : (m : ℕ) → m < memories → Always cells (λ registers held wires. Drives (slice_index registers 0) held wires (slice_index_or ports m []) (uses_of m 0 p.groups))
+  pub fit : (m : ℕ) (ds : List Driver) (e : MemEntry) → slice_get ports m ≡ Some ds → slice_get p.table m ≡ Some e
+      → (k : ℕ) (d : Driver) → slice_get ds k ≡ Some d → IsDriver cells e d
+
+-- cells were added for the drivers of all ports
+pub record AddsPorts (old new : Drafted) (ports : List (List Driver)) (p : Program) : Type 0 where
+  pub grows : Grows old new
+  pub has : HasPorts new.cells ports p (length p.table)

@@ -2,17 +2,19 @@
 
 ghost use Rattle.std.specs.Prelude.{◌≡◌, ℕ, ◌+◌, ◌-◌, ◌^◌, ◌<◌, ◌≤◌, List, slice_get, Some, IfOk};
 ghost use Rattle.dh_tree.specs.declared.thin.Store.{Store as StoreValue};
+ghost use Rattle.dh_tree.specs.Thin.{IsThin};
 ghost use Rattle.dh_compile.specs.declared.uses.Use.TheVariants.{Reads, Writes};
 ghost use Rattle.dh_compile.specs.Timetable.{group_length, total_length};
 ghost use Rattle.dh_compile.specs.Drafts.{IsClock, IsHeld};
-ghost use Rattle.dh_compile.specs.Drivers.{use_clock, FitsUse, FitsGroup, FitsGroups, AddsUse, AddsDriver, AddsGroup, AddsPort};
+ghost use Rattle.dh_compile.specs.Drivers.{use_clock, FitsUse, FitsGroup, FitsGroups, AddsUse, AddsDriver, AddsGroup, AddsPort, AddsPorts};
 
 use crate::drafts::Draft;
+use crate::rows::{row_count, row_width};
 use crate::uses::{group_length, use_in, Use};
 use crate::wires::{push_at, push_constant, push_stored};
 use dh_base::{Items, NoMemory};
 use dh_net::Driver;
-use dh_tree::{Operand, Store};
+use dh_tree::{Operand, Program, Store};
 use std::alloc::Global;
 
 /// What the drivers of a port have in common.
@@ -134,4 +136,25 @@ fn push_port(alloc: Global, draft: &mut Draft, port: Port, groups: &[Items<Store
         begin += length;
     }
     Ok(drivers)
+}
+
+/// Adds the drivers of all ports, in order of memories. `clock` shows the number of the clock.
+pub(crate) fn push_ports(alloc: Global, draft: &mut Draft, clock: u64, program: &Program) -> Result<Items<Items<Driver>>, NoMemory>
+    requires thin { IsThin program.now }
+    requires table { draft.old.table ≡ program.now.table }
+    requires clock { IsClock draft.old clock }
+    ensures { IfOk result (λ ports. AddsPorts draft.old draft.new ports program.now) }
+{
+    let groups = program.groups.as_slice();
+    let mut ports = Items::new(alloc);
+    for (memory, entry) in program.table.as_slice().iter().enumerate() {
+        let port = Port {
+            clock,
+            memory: memory as u32,
+            row_width: row_width(row_count(entry)),
+        };
+        let drivers = push_port(alloc, draft, port, groups)?;
+        ports.push(drivers)?;
+    }
+    Ok(ports)
 }

@@ -1,6 +1,6 @@
 //! How many rows a memory has, and how wide their numbers are.
 
-ghost use Rattle.std.specs.Prelude.{◌≡◌, ◌≤◌, ◌^◌};
+ghost use Rattle.std.specs.Prelude.{◌≡◌};
 ghost use Rattle.dh_tree.specs.Tables.{elements_of};
 ghost use Rattle.dh_tree.specs.Thin.{IsThinEntry};
 ghost use Rattle.dh_net.specs.Valid.{IsRowWidth};
@@ -17,13 +17,12 @@ pub(crate) fn row_count(entry: &MemEntry) -> u64
 
 /// The bits of the numbers of this many rows: at least 1, and as few as can be.
 pub(crate) fn row_width(rows: u64) -> u8
-    requires { rows ≤ 2 ^ 63 }
     ensures { IsRowWidth rows result }
 {
-    for width in 1..63 {
+    for width in 1..64 {
         if rows <= 1 << width {
             return width;
         }
     }
-    63
+    64
 }
