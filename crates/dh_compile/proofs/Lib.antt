@@ -3,3 +3,4 @@ pub mod Pushes
 pub mod Driven
 pub mod Counted
 pub mod Programs
+pub mod Gathered
