@@ -3,6 +3,8 @@
 //! Stands on `dh_tree`. docs/NETLIST.md tells the netlist.
 #![tactic(auto)]
 
+mod laws;
 mod nets;
 
+pub use laws::valuation_is_unique;
 pub use nets::{Cell, CellForm, Driver, Net, Register};
