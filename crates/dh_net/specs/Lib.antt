@@ -3,3 +3,4 @@ pub mod Clock
 pub mod Ends
 pub mod Plays
 pub mod Reports
+pub mod Simulates
