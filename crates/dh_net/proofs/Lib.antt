@@ -1,1 +1,3 @@
 pub mod Valuations
+pub mod Fits
+pub mod Simulation
