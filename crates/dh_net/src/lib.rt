@@ -3,6 +3,8 @@
 //! Stands on `dh_tree`. docs/NETLIST.md tells the netlist.
 #![tactic(auto)]
 
+mod laws;
 mod nets;
 
+pub use laws::playing_tells_the_report;
 pub use nets::{Cell, CellForm, Driver, Net, Register};
