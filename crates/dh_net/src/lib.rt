@@ -3,8 +3,8 @@
 //! Stands on `dh_tree`. docs/NETLIST.md tells the netlist.
 #![tactic(auto)]
 
-mod laws;
 mod nets;
+mod playing;
 
-pub use laws::playing_tells_the_report;
 pub use nets::{Cell, CellForm, Driver, Net, Register};
+pub use playing::playing_tells_the_report;

@@ -1,5 +1,5 @@
-//! Laws of nets that play a run, of whatever language. Each is a function without parameters whose
-//! clause is the law; calling it does nothing.
+//! The law of nets that play a run, of whatever language: a function without parameters whose clause
+//! is the law; calling it does nothing.
 //! That the local facts of a simulation make a net play a run is the lemma `plays_by` of
 //! `proofs/Simulation.antt`: it speaks of any two relations, which no clause may.
 
