@@ -23,7 +23,7 @@ pub data Stand (r : Run) (Inside Over : ℕ → ℕ → State → Type 0) (c : �
   at_fault : (n j : ℕ) (kind : FaultKind) (place : Place) → FaultsAfter r n kind place → c ≡ (clocks_of r n + r.length n) + j → Over n j s → Stand r Inside Over c s
 
 -- a net that shows a fault has its fault output not at 0
-names_some : (net : Net) (kind : FaultKind) (place : Place) (wires : List ℕ) → fault_shown net wires ≡ Some (kind, place) → slice_index wires net.fault ≢ 0
+pub names_some : (net : Net) (kind : FaultKind) (place : Place) (wires : List ℕ) → fault_shown net wires ≡ Some (kind, place) → slice_index wires net.fault ≢ 0
 names_some net kind place wires names none =
     let e : fault_shown net wires ≡ None = ap (entry_at net.faults) none in
     cc

@@ -5,6 +5,8 @@
 
 mod laws;
 mod nets;
+mod playing;
 
 pub use laws::valuation_is_unique;
 pub use nets::{Cell, CellForm, Driver, Net, Register};
+pub use playing::playing_tells_the_report;
