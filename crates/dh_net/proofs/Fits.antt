@@ -9,8 +9,7 @@ use Rattle.dh_base.specs.declared.outcomes.FaultKind.{FaultKind}
 use Rattle.dh_base.specs.declared.outcomes.Outcome.{Outcome}
 use Rattle.dh_base.specs.declared.outcomes.Outcome.TheVariants.{Ended, Faulted}
 use Rattle.dh_base.specs.declared.places.Place.{Place}
-use Rattle.dh_net.specs.Plays.{Run, clocks_of, IsGoing, IsFine, HasSteps, EndsAfter, FaultsAfter, FaultsWithin, Fit}
-use Rattle.dh_net.specs.Simulates.{TakesClocks}
+use Rattle.dh_net.specs.Plays.{TakesClocks, Run, clocks_of, IsGoing, IsFine, HasSteps, EndsAfter, FaultsAfter, FaultsWithin, Fit}
 
 -- an outcome is not both
 pub going_not_ended : (o : Outcome) → IsGoing o → o ≡ Ended → ⊥

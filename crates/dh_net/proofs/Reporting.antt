@@ -13,9 +13,8 @@ use Rattle.dh_base.specs.declared.places.Place.{Place}
 use Rattle.dh_net.specs.declared.nets.Net.{Net}
 use Rattle.dh_net.specs.Clock.{State, Settles, ClocksTo, start_of}
 use Rattle.dh_net.specs.Ends.{fault_shown, IsFault, ShowsEnd, TicksTo, StopsAs, IsRunOf}
-use Rattle.dh_net.specs.Plays.{Run, clocks_of, HasSteps, EndsAfter, FaultsAfter, Fit, ShowsRun, Plays}
+use Rattle.dh_net.specs.Plays.{TakesClocks, Run, clocks_of, HasSteps, EndsAfter, FaultsAfter, Fit, ShowsRun, Plays}
 use Rattle.dh_net.specs.Reports.{ReportsEnd, ReportsFault, ReportsGoing, ReportsAs, Reports}
-use Rattle.dh_net.specs.Simulates.{TakesClocks}
 use Rattle.dh_net.proofs.Simulation.{names_some}
 use Rattle.dh_net.proofs.Fits.{steps_to_end, steps_to_fault, steps_fewer, last_going, clocks_pass}
 
@@ -187,9 +186,9 @@ module _ (net : Net) (r : Run) (start : List (List ℕ)) (takes : TakesClocks r)
 
 -- what a net that plays a run comes to under a limit is what the run comes to
 pub reports_by : {net : Net} {r : Run} {start : List (List ℕ)} {limit : ℕ} {outcome : Outcome} {steps clocks : ℕ} {memories : List (List ℕ)}
-    → TakesClocks r → Plays net r start → IsRunOf net start limit outcome steps clocks memories → Reports r limit outcome steps clocks memories
-reports_by {net} {r} {start} {limit} {outcome} {steps} {clocks} {memories} takes plays run =
+    → Plays net r start → IsRunOf net start limit outcome steps clocks memories → Reports r limit outcome steps clocks memories
+reports_by {net} {r} {start} {limit} {outcome} {steps} {clocks} {memories} plays run =
     record {
-      stands = stands net r start takes plays limit steps clocks outcome memories run outcome run.stops;
-      contents = run.contents ∙ (shown net r start takes plays limit steps clocks outcome memories run).memories;
+      stands = stands net r start plays.takes_clocks plays limit steps clocks outcome memories run outcome run.stops;
+      contents = run.contents ∙ (shown net r start plays.takes_clocks plays limit steps clocks outcome memories run).memories;
     }

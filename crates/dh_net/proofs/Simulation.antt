@@ -171,6 +171,7 @@ module _ (net : Net) (r : Run) (start : List (List ℕ)) (Inside Over : ℕ → 
 pub plays_by : {net : Net} {r : Run} {start : List (List ℕ)} {Inside Over : ℕ → ℕ → State → Type 0} → Simulates net r start Inside Over → Plays net r start
 plays_by {net} {r} {start} {Inside} {Over} sim =
     record {
+      takes_clocks = sim.takes_clocks;
       never_stuck = sim.never_stuck;
       fits = fits net r start Inside Over sim;
       shows = shows net r start Inside Over sim;

@@ -2,18 +2,14 @@
 -- Two relations tie the states of the net to the run. Inside n j s: the step that follows n steps is at its
 -- clock j, from 0, in state s. Over n j s: the run was over after n steps, and j clocks have passed since.
 -- Each fact speaks of one clock or of one state, and none counts clocks from the start.
-use Rattle.std.specs.Prelude.{◌≡◌, ◌≢◌, ◌↔◌, ℕ, ◌<◌, ◌≤◌, false, suc, List, slice_index, Some}
+use Rattle.std.specs.Prelude.{◌≡◌, ◌≢◌, ◌↔◌, ℕ, ◌<◌, false, suc, List, slice_index, Some}
 use Rattle.dh_base.specs.declared.outcomes.FaultKind.{FaultKind}
 use Rattle.dh_base.specs.declared.outcomes.Outcome.TheVariants.{Ended}
 use Rattle.dh_base.specs.declared.places.Place.{Place}
 use Rattle.dh_net.specs.declared.nets.Net.{Net}
 use Rattle.dh_net.specs.Clock.{State, Settles, Clocks, start_of, has_clashes, has_strays}
 use Rattle.dh_net.specs.Ends.{fault_shown}
-use Rattle.dh_net.specs.Plays.{Run, IsGoing, IsStuck, IsFine, HasSteps, EndsAfter, FaultsAfter}
-
--- each step of the run takes a clock at least
-abbrev pub TakesClocks : Run → Type 0
-TakesClocks r = (n : ℕ) → HasSteps r n → IsGoing (r.outcome n) → 1 ≤ r.length n
+use Rattle.dh_net.specs.Plays.{Run, IsGoing, IsStuck, IsFine, HasSteps, EndsAfter, FaultsAfter, TakesClocks}
 
 -- what the net shows at clock j of the step that follows n steps
 pub record ShowsStep (net : Net) (r : Run) (n j : ℕ) (s : State) (wires : List ℕ) : Type 0 where

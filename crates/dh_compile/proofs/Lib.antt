@@ -1,0 +1,5 @@
+pub mod Serving
+pub mod Times
+pub mod Pointwise
+pub mod Groups
+pub mod Playing
