@@ -1,14 +1,14 @@
 -- What a port does at a clock, by the uses that its drivers stand for. The uses of a port have
 -- rising clocks, so at one clock at most one of its drivers is active: that of the use at this clock,
 -- where there is one. By induction on the drivers beside their uses.
-use Rattle.std.proofs.Common.{◌≡◌, ℕ, ◌+◌, ◌<◌, ◌≤◌, ◌==◌, ◌&&◌, ◌||◌, not, nat_lt, Bool, true, false, if◌then◌else◌, List, [], ◌∷◌, length, get_or, set, Option, Some, None, refl, sym, ap, ◌∙◌, suc, arith, subst}
-use Rattle.std.specs.Prelude.{slice_index, slice_index_or, slice_set}
+use Rattle.std.proofs.Common.{◌≡◌, ℕ, ◌<◌, ◌≤◌, ◌==◌, ◌&&◌, ◌||◌, not, nat_lt, Bool, true, false, if◌then◌else◌, List, [], ◌∷◌, length, Option, Some, None, refl, sym, ap, ◌∙◌, suc, arith}
+use Rattle.std.specs.Prelude.{slice_index, slice_set}
 use Rattle.std.proofs.lemmas.Bool.Decides.{nat_tests}
 use Rattle.dh_net.specs.declared.nets.Driver.{Driver}
 use Rattle.dh_net.specs.Clock.{is_active, any_active, has_clash, has_stray, served, rows_by, held_by}
 use Rattle.dh_compile.specs.declared.uses.Use.{Use}
 use Rattle.dh_compile.specs.declared.uses.Use.TheVariants.{Reads, Writes}
-use Rattle.dh_compile.specs.Timetable.{Timed, timed, stored_from}
+use Rattle.dh_compile.specs.Timetable.{Timed, stored_from}
 use Rattle.dh_compile.specs.Built.{EnabledAt, Does, Drives}
 
 -- the use at a clock, where there is one
@@ -70,20 +70,20 @@ does_row held wires d (Writes row source number) h = h.1.0
 
 -- both sides choose by one test
 choose_rows : (b : Bool) (wires held : List ℕ) (d : Driver) (o : Option Driver) (u : Use) (v : Option Use) (rows : List ℕ)
-  → rows_by wires (Some d) rows ≡ rows_do held (Some u) rows → rows_by wires o rows ≡ rows_do held v rows
-  → rows_by wires (if b then Some d else o) rows ≡ rows_do held (if b then Some u else v) rows
+    → rows_by wires (Some d) rows ≡ rows_do held (Some u) rows → rows_by wires o rows ≡ rows_do held v rows
+    → rows_by wires (if b then Some d else o) rows ≡ rows_do held (if b then Some u else v) rows
 choose_rows true wires held d o u v rows h k = h
 choose_rows false wires held d o u v rows h k = k
 
 choose_held : (b : Bool) (wires : List ℕ) (d : Driver) (o : Option Driver) (u : Use) (v : Option Use) (rows : List ℕ) (had : ℕ)
-  → held_by wires (Some d) rows had ≡ held_do (Some u) rows had → held_by wires o rows had ≡ held_do v rows had
-  → held_by wires (if b then Some d else o) rows had ≡ held_do (if b then Some u else v) rows had
+    → held_by wires (Some d) rows had ≡ held_do (Some u) rows had → held_by wires o rows had ≡ held_do v rows had
+    → held_by wires (if b then Some d else o) rows had ≡ held_do (if b then Some u else v) rows had
 choose_held true wires d o u v rows had h k = h
 choose_held false wires d o u v rows had h k = k
 
 -- the port does to its bank what the use at this clock says
 pub serves_rows : (now : ℕ) (held wires : List ℕ) (ds : List Driver) (us : List Timed) (rows : List ℕ) → Drives now held wires ds us
-  → rows_by wires (served wires ds) rows ≡ rows_do held (use_now now us) rows
+    → rows_by wires (served wires ds) rows ≡ rows_do held (use_now now us) rows
 serves_rows now held wires [] [] rows h = refl
 serves_rows now held wires [] (u ∷ us) rows h = absurd h
 serves_rows now held wires (d ∷ ds) [] rows h = absurd h
@@ -93,7 +93,7 @@ serves_rows now held wires (d ∷ ds) (u ∷ us) rows h =
 
 -- and to its held data
 pub serves_held : (now : ℕ) (held wires : List ℕ) (ds : List Driver) (us : List Timed) (rows : List ℕ) (had : ℕ) → Drives now held wires ds us
-  → held_by wires (served wires ds) rows had ≡ held_do (use_now now us) rows had
+    → held_by wires (served wires ds) rows had ≡ held_do (use_now now us) rows had
 serves_held now held wires [] [] rows had h = refl
 serves_held now held wires [] (u ∷ us) rows had h = absurd h
 serves_held now held wires (d ∷ ds) [] rows had h = absurd h
@@ -103,7 +103,7 @@ serves_held now held wires (d ∷ ds) (u ∷ us) rows had h =
 
 -- before the first of rising clocks no driver is active
 pub none_active : (now from : ℕ) (held wires : List ℕ) (ds : List Driver) (us : List Timed) → Drives now held wires ds us → Rises from us → now < from
-  → any_active wires ds ≡ false
+    → any_active wires ds ≡ false
 none_active now from held wires [] [] h r l = refl
 none_active now from held wires [] (u ∷ us) h r l = absurd h
 none_active now from held wires (d ∷ ds) [] h r l = absurd h
@@ -118,23 +118,23 @@ clash_by true any rest h k = ap (λ x. x || rest) (h refl) ∙ k
 clash_by false any rest h k = k
 
 pub no_clash : (now from : ℕ) (held wires : List ℕ) (ds : List Driver) (us : List Timed) → Drives now held wires ds us → Rises from us
-  → has_clash wires ds ≡ false
+    → has_clash wires ds ≡ false
 no_clash now from held wires [] [] h r = refl
 no_clash now from held wires [] (u ∷ us) h r = absurd h
 no_clash now from held wires (d ∷ ds) [] h r = absurd h
 no_clash now from held wires (d ∷ ds) (u ∷ us) h r =
     clash_by (is_active wires d) (any_active wires ds) (has_clash wires ds)
-      (λ e. let same : (now == u.clock) ≡ true = sym (active_is now u.clock wires d h.0) ∙ e in
-            let at : now < suc u.clock = grind (arith, nat_tests) in
-            none_active now (suc u.clock) held wires ds us h.1.1 r.1 at)
-      (no_clash now (suc u.clock) held wires ds us h.1.1 r.1)
+    (λ e. let same : (now == u.clock) ≡ true = sym (active_is now u.clock wires d h.0) ∙ e in
+    let at : now < suc u.clock = grind (arith, nat_tests) in
+    none_active now (suc u.clock) held wires ds us h.1.1 r.1 at)
+    (no_clash now (suc u.clock) held wires ds us h.1.1 r.1)
 
 stray_by : (b below rest : Bool) → below ≡ true → rest ≡ false → ((b && not below) || rest) ≡ false
 stray_by true below rest h k = ap (λ x. not x || rest) h ∙ k
 stray_by false below rest h k = k
 
 pub no_stray : (now : ℕ) (held wires : List ℕ) (ds : List Driver) (us : List Timed) (rows : List ℕ) → Drives now held wires ds us → RowsBelow (length rows) us
-  → has_stray wires ds rows ≡ false
+    → has_stray wires ds rows ≡ false
 no_stray now held wires [] [] rows h r = refl
 no_stray now held wires [] (u ∷ us) rows h r = absurd h
 no_stray now held wires (d ∷ ds) [] rows h r = absurd h

@@ -1,14 +1,14 @@
 -- The timetable by groups: at clock j of the step of group n a memory has the use that the group
 -- makes of it, if it is a read in the first clock or a write in the last, and no other. By induction
 -- on the groups before: their uses lie before this clock, and those of the groups after lie behind it.
-use Rattle.std.proofs.Common.{◌≡◌, ℕ, ◌+◌, ◌-◌, ◌*◌, ◌<◌, ◌≤◌, ◌==◌, ◌||◌, nat_lt, Bool, true, false, if◌then◌else◌, List, [], ◌∷◌, length, take, Option, Some, None, refl, sym, ap, ◌∙◌, zero, suc, arith, subst, add-zero}
+use Rattle.std.proofs.Common.{◌≡◌, ℕ, ◌+◌, ◌-◌, ◌*◌, ◌<◌, ◌≤◌, ◌==◌, ◌||◌, Bool, true, false, if◌then◌else◌, List, [], ◌∷◌, length, Option, Some, None, refl, sym, ap, ◌∙◌, zero, suc, arith, subst}
 use Rattle.std.specs.Prelude.{slice_get}
 use Rattle.std.proofs.lemmas.Bool.Decides.{nat_tests}
 use Rattle.dh_tree.specs.declared.thin.Store.{Store}
 use Rattle.dh_compile.specs.declared.uses.Use.{Use}
 use Rattle.dh_compile.specs.declared.uses.Use.TheVariants.{Reads, Writes}
-use Rattle.dh_compile.specs.Timetable.{Timed, timed, use_in, any_read, group_length, total_length, put_use, uses_of, ends_at}
-use Rattle.dh_compile.proofs.Serving.{use_now, row_in, Rises, RowsBelow}
+use Rattle.dh_compile.specs.Timetable.{Timed, use_in, any_read, group_length, total_length, put_use, uses_of, ends_at}
+use Rattle.dh_compile.proofs.Serving.{use_now, Rises}
 
 -- a group is one or two clocks long
 pub length_by : (b : Bool) → (1 ≤ (if b then 2 else 1)) × ((if b then 2 else 1) ≤ 2)
@@ -51,7 +51,7 @@ uses_rise memory begin (g ∷ gs) =
 
 -- within a group: its own use at this clock
 pub put_now : (begin long j : ℕ) (o : Option Use) (rest : List Timed) → j < long → Rises (begin + long) rest
-  → use_now (begin + j) (put_use begin long o rest) ≡ use_at j long o
+    → use_now (begin + j) (put_use begin long o rest) ≡ use_at j long o
 put_now begin long j None rest l r = none_yet (begin + j) (begin + long) rest r (omega arith)
 put_now begin long j (Some (Reads row)) rest l r =
     let same : (begin + j == begin) ≡ (j == 0) = grind (arith, nat_tests) in
@@ -64,7 +64,7 @@ put_now begin long j (Some (Writes row source number)) rest l r =
 
 -- behind a group: what the rest has
 pub put_past : (begin long now : ℕ) (o : Option Use) (rest : List Timed) → 1 ≤ long → begin + long ≤ now
-  → use_now now (put_use begin long o rest) ≡ use_now now rest
+    → use_now now (put_use begin long o rest) ≡ use_now now rest
 put_past begin long now None rest l p = refl
 put_past begin long now (Some (Reads row)) rest l p =
     let no : (now == begin) ≡ false = grind (arith, nat_tests) in
@@ -80,7 +80,7 @@ clocks_before (suc n) [] = 0
 clocks_before (suc n) (g ∷ gs) = group_length g + clocks_before n gs
 
 pub uses_now : (memory begin n j : ℕ) (gs : List (List Store)) (g : List Store) → slice_get gs n ≡ Some g → j < group_length g
-  → use_now (begin + (clocks_before n gs + j)) (uses_of memory begin gs) ≡ use_at j (group_length g) (use_in g memory)
+    → use_now (begin + (clocks_before n gs + j)) (uses_of memory begin gs) ≡ use_at j (group_length g) (use_in g memory)
 uses_now memory begin n j [] g e l = cc
 uses_now memory begin zero j (f ∷ gs) g e l =
     let same : f ≡ g = cc in
@@ -110,7 +110,7 @@ ends_later begin now (g ∷ gs) l =
     ap (λ b. b || ends_at (begin + group_length g) gs now) no ∙ ends_later (begin + group_length g) now gs (omega arith)
 
 pub ends_now : (begin n j : ℕ) (gs : List (List Store)) (g : List Store) → slice_get gs n ≡ Some g → j < group_length g
-  → ends_at begin gs (begin + (clocks_before n gs + j)) ≡ (suc j == group_length g)
+    → ends_at begin gs (begin + (clocks_before n gs + j)) ≡ (suc j == group_length g)
 ends_now begin n j [] g e l = cc
 ends_now begin zero j (f ∷ gs) g e l =
     let same : f ≡ g = cc in
