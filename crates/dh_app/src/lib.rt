@@ -2,6 +2,8 @@
 //! Stands on the crates of every stage. docs/ARCHITECTURE.md has the way of a program through them.
 #![tactic(auto)]
 
+mod engine;
 mod words;
 
+pub use engine::{Engine, Finish};
 pub use words::Job;
