@@ -5,3 +5,5 @@ pub mod Groups
 pub mod Playing
 pub mod GroupEvents
 pub mod Spending
+pub mod GroupWrites
+pub mod ThinRuns
