@@ -1,23 +1,22 @@
 -- What the step of a thin group does, as plain events. Each index is below its memory's size, at most
 -- 1024, so it is its own remainder modulo 2^32, and no access is out of range: a store makes its read,
 -- where it has a source, and then its write. All banks are one, so an index is its own row and place.
-use Rattle.std.proofs.Common.{◌≡◌, ℕ, ◌+◌, ◌*◌, ◌/◌, ◌%◌, ◌^◌, ◌<◌, ◌≤◌, ◌&&◌, nat_lt, Bool, true, false, if◌then◌else◌, List, [], ◌∷◌, ◌++◌, Option, Some, None, refl, sym, ap, ◌∙◌, arith}
-use Rattle.std.specs.Prelude.{map, slice_get, slice_index, slice_index_or}
+use Rattle.std.proofs.Common.{◌≡◌, ℕ, ◌+◌, ◌*◌, ◌/◌, ◌%◌, ◌^◌, ◌<◌, ◌≤◌, ◌&&◌, nat_lt, true, false, if◌then◌else◌, List, [], ◌∷◌, ◌++◌, Option, Some, None, refl, ap, ◌∙◌, arith}
+use Rattle.std.specs.Prelude.{map, slice_index, slice_index_or}
 use Rattle.std.specs.List.{AllByRecursion}
 use Rattle.std.proofs.lemmas.Bool.Decides.{nat_tests}
 use Rattle.std.proofs.Math.Nat.{mod-eq_of_lt}
-use Rattle.dh_base.specs.declared.places.Place.{Place}
 use Rattle.dh_base.specs.declared.outcomes.FaultKind.TheVariants.{OutOfRange}
-use Rattle.dh_tree.specs.declared.kinds.Kind.TheVariants.{Unsigned, Signed}
+use Rattle.dh_tree.specs.declared.kinds.Kind.TheVariants.{Signed}
 use Rattle.dh_tree.specs.declared.tables.Dim.{Dim}
 use Rattle.dh_tree.specs.declared.tables.MemEntry.{MemEntry}
 use Rattle.dh_tree.specs.declared.thin.Operand.{Operand}
 use Rattle.dh_tree.specs.declared.thin.Store.{Store}
 use Rattle.dh_tree.specs.Tables.{elements_of, line_of}
-use Rattle.dh_tree.specs.Elements.{banks_of, rows_of, bank_of, row_of, position_of, is_within, entry_dims, dims_at, entry_ports, ports_at, Spot}
+use Rattle.dh_tree.specs.Elements.{bank_of, row_of, position_of, is_within, entry_dims, dims_at, entry_ports, ports_at, Spot}
 use Rattle.dh_tree.specs.Effects.{Event, reads, writes, faults, bits_of, value_of, access_made, events_at, outer_paths, commands_events}
-use Rattle.dh_tree.specs.ThinTree.{first_place, index_term, value_term, command_of}
-use Rattle.dh_tree.specs.Thin.{entry_of, IsThinEntry, IsElement, IsSource, IsStore}
+use Rattle.dh_tree.specs.ThinTree.{first_place, value_term, command_of}
+use Rattle.dh_tree.specs.Thin.{IsThinEntry, IsElement, IsSource, IsStore}
 use Rattle.dh_compile.specs.Timetable.{stored_of}
 use Rattle.dh_compile.proofs.Groups.{at_place}
 
@@ -105,7 +104,7 @@ within_line dims size index e l =
 
 -- an access of an element that is there is made
 access_is : (table : List MemEntry) (memory index : ℕ) (made : Spot → Event) → IsOnLine table memory index
-  → access_made table first_place memory (bits_of (Signed 32) false index ∷ []) made ≡ made (line_spot memory index)
+    → access_made table first_place memory (bits_of (Signed 32) false index ∷ []) made ≡ made (line_spot memory index)
 access_is table memory index made h =
     ap (λ n. access_made table first_place memory (n ∷ []) made) (uncut_index index h.small)
     ∙ (ap (λ b. if b then made (spot_in (dims_at table memory) memory index) else faults OutOfRange first_place) (within_line (dims_at table memory) h.size index h.line h.within)
@@ -126,35 +125,35 @@ source_on_line table None h s = tt
 source_on_line table (Some o) h s = on_line table o.memory o.index h s
 
 value_is : (table : List MemEntry) (memories : List (List ℕ)) (source : Option Operand) (number : ℕ) → IsSourceOnLine table source → number < 2 ^ 32
-  → value_of table memories [] (value_term source number) ≡ stored_of memories source number
+    → value_of table memories [] (value_term source number) ≡ stored_of memories source number
 value_is table memories None number h l = uncut number l
 value_is table memories (Some o) number h l =
     ap (λ i. (slice_index (slice_index_or memories o.memory []) i + number % 2 ^ 32) % 2 ^ 32) (position_is (dims_at table o.memory) h.size o.index h.line h.small)
     ∙ ap (λ n. (slice_index (slice_index_or memories o.memory []) o.index + n) % 2 ^ 32) (uncut number l)
 
 write_is : (table : List MemEntry) (memories : List (List ℕ)) (memory index : ℕ) (source : Option Operand) (number : ℕ)
-  → IsOnLine table memory index → IsSourceOnLine table source → number < 2 ^ 32
-  → access_made table first_place memory (bits_of (Signed 32) false index ∷ []) (λ s. writes first_place s (value_of table memories [] (value_term source number)))
+    → IsOnLine table memory index → IsSourceOnLine table source → number < 2 ^ 32
+    → access_made table first_place memory (bits_of (Signed 32) false index ∷ []) (λ s. writes first_place s (value_of table memories [] (value_term source number)))
     ≡ write_event memories memory index source number
 write_is table memories memory index source number t h l =
     access_is table memory index (λ s. writes first_place s (value_of table memories [] (value_term source number))) t
     ∙ ap (λ v. writes first_place (line_spot memory index) v) (value_is table memories source number h l)
 
 store_is : (table : List MemEntry) (memories : List (List ℕ)) (memory index : ℕ) (source : Option Operand) (number : ℕ) (rest : List Event)
-  → IsOnLine table memory index → IsSourceOnLine table source → number < 2 ^ 32
-  → events_at table memories outer_paths (command_of (record { memory = memory; index = index; source = source; number = number })) ++ rest
+    → IsOnLine table memory index → IsSourceOnLine table source → number < 2 ^ 32
+    → events_at table memories outer_paths (command_of (record { memory = memory; index = index; source = source; number = number })) ++ rest
     ≡ source_events source (write_event memories memory index source number ∷ rest)
 store_is table memories memory index None number rest t h l = ap (λ e. e ∷ rest) (write_is table memories memory index None number t h l)
 store_is table memories memory index (Some o) number rest t h l =
     ap (λ e. e ∷ (access_made table first_place memory (bits_of (Signed 32) false index ∷ []) (λ s. writes first_place s (value_of table memories [] (value_term (Some o) number))) ∷ rest))
-      (access_is table o.memory o.index (reads first_place) h)
+    (access_is table o.memory o.index (reads first_place) h)
     ∙ ap (λ e. reads first_place (line_spot o.memory o.index) ∷ (e ∷ rest)) (write_is table memories memory index (Some o) number t h l)
 
 -- the events of a group's commands
 pub events_are : (table : List MemEntry) (memories : List (List ℕ)) (g : List Store) → AllByRecursion IsThinEntry table → AllByRecursion (IsStore table) g
-  → commands_events table memories (map command_of g) ≡ group_events memories g
+    → commands_events table memories (map command_of g) ≡ group_events memories g
 events_are table memories [] h s = refl
 events_are table memories (f ∷ fs) h s =
     ap (λ es. events_at table memories outer_paths (command_of f) ++ es) (events_are table memories fs h s.1)
     ∙ store_is table memories f.memory f.index f.source f.number (group_events memories fs)
-        (on_line table f.memory f.index h s.0.target) (source_on_line table f.source h s.0.source) s.0.number
+    (on_line table f.memory f.index h s.0.target) (source_on_line table f.source h s.0.source) s.0.number

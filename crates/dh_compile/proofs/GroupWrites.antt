@@ -26,20 +26,20 @@ length-written (faults k p ∷ es) memories = length-written es memories
 
 -- the memory that is written
 put_there : (memories : List (List ℕ)) (memory row v : ℕ)
-  → slice_index_or (slice_set memories memory (slice_set (slice_index_or memories memory []) row v)) memory [] ≡ slice_set (slice_index_or memories memory []) row v
+    → slice_index_or (slice_set memories memory (slice_set (slice_index_or memories memory []) row v)) memory [] ≡ slice_set (slice_index_or memories memory []) row v
 put_there [] memory row v = refl
 put_there (m ∷ ms) zero row v = refl
 put_there (m ∷ ms) (suc n) row v = put_there ms n row v
 
 put_at : (memories : List (List ℕ)) (memory i row v : ℕ) → memory ≡ i
-  → slice_index_or (put_element memories (line_spot memory row) v) i [] ≡ slice_set (slice_index_or memories i []) row v
+    → slice_index_or (put_element memories (line_spot memory row) v) i [] ≡ slice_set (slice_index_or memories i []) row v
 put_at memories memory i row v e =
     let P : ℕ → Type 0 = λ n. slice_index_or (put_element memories (line_spot memory row) v) n [] ≡ slice_set (slice_index_or memories n []) row v in
     subst P e (put_there memories memory row v)
 
 -- another memory
 put_elsewhere : (memories : List (List ℕ)) (memory i row v : ℕ) → (memory ≡ i → ⊥)
-  → slice_index_or (put_element memories (line_spot memory row) v) i [] ≡ slice_index_or memories i []
+    → slice_index_or (put_element memories (line_spot memory row) v) i [] ≡ slice_index_or memories i []
 put_elsewhere memories memory i row v apart =
     get_or-set_other memories memory i (slice_set (slice_index_or memories memory []) row v) [] (λ e. apart (sym e))
 
@@ -51,7 +51,7 @@ other_test : (a b : ℕ) → (b ≡ a → ⊥) → (a == b) ≡ false
 other_test a b h = grind (arith, nat_tests)
 
 kept_by_source : (old : List (List ℕ)) (source : Option Operand) (memory : ℕ) (rest : Option Use) (rows : List ℕ) → rows_after old rest rows ≡ rows
-  → rows_after old (use_of_source source memory rest) rows ≡ rows
+    → rows_after old (use_of_source source memory rest) rows ≡ rows
 kept_by_source old None memory rest rows e = e
 kept_by_source old (Some o) memory rest rows e = by (o.memory == memory)
   where
@@ -60,11 +60,11 @@ kept_by_source old (Some o) memory rest rows e = by (o.memory == memory)
     by false = e
 
 kept : (old : List (List ℕ)) (ss : List Store) (memory : ℕ) (rows : List ℕ) → AllByRecursion (WritesOther memory) ss
-  → rows_after old (use_in ss memory) rows ≡ rows
+    → rows_after old (use_in ss memory) rows ≡ rows
 kept old [] memory rows h = refl
 kept old (t ∷ ts) memory rows h =
     ap (λ b. rows_after old (if b then Some (Writes t.index t.source t.number) else use_of_source t.source memory (use_in ts memory)) rows)
-      (other_test t.memory memory h.0)
+    (other_test t.memory memory h.0)
     ∙ kept_by_source old t.source memory (use_in ts memory) rows (kept old ts memory rows h.1)
 
 written_apart : (s : Store) (ss : List Store) (i : ℕ) → s.memory ≡ i → AllByRecursion (AreApart s) ss → AllByRecursion (WritesOther i) ss
@@ -84,36 +84,36 @@ others_write o i (t ∷ ts) e h = (λ d. h.0 (e ∙ d), others_write o i ts e h.
 
 -- a source changes nothing of what becomes of a memory
 same_with_source : (old : List (List ℕ)) (source : Option Operand) (ss : List Store) (i : ℕ) (rows : List ℕ) → AllByRecursion (ReadElsewhere source) ss
-  → rows_after old (use_in ss i) rows ≡ rows_after old (use_of_source source i (use_in ss i)) rows
+    → rows_after old (use_in ss i) rows ≡ rows_after old (use_of_source source i (use_in ss i)) rows
 same_with_source old None ss i rows h = refl
 same_with_source old (Some o) ss i rows h =
     by (o.memory == i) (λ t. let at : o.memory ≡ i = grind (arith, nat_tests) in kept old ss i rows (others_write o i ss at h))
   where
     by : (b : Bool) → (b ≡ true → rows_after old (use_in ss i) rows ≡ rows)
-      → rows_after old (use_in ss i) rows ≡ rows_after old (if b then Some (Reads o.index) else use_in ss i) rows
+        → rows_after old (use_in ss i) rows ≡ rows_after old (if b then Some (Reads o.index) else use_in ss i) rows
     by true k = k refl
     by false k = refl
 
 -- after the write of the first store, the rest do what the group does with a memory
 first_store : (old now : List (List ℕ)) (s : Store) (ss : List Store) (i : ℕ) → AllByRecursion (AreApart s) ss
-  → rows_after old (use_in ss i) (slice_index_or (put_element now (line_spot s.memory s.index) (stored_of old s.source s.number)) i [])
+    → rows_after old (use_in ss i) (slice_index_or (put_element now (line_spot s.memory s.index) (stored_of old s.source s.number)) i [])
     ≡ rows_after old (use_in (s ∷ ss) i) (slice_index_or now i [])
 first_store old now s ss i h =
     by (s.memory == i)
-      (λ t. let at : s.memory ≡ i = grind (arith, nat_tests) in
-            kept old ss i (slice_index_or (put_element now (line_spot s.memory s.index) (stored_of old s.source s.number)) i []) (written_apart s ss i at h)
-            ∙ put_at now s.memory i s.index (stored_of old s.source s.number) at)
-      (λ f. let apart : s.memory ≡ i → ⊥ = (λ e. grind (arith, nat_tests)) in
-            ap (λ rows. rows_after old (use_in ss i) rows) (put_elsewhere now s.memory i s.index (stored_of old s.source s.number) apart)
-            ∙ same_with_source old s.source ss i (slice_index_or now i []) (read_apart s ss h))
+    (λ t. let at : s.memory ≡ i = grind (arith, nat_tests) in
+    kept old ss i (slice_index_or (put_element now (line_spot s.memory s.index) (stored_of old s.source s.number)) i []) (written_apart s ss i at h)
+    ∙ put_at now s.memory i s.index (stored_of old s.source s.number) at)
+    (λ f. let apart : s.memory ≡ i → ⊥ = (λ e. grind (arith, nat_tests)) in
+    ap (λ rows. rows_after old (use_in ss i) rows) (put_elsewhere now s.memory i s.index (stored_of old s.source s.number) apart)
+    ∙ same_with_source old s.source ss i (slice_index_or now i []) (read_apart s ss h))
   where
     by : (b : Bool)
-      → (b ≡ true → rows_after old (use_in ss i) (slice_index_or (put_element now (line_spot s.memory s.index) (stored_of old s.source s.number)) i [])
-          ≡ slice_set (slice_index_or now i []) s.index (stored_of old s.source s.number))
-      → (b ≡ false → rows_after old (use_in ss i) (slice_index_or (put_element now (line_spot s.memory s.index) (stored_of old s.source s.number)) i [])
-          ≡ rows_after old (use_of_source s.source i (use_in ss i)) (slice_index_or now i []))
-      → rows_after old (use_in ss i) (slice_index_or (put_element now (line_spot s.memory s.index) (stored_of old s.source s.number)) i [])
-          ≡ rows_after old (if b then Some (Writes s.index s.source s.number) else use_of_source s.source i (use_in ss i)) (slice_index_or now i [])
+        → (b ≡ true → rows_after old (use_in ss i) (slice_index_or (put_element now (line_spot s.memory s.index) (stored_of old s.source s.number)) i [])
+        ≡ slice_set (slice_index_or now i []) s.index (stored_of old s.source s.number))
+        → (b ≡ false → rows_after old (use_in ss i) (slice_index_or (put_element now (line_spot s.memory s.index) (stored_of old s.source s.number)) i [])
+        ≡ rows_after old (use_of_source s.source i (use_in ss i)) (slice_index_or now i []))
+        → rows_after old (use_in ss i) (slice_index_or (put_element now (line_spot s.memory s.index) (stored_of old s.source s.number)) i [])
+        ≡ rows_after old (if b then Some (Writes s.index s.source s.number) else use_of_source s.source i (use_in ss i)) (slice_index_or now i [])
     by true h k = h refl
     by false h k = k refl
 
@@ -122,7 +122,7 @@ written_source None es now = refl
 written_source (Some o) es now = refl
 
 written_at : (old now : List (List ℕ)) (g : List Store) (i : ℕ) → KeepsPorts g
-  → slice_index_or (written (group_events old g) now) i [] ≡ rows_after old (use_in g i) (slice_index_or now i [])
+    → slice_index_or (written (group_events old g) now) i [] ≡ rows_after old (use_in g i) (slice_index_or now i [])
 written_at old now [] i h = refl
 written_at old now (s ∷ ss) i h =
     ap (λ ms. slice_index_or ms i []) (written_source s.source (write_event old s.memory s.index s.source s.number ∷ group_events old ss) now)

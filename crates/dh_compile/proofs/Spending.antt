@@ -1,10 +1,9 @@
 -- No bank spends more than its port in the step of a thin group. Any two events of a group on one
 -- memory are reads of one row, which holds of every front of its events too; and where that holds, a
 -- bank has spent at most one row or one write, by induction on the events.
-use Rattle.std.proofs.Common.{◌≡◌, ℕ, ◌+◌, ◌<◌, ◌≤◌, ◌==◌, ◌&&◌, ◌⊎◌, not, inl, inr, nat_lt, Bool, true, false, if◌then◌else◌, List, [], ◌∷◌, ◌++◌, length, Option, Some, None, refl, sym, ap, ◌∙◌, suc, arith, subst, append_assoc}
+use Rattle.std.proofs.Common.{◌≡◌, ℕ, ◌+◌, ◌≤◌, ◌==◌, ◌&&◌, ◌⊎◌, not, inl, inr, nat_lt, Bool, true, false, if◌then◌else◌, List, [], ◌∷◌, ◌++◌, length, Option, Some, None, refl, sym, ap, ◌∙◌, suc, arith, subst, append_assoc}
 use Rattle.std.specs.List.{AllByRecursion, list_any}
 use Rattle.std.proofs.lemmas.Bool.Decides.{nat_tests}
-use Rattle.dh_base.specs.declared.outcomes.Outcome.{Outcome}
 use Rattle.dh_base.specs.declared.outcomes.Outcome.TheVariants.{Stuck}
 use Rattle.dh_tree.specs.declared.tables.MemEntry.{MemEntry}
 use Rattle.dh_tree.specs.declared.thin.Operand.{Operand}
@@ -14,7 +13,7 @@ use Rattle.dh_tree.specs.Effects.{Event, reads, writes, faults, is_at, rows_read
 use Rattle.dh_tree.specs.ThinTree.{first_place}
 use Rattle.dh_tree.specs.Thin.{IsThinEntry, IsSource, IsStore, ReadsOther, ReadsAlike, AreApart, KeepsPorts}
 use Rattle.dh_compile.specs.Timetable.{stored_of}
-use Rattle.dh_compile.proofs.GroupEvents.{line_spot, source_events, write_event, group_events, IsOnLine, on_line}
+use Rattle.dh_compile.proofs.GroupEvents.{line_spot, source_events, write_event, group_events, on_line}
 
 -- two events on one memory are reads of one row
 abbrev pub Agree : Event → Event → Type 0
@@ -96,7 +95,7 @@ with_row row rows (inl e) = with_none row rows e
 with_row row rows (inr e) = with_one row rows e
 
 alone_read : (here : Bool) (row other : ℕ) (rows : List ℕ) → (here ≡ true → row ≡ other) → (rows ≡ []) ⊎ (rows ≡ row ∷ [])
-  → (rows_with here other rows ≡ []) ⊎ (rows_with here other rows ≡ row ∷ [])
+    → (rows_with here other rows ≡ []) ⊎ (rows_with here other rows ≡ row ∷ [])
 alone_read true row other rows same e =
     inr (let P : ℕ → Type 0 = λ r. rows_with true r rows ≡ row ∷ [] in subst P (same refl) (with_row row rows e))
 alone_read false row other rows same e = e
@@ -113,7 +112,7 @@ alone p s memory bank (faults k q ∷ es) e h = alone p s memory bank es e h.1
 
 -- a bank spends at most one
 spent_read : (here : Bool) (row : ℕ) (rows : List ℕ) (n : ℕ) → (here ≡ true → ((rows ≡ []) ⊎ (rows ≡ row ∷ [])) × (n ≡ 0)) → length rows + n ≤ 1
-  → length (rows_with here row rows) + n ≤ 1
+    → length (rows_with here row rows) + n ≤ 1
 spent_read true row rows n h l =
     let long : length (rows_with true row rows) ≡ 1 = ap length (with_row row rows (h refl).0) in
     let none : n ≡ 0 = (h refl).1 in
@@ -121,7 +120,7 @@ spent_read true row rows n h l =
 spent_read false row rows n h l = l
 
 spent_write : (here : Bool) (rows : List ℕ) (n : ℕ) → (here ≡ true → (rows ≡ []) × (n ≡ 0)) → length rows + n ≤ 1
-  → length rows + (if here then suc n else n) ≤ 1
+    → length rows + (if here then suc n else n) ≤ 1
 spent_write true rows n h l =
     let long : length rows ≡ 0 = ap length (h refl).0 in
     let none : n ≡ 0 = (h refl).1 in
@@ -132,10 +131,10 @@ pub spends_one : (es : List Event) (memory bank : ℕ) → AllAgree es → spent
 spends_one [] memory bank h = omega arith
 spends_one (reads p s ∷ es) memory bank h =
     spent_read (is_at s memory bank) s.row (rows_read es memory bank) (writes_made es memory bank)
-      (λ e. alone p s memory bank es (at_memory s memory bank e) h.0) (spends_one es memory bank h.1)
+    (λ e. alone p s memory bank es (at_memory s memory bank e) h.0) (spends_one es memory bank h.1)
 spends_one (writes p s v ∷ es) memory bank h =
     spent_write (is_at s memory bank) (rows_read es memory bank) (writes_made es memory bank)
-      (λ e. quiet p s v memory bank es (at_memory s memory bank e) h.0) (spends_one es memory bank h.1)
+    (λ e. quiet p s v memory bank es (at_memory s memory bank e) h.0) (spends_one es memory bank h.1)
 spends_one (faults k p ∷ es) memory bank h = spends_one es memory bank h.1
 
 -- an access of a memory whose banks have one port
@@ -149,7 +148,7 @@ within_port ports n e l = grind (arith, nat_tests)
 
 -- the next of events that agree stays within the port
 next_fits : (table : List MemEntry) (before : List Event) (e : Event) (es : List Event) (s : Spot) → AllAgree (before ++ e ∷ es) → ports_at table s.memory ≡ 1
-  → is_beyond table (before ++ e ∷ []) s ≡ false
+    → is_beyond table (before ++ e ∷ []) s ≡ false
 next_fits table before e es s h p =
     let P : List Event → Type 0 = λ l. AllAgree l in
     let front : AllAgree (before ++ e ∷ []) = front_agrees (before ++ e ∷ []) es (subst P (sym (append_assoc before (e ∷ []) es)) h) in
@@ -173,7 +172,7 @@ AgreesWithSource e None = Unit {0}
 AgreesWithSource e (Some o) = Agree e (reads first_place (line_spot o.memory o.index))
 
 all_with_source : (P : Event → Type 0) (source : Option Operand) (rest : List Event)
-  → ((o : Operand) → source ≡ Some o → P (reads first_place (line_spot o.memory o.index))) → AllByRecursion P rest → AllByRecursion P (source_events source rest)
+    → ((o : Operand) → source ≡ Some o → P (reads first_place (line_spot o.memory o.index))) → AllByRecursion P rest → AllByRecursion P (source_events source rest)
 all_with_source P None rest h k = k
 all_with_source P (Some o) rest h k = (h o refl, k)
 
@@ -185,13 +184,13 @@ reads_alike source o q h e = let P : Option Operand → Type 0 = λ x. ReadsAlik
 
 -- the write of a store agrees with all that stores apart from it do
 write_agrees : (memories : List (List ℕ)) (s : Store) (v : ℕ) (ss : List Store) → AllByRecursion (AreApart s) ss
-  → AllByRecursion (Agree (writes first_place (line_spot s.memory s.index) v)) (group_events memories ss)
+    → AllByRecursion (Agree (writes first_place (line_spot s.memory s.index) v)) (group_events memories ss)
 write_agrees memories s v [] h = tt
 write_agrees memories s v (t ∷ ts) h =
     all_with_source (Agree (writes first_place (line_spot s.memory s.index) v)) t.source
-      (write_event memories t.memory t.index t.source t.number ∷ group_events memories ts)
-      (λ o d e. reads_other s.memory t.source o h.0.second_read d (sym e))
-      (h.0.writes, write_agrees memories s v ts h.1)
+    (write_event memories t.memory t.index t.source t.number ∷ group_events memories ts)
+    (λ o d e. reads_other s.memory t.source o h.0.second_read d (sym e))
+    (h.0.writes, write_agrees memories s v ts h.1)
 
 -- a source's read beside another store
 pub record CanRead (o : Operand) (t : Store) : Type 0 where
@@ -205,17 +204,17 @@ can_read s o (t ∷ ts) e h =
     (record { other = reads_other t.memory s.source o h.0.first_read e; alike = subst P e h.0.reads }, can_read s o ts e h.1)
 
 read_agrees : (memories : List (List ℕ)) (o : Operand) (ss : List Store) → AllByRecursion (CanRead o) ss
-  → AllByRecursion (Agree (reads first_place (line_spot o.memory o.index))) (group_events memories ss)
+    → AllByRecursion (Agree (reads first_place (line_spot o.memory o.index))) (group_events memories ss)
 read_agrees memories o [] h = tt
 read_agrees memories o (t ∷ ts) h =
     all_with_source (Agree (reads first_place (line_spot o.memory o.index))) t.source
-      (write_event memories t.memory t.index t.source t.number ∷ group_events memories ts)
-      (λ q d e. reads_alike t.source o q h.0.alike d e)
-      (h.0.other, read_agrees memories o ts h.1)
+    (write_event memories t.memory t.index t.source t.number ∷ group_events memories ts)
+    (λ q d e. reads_alike t.source o q h.0.alike d e)
+    (h.0.other, read_agrees memories o ts h.1)
 
 with_source_agrees : (source : Option Operand) (rest : List Event)
-  → ((o : Operand) → source ≡ Some o → AllByRecursion (Agree (reads first_place (line_spot o.memory o.index))) rest) → AllAgree rest
-  → AllAgree (source_events source rest)
+    → ((o : Operand) → source ≡ Some o → AllByRecursion (Agree (reads first_place (line_spot o.memory o.index))) rest) → AllAgree rest
+    → AllAgree (source_events source rest)
 with_source_agrees None rest h k = k
 with_source_agrees (Some o) rest h k = (h o refl, k)
 
@@ -224,20 +223,20 @@ pub group_agrees : (memories : List (List ℕ)) (g : List Store) → KeepsPorts 
 group_agrees memories [] h = tt
 group_agrees memories (s ∷ ss) h =
     with_source_agrees s.source (write_event memories s.memory s.index s.source s.number ∷ group_events memories ss)
-      (λ o e. (reads_other s.memory s.source o h.0 e, read_agrees memories o ss (can_read s o ss e h.1.0)))
-      (write_agrees memories s (stored_of memories s.source s.number) ss h.1.0, group_agrees memories ss h.1.1)
+    (λ o e. (reads_other s.memory s.source o h.0 e, read_agrees memories o ss (can_read s o ss e h.1.0)))
+    (write_agrees memories s (stored_of memories s.source s.number) ss h.1.0, group_agrees memories ss h.1.1)
 
 source_port : (table : List MemEntry) (source : Option Operand) (o : Operand) → AllByRecursion IsThinEntry table → IsSource table source → source ≡ Some o
-  → ports_at table o.memory ≡ 1
+    → ports_at table o.memory ≡ 1
 source_port table source o h s e =
     let P : Option Operand → Type 0 = λ x. IsSource table x in
     (on_line table o.memory o.index h (subst P e s)).ports
 
 -- each of them is an access of a memory with a port
 pub group_ports : (table : List MemEntry) (memories : List (List ℕ)) (g : List Store) → AllByRecursion IsThinEntry table → AllByRecursion (IsStore table) g
-  → AllByRecursion (HasPort table) (group_events memories g)
+    → AllByRecursion (HasPort table) (group_events memories g)
 group_ports table memories [] h s = tt
 group_ports table memories (f ∷ fs) h s =
     all_with_source (HasPort table) f.source (write_event memories f.memory f.index f.source f.number ∷ group_events memories fs)
-      (λ o e. source_port table f.source o h s.0.source e)
-      ((on_line table f.memory f.index h s.0.target).ports, group_ports table memories fs h s.1)
+    (λ o e. source_port table f.source o h s.0.source e)
+    ((on_line table f.memory f.index h s.0.target).ports, group_ports table memories fs h s.1)

@@ -1,19 +1,18 @@
 -- The checked run of a thin program does its groups one after the other. By induction on the steps:
 -- what is still to come is the groups that are not yet done, one phase for each, since no group is
 -- empty; and a step does the first of them, with no fault and no bank beyond its port.
-use Rattle.std.proofs.Common.{◌≡◌, ℕ, max, ◌+◌, ◌*◌, ◌<◌, ◌≤◌, ◌||◌, Bool, true, false, if◌then◌else◌, List, [], ◌∷◌, ◌++◌, length, drop, Option, Some, None, refl, sym, ap, ◌∙◌, zero, suc, arith, subst}
-use Rattle.std.specs.Prelude.{map, slice_get, slice_index_or, slice_set}
+use Rattle.std.proofs.Common.{◌≡◌, ℕ, max, ◌<◌, ◌≤◌, ◌||◌, Bool, true, false, if◌then◌else◌, List, [], ◌∷◌, length, drop, Option, Some, None, refl, sym, ap, ◌∙◌, zero, suc, arith, subst}
+use Rattle.std.specs.Prelude.{map, slice_get, slice_index_or}
 use Rattle.std.specs.List.{AllByRecursion}
 use Rattle.std.proofs.lemmas.List.{append-nil, length-set}
-use Rattle.dh_base.specs.declared.outcomes.Outcome.{Outcome}
 use Rattle.dh_base.specs.declared.outcomes.Outcome.TheVariants.{Going, Ended}
 use Rattle.dh_tree.specs.declared.tables.MemEntry.{MemEntry}
 use Rattle.dh_tree.specs.declared.thin.Operand.{Operand}
 use Rattle.dh_tree.specs.declared.thin.Store.{Store}
 use Rattle.dh_tree.specs.declared.thin.Program.{Program}
 use Rattle.dh_tree.specs.Tables.{elements_of, Fits}
-use Rattle.dh_tree.specs.Effects.{Event, commands_events, written, stop_after}
-use Rattle.dh_tree.specs.Steps.{Phase, straight, phases_of, level_of, command_level, commands_level, phase_length, Threads, step_events, step_length, after_step, none_left, Standing, outcome_of, stands_at, next_standing, step_from, standing}
+use Rattle.dh_tree.specs.Effects.{commands_events, written, stop_after}
+use Rattle.dh_tree.specs.Steps.{Phase, straight, phases_of, level_of, command_level, commands_level, Threads, step_events, step_length, after_step, Standing, outcome_of, stands_at, next_standing, step_from, standing}
 use Rattle.dh_tree.specs.ThinTree.{value_term, command_of, tree_of}
 use Rattle.dh_tree.specs.Thin.{IsThinEntry, IsGroup, IsThin}
 use Rattle.dh_compile.specs.declared.uses.Use.{Use}
@@ -89,17 +88,17 @@ still_long table g old new h d = record {
 }
 
 events_of_step : (table : List MemEntry) (memories : List (List ℕ)) (g : List Store) (gs : List (List Store)) → AllByRecursion IsThinEntry table → IsGroup table g
-  → step_events table memories (threads_from (g ∷ gs)) ≡ group_events memories g
+    → step_events table memories (threads_from (g ∷ gs)) ≡ group_events memories g
 events_of_step table memories g gs h k = append-nil (commands_events table memories (map command_of g)) ∙ events_are table memories g h k.stores
 
 -- where the next group's step leads
 step_is : (table : List MemEntry) (s : Standing) (g : List Store) (gs : List (List Store)) → AllByRecursion IsThinEntry table → IsGroup table g → IsAt table s (g ∷ gs)
-  → step_from table s s.outcome ≡ stands_at (written (group_events s.memories g) s.memories) (threads_from gs)
+    → step_from table s s.outcome ≡ stands_at (written (group_events s.memories g) s.memories) (threads_from gs)
 step_is table s g gs h k a =
     let events : step_events table s.memories s.threads ≡ group_events s.memories g =
-          ap (λ ts. step_events table s.memories ts) a.threads ∙ events_of_step table s.memories g gs h k in
+    ap (λ ts. step_events table s.memories ts) a.threads ∙ events_of_step table s.memories g gs h k in
     let goes : stop_after table [] (group_events s.memories g) ≡ None =
-          no_stop table [] (group_events s.memories g) (group_agrees s.memories g k.ports) (group_ports table s.memories g h k.stores) in
+    no_stop table [] (group_events s.memories g) (group_agrees s.memories g k.ports) (group_ports table s.memories g h k.stores) in
     ap (λ o. step_from table s o) a.outcome
     ∙ (ap (λ es. next_standing es s (stop_after table [] es)) events
     ∙ (ap (λ o. next_standing (group_events s.memories g) s o) goes
@@ -111,7 +110,7 @@ rest_of [] = []
 rest_of (g ∷ gs) = gs
 
 next_at : (table : List MemEntry) (s : Standing) (gs : List (List Store)) → AllByRecursion IsThinEntry table → AllByRecursion (IsGroup table) gs → IsAt table s gs
-  → IsAt table (step_from table s s.outcome) (rest_of gs)
+    → IsAt table (step_from table s s.outcome) (rest_of gs)
 next_at table s [] h k a =
     let P : Standing → Type 0 = λ x. IsAt table x [] in
     let stays : step_from table s s.outcome ≡ s = ap (λ o. step_from table s o) a.outcome in
@@ -119,7 +118,7 @@ next_at table s [] h k a =
 next_at table s (g ∷ gs) h k a =
     let P : Standing → Type 0 = λ x. IsAt table x gs in
     let there : IsAt table (stands_at (written (group_events s.memories g) s.memories) (threads_from gs)) gs =
-          record { threads = refl; outcome = refl; long = still_long table g s.memories (written (group_events s.memories g) s.memories) a.long (group_done s.memories g k.0.ports) } in
+    record { threads = refl; outcome = refl; long = still_long table g s.memories (written (group_events s.memories g) s.memories) a.long (group_done s.memories g k.0.ports) } in
     subst P (sym (step_is table s g gs h k.0 a)) there
 
 drop_next : (gs : List (List Store)) (n : ℕ) → rest_of (drop n gs) ≡ drop (suc n) gs
@@ -164,11 +163,11 @@ is_at p memories h f zero =
 is_at p memories h f (suc n) =
     let P : List (List Store) → Type 0 = λ gs. IsAt p.table (standing (tree_of p) memories (suc n)) gs in
     subst P (drop_next p.groups n)
-      (next_at p.table (standing (tree_of p) memories n) (drop n p.groups) h.entries (all_dropped (IsGroup p.table) p.groups n h.groups) (is_at p memories h f n))
+    (next_at p.table (standing (tree_of p) memories n) (drop n p.groups) h.entries (all_dropped (IsGroup p.table) p.groups n h.groups) (is_at p memories h f n))
 
 -- the next group, where there is one
 is_next : (p : Program) (memories : List (List ℕ)) → IsThin p → Fits p.table memories → (n : ℕ) (g : List Store) → slice_get p.groups n ≡ Some g
-  → IsAt p.table (standing (tree_of p) memories n) (g ∷ drop (suc n) p.groups)
+    → IsAt p.table (standing (tree_of p) memories n) (g ∷ drop (suc n) p.groups)
 is_next p memories h f n g e =
     let P : List (List Store) → Type 0 = λ gs. IsAt p.table (standing (tree_of p) memories n) gs in
     subst P (drop_at p.groups n g e) (is_at p memories h f n)
@@ -180,21 +179,21 @@ no_more (g ∷ gs) zero l = absurd (let z : suc (length gs) ≤ 0 = l in omega a
 no_more (g ∷ gs) (suc n) l = no_more gs n (let z : suc (length gs) ≤ suc n = l in omega arith)
 
 has_ended : (p : Program) (memories : List (List ℕ)) → IsThin p → Fits p.table memories → (n : ℕ) → length p.groups ≤ n
-  → (standing (tree_of p) memories n).outcome ≡ Ended
+    → (standing (tree_of p) memories n).outcome ≡ Ended
 has_ended p memories h f n l = (is_at p memories h f n).outcome ∙ ap (λ gs. outcome_of (threads_from gs)) (no_more p.groups n l)
 
 is_going : (p : Program) (memories : List (List ℕ)) → IsThin p → Fits p.table memories → (n : ℕ) → n < length p.groups
-  → (standing (tree_of p) memories n).outcome ≡ Going
+    → (standing (tree_of p) memories n).outcome ≡ Going
 is_going p memories h f n l = let next = some_at p.groups n l in (is_next p memories h f n next.0 next.1).outcome
 
 does_group : (p : Program) (memories : List (List ℕ)) → IsThin p → Fits p.table memories → (n : ℕ) (g : List Store) → slice_get p.groups n ≡ Some g
-  → GroupDone g (standing (tree_of p) memories n).memories (standing (tree_of p) memories (suc n)).memories
+    → GroupDone g (standing (tree_of p) memories n).memories (standing (tree_of p) memories (suc n)).memories
 does_group p memories h f n g e =
     let s : Standing = standing (tree_of p) memories n in
     let group : IsGroup p.table g = at_place (IsGroup p.table) p.groups n g h.groups e in
     let P : Standing → Type 0 = λ x. GroupDone g s.memories x.memories in
     subst P (sym (step_is p.table s g (drop (suc n) p.groups) h.entries group (is_next p memories h f n g e)))
-      (group_done s.memories g group.ports)
+    (group_done s.memories g group.ports)
 
 -- a thin program's run does its groups
 pub does_groups : (p : Program) → IsThin p → (m : List (List ℕ)) → Fits p.table m → DoesGroups p (run_of p m)
