@@ -3,3 +3,7 @@ pub mod Times
 pub mod Pointwise
 pub mod Groups
 pub mod Playing
+pub mod GroupEvents
+pub mod Spending
+pub mod GroupWrites
+pub mod ThinRuns
