@@ -4,3 +4,12 @@ pub mod Driven
 pub mod Counted
 pub mod Programs
 pub mod Gathered
+pub mod Serving
+pub mod Times
+pub mod Pointwise
+pub mod Groups
+pub mod Playing
+pub mod GroupEvents
+pub mod Spending
+pub mod GroupWrites
+pub mod ThinRuns

@@ -3,3 +3,6 @@ pub mod Clock
 pub mod Ends
 pub mod Plays
 pub mod Reports
+pub mod Laws
+pub mod Simulates
+pub mod Parts

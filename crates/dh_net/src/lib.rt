@@ -3,6 +3,12 @@
 //! Stands on `dh_tree`. docs/NETLIST.md tells the netlist.
 #![tactic(auto)]
 
+mod laws;
 mod nets;
+mod playing;
+mod validity;
 
+pub use laws::valuation_is_unique;
 pub use nets::{Cell, CellForm, Driver, Net, Register};
+pub use playing::playing_tells_the_report;
+pub use validity::{row_width, valid};

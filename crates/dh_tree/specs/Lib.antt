@@ -5,5 +5,6 @@ pub mod Elements
 pub mod Effects
 pub mod Steps
 pub mod ThinTokens
+pub mod LongestToken
 pub mod Thin
 pub mod ThinTree

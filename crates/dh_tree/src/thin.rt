@@ -1,6 +1,7 @@
 //! Thin programs, the first forms of the language that are built: stores of numbers, and of an
 //! element plus a number, in groups that `---` separates.
 
+mod lexing;
 mod tokens;
 
 use crate::tables::MemTable;

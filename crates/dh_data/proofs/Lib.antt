@@ -1,0 +1,4 @@
+pub mod Options
+pub mod Lists
+pub mod Apart
+pub mod Views

@@ -1,0 +1,2 @@
+pub mod ThinData
+pub mod Reading
