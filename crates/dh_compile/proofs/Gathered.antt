@@ -19,7 +19,8 @@ use Rattle.dh_compile.specs.Built.{Drives}
 use Rattle.dh_compile.specs.Drafts.{Drafted, Always, Extends}
 use Rattle.dh_compile.specs.Drivers.{FitsGroups, FitsDriver, FitDrivers, AddsPort, HasPorts}
 use Rattle.dh_compile.proofs.Cells.{get_either, later, width_later}
-use Rattle.dh_compile.proofs.Programs.{all_get, thin_width, groups_fit}
+use Rattle.dh_compile.proofs.Groups.{at_place}
+use Rattle.dh_compile.proofs.Programs.{thin_width, groups_fit}
 
 -- a driver with wires of the right widths is one of its memory's
 driver_is : (cells : List Cell) (e : MemEntry) (wide : ℕ) (d : Driver) → width_of e.shape.kind ≡ 32 → IsRowWidth (elements_of e.shape.dims) wide
@@ -86,7 +87,7 @@ pub ports_on : (p : Program) → IsThin p → (a b : Drafted) (ports more : List
 ports_on p thin a b ports more ds items groups i rows wide e same gs lt is count room h grown had =
     let at : slice_get p.table i ≡ Some e = ap (λ l. slice_get l i) (sym same) ∙ slice_get_read items (length items) i e refl lt is in
     subst (λ (x : List (List Driver)). HasPorts b.cells x p (i + 1)) (sym grown)
-      (has_more p a b ports ds i wide e at (thin_width e (all_get IsThinEntry p.table thin.entries i e at))
+      (has_more p a b ports ds i wide e at (thin_width e (at_place IsThinEntry p.table i e thin.entries at))
         (subst (λ (n : ℕ). IsRowWidth n wide) count room)
         (subst (λ (x : List (List Store)). AddsPort a b ds i wide x) gs h) had)
 
@@ -102,4 +103,4 @@ port_fits p thin table items groups i rows wide e known same gs lt is count room
 pub entry_thin : (p : Program) → IsThin p → (items : List MemEntry) (i : ℕ) (e : MemEntry) → items ≡ p.table → i < length items → e ≡ get_or items i e
     → IsThinEntry e
 entry_thin p thin items i e same lt is =
-    all_get IsThinEntry p.table thin.entries i e (ap (λ l. slice_get l i) (sym same) ∙ slice_get_read items (length items) i e refl lt is)
+    at_place IsThinEntry p.table i e thin.entries (ap (λ l. slice_get l i) (sym same) ∙ slice_get_read items (length items) i e refl lt is)

@@ -24,13 +24,7 @@ use Rattle.dh_compile.specs.Timetable.{use_of_source, use_in, any_read, group_le
 use Rattle.dh_compile.specs.Built.{Drives}
 use Rattle.dh_compile.specs.Drafts.{Drafted, Always, Extends, Grows, IsHeld}
 use Rattle.dh_compile.specs.Drivers.{FitsUse, FitsGroup, FitsGroups, FitsDriver, AddsPort, HasPorts}
-use Rattle.dh_compile.proofs.Cells.{get_either, later, width_later, grows_then}
-
--- what all elements have, each has
-pub all_get : {A : Type 0} (P : A → Type 0) (xs : List A) → AllByRecursion P xs → (i : ℕ) (x : A) → slice_get xs i ≡ Some x → P x
-all_get P [] h i x at = absurd (omega (arith, slice_get_within [] i x at))
-all_get {A = A} P (y ∷ ys) h zero x at = let e : ◌≡◌ {A = A} y x = cc in subst P e h.0
-all_get P (y ∷ ys) h (suc i) x at = all_get P ys h.1 i x at
+use Rattle.dh_compile.proofs.Groups.{at_place}
 
 -- a thin program's memory has as many elements as it says, of 32 bits
 pub thin_size : (e : MemEntry) (h : IsThinEntry e) → elements_of e.shape.dims ≡ h.size
@@ -56,7 +50,7 @@ source_held table thin (Some o) h = record {
   there = h.declared;
   first_bank = refl;
   first_port = refl;
-  wide = thin_width h.entry (all_get IsThinEntry table thin o.memory h.entry h.declared);
+  wide = thin_width h.entry (at_place IsThinEntry table o.memory h.entry thin h.declared);
 }
 
 -- numbers that are tested to be equal are equal
@@ -101,7 +95,7 @@ pub groups_fit : (p : Program) → IsThin p → (table : List MemEntry) → tabl
     → IsRowWidth (elements_of e.shape.dims) wide → FitsGroups table memory wide p.groups
 groups_fit p thin table same memory wide e at room k g there =
     subst (λ (t : List MemEntry). FitsGroup t memory wide g) (sym same)
-      (stores_fit p.table thin.entries memory wide e at room.all g (all_get (IsGroup p.table) p.groups thin.groups k g there).stores)
+      (stores_fit p.table thin.entries memory wide e at room.all g (at_place (IsGroup p.table) p.groups k g thin.groups there).stores)
 
 -- the numbers of a thin memory's rows take 1 to 10 bits
 pub narrow : (e : MemEntry) → IsThinEntry e → (rows wide : ℕ) → rows ≡ elements_of e.shape.dims → IsRowWidth rows wide → wide ≤ 10

@@ -8,7 +8,6 @@
 mod clocks;
 mod drafts;
 mod ports;
-mod rows;
 mod uses;
 mod wires;
 

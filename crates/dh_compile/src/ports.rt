@@ -9,12 +9,11 @@ ghost use Rattle.dh_compile.specs.Drafts.{IsClock, IsHeld};
 ghost use Rattle.dh_compile.specs.Drivers.{use_clock, FitsUse, FitsGroup, FitsGroups, AddsUse, AddsDriver, AddsGroup, AddsPort, AddsPorts};
 
 use crate::drafts::Draft;
-use crate::rows::{row_count, row_width};
 use crate::uses::{group_length, use_in, Use};
 use crate::wires::{push_at, push_constant, push_stored};
 use dh_base::{Items, NoMemory};
-use dh_net::Driver;
-use dh_tree::{Operand, Program, Store};
+use dh_net::{Driver, row_width};
+use dh_tree::{Operand, Program, Store, element_count};
 use std::alloc::Global;
 
 /// What the drivers of a port have in common.
@@ -151,7 +150,7 @@ pub(crate) fn push_ports(alloc: Global, draft: &mut Draft, clock: u64, program: 
         let port = Port {
             clock,
             memory: memory as u32,
-            row_width: row_width(row_count(entry)),
+            row_width: row_width(element_count(entry)),
         };
         let drivers = push_port(alloc, draft, port, groups)?;
         ports.push(drivers)?;

@@ -1,5 +1,0 @@
-use Rattle.std.proofs.Common.{ℕ, ◌≤◌, ◌<◌, ◌^◌}
-use Rattle.dh_compile.proofs.rows.row_width.Given as goal
-
-abbrev pub invariant-loop-width : goal.invariant-loop-width
-invariant-loop-width l = (w : ℕ) → 1 ≤ w → w < l.width → 2 ^ w < l.rows
