@@ -4,6 +4,7 @@ pub mod Driven
 pub mod Counted
 pub mod Programs
 pub mod Gathered
+pub mod Assembled
 pub mod Serving
 pub mod Times
 pub mod Pointwise

@@ -5,6 +5,7 @@
 //! Stands on `dh_net`. The whole compiler will take its place.
 #![tactic(auto)]
 
+mod building;
 mod clocks;
 mod drafts;
 mod ports;
