@@ -2,7 +2,7 @@
 
 ghost use Rattle.std.specs.Prelude.{◌≡◌, [], IfOk};
 ghost use Rattle.dh_net.specs.Clock.{form_value};
-ghost use Rattle.dh_compile.specs.Drafts.{IsNext, Adds, AreCells};
+ghost use Rattle.dh_compile.specs.Drafts.{AreCells, IsNext, Adds};
 
 use dh_base::{Items, NoMemory};
 use dh_net::{Cell, CellForm};

@@ -1,7 +1,6 @@
 //! The drivers of the ports: for each memory one for each group that uses it.
 
-ghost use Rattle.std.specs.Prelude.{◌≡◌, ℕ, ◌+◌, ◌-◌, ◌^◌, ◌<◌, ◌≤◌, List, slice_get, Some, IfOk};
-ghost use Rattle.dh_tree.specs.declared.thin.Store.{Store as StoreValue};
+ghost use Rattle.std.specs.Prelude.{◌≡◌, ◌+◌, ◌^◌, ◌<◌, ◌≤◌, IfOk};
 ghost use Rattle.dh_tree.specs.Thin.{IsThin};
 ghost use Rattle.dh_compile.specs.declared.uses.Use.TheVariants.{Reads, Writes};
 ghost use Rattle.dh_compile.specs.Timetable.{group_length, total_length};
