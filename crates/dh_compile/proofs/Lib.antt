@@ -5,6 +5,7 @@ pub mod Counted
 pub mod Programs
 pub mod Gathered
 pub mod Assembled
+pub mod FirstProgram
 pub mod Serving
 pub mod Times
 pub mod Pointwise
