@@ -1,3 +1,4 @@
 pub mod Timetable
 pub mod Built
 pub mod ThinRun
+pub mod Compiled
