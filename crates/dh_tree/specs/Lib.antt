@@ -1,3 +1,4 @@
 pub mod Names
 pub mod ThinTokens
 pub mod Thin
+pub mod ThinReading
