@@ -114,3 +114,6 @@ fn read_groups(
     }
     Ok(None)
 }
+
+#[cfg(test)]
+mod tests;
