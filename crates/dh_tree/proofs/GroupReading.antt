@@ -2,14 +2,14 @@
 -- what comes after it (the end, another store of the group, another group) goes on as the groups
 -- do. A `;` before the end or before `---` belongs to the store before it, and one before a name
 -- stands between two stores, so the two tokens after a store decide.
-use Rattle.std.proofs.Common.{◌≡◌, ℕ, suc, ◌+◌, ◌<◌, List, [], ◌∷◌, ◌++◌, length, Option, Some, None, refl, ap, sym, ◌∙◌, subst, inl, inr, append_assoc, append-nil, arith, length-append}
+use Rattle.std.proofs.Common.{◌≡◌, suc, ◌+◌, ◌<◌, List, [], ◌∷◌, ◌++◌, length, Some, None, refl, ap, sym, ◌∙◌, subst, inl, inr, append_assoc, append-nil, arith, length-append}
 use Rattle.dh_tree.specs.declared.tables.MemEntry.{MemEntry}
 use Rattle.dh_tree.specs.declared.thin.Store.{Store}
 use Rattle.dh_tree.specs.declared.thin.tokens.Token.{Token}
 use Rattle.dh_tree.specs.declared.thin.tokens.Token.TheVariants as token
 use Rattle.dh_tree.specs.Thin.{HasDistinctNames, SpellsStore, SpellsGroup, SpellsGroups}
 use Rattle.dh_tree.specs.ThinReading.{Read, store, Next, at_end, more_stores, more_groups, no_next, next, BeginsWithName}
-use Rattle.dh_tree.proofs.StoreReading.{Begins, store_sound, store_complete, store_begins}
+use Rattle.dh_tree.proofs.StoreReading.{store_sound, store_complete, store_begins}
 
 -- this store before the first group
 abbrev pub put : Store → List (List Store) → List (List Store)
@@ -172,12 +172,12 @@ pub holds_store : (table : List MemEntry) (ts rest more : List Token) (groups : 
     → HasDistinctNames table → store table rest ≡ Some r → next r.rest ≡ more_stores more → Holds table ts rest groups group → Holds table ts more groups (group ++ r.item ∷ [])
 holds_store table ts rest more groups group r d is n h = record {
   whole = λ gs spelled.
-    subst (λ (x : List (List Store)). SpellsGroups table x ts) (sym (onto_put groups group r.item gs))
-    (h.whole (put r.item gs) (reads_whole table rest r (put r.item gs) is (next_goes table r.item (put r.item gs) (more_stores more) (next r.rest) (sym n) (gs, (spelled, refl)))));
+      subst (λ (x : List (List Store)). SpellsGroups table x ts) (sym (onto_put groups group r.item gs))
+      (h.whole (put r.item gs) (reads_whole table rest r (put r.item gs) is (next_goes table r.item (put r.item gs) (more_stores more) (next r.rest) (sym n) (gs, (spelled, refl)))));
   parts = λ all spelled.
-    let p = h.parts all spelled in
-    let q = next_goes table r.item p.0 (next r.rest) (more_stores more) n (reads_parts table rest r p.0 d is p.1.0) in
-    (q.0, (q.1.0, p.1.1 ∙ (ap (λ (x : List (List Store)). onto groups group x) q.1.1 ∙ sym (onto_put groups group r.item q.0))));
+      let p = h.parts all spelled in
+      let q = next_goes table r.item p.0 (next r.rest) (more_stores more) n (reads_parts table rest r p.0 d is p.1.0) in
+      (q.0, (q.1.0, p.1.1 ∙ (ap (λ (x : List (List Store)). onto groups group x) q.1.1 ∙ sym (onto_put groups group r.item q.0))));
 }
 
 -- a store, and `---`
@@ -185,24 +185,25 @@ pub holds_group : (table : List MemEntry) (ts rest more : List Token) (groups : 
     → HasDistinctNames table → store table rest ≡ Some r → next r.rest ≡ more_groups more → Holds table ts rest groups group → Holds table ts more (groups ++ (group ++ r.item ∷ []) ∷ []) []
 holds_group table ts rest more groups group r d is n h = record {
   whole = λ gs spelled.
-    subst (λ (x : List (List Store)). SpellsGroups table x ts) (sym (onto_next groups group r.item gs))
-    (h.whole ((r.item ∷ []) ∷ gs) (reads_whole table rest r ((r.item ∷ []) ∷ gs) is (next_goes table r.item ((r.item ∷ []) ∷ gs) (more_groups more) (next r.rest) (sym n) (gs, (spelled, refl)))));
+      subst (λ (x : List (List Store)). SpellsGroups table x ts) (sym (onto_next groups group r.item gs))
+      (h.whole ((r.item ∷ []) ∷ gs) (reads_whole table rest r ((r.item ∷ []) ∷ gs) is (next_goes table r.item ((r.item ∷ []) ∷ gs) (more_groups more) (next r.rest) (sym n) (gs, (spelled, refl)))));
   parts = λ all spelled.
-    let p = h.parts all spelled in
-    let q = next_goes table r.item p.0 (next r.rest) (more_groups more) n (reads_parts table rest r p.0 d is p.1.0) in
-    (q.0, (q.1.0, p.1.1 ∙ (ap (λ (x : List (List Store)). onto groups group x) q.1.1 ∙ sym (onto_next groups group r.item q.0))));
+      let p = h.parts all spelled in
+      let q = next_goes table r.item p.0 (next r.rest) (more_groups more) n (reads_parts table rest r p.0 d is p.1.0) in
+      (q.0, (q.1.0, p.1.1 ∙ (ap (λ (x : List (List Store)). onto groups group x) q.1.1 ∙ sym (onto_next groups group r.item q.0))));
 }
 
 -- a store, and the end: these are the groups
 pub holds_all : (table : List MemEntry) (ts rest : List Token) (groups : List (List Store)) (group : List Store) (r : Read Store)
     → HasDistinctNames table → store table rest ≡ Some r → next r.rest ≡ at_end → Holds table ts rest groups group
     → SpellsGroups table (groups ++ (group ++ r.item ∷ []) ∷ []) ts × ((all : List (List Store)) → SpellsGroups table all ts → all ≡ groups ++ (group ++ r.item ∷ []) ∷ [])
-holds_all table ts rest groups group r d is n h =
-    (h.whole ((r.item ∷ []) ∷ []) (reads_whole table rest r ((r.item ∷ []) ∷ []) is (next_goes table r.item ((r.item ∷ []) ∷ []) at_end (next r.rest) (sym n) refl)),
-     λ all spelled.
-       let p = h.parts all spelled in
-       let q = next_goes table r.item p.0 (next r.rest) at_end n (reads_parts table rest r p.0 d is p.1.0) in
-       p.1.1 ∙ ap (λ (x : List (List Store)). onto groups group x) q)
+holds_all table ts rest groups group r d is n h = (
+  h.whole ((r.item ∷ []) ∷ []) (reads_whole table rest r ((r.item ∷ []) ∷ []) is (next_goes table r.item ((r.item ∷ []) ∷ []) at_end (next r.rest) (sym n) refl)),
+  λ all spelled.
+      let p = h.parts all spelled in
+      let q = next_goes table r.item p.0 (next r.rest) at_end n (reads_parts table rest r p.0 d is p.1.0) in
+      p.1.1 ∙ ap (λ (x : List (List Store)). onto groups group x) q,
+)
 
 -- no store
 pub holds_nothing : (table : List MemEntry) (ts rest : List Token) (groups : List (List Store)) (group : List Store)

@@ -1,13 +1,12 @@
 -- A thin program of the tokens has the table that was read, since it is the only one, and then the
 -- groups that were read, since they are the only ones of that table. So it is the program that was
 -- read, and where a check of that one fails there is none.
-use Rattle.std.proofs.Common.{◌≡◌, ◌≤◌, List, length, Option, Some, None, refl, ap, sym, ◌∙◌, subst}
-use Rattle.std.specs.List.{AllByRecursion}
+use Rattle.std.proofs.Common.{◌≡◌, List, Some, ap, ◌∙◌, subst}
 use Rattle.dh_tree.specs.declared.tables.MemEntry.{MemEntry}
 use Rattle.dh_tree.specs.declared.thin.Store.{Store}
 use Rattle.dh_tree.specs.declared.thin.Program.{Program}
 use Rattle.dh_tree.specs.declared.thin.tokens.Token.{Token}
-use Rattle.dh_tree.specs.Thin.{IsThin, IsThinTokens, SpellsGroups, IsGroup, stores_of}
+use Rattle.dh_tree.specs.Thin.{IsThinTokens, SpellsGroups}
 use Rattle.dh_tree.specs.ThinReading.{IsTable, AreGroups, HasThinTable, HasThinGroups}
 use Rattle.dh_tree.proofs.GroupReading.{groups_names}
 

@@ -2,7 +2,6 @@
 -- access, and those after it, decide each part, so every law is a chain of the laws of its parts;
 -- that the one memory of the name is found needs that the names of the table are distinct.
 use Rattle.std.proofs.Common.{◌≡◌, ℕ, List, [], ◌∷◌, ◌++◌, Option, Some, None, refl, ap, sym, ◌∙◌, subst, append_assoc}
-use Rattle.std.specs.List.{slice_get}
 use Rattle.dh_tree.specs.declared.tables.MemEntry.{MemEntry}
 use Rattle.dh_tree.specs.declared.thin.Operand.{Operand}
 use Rattle.dh_tree.specs.declared.thin.Store.{Store}

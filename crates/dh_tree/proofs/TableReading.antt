@@ -1,6 +1,6 @@
 -- The table ends where no declaration is read: declarations have one form, so a declaration is read
 -- exactly where one is spelled, and the groups after the table begin with a name.
-use Rattle.std.proofs.Common.{◌≡◌, ℕ, suc, ◌+◌, ◌<◌, ◌≤◌, Bool, true, false, if◌then◌else◌, ◌==◌, ◌&&◌, nat_le, List, [], ◌∷◌, ◌++◌, length, Option, Some, None, refl, ap, sym, ◌∙◌, subst, append_assoc, append-nil, arith, length-append}
+use Rattle.std.proofs.Common.{◌≡◌, ℕ, ◌<◌, ◌≤◌, Bool, true, false, if◌then◌else◌, ◌==◌, ◌&&◌, nat_le, List, [], ◌∷◌, ◌++◌, length, Option, Some, None, refl, ap, sym, ◌∙◌, subst, append_assoc, append-nil, arith}
 use Rattle.std.specs.List.{AllByRecursion}
 use Rattle.std.proofs.lemmas.Bool.Decides.{nat_tests}
 use Rattle.dh_tree.specs.declared.tables.Dim.{Dim}
@@ -11,7 +11,7 @@ use Rattle.dh_tree.specs.Names.{IsName}
 use Rattle.dh_tree.specs.Thin.{line_of, entry_of, IsThinEntry, SpellsEntry, SpellsTable}
 use Rattle.dh_tree.specs.ThinTokens.{IsToken}
 use Rattle.dh_tree.specs.ThinReading.{Read, read, and_then, declared_name, after_kind, declared_size, Declared, declaration, sized, entry, HasTable, BeginsWithName, IsTable}
-use Rattle.dh_tree.proofs.StoreReading.{went, goes}
+use Rattle.dh_tree.proofs.StoreReading.{went}
 
 abbrev pub entry_tokens : List ℕ → ℕ → List Token
 entry_tokens name size =
@@ -135,7 +135,6 @@ less_table ts r [] b is names h =
     cc f
 less_table ts r (e ∷ es) b is names h = first_entry ts r e es b is h.front h.spelled h.is h.thin
 
-
 some_table : (ts : List Token) (e : MemEntry) (es : List MemEntry) (b : List Token) → entry ts ≡ None → (front : List Token) → SpellsTable (e ∷ es) front → ts ≡ front ++ b → AllByRecursion IsThinEntry (e ∷ es) → ⊥
 some_table ts e es b is front (a, c, (first, (more, joined))) whole (t, thin) =
     let all : ts ≡ entry_tokens e.name t.size ++ (c ++ b) = whole ∙ (ap (λ (x : List Token). x ++ b) (joined ∙ ap (λ (x : List Token). x ++ c) (entry_spelling e a t first)) ∙ append_assoc (entry_tokens e.name t.size) c b) in
@@ -165,18 +164,18 @@ table_more ts rest table e more is h =
       good = (good_name rest e more w h.good).1;
       whole = λ es b t. subst (λ (x : List MemEntry). HasTable ts x b) (sym (append_assoc table (e ∷ []) es)) (h.whole (e ∷ es) b (more_table rest e more es b h.good w t));
       parts = λ es b names t.
-        let p = h.parts es b names t in
-        let q = less_table rest r p.0 b is names p.1.0 in
-        (q.0, (q.1.0, p.1.1 ∙ (ap (λ (x : List MemEntry). table ++ x) q.1.1 ∙ sym (append_assoc table (e ∷ []) q.0))));
+          let p = h.parts es b names t in
+          let q = less_table rest r p.0 b is names p.1.0 in
+          (q.0, (q.1.0, p.1.1 ∙ (ap (λ (x : List MemEntry). table ++ x) q.1.1 ∙ sym (append_assoc table (e ∷ []) q.0))));
     }
 
 pub table_all : (ts rest : List Token) (table : List MemEntry) → entry rest ≡ None → HoldsTable ts rest table → IsTable ts table rest
 table_all ts rest table is h = record {
   there = subst (λ (x : List MemEntry). HasTable ts x rest) (append-nil table) (h.whole [] rest (record { front = []; spelled = refl; is = refl; thin = tt }));
   only = λ other b names t.
-    let p = h.parts other b names t in
-    let q = no_table rest p.0 b is p.1.0 in
-    (p.1.1 ∙ (ap (λ (x : List MemEntry). table ++ x) q.0 ∙ append-nil table), q.1);
+      let p = h.parts other b names t in
+      let q = no_table rest p.0 b is p.1.0 in
+      (p.1.1 ∙ (ap (λ (x : List MemEntry). table ++ x) q.0 ∙ append-nil table), q.1);
 }
 
 pub entry_shorter : (ts : List Token) (e : MemEntry) (more : List Token) → entry ts ≡ read e more → length more < length ts

@@ -10,7 +10,7 @@ ghost use Rattle.dh_tree.specs.ThinReading.{read, entry, IsTable, AreGroups};
 use crate::kinds::Kind;
 use crate::tables::{Dim, MemEntry, MemTable, Name, Shape};
 use crate::thin::checking::{has_thin_groups, is_thin_table};
-use crate::thin::reading::{read_declaration, read_next, read_store, Next};
+use crate::thin::reading::{Next, read_declaration, read_next, read_store};
 use crate::thin::{Program, Store, Token};
 use dh_base::{Items, NoMemory};
 use std::alloc::Global;

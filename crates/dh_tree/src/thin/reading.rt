@@ -60,7 +60,13 @@ fn skip_kind(tokens: &[Token]) -> Option<&[Token]>
     ensures { MatchOption result (after_kind tokens.now ≡ None) (λ r. after_kind tokens.now ≡ Some r.now) }
 {
     match tokens {
-        [Token::Ubit, Token::Less, Token::Number(32), Token::Greater, rest @ ..] => Some(rest),
+        [
+            Token::Ubit,
+            Token::Less,
+            Token::Number(32),
+            Token::Greater,
+            rest @ ..,
+        ] => Some(rest),
         _ => None,
     }
 }
@@ -70,9 +76,13 @@ fn read_size(tokens: &[Token]) -> Option<(u64, &[Token])>
     ensures { MatchOption result (declared_size tokens.now ≡ None) (λ r. declared_size tokens.now ≡ read r.0 r.1.now) }
 {
     match tokens {
-        [Token::Open, Token::Number(size), Token::Close, Token::Semicolon, rest @ ..] => {
-            Some((*size, rest))
-        }
+        [
+            Token::Open,
+            Token::Number(size),
+            Token::Close,
+            Token::Semicolon,
+            rest @ ..,
+        ] => { Some((*size, rest)) }
         _ => None,
     }
 }
@@ -163,9 +173,13 @@ fn read_access(tokens: &[Token]) -> Option<(&Name, u64, &[Token])>
     ensures { MatchOption result (access tokens.now ≡ None) (λ r. access tokens.now ≡ read (record { name = r.0.now; index = r.1 }) r.2.now) }
 {
     match tokens {
-        [Token::Name(name), Token::Open, Token::Number(index), Token::Close, rest @ ..] => {
-            Some((name, *index, rest))
-        }
+        [
+            Token::Name(name),
+            Token::Open,
+            Token::Number(index),
+            Token::Close,
+            rest @ ..,
+        ] => { Some((name, *index, rest)) }
         _ => None,
     }
 }
@@ -189,7 +203,9 @@ pub(crate) fn read_next(tokens: &[Token]) -> Next<'_>
 {
     match tokens {
         [] | [Token::Semicolon] => Next::End,
-        [Token::Dashes, rest @ ..] | [Token::Semicolon, Token::Dashes, rest @ ..] => Next::Groups(rest),
+        [Token::Dashes, rest @ ..] | [Token::Semicolon, Token::Dashes, rest @ ..] => Next::Groups(
+            rest,
+        ),
         [Token::Semicolon, rest @ ..] => Next::Stores(rest),
         _ => Next::Nothing,
     }

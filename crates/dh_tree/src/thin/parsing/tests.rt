@@ -6,8 +6,8 @@ ghost use Rattle.dh_tree.specs.Names.{IsName};
 ghost use Rattle.dh_tree.specs.ThinTokens.{IsToken};
 
 use crate::tables::Name;
-use crate::thin::parsing::parse;
 use crate::thin::Token;
+use crate::thin::parsing::parse;
 use dh_base::{Items, NoMemory};
 use std::alloc::Global;
 use std::test::Fail;
@@ -66,8 +66,14 @@ fn takes_thin_programs_alone(rt: HostRuntime) -> Result<(), Fail> {
     let cases = [
         ("dA:u<w>[4];A[0]=1;", Some((1, 1))),
         ("dA:u<w>[4];A[3]=m", Some((1, 1))),
-        ("dA:u<w>[k];dB:u<w>[1];A[3]=B[0]+m;-B[0]=A[3]+1-A[0]=2", Some((2, 3))),
-        ("dA:u<w>[1];dB:u<w>[1];dC:u<w>[1];A[0]=C[0]+1;B[0]=C[0]+2;", Some((3, 1))),
+        (
+            "dA:u<w>[k];dB:u<w>[1];A[3]=B[0]+m;-B[0]=A[3]+1-A[0]=2",
+            Some((2, 3)),
+        ),
+        (
+            "dA:u<w>[1];dB:u<w>[1];dC:u<w>[1];A[0]=C[0]+1;B[0]=C[0]+2;",
+            Some((3, 1)),
+        ),
         ("", None),
         ("dA:u<w>[4];", None),
         ("dA:u<w>[l];A[0]=1", None),
@@ -79,7 +85,10 @@ fn takes_thin_programs_alone(rt: HostRuntime) -> Result<(), Fail> {
         ("dA:u<w>[4];A[0]=n", None),
         ("dA:u<w>[4];A[0]=A[0]+1", None),
         ("dA:u<w>[4];A[0]=1;A[1]=1", None),
-        ("dA:u<w>[1];dB:u<w>[1];dC:u<w>[2];A[0]=C[0]+1;B[0]=C[1]+2", None),
+        (
+            "dA:u<w>[1];dB:u<w>[1];dC:u<w>[2];A[0]=C[0]+1;B[0]=C[1]+2",
+            None,
+        ),
         ("dA:u<w>[4];A[0]=1-", None),
         ("dA:u<w>[4];A[0]=1;;", None),
         ("dA:u<w>[1];dB:u<w>[1];A[0]=1B[0]=1", None),

@@ -26,6 +26,7 @@ returns c =
     let read = rw c.as_slice-2.ensures at c.in_ok-groups.ensures in
     let groups = rw c.in-Some.is at read in
     let of_table = rw c.as_slice.ensures at c.is_thin_table.ensures in
-    let of_groups = rw (c.as_slice-3.ensures, c.as_slice-4.ensures) at c.has_thin_groups.ensures in
-    (thin_program c.args.tokens.now c.in_ok-table.table c.in_ok-table.rest.now c.in-Some.groups c.in_ok-table.ensures (of_table.0 c.if-not-is_thin_table.false) groups (of_groups.0 c.if-not-has_thin_groups.false),
-     only_program c.args.tokens.now c.in_ok-table.table c.in_ok-table.rest.now c.in-Some.groups c.in_ok-table.ensures groups)
+    let of_groups = rw (c.as_slice-3.ensures, c.as_slice-4.ensures) at c.has_thin_groups.ensures in (
+      thin_program c.args.tokens.now c.in_ok-table.table c.in_ok-table.rest.now c.in-Some.groups c.in_ok-table.ensures (of_table.0 c.if-not-is_thin_table.false) groups (of_groups.0 c.if-not-has_thin_groups.false),
+      only_program c.args.tokens.now c.in_ok-table.table c.in_ok-table.rest.now c.in-Some.groups c.in_ok-table.ensures groups,
+    )

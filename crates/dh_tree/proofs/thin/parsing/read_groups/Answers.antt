@@ -1,8 +1,7 @@
 -- Each turn is one law of the loop, at the store that was read and at what comes after it.
-use Rattle.std.proofs.Common.{◌≡◌, List, [], ◌∷◌, ◌++◌, Some, refl, ap, sym, ◌∙◌, subst}
+use Rattle.std.proofs.Common.{◌≡◌, List, [], ◌∷◌, ◌++◌, Some, ap, sym, ◌∙◌, subst}
 use Rattle.dh_tree.specs.declared.thin.Store.{Store}
-use Rattle.dh_tree.specs.Thin.{SpellsGroups}
-use Rattle.dh_tree.specs.ThinReading.{Read, AreGroups, more_stores, more_groups, at_end, no_next}
+use Rattle.dh_tree.specs.ThinReading.{AreGroups}
 use Rattle.dh_tree.proofs.GroupReading.{Holds, holds_store, holds_group, holds_all, holds_nothing, holds_no_next, stores_shorter, groups_shorter}
 use Rattle.dh_tree.proofs.thin.parsing.read_groups.Goals as goal
 

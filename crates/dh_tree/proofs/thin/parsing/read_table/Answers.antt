@@ -1,5 +1,5 @@
 -- Each turn is one law of the loop, at the entry that was read.
-use Rattle.std.proofs.Common.{◌≡◌, List, [], ◌∷◌, ◌++◌, None, MatchOption, sym, ◌∙◌, subst}
+use Rattle.std.proofs.Common.{List, sym, subst}
 use Rattle.dh_tree.specs.declared.tables.MemEntry.{MemEntry}
 use Rattle.dh_tree.proofs.TableReading.{HoldsTable, table_more, table_all, entry_shorter}
 use Rattle.dh_tree.proofs.thin.parsing.read_table.Goals as goal
