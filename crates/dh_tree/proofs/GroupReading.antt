@@ -8,7 +8,7 @@ use Rattle.dh_tree.specs.declared.thin.Store.{Store}
 use Rattle.dh_tree.specs.declared.thin.tokens.Token.{Token}
 use Rattle.dh_tree.specs.declared.thin.tokens.Token.TheVariants as token
 use Rattle.dh_tree.specs.Thin.{HasDistinctNames, SpellsStore, SpellsGroup, SpellsGroups}
-use Rattle.dh_tree.specs.ThinReading.{Read, store, Next, at_end, more_stores, more_groups, no_next, next, BeginsWithName}
+use Rattle.dh_tree.specs.ThinReading.{Read, store_at, Next, at_end, more_stores, more_groups, no_next, next_at, BeginsWithName}
 use Rattle.dh_tree.proofs.StoreReading.{store_sound, store_complete, store_begins}
 
 -- this store before the first group
@@ -37,7 +37,7 @@ next_spells : (table : List MemEntry) (s : Store) (a b rest : List Token) (hs : 
 next_spells table s a b rest [] first is more = absurd more
 next_spells table s a b rest (h ∷ hs) first is more = (b, rest, (first, (more, is)))
 
-whole : (table : List MemEntry) (s : Store) (a rest : List Token) (gs : List (List Store)) → SpellsStore table s a → GoesOn table s gs (next rest) → SpellsGroups table gs (a ++ rest)
+whole : (table : List MemEntry) (s : Store) (a rest : List Token) (gs : List (List Store)) → SpellsStore table s a → GoesOn table s gs (next_at rest) → SpellsGroups table gs (a ++ rest)
 whole table s a [] gs first is = subst (λ (x : List (List Store)). SpellsGroups table x (a ++ [])) (sym is) (a, (first, inl (append-nil a)))
 whole table s a (token.Dashes ∷ rest) gs first (hs, (more, is)) =
     subst (λ (x : List (List Store)). SpellsGroups table x (a ++ token.Dashes ∷ rest)) (sym is) (next_spells table s _ a rest hs (a, (first, inl refl)) refl more)
@@ -69,8 +69,8 @@ groups_names table [] ts groups = absurd groups
 groups_names table (g ∷ []) ts group = group_names table g ts group
 groups_names table (g ∷ (h ∷ gs)) ts (a, b, (group, (more, is))) = begins_more a (token.Dashes ∷ b) ts is (group_names table g a group)
 
-next_store : (ts : List Token) → BeginsWithName ts → next (token.Semicolon ∷ ts) ≡ more_stores ts
-next_store ts b = ap (λ (x : List Token). next (token.Semicolon ∷ x)) b.is ∙ sym (ap (λ (x : List Token). more_stores x) b.is)
+next_store : (ts : List Token) → BeginsWithName ts → next_at (token.Semicolon ∷ ts) ≡ more_stores ts
+next_store ts b = ap (λ (x : List Token). next_at (token.Semicolon ∷ x)) b.is ∙ sym (ap (λ (x : List Token). more_stores x) b.is)
 
 -- the first store of groups, and how they go on
 pub record Turn (table : List MemEntry) (gs : List (List Store)) (ts : List Token) : Type 0 where
@@ -79,9 +79,9 @@ pub record Turn (table : List MemEntry) (gs : List (List Store)) (ts : List Toke
   pub rest : List Token
   pub spelled : SpellsStore table first front
   pub is : ts ≡ front ++ rest
-  pub goes : GoesOn table first gs (next rest)
+  pub goes : GoesOn table first gs (next_at rest)
 
-goes_stores : (table : List MemEntry) (s : Store) (gs hs : List (List Store)) (r : List Token) → SpellsGroups table hs r → gs ≡ put s hs → GoesOn table s gs (next (token.Semicolon ∷ r))
+goes_stores : (table : List MemEntry) (s : Store) (gs hs : List (List Store)) (r : List Token) → SpellsGroups table hs r → gs ≡ put s hs → GoesOn table s gs (next_at (token.Semicolon ∷ r))
 goes_stores table s gs hs r more is = subst (λ (n : Next). GoesOn table s gs n) (sym (next_store r (groups_names table hs r more))) (hs, (more, is))
 
 last_turn : (table : List MemEntry) (g : List Store) (ts : List Token) → SpellsGroup table g ts → Turn table (g ∷ []) ts
@@ -115,24 +115,24 @@ turn table (g ∷ (h ∷ gs)) ts (a, b, (group, (more, is))) = early_turn table 
 -- With what was read.
 
 -- what goes on after the store that was read is spelled, with that store
-pub reads_whole : (table : List MemEntry) (ts : List Token) (r : Read Store) (gs : List (List Store)) → store table ts ≡ Some r → GoesOn table r.item gs (next r.rest) → SpellsGroups table gs ts
+pub reads_whole : (table : List MemEntry) (ts : List Token) (r : Read Store) (gs : List (List Store)) → store_at table ts ≡ Some r → GoesOn table r.item gs (next_at r.rest) → SpellsGroups table gs ts
 reads_whole table ts r gs is goes =
     let b = store_sound table ts r is in
     subst (λ (x : List Token). SpellsGroups table gs x) (sym b.is) (whole table r.item b.front r.rest gs b.spelled goes)
 
-turn_read : (table : List MemEntry) (ts : List Token) (gs : List (List Store)) → HasDistinctNames table → (t : Turn table gs ts) → store table ts ≡ Some (record { item = t.first; rest = t.rest })
-turn_read table ts gs d t = ap (λ (x : List Token). store table x) t.is ∙ store_complete table t.first t.front t.rest d t.spelled
+turn_read : (table : List MemEntry) (ts : List Token) (gs : List (List Store)) → HasDistinctNames table → (t : Turn table gs ts) → store_at table ts ≡ Some (record { item = t.first; rest = t.rest })
+turn_read table ts gs d t = ap (λ (x : List Token). store_at table x) t.is ∙ store_complete table t.first t.front t.rest d t.spelled
 
 -- groups that are spelled go on after the store that was read
-pub reads_parts : (table : List MemEntry) (ts : List Token) (r : Read Store) (gs : List (List Store)) → HasDistinctNames table → store table ts ≡ Some r → SpellsGroups table gs ts → GoesOn table r.item gs (next r.rest)
+pub reads_parts : (table : List MemEntry) (ts : List Token) (r : Read Store) (gs : List (List Store)) → HasDistinctNames table → store_at table ts ≡ Some r → SpellsGroups table gs ts → GoesOn table r.item gs (next_at r.rest)
 reads_parts table ts r gs d is groups =
     let t = turn table gs ts groups in
     let e : Some (record { item = t.first; rest = t.rest }) ≡ Some r = sym (turn_read table ts gs d t) ∙ is in
     let q : record { item = t.first; rest = t.rest } ≡ r = cc e in
-    subst (λ (x : Read Store). GoesOn table x.item gs (next x.rest)) q t.goes
+    subst (λ (x : Read Store). GoesOn table x.item gs (next_at x.rest)) q t.goes
 
 -- where no store is read, no groups are spelled
-pub reads_nothing : (table : List MemEntry) (ts : List Token) (gs : List (List Store)) → HasDistinctNames table → store table ts ≡ None → SpellsGroups table gs ts → ⊥
+pub reads_nothing : (table : List MemEntry) (ts : List Token) (gs : List (List Store)) → HasDistinctNames table → store_at table ts ≡ None → SpellsGroups table gs ts → ⊥
 reads_nothing table ts gs d is groups = let t = turn table gs ts groups in let e = sym is ∙ turn_read table ts gs d t in cc e
 
 -- The loop: what it has made so far, before what the rest spells.
@@ -169,56 +169,56 @@ next_goes table s gs m n e goes = subst (λ (x : Next). GoesOn table s gs x) e g
 
 -- a store, and `;` before another one
 pub holds_store : (table : List MemEntry) (ts rest more : List Token) (groups : List (List Store)) (group : List Store) (r : Read Store)
-    → HasDistinctNames table → store table rest ≡ Some r → next r.rest ≡ more_stores more → Holds table ts rest groups group → Holds table ts more groups (group ++ r.item ∷ [])
+    → HasDistinctNames table → store_at table rest ≡ Some r → next_at r.rest ≡ more_stores more → Holds table ts rest groups group → Holds table ts more groups (group ++ r.item ∷ [])
 holds_store table ts rest more groups group r d is n h = record {
   whole = λ gs spelled.
       subst (λ (x : List (List Store)). SpellsGroups table x ts) (sym (onto_put groups group r.item gs))
-      (h.whole (put r.item gs) (reads_whole table rest r (put r.item gs) is (next_goes table r.item (put r.item gs) (more_stores more) (next r.rest) (sym n) (gs, (spelled, refl)))));
+      (h.whole (put r.item gs) (reads_whole table rest r (put r.item gs) is (next_goes table r.item (put r.item gs) (more_stores more) (next_at r.rest) (sym n) (gs, (spelled, refl)))));
   parts = λ all spelled.
       let p = h.parts all spelled in
-      let q = next_goes table r.item p.0 (next r.rest) (more_stores more) n (reads_parts table rest r p.0 d is p.1.0) in
+      let q = next_goes table r.item p.0 (next_at r.rest) (more_stores more) n (reads_parts table rest r p.0 d is p.1.0) in
       (q.0, (q.1.0, p.1.1 ∙ (ap (λ (x : List (List Store)). onto groups group x) q.1.1 ∙ sym (onto_put groups group r.item q.0))));
 }
 
 -- a store, and `---`
 pub holds_group : (table : List MemEntry) (ts rest more : List Token) (groups : List (List Store)) (group : List Store) (r : Read Store)
-    → HasDistinctNames table → store table rest ≡ Some r → next r.rest ≡ more_groups more → Holds table ts rest groups group → Holds table ts more (groups ++ (group ++ r.item ∷ []) ∷ []) []
+    → HasDistinctNames table → store_at table rest ≡ Some r → next_at r.rest ≡ more_groups more → Holds table ts rest groups group → Holds table ts more (groups ++ (group ++ r.item ∷ []) ∷ []) []
 holds_group table ts rest more groups group r d is n h = record {
   whole = λ gs spelled.
       subst (λ (x : List (List Store)). SpellsGroups table x ts) (sym (onto_next groups group r.item gs))
-      (h.whole ((r.item ∷ []) ∷ gs) (reads_whole table rest r ((r.item ∷ []) ∷ gs) is (next_goes table r.item ((r.item ∷ []) ∷ gs) (more_groups more) (next r.rest) (sym n) (gs, (spelled, refl)))));
+      (h.whole ((r.item ∷ []) ∷ gs) (reads_whole table rest r ((r.item ∷ []) ∷ gs) is (next_goes table r.item ((r.item ∷ []) ∷ gs) (more_groups more) (next_at r.rest) (sym n) (gs, (spelled, refl)))));
   parts = λ all spelled.
       let p = h.parts all spelled in
-      let q = next_goes table r.item p.0 (next r.rest) (more_groups more) n (reads_parts table rest r p.0 d is p.1.0) in
+      let q = next_goes table r.item p.0 (next_at r.rest) (more_groups more) n (reads_parts table rest r p.0 d is p.1.0) in
       (q.0, (q.1.0, p.1.1 ∙ (ap (λ (x : List (List Store)). onto groups group x) q.1.1 ∙ sym (onto_next groups group r.item q.0))));
 }
 
 -- a store, and the end: these are the groups
 pub holds_all : (table : List MemEntry) (ts rest : List Token) (groups : List (List Store)) (group : List Store) (r : Read Store)
-    → HasDistinctNames table → store table rest ≡ Some r → next r.rest ≡ at_end → Holds table ts rest groups group
+    → HasDistinctNames table → store_at table rest ≡ Some r → next_at r.rest ≡ at_end → Holds table ts rest groups group
     → SpellsGroups table (groups ++ (group ++ r.item ∷ []) ∷ []) ts × ((all : List (List Store)) → SpellsGroups table all ts → all ≡ groups ++ (group ++ r.item ∷ []) ∷ [])
 holds_all table ts rest groups group r d is n h = (
-  h.whole ((r.item ∷ []) ∷ []) (reads_whole table rest r ((r.item ∷ []) ∷ []) is (next_goes table r.item ((r.item ∷ []) ∷ []) at_end (next r.rest) (sym n) refl)),
+  h.whole ((r.item ∷ []) ∷ []) (reads_whole table rest r ((r.item ∷ []) ∷ []) is (next_goes table r.item ((r.item ∷ []) ∷ []) at_end (next_at r.rest) (sym n) refl)),
   λ all spelled.
       let p = h.parts all spelled in
-      let q = next_goes table r.item p.0 (next r.rest) at_end n (reads_parts table rest r p.0 d is p.1.0) in
+      let q = next_goes table r.item p.0 (next_at r.rest) at_end n (reads_parts table rest r p.0 d is p.1.0) in
       p.1.1 ∙ ap (λ (x : List (List Store)). onto groups group x) q,
 )
 
 -- no store
 pub holds_nothing : (table : List MemEntry) (ts rest : List Token) (groups : List (List Store)) (group : List Store)
-    → HasDistinctNames table → store table rest ≡ None → Holds table ts rest groups group → (all : List (List Store)) → SpellsGroups table all ts → ⊥
+    → HasDistinctNames table → store_at table rest ≡ None → Holds table ts rest groups group → (all : List (List Store)) → SpellsGroups table all ts → ⊥
 holds_nothing table ts rest groups group d is h all spelled = let p = h.parts all spelled in reads_nothing table rest p.0 d is p.1.0
 
 -- a store, and what cannot follow it
 pub holds_no_next : (table : List MemEntry) (ts rest : List Token) (groups : List (List Store)) (group : List Store) (r : Read Store)
-    → HasDistinctNames table → store table rest ≡ Some r → next r.rest ≡ no_next → Holds table ts rest groups group → (all : List (List Store)) → SpellsGroups table all ts → ⊥
+    → HasDistinctNames table → store_at table rest ≡ Some r → next_at r.rest ≡ no_next → Holds table ts rest groups group → (all : List (List Store)) → SpellsGroups table all ts → ⊥
 holds_no_next table ts rest groups group r d is n h all spelled =
-    let p = h.parts all spelled in next_goes table r.item p.0 (next r.rest) no_next n (reads_parts table rest r p.0 d is p.1.0)
+    let p = h.parts all spelled in next_goes table r.item p.0 (next_at r.rest) no_next n (reads_parts table rest r p.0 d is p.1.0)
 
 -- Each turn leaves fewer tokens.
 
-store_shorter : (table : List MemEntry) (ts : List Token) (r : Read Store) → store table ts ≡ Some r → length r.rest < length ts
+store_shorter : (table : List MemEntry) (ts : List Token) (r : Read Store) → store_at table ts ≡ Some r → length r.rest < length ts
 store_shorter table ts r is =
     let b = store_sound table ts r is in
     let n = store_begins table r.item b.front b.spelled in
@@ -232,7 +232,7 @@ Left ts (more_stores r) = length r < length ts
 Left ts (more_groups r) = length r < length ts
 Left ts _ = Unit {0}
 
-next_shorter : (ts : List Token) → Left ts (next ts)
+next_shorter : (ts : List Token) → Left ts (next_at ts)
 next_shorter [] = tt
 next_shorter (token.Dashes ∷ rest) = omega arith
 next_shorter (token.Semicolon ∷ []) = tt
@@ -240,8 +240,8 @@ next_shorter (token.Semicolon ∷ (token.Dashes ∷ rest)) = omega arith
 next_shorter (token.Semicolon ∷ (t ∷ rest)) = omega arith
 next_shorter _ = tt
 
-pub stores_shorter : (table : List MemEntry) (ts more : List Token) (r : Read Store) → store table ts ≡ Some r → next r.rest ≡ more_stores more → length more < length ts
+pub stores_shorter : (table : List MemEntry) (ts more : List Token) (r : Read Store) → store_at table ts ≡ Some r → next_at r.rest ≡ more_stores more → length more < length ts
 stores_shorter table ts more r is n = let a = store_shorter table ts r is in let b = subst (λ (x : Next). Left r.rest x) n (next_shorter r.rest) in omega (arith, a, b)
 
-pub groups_shorter : (table : List MemEntry) (ts more : List Token) (r : Read Store) → store table ts ≡ Some r → next r.rest ≡ more_groups more → length more < length ts
+pub groups_shorter : (table : List MemEntry) (ts more : List Token) (r : Read Store) → store_at table ts ≡ Some r → next_at r.rest ≡ more_groups more → length more < length ts
 groups_shorter table ts more r is n = let a = store_shorter table ts r is in let b = subst (λ (x : Next). Left r.rest x) n (next_shorter r.rest) in omega (arith, a, b)

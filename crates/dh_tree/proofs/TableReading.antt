@@ -10,7 +10,7 @@ use Rattle.dh_tree.specs.declared.thin.tokens.Token.TheVariants as token
 use Rattle.dh_tree.specs.Names.{IsName}
 use Rattle.dh_tree.specs.Thin.{line_of, entry_of, IsThinEntry, SpellsEntry, SpellsTable}
 use Rattle.dh_tree.specs.ThinTokens.{IsToken}
-use Rattle.dh_tree.specs.ThinReading.{Read, read, and_then, declared_name, after_kind, declared_size, Declared, declaration, sized, entry, HasTable, BeginsWithName, IsTable}
+use Rattle.dh_tree.specs.ThinReading.{Read, read, and_then, declared_name, after_kind, declared_size, Declared, declaration_at, sized, entry_at, HasTable, BeginsWithName, IsTable}
 use Rattle.dh_tree.proofs.StoreReading.{went}
 
 abbrev pub entry_tokens : List ℕ → ℕ → List Token
@@ -44,7 +44,7 @@ then_size n k = and_then (declared_size k) (then_done n)
 abbrev then_kind : Read (List ℕ) → Option (Read Declared)
 then_kind n = and_then (after_kind n.rest) (then_size n)
 
-declaration_sound : (ts : List Token) (r : Read Declared) → declaration ts ≡ Some r → ts ≡ entry_tokens r.item.name r.item.size ++ r.rest
+declaration_sound : (ts : List Token) (r : Read Declared) → declaration_at ts ≡ Some r → ts ≡ entry_tokens r.item.name r.item.size ++ r.rest
 declaration_sound ts r is =
     let n = went (declared_name ts) then_kind r is in
     let k = went (after_kind n.0.rest) (then_size n.0) r n.1.1 in
@@ -69,16 +69,16 @@ record WasRead (ts : List Token) (e : MemEntry) (rest : List Token) : Type 0 whe
 is_size : (n : ℕ) → (nat_le 1 n && nat_le n 1024) ≡ true → (1 ≤ n) × (n ≤ 1024)
 is_size n t = (grind (arith, nat_tests), grind (arith, nat_tests))
 
-entry_sound : (ts : List Token) (r : Read MemEntry) → entry ts ≡ Some r → WasRead ts r.item r.rest
+entry_sound : (ts : List Token) (r : Read MemEntry) → entry_at ts ≡ Some r → WasRead ts r.item r.rest
 entry_sound ts r is =
-    let d = went (declaration ts) sized r is in
+    let d = went (declaration_at ts) sized r is in
     let made : Read MemEntry = record { item = entry_of d.0.item.name d.0.item.size; rest = d.0.rest } in
     let s = if_some (nat_le 1 d.0.item.size && nat_le d.0.item.size 1024) made r d.1.1 in
     let n = is_size d.0.item.size s.0 in
     let w : WasRead ts made.item made.rest = record { name = d.0.item.name; size = d.0.item.size; is = declaration_sound ts d.0 d.1.0; made = refl; least = n.0; greatest = n.1 } in
     subst (λ (x : Read MemEntry). WasRead ts x.item x.rest) {x = made} s.1 w
 
-entry_complete : (name : List ℕ) (size : ℕ) (rest : List Token) → 1 ≤ size → size ≤ 1024 → entry (entry_tokens name size ++ rest) ≡ Some (record { item = entry_of name size; rest = rest })
+entry_complete : (name : List ℕ) (size : ℕ) (rest : List Token) → 1 ≤ size → size ≤ 1024 → entry_at (entry_tokens name size ++ rest) ≡ Some (record { item = entry_of name size; rest = rest })
 entry_complete name size rest least greatest = let t : (nat_le 1 size && nat_le size 1024) ≡ true = grind (arith, nat_tests) in rw t refl
 
 made_spells : (e : MemEntry) (name : List ℕ) (size : ℕ) → e ≡ entry_of name size → SpellsEntry e (entry_tokens name size)
@@ -113,36 +113,36 @@ entry_spelling e a t (n, (line, is)) =
     let same : n ≡ t.size = ap length_of l in
     is ∙ ap (λ (x : ℕ). entry_tokens e.name x) same
 
-first_entry : (ts : List Token) (r : Read MemEntry) (e : MemEntry) (es : List MemEntry) (b : List Token) → entry ts ≡ Some r → (front : List Token) → SpellsTable (e ∷ es) front → ts ≡ front ++ b → AllByRecursion IsThinEntry (e ∷ es)
+first_entry : (ts : List Token) (r : Read MemEntry) (e : MemEntry) (es : List MemEntry) (b : List Token) → entry_at ts ≡ Some r → (front : List Token) → SpellsTable (e ∷ es) front → ts ≡ front ++ b → AllByRecursion IsThinEntry (e ∷ es)
     → (fs : List MemEntry) × (HasTable r.rest fs b × (e ∷ es ≡ r.item ∷ fs))
 first_entry ts r e es b is front (a, c, (first, (more, joined))) whole (t, thin) =
     let spelling = entry_spelling e a t first in
     let all : ts ≡ entry_tokens e.name t.size ++ (c ++ b) = whole ∙ (ap (λ (x : List Token). x ++ b) (joined ∙ ap (λ (x : List Token). x ++ c) spelling) ∙ append_assoc (entry_tokens e.name t.size) c b) in
     let made : Read MemEntry = record { item = entry_of e.name t.size; rest = c ++ b } in
-    let was : Some made ≡ Some r = sym (ap (λ (x : List Token). entry x) all ∙ entry_complete e.name t.size (c ++ b) t.least t.greatest) ∙ is in
+    let was : Some made ≡ Some r = sym (ap (λ (x : List Token). entry_at x) all ∙ entry_complete e.name t.size (c ++ b) t.least t.greatest) ∙ is in
     let q : made ≡ r = cc was in
     let h : HasTable (c ++ b) es b = record { front = c; spelled = more; is = refl; thin = thin } in
     (es, (subst (λ (x : Read MemEntry). HasTable x.rest es b) {x = made} q h, ap (λ (x : MemEntry). x ∷ es) (t.is ∙ ap (λ (x : Read MemEntry). x.item) q)))
 
-no_entry : (b : List Token) → BeginsWithName b → entry b ≡ None
-no_entry b n = ap (λ (x : List Token). entry x) n.is
+no_entry : (b : List Token) → BeginsWithName b → entry_at b ≡ None
+no_entry b n = ap (λ (x : List Token). entry_at x) n.is
 
 -- a table of tokens whose first entry was read begins with it
-less_table : (ts : List Token) (r : Read MemEntry) (es : List MemEntry) (b : List Token) → entry ts ≡ Some r → BeginsWithName b → HasTable ts es b → (fs : List MemEntry) × (HasTable r.rest fs b × (es ≡ r.item ∷ fs))
+less_table : (ts : List Token) (r : Read MemEntry) (es : List MemEntry) (b : List Token) → entry_at ts ≡ Some r → BeginsWithName b → HasTable ts es b → (fs : List MemEntry) × (HasTable r.rest fs b × (es ≡ r.item ∷ fs))
 less_table ts r [] b is names h =
     let e : ts ≡ b = h.is ∙ ap (λ (x : List Token). x ++ b) h.spelled in
-    let f = sym is ∙ (ap (λ (x : List Token). entry x) e ∙ no_entry b names) in
+    let f = sym is ∙ (ap (λ (x : List Token). entry_at x) e ∙ no_entry b names) in
     cc f
 less_table ts r (e ∷ es) b is names h = first_entry ts r e es b is h.front h.spelled h.is h.thin
 
-some_table : (ts : List Token) (e : MemEntry) (es : List MemEntry) (b : List Token) → entry ts ≡ None → (front : List Token) → SpellsTable (e ∷ es) front → ts ≡ front ++ b → AllByRecursion IsThinEntry (e ∷ es) → ⊥
+some_table : (ts : List Token) (e : MemEntry) (es : List MemEntry) (b : List Token) → entry_at ts ≡ None → (front : List Token) → SpellsTable (e ∷ es) front → ts ≡ front ++ b → AllByRecursion IsThinEntry (e ∷ es) → ⊥
 some_table ts e es b is front (a, c, (first, (more, joined))) whole (t, thin) =
     let all : ts ≡ entry_tokens e.name t.size ++ (c ++ b) = whole ∙ (ap (λ (x : List Token). x ++ b) (joined ∙ ap (λ (x : List Token). x ++ c) (entry_spelling e a t first)) ∙ append_assoc (entry_tokens e.name t.size) c b) in
-    let f = sym is ∙ (ap (λ (x : List Token). entry x) all ∙ entry_complete e.name t.size (c ++ b) t.least t.greatest) in
+    let f = sym is ∙ (ap (λ (x : List Token). entry_at x) all ∙ entry_complete e.name t.size (c ++ b) t.least t.greatest) in
     cc f
 
 -- tokens that no entry begins have the empty table only
-no_table : (ts : List Token) (es : List MemEntry) (b : List Token) → entry ts ≡ None → HasTable ts es b → (es ≡ []) × (b ≡ ts)
+no_table : (ts : List Token) (es : List MemEntry) (b : List Token) → entry_at ts ≡ None → HasTable ts es b → (es ≡ []) × (b ≡ ts)
 no_table ts [] b is h = (refl, sym (h.is ∙ ap (λ (x : List Token). x ++ b) h.spelled))
 no_table ts (e ∷ es) b is h = absurd (some_table ts e es b is h.front h.spelled h.is h.thin)
 
@@ -156,7 +156,7 @@ pub record HoldsTable (ts rest : List Token) (table : List MemEntry) : Type 0 wh
 pub table_none : (ts : List Token) → AllByRecursion IsToken ts → HoldsTable ts ts []
 table_none ts good = record { good = good; whole = λ es b h. h; parts = λ es b names h. (es, (h, refl)) }
 
-pub table_more : (ts rest : List Token) (table : List MemEntry) (e : MemEntry) (more : List Token) → entry rest ≡ read e more → HoldsTable ts rest table → HoldsTable ts more (table ++ e ∷ [])
+pub table_more : (ts rest : List Token) (table : List MemEntry) (e : MemEntry) (more : List Token) → entry_at rest ≡ read e more → HoldsTable ts rest table → HoldsTable ts more (table ++ e ∷ [])
 table_more ts rest table e more is h =
     let r : Read MemEntry = record { item = e; rest = more } in
     let w = entry_sound rest r is in
@@ -169,7 +169,7 @@ table_more ts rest table e more is h =
           (q.0, (q.1.0, p.1.1 ∙ (ap (λ (x : List MemEntry). table ++ x) q.1.1 ∙ sym (append_assoc table (e ∷ []) q.0))));
     }
 
-pub table_all : (ts rest : List Token) (table : List MemEntry) → entry rest ≡ None → HoldsTable ts rest table → IsTable ts table rest
+pub table_all : (ts rest : List Token) (table : List MemEntry) → entry_at rest ≡ None → HoldsTable ts rest table → IsTable ts table rest
 table_all ts rest table is h = record {
   there = subst (λ (x : List MemEntry). HasTable ts x rest) (append-nil table) (h.whole [] rest (record { front = []; spelled = refl; is = refl; thin = tt }));
   only = λ other b names t.
@@ -178,7 +178,7 @@ table_all ts rest table is h = record {
       (p.1.1 ∙ (ap (λ (x : List MemEntry). table ++ x) q.0 ∙ append-nil table), q.1);
 }
 
-pub entry_shorter : (ts : List Token) (e : MemEntry) (more : List Token) → entry ts ≡ read e more → length more < length ts
+pub entry_shorter : (ts : List Token) (e : MemEntry) (more : List Token) → entry_at ts ≡ read e more → length more < length ts
 entry_shorter ts e more is =
     let r : Read MemEntry = record { item = e; rest = more } in
     let w = entry_sound ts r is in

@@ -47,16 +47,20 @@ pub record Declared : Type 0 where
   pub size : ℕ
 
 -- `decl name: ubit<32>[size];`
-abbrev pub declaration : List Token → Option (Read Declared)
-declaration ts = and_then (declared_name ts) (λ n. and_then (after_kind n.rest) (λ k. and_then (declared_size k) (λ s. read (record { name = n.item; size = s.item }) s.rest)))
+abbrev pub declaration_at : List Token → Option (Read Declared)
+declaration_at ts =
+    and_then (declared_name ts) λ n.
+    and_then (after_kind n.rest) λ k.
+    and_then (declared_size k) λ s.
+    read (record { name = n.item; size = s.item }) s.rest
 
 -- an entry of 1 to 1024 elements
 abbrev pub sized : Read Declared → Option (Read MemEntry)
 sized d = if nat_le 1 d.item.size && nat_le d.item.size 1024 then read (entry_of d.item.name d.item.size) d.rest else None
 
 -- the entry that a declaration makes
-abbrev pub entry : List Token → Option (Read MemEntry)
-entry ts = and_then (declaration ts) sized
+abbrev pub entry_at : List Token → Option (Read MemEntry)
+entry_at ts = and_then (declaration_at ts) sized
 
 -- a name and an index
 pub record Named : Type 0 where
@@ -64,9 +68,9 @@ pub record Named : Type 0 where
   pub index : ℕ
 
 -- `name[index]`
-abbrev pub access : List Token → Option (Read Named)
-access (token.Name n ∷ (token.Open ∷ (token.Number i ∷ (token.Close ∷ rest)))) = read (record { name = n; index = i }) rest
-access _ = None
+abbrev pub access_at : List Token → Option (Read Named)
+access_at (token.Name n ∷ (token.Open ∷ (token.Number i ∷ (token.Close ∷ rest)))) = read (record { name = n; index = i }) rest
+access_at _ = None
 
 -- the place of the first entry of this name, where the first of all has place i
 abbrev pub place_from : ℕ → List ℕ → List MemEntry → Option ℕ
@@ -77,8 +81,11 @@ abbrev pub place_of : List ℕ → List MemEntry → Option ℕ
 place_of name table = place_from 0 name table
 
 -- `name[index]`, of a memory of the table
-abbrev pub element : List MemEntry → List Token → Option (Read Operand)
-element table ts = and_then (access ts) (λ a. and_then (place_of a.item.name table) (λ m. read (record { memory = m; index = a.item.index }) a.rest))
+abbrev pub element_at : List MemEntry → List Token → Option (Read Operand)
+element_at table ts =
+    and_then (access_at ts) λ a.
+    and_then (place_of a.item.name table) λ m.
+    read (record { memory = m; index = a.item.index }) a.rest
 
 -- `:=`
 abbrev pub after_becomes : List Token → Option (List Token)
@@ -86,9 +93,9 @@ after_becomes (token.Becomes ∷ rest) = Some rest
 after_becomes _ = None
 
 -- `+ number`
-abbrev pub summand : List Token → Option (Read ℕ)
-summand (token.Plus ∷ (token.Number n ∷ rest)) = read n rest
-summand _ = None
+abbrev pub summand_at : List Token → Option (Read ℕ)
+summand_at (token.Plus ∷ (token.Number n ∷ rest)) = read n rest
+summand_at _ = None
 
 -- what a store writes
 pub record Value : Type 0 where
@@ -96,18 +103,24 @@ pub record Value : Type 0 where
   pub number : ℕ
 
 -- `name[index] + number`
-abbrev pub sum : List MemEntry → List Token → Option (Read Value)
-sum table ts = and_then (element table ts) (λ e. and_then (summand e.rest) (λ n. read (record { source = Some e.item; number = n.item }) n.rest))
+abbrev pub sum_at : List MemEntry → List Token → Option (Read Value)
+sum_at table ts =
+    and_then (element_at table ts) λ e.
+    and_then (summand_at e.rest) λ n.
+    read (record { source = Some e.item; number = n.item }) n.rest
 
 -- `number`, or a sum
-abbrev pub value : List MemEntry → List Token → Option (Read Value)
-value table (token.Number n ∷ rest) = read (record { source = None; number = n }) rest
-value table ts = sum table ts
+abbrev pub value_at : List MemEntry → List Token → Option (Read Value)
+value_at table (token.Number n ∷ rest) = read (record { source = None; number = n }) rest
+value_at table ts = sum_at table ts
 
 -- `name[index] := value`
-abbrev pub store : List MemEntry → List Token → Option (Read Store)
-store table ts =
-    and_then (element table ts) (λ e. and_then (after_becomes e.rest) (λ b. and_then (value table b) (λ v. read (record { memory = e.item.memory; index = e.item.index; source = v.item.source; number = v.item.number }) v.rest)))
+abbrev pub store_at : List MemEntry → List Token → Option (Read Store)
+store_at table ts =
+    and_then (element_at table ts) λ e.
+    and_then (after_becomes e.rest) λ b.
+    and_then (value_at table b) λ v.
+    read (record { memory = e.item.memory; index = e.item.index; source = v.item.source; number = v.item.number }) v.rest
 
 -- what comes after a store: the end, another store of its group, or another group
 pub data Next : Type 0 where
@@ -116,13 +129,13 @@ pub data Next : Type 0 where
   more_groups : (rest : List Token) → Next
   no_next : Next
 
-abbrev pub next : List Token → Next
-next [] = at_end
-next (token.Dashes ∷ rest) = more_groups rest
-next (token.Semicolon ∷ []) = at_end
-next (token.Semicolon ∷ (token.Dashes ∷ rest)) = more_groups rest
-next (token.Semicolon ∷ rest) = more_stores rest
-next _ = no_next
+abbrev pub next_at : List Token → Next
+next_at [] = at_end
+next_at (token.Dashes ∷ rest) = more_groups rest
+next_at (token.Semicolon ∷ []) = at_end
+next_at (token.Semicolon ∷ (token.Dashes ∷ rest)) = more_groups rest
+next_at (token.Semicolon ∷ rest) = more_stores rest
+next_at _ = no_next
 
 -- the next thing, as the code gives it
 abbrev pub shown : reading.Next → Next

@@ -5,7 +5,7 @@ ghost use Rattle.std.specs.Prelude.{◌≡◌, ◌≤◌, ◌^◌, IfOk, MatchOp
 ghost use Rattle.std.specs.List.{AllByRecursion};
 ghost use Rattle.dh_tree.specs.Thin.{entry_of, HasDistinctNames, IsThinTokens};
 ghost use Rattle.dh_tree.specs.ThinTokens.{IsToken};
-ghost use Rattle.dh_tree.specs.ThinReading.{read, entry, IsTable, AreGroups};
+ghost use Rattle.dh_tree.specs.ThinReading.{read, entry_at, IsTable, AreGroups};
 
 use crate::kinds::Kind;
 use crate::tables::{Dim, MemEntry, MemTable, Name, Shape};
@@ -53,7 +53,7 @@ fn read_table(alloc: Global, tokens: &[Token]) -> Result<(MemTable, &[Token]), N
 
 /// The entry of the declaration at the front of the tokens, of 1 to 1024 elements, and what is left.
 fn read_entry(alloc: Global, tokens: &[Token]) -> Result<Option<(MemEntry, &[Token])>, NoMemory>
-    ensures { IfOk result (λ o. MatchOption o (entry tokens.now ≡ None) (λ r. entry tokens.now ≡ read r.0 r.1.now)) }
+    ensures { IfOk result (λ o. MatchOption o (entry_at tokens.now ≡ None) (λ r. entry_at tokens.now ≡ read r.0 r.1.now)) }
 {
     let Some((declaration, rest)) = read_declaration(tokens) else {
         return Ok(None);

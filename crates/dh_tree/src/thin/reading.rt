@@ -2,7 +2,7 @@
 //! the tokens, and gives what is left.
 
 ghost use Rattle.std.specs.Prelude.{◌≡◌, ◌≤◌, ◌^◌, MatchOption, Some, None, length};
-ghost use Rattle.dh_tree.specs.ThinReading.{read, declared_name, after_kind, declared_size, declaration, access, place_of, element, after_becomes, summand, sum, value, store, next, shown};
+ghost use Rattle.dh_tree.specs.ThinReading.{read, declared_name, after_kind, declared_size, declaration_at, access_at, place_of, element_at, after_becomes, summand_at, sum_at, value_at, store_at, next_at, shown};
 
 use crate::tables::{MemEntry, Name};
 use crate::thin::{Operand, Store, Token};
@@ -37,7 +37,7 @@ pub(crate) enum Next<'a> {
 
 /// The declaration `decl name: ubit<32>[size];` at the front of the tokens.
 pub(crate) fn read_declaration(tokens: &[Token]) -> Option<(Declaration<'_>, &[Token])>
-    ensures { MatchOption result (declaration tokens.now ≡ None) (λ r. declaration tokens.now ≡ read (record { name = r.0.name.now; size = r.0.size }) r.1.now) }
+    ensures { MatchOption result (declaration_at tokens.now ≡ None) (λ r. declaration_at tokens.now ≡ read (record { name = r.0.name.now; size = r.0.size }) r.1.now) }
 {
     let (name, rest) = read_name(tokens)?;
     let rest = skip_kind(rest)?;
@@ -93,7 +93,7 @@ pub(crate) fn read_store<'a>(
     tokens: &'a [Token],
 ) -> Option<(Store, &'a [Token])>
     requires { length table.now ≤ 2 ^ 32 }
-    ensures { MatchOption result (store table.now tokens.now ≡ None) (λ r. store table.now tokens.now ≡ read r.0 r.1.now) }
+    ensures { MatchOption result (store_at table.now tokens.now ≡ None) (λ r. store_at table.now tokens.now ≡ read r.0 r.1.now) }
 {
     let (target, rest) = read_element(table, tokens)?;
     let rest = skip_becomes(rest)?;
@@ -120,7 +120,7 @@ fn skip_becomes(tokens: &[Token]) -> Option<&[Token]>
 /// The number or the sum at the front of the tokens.
 fn read_value<'a>(table: &[MemEntry], tokens: &'a [Token]) -> Option<(Value, &'a [Token])>
     requires { length table.now ≤ 2 ^ 32 }
-    ensures { MatchOption result (value table.now tokens.now ≡ None) (λ r. value table.now tokens.now ≡ read (record { source = r.0.source; number = r.0.number }) r.1.now) }
+    ensures { MatchOption result (value_at table.now tokens.now ≡ None) (λ r. value_at table.now tokens.now ≡ read (record { source = r.0.source; number = r.0.number }) r.1.now) }
 {
     match tokens {
         [Token::Number(number), rest @ ..] => {
@@ -137,7 +137,7 @@ fn read_value<'a>(table: &[MemEntry], tokens: &'a [Token]) -> Option<(Value, &'a
 /// The sum of an element and a number at the front of the tokens.
 fn read_sum<'a>(table: &[MemEntry], tokens: &'a [Token]) -> Option<(Value, &'a [Token])>
     requires { length table.now ≤ 2 ^ 32 }
-    ensures { MatchOption result (sum table.now tokens.now ≡ None) (λ r. sum table.now tokens.now ≡ read (record { source = r.0.source; number = r.0.number }) r.1.now) }
+    ensures { MatchOption result (sum_at table.now tokens.now ≡ None) (λ r. sum_at table.now tokens.now ≡ read (record { source = r.0.source; number = r.0.number }) r.1.now) }
 {
     let (element, rest) = read_element(table, tokens)?;
     let (number, rest) = read_summand(rest)?;
@@ -150,7 +150,7 @@ fn read_sum<'a>(table: &[MemEntry], tokens: &'a [Token]) -> Option<(Value, &'a [
 
 /// The number of `+ number` at the front of the tokens.
 fn read_summand(tokens: &[Token]) -> Option<(u64, &[Token])>
-    ensures { MatchOption result (summand tokens.now ≡ None) (λ r. summand tokens.now ≡ read r.0 r.1.now) }
+    ensures { MatchOption result (summand_at tokens.now ≡ None) (λ r. summand_at tokens.now ≡ read r.0 r.1.now) }
 {
     match tokens {
         [Token::Plus, Token::Number(number), rest @ ..] => Some((*number, rest)),
@@ -161,7 +161,7 @@ fn read_summand(tokens: &[Token]) -> Option<(u64, &[Token])>
 /// The element `name[index]` at the front of the tokens, of the first memory of that name.
 fn read_element<'a>(table: &[MemEntry], tokens: &'a [Token]) -> Option<(Operand, &'a [Token])>
     requires { length table.now ≤ 2 ^ 32 }
-    ensures { MatchOption result (element table.now tokens.now ≡ None) (λ r. element table.now tokens.now ≡ read r.0 r.1.now) }
+    ensures { MatchOption result (element_at table.now tokens.now ≡ None) (λ r. element_at table.now tokens.now ≡ read r.0 r.1.now) }
 {
     let (name, index, rest) = read_access(tokens)?;
     let memory = find_memory(table, name)?;
@@ -170,7 +170,7 @@ fn read_element<'a>(table: &[MemEntry], tokens: &'a [Token]) -> Option<(Operand,
 
 /// The name and the index of `name[index]` at the front of the tokens.
 fn read_access(tokens: &[Token]) -> Option<(&Name, u64, &[Token])>
-    ensures { MatchOption result (access tokens.now ≡ None) (λ r. access tokens.now ≡ read (record { name = r.0.now; index = r.1 }) r.2.now) }
+    ensures { MatchOption result (access_at tokens.now ≡ None) (λ r. access_at tokens.now ≡ read (record { name = r.0.now; index = r.1 }) r.2.now) }
 {
     match tokens {
         [
@@ -199,7 +199,7 @@ fn find_memory(table: &[MemEntry], name: &Name) -> Option<u32>
 
 /// What comes after a store, at the front of the tokens.
 pub(crate) fn read_next(tokens: &[Token]) -> Next<'_>
-    ensures { shown result ≡ next tokens.now }
+    ensures { shown result ≡ next_at tokens.now }
 {
     match tokens {
         [] | [Token::Semicolon] => Next::End,
