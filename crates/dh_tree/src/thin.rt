@@ -1,7 +1,10 @@
 //! Thin programs, the first forms of the language that are built: stores of numbers, and of an
 //! element plus a number, in groups that `---` separates.
 
+mod checking;
 mod lexing;
+mod parsing;
+mod reading;
 mod tokens;
 
 use crate::tables::MemTable;
