@@ -4,3 +4,4 @@ pub mod Ends
 pub mod Plays
 pub mod Reports
 pub mod Laws
+pub mod Parts

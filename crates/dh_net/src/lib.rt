@@ -5,6 +5,8 @@
 
 mod laws;
 mod nets;
+mod validity;
 
 pub use laws::valuation_is_unique;
 pub use nets::{Cell, CellForm, Driver, Net, Register};
+pub use validity::{row_width, valid};

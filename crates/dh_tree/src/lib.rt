@@ -5,10 +5,11 @@
 
 mod contents;
 mod kinds;
+mod names;
 mod tables;
 mod thin;
 
 pub use contents::Memories;
 pub use kinds::Kind;
-pub use tables::{Dim, MemEntry, MemTable, Name, Shape};
+pub use tables::{Dim, MemEntry, MemTable, Name, Shape, element_count, is_table};
 pub use thin::{Operand, Program, Store, Token};

@@ -1,0 +1,5 @@
+use Rattle.std.proofs.Common.{◌≡◌, ℕ, ◌<◌, get_or, map}
+use Rattle.dh_tree.proofs.names.is_one_of.Given as goal
+
+abbrev pub invariant-loop-word : goal.invariant-loop-word
+invariant-loop-word l = (k : ℕ) → k < l.word-index → get_or (map (λ word. word.now) l.words) k l.text ≡ l.text → ⊥

@@ -1,0 +1,6 @@
+use Rattle.std.proofs.Common.{◌↔◌, drop}
+use Rattle.dh_tree.specs.Tables.{HasDistinctNames}
+use Rattle.dh_tree.proofs.tables.validity.has_distinct_names.Given as goal
+
+abbrev pub invariant-loop-i : goal.invariant-loop-i
+invariant-loop-i l = HasDistinctNames (drop l.i l.entries) ↔ HasDistinctNames l.entries
