@@ -7,7 +7,8 @@ use Rattle.dh_tree.specs.declared.tables.MemEntry.{MemEntry}
 use Rattle.dh_tree.specs.declared.thin.Store.{Store}
 use Rattle.dh_tree.specs.declared.thin.tokens.Token.{Token}
 use Rattle.dh_tree.specs.declared.thin.tokens.Token.TheVariants as token
-use Rattle.dh_tree.specs.Thin.{HasDistinctNames, SpellsStore, SpellsGroup, SpellsGroups}
+use Rattle.dh_tree.specs.Thin.{SpellsStore, SpellsGroup, SpellsGroups}
+use Rattle.dh_tree.specs.Tables.{HasDistinctNames}
 use Rattle.dh_tree.specs.ThinReading.{Read, store_at, Next, at_end, more_stores, more_groups, no_next, next_at, BeginsWithName}
 use Rattle.dh_tree.proofs.StoreReading.{store_sound, store_complete, store_begins}
 

@@ -7,3 +7,4 @@ pub mod StoreReading
 pub mod GroupReading
 pub mod TableReading
 pub mod Parsed
+pub mod ThinTexts

@@ -7,7 +7,7 @@ use Rattle.std.specs.List.{slice_get}
 use Rattle.std.specs.Str.{bytes_eq}
 use Rattle.std.proofs.lemmas.Slice.Eq.{bytes_eq-Decides}
 use Rattle.dh_tree.specs.declared.tables.MemEntry.{MemEntry}
-use Rattle.dh_tree.specs.Thin.{HasNoName, HasDistinctNames}
+use Rattle.dh_tree.specs.Tables.{HasNoName, HasDistinctNames}
 use Rattle.dh_tree.specs.ThinReading.{place_from, place_of}
 
 -- the entry at this place has this name

@@ -7,7 +7,8 @@ use Rattle.dh_tree.specs.declared.thin.Operand.{Operand}
 use Rattle.dh_tree.specs.declared.thin.Store.{Store}
 use Rattle.dh_tree.specs.declared.thin.tokens.Token.{Token}
 use Rattle.dh_tree.specs.declared.thin.tokens.Token.TheVariants as token
-use Rattle.dh_tree.specs.Thin.{HasDistinctNames, SpellsAccess, SpellsValue, SpellsStore}
+use Rattle.dh_tree.specs.Thin.{SpellsAccess, SpellsValue, SpellsStore}
+use Rattle.dh_tree.specs.Tables.{HasDistinctNames}
 use Rattle.dh_tree.specs.ThinReading.{Read, read, and_then, Named, access_at, place_of, element_at, after_becomes, summand_at, Value, sum_at, value_at, store_at}
 use Rattle.dh_tree.proofs.NamedPlaces.{HasPlace, place_sound, place_complete}
 

@@ -8,7 +8,8 @@ use Rattle.dh_tree.specs.declared.tables.MemEntry.{MemEntry}
 use Rattle.dh_tree.specs.declared.thin.tokens.Token.{Token}
 use Rattle.dh_tree.specs.declared.thin.tokens.Token.TheVariants as token
 use Rattle.dh_tree.specs.Names.{IsName}
-use Rattle.dh_tree.specs.Thin.{line_of, entry_of, IsThinEntry, SpellsEntry, SpellsTable}
+use Rattle.dh_tree.specs.Thin.{entry_of, IsThinEntry, SpellsEntry, SpellsTable}
+use Rattle.dh_tree.specs.Tables.{line_of}
 use Rattle.dh_tree.specs.ThinTokens.{IsToken}
 use Rattle.dh_tree.specs.ThinReading.{Read, read, and_then, declared_name, after_kind, declared_size, Declared, declaration_at, sized, entry_at, HasTable, BeginsWithName, IsTable}
 use Rattle.dh_tree.proofs.StoreReading.{went}

@@ -3,7 +3,8 @@
 use Rattle.std.specs.Prelude.{◌≡◌, ℕ, ◌+◌, ◌<◌, ◌≤◌, length, List, [], ◌∷◌, ◌++◌, Option, Some, None, if◌then◌else◌, ◌==◌, ◌&&◌, nat_le}
 use Rattle.std.specs.List.{AllByRecursion}
 use Rattle.std.specs.Str.{bytes_eq}
-use Rattle.dh_tree.specs.Thin.{entry_of, HasDistinctNames, IsThinEntry, IsGroup, stores_of, SpellsTable, SpellsGroups}
+use Rattle.dh_tree.specs.Thin.{entry_of, IsThinEntry, IsGroup, stores_of, SpellsTable, SpellsGroups}
+use Rattle.dh_tree.specs.Tables.{HasDistinctNames}
 use Rattle.dh_tree.specs.declared.tables.Dim.{Dim}
 use Rattle.dh_tree.specs.declared.tables.MemEntry.{MemEntry}
 use Rattle.dh_tree.specs.declared.thin.Operand.{Operand}

@@ -5,10 +5,12 @@ mod checking;
 mod lexing;
 mod parsing;
 mod reading;
+mod texts;
 mod tokens;
 
 use crate::tables::MemTable;
 use dh_base::Items;
+pub use texts::read_thin;
 pub use tokens::Token;
 
 /// An element that a store reads.

@@ -3,7 +3,8 @@
 
 ghost use Rattle.std.specs.Prelude.{◌≡◌, ◌≤◌, ◌^◌, ◌↔◌, IsTrue, length};
 ghost use Rattle.std.specs.List.{AllByRecursion};
-ghost use Rattle.dh_tree.specs.Thin.{HasNoName, HasDistinctNames, IsElement, IsSource, IsStore, ReadsOther, ReadsAlike, AreApart, KeepsPorts, IsGroup, stores_of};
+ghost use Rattle.dh_tree.specs.Thin.{IsElement, IsSource, IsStore, ReadsOther, ReadsAlike, AreApart, KeepsPorts, IsGroup, stores_of};
+ghost use Rattle.dh_tree.specs.Tables.{HasNoName, HasDistinctNames};
 ghost use Rattle.dh_tree.specs.ThinReading.{HasThinTable, HasThinGroups, IsWithin};
 
 use crate::tables::{Dim, MemEntry, Name};

@@ -3,7 +3,8 @@
 
 ghost use Rattle.std.specs.Prelude.{◌≡◌, ◌≤◌, ◌^◌, IfOk, MatchOption, length};
 ghost use Rattle.std.specs.List.{AllByRecursion};
-ghost use Rattle.dh_tree.specs.Thin.{entry_of, HasDistinctNames, IsThinTokens};
+ghost use Rattle.dh_tree.specs.Thin.{entry_of, IsThinTokens};
+ghost use Rattle.dh_tree.specs.Tables.{HasDistinctNames};
 ghost use Rattle.dh_tree.specs.ThinTokens.{IsToken};
 ghost use Rattle.dh_tree.specs.ThinReading.{read, entry_at, IsTable, AreGroups};
 

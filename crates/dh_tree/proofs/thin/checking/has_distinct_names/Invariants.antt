@@ -1,6 +1,6 @@
 -- The names of the whole differ where those of the rest do.
 use Rattle.std.proofs.Common.{◌↔◌, drop}
-use Rattle.dh_tree.specs.Thin.{HasDistinctNames}
+use Rattle.dh_tree.specs.Tables.{HasDistinctNames}
 use Rattle.dh_tree.proofs.thin.checking.has_distinct_names.Given as goal
 
 abbrev pub invariant-loop-i : goal.invariant-loop-i

@@ -1,6 +1,6 @@
 -- The whole lacks the name where the rest does.
 use Rattle.std.proofs.Common.{◌↔◌, drop}
-use Rattle.dh_tree.specs.Thin.{HasNoName}
+use Rattle.dh_tree.specs.Tables.{HasNoName}
 use Rattle.dh_tree.proofs.thin.checking.lacks_name.Given as goal
 
 abbrev pub invariant-loop-entry : goal.invariant-loop-entry
