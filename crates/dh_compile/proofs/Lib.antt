@@ -1,3 +1,10 @@
+pub mod Cells
+pub mod Pushes
+pub mod Driven
+pub mod Counted
+pub mod Programs
+pub mod Gathered
+pub mod Assembled
 pub mod Serving
 pub mod Times
 pub mod Pointwise

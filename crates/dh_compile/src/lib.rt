@@ -5,6 +5,11 @@
 //! Stands on `dh_net`. The whole compiler will take its place.
 #![tactic(auto)]
 
+mod building;
+mod clocks;
+mod drafts;
+mod ports;
 mod uses;
+mod wires;
 
 pub use uses::Use;
