@@ -7,6 +7,8 @@ mod cells;
 mod ports;
 mod runs;
 mod simulator;
+#[cfg(test)]
+mod tests;
 
 pub use arrays::Shown;
 pub use runs::{RunEnd, run_net};
