@@ -15,4 +15,4 @@ pub mod GroupEvents
 pub mod Spending
 pub mod GroupWrites
 pub mod ThinRuns
-pub mod Compiling
+pub mod PlayingPrograms
