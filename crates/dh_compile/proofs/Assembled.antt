@@ -1,28 +1,25 @@
 -- A net of the parts that were built is as the program has it, and valid.
 -- Each wire's value holds of every solution of the cells' equations, and so of each valuation. The
 -- cells were valid beside two registers of the same widths, and to a cell no more matters of them.
-use Rattle.std.proofs.Common.{◌≡◌, ℕ, zero, suc, ◌+◌, ◌*◌, ◌%◌, ◌^◌, ◌<◌, ◌≤◌, Some, None, Option, List, [], ◌∷◌, length, refl, sym, ap, subst, ◌∙◌, arith}
-use Rattle.std.specs.Prelude.{slice_get, slice_index, slice_index_or, option_map, if◌then◌else◌, ◌==◌}
+use Rattle.std.proofs.Common.{◌≡◌, ℕ, zero, suc, ◌+◌, ◌*◌, ◌%◌, ◌^◌, ◌≤◌, Some, List, [], ◌∷◌, length, refl, sym, ap, subst, ◌∙◌, arith}
+use Rattle.std.specs.Prelude.{slice_get, slice_index, option_map, if◌then◌else◌, ◌==◌}
 use Rattle.std.specs.List.{AllByRecursion}
 use Rattle.std.proofs.lemmas.Option.{slice_get_within}
-use Rattle.dh_base.specs.declared.places.Place.{Place}
 use Rattle.dh_tree.specs.declared.tables.MemEntry.{MemEntry}
-use Rattle.dh_tree.specs.declared.thin.Store.{Store}
 use Rattle.dh_tree.specs.declared.thin.Program.{Program}
-use Rattle.dh_tree.specs.Tables.{elements_of, elements_in, most_elements, IsInteger, IsEntry, IsTable}
+use Rattle.dh_tree.specs.Tables.{elements_in, IsInteger, IsEntry, IsTable}
 use Rattle.dh_tree.specs.Thin.{IsThinEntry, IsThin}
 use Rattle.dh_net.specs.Valid.{HasWidth, FormFits, IsCell, IsRegister, IsValid}
 use Rattle.dh_net.specs.declared.nets.Cell.{Cell}
 use Rattle.dh_net.specs.declared.nets.CellForm.{CellForm}
 use Rattle.dh_net.specs.declared.nets.CellForm.TheVariants.{Const, Reg, Data, Add, Or, Xor, Eq, Mux}
 use Rattle.dh_net.specs.declared.nets.Register.{Register}
-use Rattle.dh_net.specs.declared.nets.Driver.{Driver}
 use Rattle.dh_net.specs.declared.nets.Net.{Net}
 use Rattle.dh_net.specs.Clock.{IsValuation}
 use Rattle.dh_compile.specs.declared.clocks.Head.{Head}
 use Rattle.dh_compile.specs.Timetable.{total_length, ends_at}
-use Rattle.dh_compile.specs.Built.{clock_register, tick_register, IsShown, IsBuilt}
-use Rattle.dh_compile.specs.Drafts.{Drafted, drafted, plain_registers, AreCells, Solves, Always, Grows, Adds, Shows, IsClock}
+use Rattle.dh_compile.specs.Built.{clock_register, tick_register, IsBuilt}
+use Rattle.dh_compile.specs.Drafts.{Drafted, plain_registers, AreCells, Solves, Grows, Adds, Shows}
 use Rattle.dh_compile.specs.Drivers.{HasPorts, AddsPorts}
 use Rattle.dh_compile.specs.Heads.{AddsHead}
 use Rattle.dh_compile.proofs.Cells.{later, width_later, grows_then}
@@ -53,15 +50,15 @@ built net p next_clock next_tick h = record {
   registers = h.registers;
   ports = h.ports.all;
   shown = λ now tick held wires v.
-    let s = solved net.cells (now ∷ (tick ∷ [])) held wires v in
-    record {
-      done = h.done.is (now ∷ (tick ∷ [])) held wires s;
-      ticks = h.ticks.is (now ∷ (tick ∷ [])) held wires s;
-      fault = h.fault.is (now ∷ (tick ∷ [])) held wires s;
-      counts = h.next.is (now ∷ (tick ∷ [])) held wires s;
-      ends = h.ends.is (now ∷ (tick ∷ [])) held wires s;
-      drives = λ m lt. h.ports.drives m lt (now ∷ (tick ∷ [])) held wires s;
-    };
+      let s = solved net.cells (now ∷ (tick ∷ [])) held wires v in
+      record {
+        done = h.done.is (now ∷ (tick ∷ [])) held wires s;
+        ticks = h.ticks.is (now ∷ (tick ∷ [])) held wires s;
+        fault = h.fault.is (now ∷ (tick ∷ [])) held wires s;
+        counts = h.next.is (now ∷ (tick ∷ [])) held wires s;
+        ends = h.ends.is (now ∷ (tick ∷ [])) held wires s;
+        drives = λ m lt. h.ports.drives m lt (now ∷ (tick ∷ [])) held wires s;
+      };
 }
 
 -- a thin memory is one that a net can have
@@ -94,7 +91,7 @@ table_of_thin p thin = record {
 -- a cell that is valid beside registers is so beside others of the same widths
 width_alike : (next_clock next_tick register : ℕ)
     → option_map (λ (r : Register). r.width) (slice_get (clock_register next_clock ∷ (tick_register next_tick ∷ [])) register)
-      ≡ option_map (λ (r : Register). r.width) (slice_get plain_registers register)
+    ≡ option_map (λ (r : Register). r.width) (slice_get plain_registers register)
 width_alike next_clock next_tick zero = refl
 width_alike next_clock next_tick (suc zero) = refl
 width_alike next_clock next_tick (suc (suc k)) = refl
@@ -130,7 +127,7 @@ valid net p thin n m h = record {
   table = subst IsTable (sym h.table) (table_of_thin p thin);
   registers = λ i r at. register_is net.cells n m h.next.wide h.ends.wide i r (ap (λ l. slice_get l i) (sym h.registers) ∙ at);
   cells = λ i c at.
-    subst (λ (x : List Register). IsCell net.table x net.cells i c) (sym h.registers) (cell_alike net.table n m net.cells i c (h.cells i c at));
+      subst (λ (x : List Register). IsCell net.table x net.cells i c) (sym h.registers) (cell_alike net.table n m net.cells i c (h.cells i c at));
   ports = h.ports.all ∙ ap length (sym h.table);
   drivers = λ i ds e there at. h.ports.fit i ds e there (ap (λ l. slice_get l i) (sym h.table) ∙ at);
   tick = h.ticks.wide;
@@ -155,7 +152,7 @@ pub parts : (net : Net) (p : Program) (a b c d : Drafted) (h : Head) (total next
 parts net p a b c d h total next_tick copied counted head ends ports table cells valid faults registers tick done fault =
     let bd = grows_then b c d ends.grows ports.grows in
     let all : (wire width : ℕ) (value : List ℕ → List ℕ → List ℕ → ℕ) → Shows b.cells wire width value → Shows net.cells wire width value
-      = λ wire width value s. subst (λ (x : List Cell). Shows x wire width value) (sym cells) (shows_later b d wire width value bd s) in
+    = λ wire width value s. subst (λ (x : List Cell). Shows x wire width value) (sym cells) (shows_later b d wire width value bd s) in
     record {
       table = table ∙ (bd.table ∙ (head.grows.table ∙ copied));
       faults = faults;
@@ -163,10 +160,10 @@ parts net p a b c d h total next_tick copied counted head ends ports table cells
       cells = valid;
       next = subst (λ (t : ℕ). Shows net.cells h.next_clock 32 (λ rs hs ws. if slice_index rs 0 == t then slice_index rs 0 else (slice_index rs 0 + 1) % 2 ^ 32)) counted (all _ _ _ head.next);
       ends = subst (λ (x : List Cell). Shows x next_tick 1 (λ rs hs ws. if ends_at 0 p.groups (slice_index rs 0) then 1 else 0)) (sym cells)
-        (shows_later c d next_tick 1 (λ rs hs ws. if ends_at 0 p.groups (slice_index rs 0) then 1 else 0) ports.grows (record { wide = ends.wide; is = ends.is }));
+          (shows_later c d next_tick 1 (λ rs hs ws. if ends_at 0 p.groups (slice_index rs 0) then 1 else 0) ports.grows (record { wide = ends.wide; is = ends.is }));
       ticks = subst (λ (w : ℕ). Shows net.cells w 1 (λ rs hs ws. slice_index rs 1)) (sym tick) (all _ _ _ head.ticks);
       done = subst (λ (w : ℕ). Shows net.cells w 1 (λ rs hs ws. if slice_index rs 0 == total_length p.groups then 1 else 0)) (sym done)
-        (subst (λ (t : ℕ). Shows net.cells h.done 1 (λ rs hs ws. if slice_index rs 0 == t then 1 else 0)) counted (all _ _ _ head.done));
+          (subst (λ (t : ℕ). Shows net.cells h.done 1 (λ rs hs ws. if slice_index rs 0 == t then 1 else 0)) counted (all _ _ _ head.done));
       fault = subst (λ (w : ℕ). Shows net.cells w 32 (λ rs hs ws. 0)) (sym fault) (all _ _ _ head.fault);
       ports = subst (λ (x : List Cell). HasPorts x net.drivers p (length p.table)) (sym cells) ports.has;
     }

@@ -2,8 +2,8 @@
 -- An element of a list stands at the same place of a longer one, so an equation of an old cell is one
 -- of the new cells, and what solves the new ones solves the old ones: each fact of every solution of
 -- the old cells is one of the new. In the same way the operands of an old cell stay where they were.
-use Rattle.std.proofs.Common.{◌≡◌, ℕ, ◌+◌, ◌<◌, ◌≤◌, ◌⊎◌, inl, inr, Some, None, List, [], ◌∷◌, ◌++◌, length, get_or, refl, sym, ap, subst, ◌∙◌, arith, length-append}
-use Rattle.std.specs.Prelude.{slice_get, slice_index, option_map}
+use Rattle.std.proofs.Common.{◌≡◌, ℕ, ◌⊎◌, inl, inr, Some, List, [], ◌∷◌, ◌++◌, length, refl, sym, ap, subst, ◌∙◌, arith, length-append}
+use Rattle.std.specs.Prelude.{slice_get, option_map}
 use Rattle.std.proofs.Math.ListN.{get_or-append}
 use Rattle.std.proofs.Math.Seq.{get_or-append_seam}
 use Rattle.std.proofs.lemmas.Option.{slice_get_cases, slice_get_within, slice_get_read, get_or_from_slice_get}
@@ -32,12 +32,12 @@ pub get_either : {A : Type 0} (xs : List A) (x : A) (i : ℕ) (y : A) → slice_
 get_either {A = A} xs x i y at =
     elim (slice_get_cases xs i).1 [
       | inl found ↦
-        let e : ◌≡◌ {A = A} found.0 y = let l = get_longer xs x i found.0 found.2 in cc in
-        inl (found.2 ∙ ap (λ z. Some z) e)
+          let e : ◌≡◌ {A = A} found.0 y = let l = get_longer xs x i found.0 found.2 in cc in
+          inl (found.2 ∙ ap (λ z. Some z) e)
       | inr past ↦
-        let here : i ≡ length xs = omega (arith, past.0, slice_get_within (xs ++ x ∷ []) i y at, length-append xs (x ∷ [])) in
-        let e : ◌≡◌ {A = A} x y = let l = get_last xs x in cc in
-        inr (here, e)
+          let here : i ≡ length xs = omega (arith, past.0, slice_get_within (xs ++ x ∷ []) i y at, length-append xs (x ∷ [])) in
+          let e : ◌≡◌ {A = A} x y = let l = get_last xs x in cc in
+          inr (here, e)
     ]
 
 pub extends_longer : (cells : List Cell) (c : Cell) → Extends cells (cells ++ c ∷ [])
@@ -97,9 +97,9 @@ cells_more table cells c all next i d at =
     elim (get_either cells c i d at) [
       | inl old ↦ cell_later table plain_registers cells (cells ++ c ∷ []) i d e (all i d old)
       | inr last ↦
-        let new : IsCell table plain_registers (cells ++ c ∷ []) (length cells) c
+          let new : IsCell table plain_registers (cells ++ c ∷ []) (length cells) c
           = record { least = next.least; greatest = next.greatest; form = fits_later table plain_registers cells (cells ++ c ∷ []) (length cells) c.width c.form e next.fits } in
-        subst (λ (x : ℕ). IsCell table plain_registers (cells ++ c ∷ []) x d) (sym last.0)
+          subst (λ (x : ℕ). IsCell table plain_registers (cells ++ c ∷ []) x d) (sym last.0)
           (subst (λ (x : Cell). IsCell table plain_registers (cells ++ c ∷ []) (length cells) x) last.1 new)
     ]
 
@@ -134,13 +134,13 @@ pub valid_push : (d : Drafted) (table : List MemEntry) (cells new : List Cell) (
     → new ≡ cells ++ mk_cell width form ∷ [] → AreCells table cells → IsNext d width form → AreCells table new
 valid_push d table cells new width form view more all next =
     subst (λ (x : List Cell). AreCells table x) (sym more)
-      (cells_more table cells (mk_cell width form) all (subst (λ (x : Drafted). IsNext x width form) (sym view) next))
+    (cells_more table cells (mk_cell width form) all (subst (λ (x : Drafted). IsNext x width form) (sym view) next))
 
 pub adds_push : (d : Drafted) (table : List MemEntry) (cells new : List Cell) (wire width : ℕ) (form : CellForm) → drafted table cells ≡ d
     → new ≡ cells ++ mk_cell width form ∷ [] → wire ≡ length cells
     → Adds d (drafted table new) wire width (λ rs hs ws. form_value rs hs ws width form)
 adds_push d table cells new wire width form view more last =
     subst (λ (x : Drafted). Adds x (drafted table new) wire width (λ rs hs ws. form_value rs hs ws width form)) view
-      (subst (λ (x : List Cell). Adds (drafted table cells) (drafted table x) wire width (λ rs hs ws. form_value rs hs ws width form)) (sym more)
-        (subst (λ (x : ℕ). Adds (drafted table cells) (drafted table (cells ++ mk_cell width form ∷ [])) x width (λ rs hs ws. form_value rs hs ws width form)) (sym last)
-          (adds_next table cells (mk_cell width form))))
+    (subst (λ (x : List Cell). Adds (drafted table cells) (drafted table x) wire width (λ rs hs ws. form_value rs hs ws width form)) (sym more)
+    (subst (λ (x : ℕ). Adds (drafted table cells) (drafted table (cells ++ mk_cell width form ∷ [])) x width (λ rs hs ws. form_value rs hs ws width form)) (sym last)
+    (adds_next table cells (mk_cell width form))))

@@ -1,15 +1,13 @@
 -- The wires that count the clocks, and the chain of those that are 1 where a group ends.
 -- The chain so far, joined by 'or' with the ends that are still to come, is 1 where any group ends:
 -- one link more takes the first of these ends into the chain, since 'or' may be grouped as one likes.
-use Rattle.std.proofs.Common.{◌≡◌, ℕ, ◌+◌, ◌-◌, ◌%◌, ◌^◌, ◌<◌, ◌≤◌, List, [], ◌∷◌, length, get_or, drop, refl, sym, ap, subst, ◌∙◌, arith}
+use Rattle.std.proofs.Common.{◌≡◌, ℕ, ◌+◌, ◌-◌, ◌%◌, ◌^◌, ◌<◌, ◌≤◌, List, [], ◌∷◌, length, get_or, drop, refl, sym, ap, subst, ◌∙◌}
 use Rattle.std.specs.Prelude.{Bool, true, false, bit_or, slice_index, if◌then◌else◌, ◌==◌, ◌||◌}
 use Rattle.std.proofs.Math.Bool.{or_assoc}
 use Rattle.std.proofs.Math.ListN.{drop_of_length-le}
 use Rattle.dh_tree.specs.declared.thin.Store.{Store}
-use Rattle.dh_net.specs.Valid.{HasWidth}
 use Rattle.dh_net.specs.declared.nets.Cell.{Cell}
-use Rattle.dh_compile.specs.declared.clocks.Head.{Head}
-use Rattle.dh_compile.specs.Timetable.{group_length, total_length, ends_at}
+use Rattle.dh_compile.specs.Timetable.{group_length, ends_at}
 use Rattle.dh_compile.specs.Drafts.{Drafted, Always, Grows, Adds, Shows, IsClock}
 use Rattle.dh_compile.specs.Heads.{AddsHead}
 use Rattle.dh_compile.proofs.Cells.{later, solves_fewer, width_later, grows_then}
@@ -73,9 +71,9 @@ head_adds a b c d e f clock tick done next fault total h1 h2 h3 h4 h5 =
       next = record {
         wide = width_later e.cells f.cells next 32 h5.grows.cells h4.wide;
         is = λ rs hs ws s.
-          later e.cells f.cells (λ rs hs ws. slice_index ws next ≡ (if slice_index ws done == 1 then slice_index rs 0 else (slice_index rs 0 + 1) % 2 ^ 32)) h5.grows.cells h4.is rs hs ws s
+            later e.cells f.cells (λ rs hs ws. slice_index ws next ≡ (if slice_index ws done == 1 then slice_index rs 0 else (slice_index rs 0 + 1) % 2 ^ 32)) h5.grows.cells h4.is rs hs ws s
             ∙ flag_choice (slice_index rs 0 == total) (slice_index ws done) (slice_index rs 0) ((slice_index rs 0 + 1) % 2 ^ 32)
-              (later d.cells f.cells (λ rs hs ws. slice_index ws done ≡ (if slice_index rs 0 == total then 1 else 0)) df.cells h3.is rs hs ws s);
+            (later d.cells f.cells (λ rs hs ws. slice_index ws done ≡ (if slice_index rs 0 == total then 1 else 0)) df.cells h3.is rs hs ws s);
       };
       ticks = shows_from b c f tick 1 (λ rs hs ws. slice_index rs 1) h2 cf;
       done = shows_from c d f done 1 (λ rs hs ws. if slice_index rs 0 == total then 1 else 0) h3 df;
@@ -100,10 +98,13 @@ links_start a b chain groups h rs hs ws s = (false, (h.is rs hs ws s, refl))
 
 link_on : (value wire begin next now : ℕ) (g : List Store) (rest all : List (List Store)) → next ≡ begin + group_length g
     → wire ≡ bit_or value (if now == next - 1 then 1 else 0) → IsLinked value begin (g ∷ rest) all now → IsLinked wire next rest all now
-link_on value wire begin next now g rest all step is l =
-    (l.0 || (now == next - 1),
-     (is ∙ or_flags value (if now == next - 1 then 1 else 0) l.0 (now == next - 1) l.1.0 refl,
-      or_assoc l.0 (now == next - 1) (ends_at next rest now) ∙ (ap (λ n. l.0 || ((now == n - 1) || ends_at n rest now)) step ∙ l.1.1)))
+link_on value wire begin next now g rest all step is l = (
+  l.0 || (now == next - 1),
+  (
+    is ∙ or_flags value (if now == next - 1 then 1 else 0) l.0 (now == next - 1) l.1.0 refl,
+    or_assoc l.0 (now == next - 1) (ends_at next rest now) ∙ (ap (λ n. l.0 || ((now == n - 1) || ends_at n rest now)) step ∙ l.1.1),
+  ),
+)
 
 pub links_on : (a b : Drafted) (chain wire begin next : ℕ) (groups : List (List Store)) (i : ℕ) (g : List Store) → i < length groups → g ≡ get_or groups i g
     → next ≡ begin + group_length g → Adds a b wire 1 (λ rs hs ws. bit_or (slice_index ws chain) (if slice_index rs 0 == next - 1 then 1 else 0))
@@ -111,7 +112,7 @@ pub links_on : (a b : Drafted) (chain wire begin next : ℕ) (groups : List (Lis
 links_on a b chain wire begin next groups i g lt is step h l rs hs ws s =
     let old : Links a.cells chain begin (g ∷ drop (i + 1) groups) groups = subst (λ (x : List (List Store)). Links a.cells chain begin x groups) (drop_at groups i g lt is) l in
     link_on (slice_index ws chain) (slice_index ws wire) begin next (slice_index rs 0) g (drop (i + 1) groups) groups step (h.is rs hs ws s)
-      (old rs hs ws (solves_fewer a.cells b.cells rs hs ws h.grows.cells s))
+    (old rs hs ws (solves_fewer a.cells b.cells rs hs ws h.grows.cells s))
 
 or_false : (p : Bool) → (p || false) ≡ p
 or_false true = refl

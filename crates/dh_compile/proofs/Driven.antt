@@ -2,8 +2,8 @@
 -- The drivers so far are described by what they do together with any drivers for the groups to come.
 -- A new driver is the first of such drivers, so it moves from there to the end of the list, and the
 -- description goes on with the groups behind. Once no group is left, it says what the list does.
-use Rattle.std.proofs.Common.{◌≡◌, ℕ, zero, suc, ◌+◌, ◌-◌, ◌^◌, ◌<◌, ◌≤◌, ◌⊎◌, inl, inr, Some, None, Option, Result, Ok, Err, is_ok, IfOk, true, false, List, [], ◌∷◌, ◌++◌, length, get_or, drop, refl, sym, ap, subst, ◌∙◌, arith, append_assoc, add-one}
-use Rattle.std.specs.Prelude.{slice_get, slice_index, if◌then◌else◌, ◌==◌}
+use Rattle.std.proofs.Common.{◌≡◌, ℕ, suc, ◌+◌, ◌<◌, ◌≤◌, inl, inr, Some, None, Option, Result, Ok, Err, is_ok, IfOk, true, List, [], ◌∷◌, ◌++◌, length, get_or, drop, refl, sym, ap, subst, ◌∙◌, append_assoc, add-one}
+use Rattle.std.specs.Prelude.{slice_index, if◌then◌else◌, ◌==◌}
 use Rattle.std.proofs.Math.ListN.{drop_of_length-le}
 use Rattle.std.proofs.Math.Seq.{drop-cons}
 use Rattle.std.proofs.lemmas.Option.{slice_get_read}
@@ -17,9 +17,9 @@ use Rattle.dh_net.specs.declared.nets.Driver.{Driver}
 use Rattle.dh_compile.specs.declared.uses.Use.{Use}
 use Rattle.dh_compile.specs.declared.uses.Use.TheVariants.{Reads, Writes}
 use Rattle.dh_compile.specs.Timetable.{Timed, timed, stored_from, use_in, group_length, total_length, put_use, uses_of}
-use Rattle.dh_compile.specs.Built.{EnabledAt, Does, Drives}
+use Rattle.dh_compile.specs.Built.{Drives}
 use Rattle.dh_compile.specs.Drafts.{Drafted, Always, Extends, Grows, Adds}
-use Rattle.dh_compile.specs.Drivers.{use_clock, FitsUse, FitsGroup, FitsGroups, FitsDriver, FitDrivers, AddsUse, AddsDriver, Leads, AddsGroup, AddsPort}
+use Rattle.dh_compile.specs.Drivers.{use_clock, FitsUse, FitsGroup, FitsGroups, FitsDriver, FitDrivers, AddsUse, AddsDriver, Leads, AddsGroup}
 use Rattle.dh_compile.proofs.Cells.{get_either, solves_fewer, later, width_later, grows_then, grows_none}
 
 driver_fits_later : (old new : List Cell) (wide : ℕ) (d : Driver) → Extends old new → FitsDriver old wide d → FitsDriver new wide d
@@ -39,7 +39,7 @@ pub driver_adds : (a b c : Drafted) (d : Driver) (enable wide at : ℕ) (u v : U
 driver_adds a b c d enable wide at u v h is k = subst (λ (x : Use). AddsDriver a c d wide at x) (sym is) (record {
   grows = grows_then a b c h.grows k.grows;
   enabled = λ rs hs ws s.
-    ap (λ (w : ℕ). slice_index ws w) k.same
+      ap (λ (w : ℕ). slice_index ws w) k.same
       ∙ later b.cells c.cells (λ rs hs ws. slice_index ws enable ≡ (if slice_index rs 0 == at then 1 else 0)) k.grows.cells h.is rs hs ws s;
   does = k.does;
   fits = record {
@@ -71,7 +71,7 @@ leads_then : (a b : Drafted) (ds : List Driver) (d : Driver) (wide at : ℕ) (u 
     → Leads a.cells ds (timed at u ∷ rest) all → Leads b.cells (ds ++ d ∷ []) rest all
 leads_then a b ds d wide at u rest all h l rs hs ws s x dx =
     subst (λ (y : List Driver). Drives (slice_index rs 0) hs ws y all) (sym (append_assoc ds (d ∷ []) x))
-      (l rs hs ws (solves_fewer a.cells b.cells rs hs ws h.grows.cells s) (d ∷ x) (h.enabled rs hs ws s, (h.does rs hs ws s, dx)))
+    (l rs hs ws (solves_fewer a.cells b.cells rs hs ws h.grows.cells s) (d ∷ x) (h.enabled rs hs ws s, (h.does rs hs ws s, dx)))
 
 fit_more : (cells : List Cell) (wide : ℕ) (ds : List Driver) (d : Driver) → FitDrivers cells wide ds → FitsDriver cells wide d
     → FitDrivers cells wide (ds ++ d ∷ [])
@@ -97,7 +97,7 @@ group_some a b ds more d memory wide begin g u is h e =
     subst (λ (x : List Driver). AddsGroup a b ds x memory wide begin g) (sym e) (record {
       grows = h.grows;
       leads = λ rest all l.
-        leads_then a b ds d wide (use_clock begin (group_length g) u) u rest all h
+          leads_then a b ds d wide (use_clock begin (group_length g) u) u rest all h
           (subst (λ (x : List Timed). Leads a.cells ds x all) (ap (λ x. put_use begin (group_length g) x rest) is ∙ put_is begin (group_length g) u rest) l);
       fit = λ f. fit_more b.cells wide ds d (fit_later a.cells b.cells wide ds h.grows.cells f) h.fits;
     })
@@ -108,7 +108,7 @@ pub group_pushed : {X Y : Type 0} (r : Result X Y) (a b : Drafted) (ds more : Li
     → more ≡ (if is_ok r then ds ++ d ∷ [] else ds) → IfOk r (λ _. AddsGroup a b ds more memory wide begin g)
 group_pushed (Ok x) a b ds more d memory wide begin len at g u is long when h e =
     group_some a b ds more d memory wide begin g u is
-      (subst (λ (x : ℕ). AddsDriver a b d wide x u) (when ∙ ap (λ x. use_clock begin x u) long) h) e
+    (subst (λ (x : ℕ). AddsDriver a b d wide x u) (when ∙ ap (λ x. use_clock begin x u) long) h) e
 group_pushed (Err f) a b ds more d memory wide begin len at g u is long when h e = tt
 
 -- what is left from an element on begins with it
@@ -126,15 +126,15 @@ pub leads_on : (a b : Drafted) (ds more : List Driver) (memory wide begin next :
     → Leads a.cells ds (uses_of memory begin (drop i groups)) all → Leads b.cells more (uses_of memory next (drop (i + 1) groups)) all
 leads_on a b ds more memory wide begin next groups i g all lt is step h l =
     h.leads (uses_of memory next (drop (i + 1) groups)) all
-      (subst (λ (n : ℕ). Leads a.cells ds (put_use begin (group_length g) (use_in g memory) (uses_of memory n (drop (i + 1) groups))) all) (sym step)
-        (subst (λ (x : List (List Store)). Leads a.cells ds (uses_of memory begin x) all) (drop_at groups i g lt is) l))
+    (subst (λ (n : ℕ). Leads a.cells ds (put_use begin (group_length g) (use_in g memory) (uses_of memory n (drop (i + 1) groups))) all) (sym step)
+    (subst (λ (x : List (List Store)). Leads a.cells ds (uses_of memory begin x) all) (drop_at groups i g lt is) l))
 
 -- a group that is there can be done where all groups can
 pub group_fits : (a b : Drafted) (memory wide : ℕ) (groups : List (List Store)) (i : ℕ) (g stores : List Store) → Grows a b → i < length groups
     → g ≡ get_or groups i g → stores ≡ g → FitsGroups a.table memory wide groups → FitsGroup b.table memory wide stores
 group_fits a b memory wide groups i g stores h lt is same all u use_ =
     subst (λ (t : List MemEntry). FitsUse t wide u) (sym h.table)
-      (all i g (slice_get_read groups (length groups) i g refl lt is) u (ap (λ x. use_in x memory) (sym same) ∙ use_))
+    (all i g (slice_get_read groups (length groups) i g refl lt is) u (ap (λ x. use_in x memory) (sym same) ∙ use_))
 
 -- once no group is left the drivers do all
 pub leads_end : (cells : List Cell) (ds : List Driver) (memory begin i : ℕ) (groups : List (List Store)) (all : List Timed) → length groups ≤ i

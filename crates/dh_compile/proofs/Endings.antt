@@ -1,7 +1,7 @@
 -- When the run of a thin program ends: it goes on through its groups, never faults and is never
 -- stuck, and has ended after the last one, within 128 clocks, since it has at most 64 stores.
-use Rattle.std.proofs.Common.{◌≡◌, ℕ, ◌+◌, ◌*◌, ◌<◌, ◌≤◌, List, [], ◌∷◌, length, refl, sym, ◌∙◌, zero, suc, arith, subst, inl, inr}
-use Rattle.std.specs.Prelude.{slice_get, slice_index_or}
+use Rattle.std.proofs.Common.{◌≡◌, ℕ, ◌<◌, ◌≤◌, List, [], ◌∷◌, length, refl, sym, ◌∙◌, zero, suc, arith, subst, inl, inr}
+use Rattle.std.specs.Prelude.{slice_index_or}
 use Rattle.std.specs.List.{AllByRecursion}
 use Rattle.std.proofs.lemmas.Bool.{cases_lt}
 use Rattle.std.proofs.lemmas.Option.{slice_get-get_or}
@@ -14,7 +14,7 @@ use Rattle.dh_tree.specs.declared.thin.Store.{Store}
 use Rattle.dh_tree.specs.declared.thin.Program.{Program}
 use Rattle.dh_tree.specs.Thin.{IsThin, IsGroup, stores_of}
 use Rattle.dh_net.specs.Plays.{Run, clocks_of, IsGoing, IsFine, IsStuck, EndsAfter}
-use Rattle.dh_compile.specs.Timetable.{group_length, total_length}
+use Rattle.dh_compile.specs.Timetable.{total_length}
 use Rattle.dh_compile.specs.ThinRun.{DoesGroups}
 use Rattle.dh_compile.proofs.Times.{clocks_before, clocks_before_all, clocks_before_more, total_length_most}
 
@@ -31,7 +31,6 @@ total_most p thin =
     omega arith
 
 module _ (p : Program) (thin : IsThin p) (r : Run) (does : DoesGroups p r) where
-
   -- the clocks of the first n steps are those of the first n groups
   pub clocks_is : (n : ℕ) → n ≤ length p.groups → clocks_of r n ≡ clocks_before n p.groups
   clocks_is zero l = refl

@@ -1,7 +1,7 @@
 -- The drivers of the ports, gathered memory by memory.
 -- A list of drivers that was gathered before says still what it said, since cells were only added. The
 -- new one is the last, at the number of its memory.
-use Rattle.std.proofs.Common.{◌≡◌, ℕ, ◌+◌, ◌<◌, ◌≤◌, ◌⊎◌, inl, inr, Some, List, [], ◌∷◌, ◌++◌, length, get_or, true, refl, sym, ap, subst, ◌∙◌, arith, length-append}
+use Rattle.std.proofs.Common.{◌≡◌, ℕ, ◌+◌, ◌<◌, ◌⊎◌, inl, inr, Some, List, [], ◌∷◌, ◌++◌, length, get_or, refl, sym, ap, subst, ◌∙◌, arith, length-append}
 use Rattle.std.specs.Prelude.{slice_get, slice_index, slice_index_or}
 use Rattle.std.proofs.Math.ListN.{get_or-append}
 use Rattle.std.proofs.Math.Seq.{get_or-append_seam}
@@ -17,7 +17,7 @@ use Rattle.dh_net.specs.declared.nets.Driver.{Driver}
 use Rattle.dh_compile.specs.Timetable.{uses_of}
 use Rattle.dh_compile.specs.Built.{Drives}
 use Rattle.dh_compile.specs.Drafts.{Drafted, Always, Extends}
-use Rattle.dh_compile.specs.Drivers.{FitsGroups, FitsDriver, FitDrivers, AddsPort, HasPorts}
+use Rattle.dh_compile.specs.Drivers.{FitsGroups, FitsDriver, AddsPort, HasPorts}
 use Rattle.dh_compile.proofs.Cells.{get_either, later, width_later}
 use Rattle.dh_compile.proofs.Groups.{at_place}
 use Rattle.dh_compile.proofs.Programs.{thin_width, groups_fit}
@@ -50,12 +50,12 @@ drives_more : (p : Program) (a b : Drafted) (ports : List (List Driver)) (ds : L
     → HasPorts a.cells ports p i → (m < i) ⊎ (m ≡ i) → DrivesAs b.cells p m (slice_index_or (ports ++ ds ∷ []) m [])
 drives_more p a b ports ds i wide m h had (inl small) =
     subst (λ (x : List Driver). DrivesAs b.cells p m x) (sym (get_or-append ports (ds ∷ []) [] m (omega (arith, had.all, small))))
-      (later a.cells b.cells _ h.grows.cells (had.drives m small))
+    (later a.cells b.cells _ h.grows.cells (had.drives m small))
 drives_more p a b ports ds i wide m h had (inr here) =
     let at : slice_index_or (ports ++ ds ∷ []) m [] ≡ ds
-      = ap (λ n. slice_index_or (ports ++ ds ∷ []) n []) (here ∙ sym had.all) ∙ get_or-append_seam ports ds [] [] in
+    = ap (λ n. slice_index_or (ports ++ ds ∷ []) n []) (here ∙ sym had.all) ∙ get_or-append_seam ports ds [] [] in
     subst (λ (x : List Driver). DrivesAs b.cells p m x) (sym at)
-      (subst (λ (n : ℕ). DrivesAs b.cells p n ds) (sym here) h.drives)
+    (subst (λ (n : ℕ). DrivesAs b.cells p n ds) (sym here) h.drives)
 
 -- below i + 1 is below i, or at it
 last_or_less : (m i : ℕ) → m < i + 1 → (m < i) ⊎ (m ≡ i)
@@ -69,14 +69,14 @@ has_more p a b ports ds i wide e at kind room h had = record {
   all = omega (arith, length-append ports (ds ∷ []), had.all);
   drives = λ m lt. drives_more p a b ports ds i wide m h had (last_or_less m i lt);
   fit = λ m some entry there entry_at k d d_at.
-    elim (get_either ports ds m some there) [
-      | inl old ↦ driver_later a.cells b.cells entry d h.grows.cells (had.fit m some entry old entry_at k d d_at)
-      | inr last ↦
-        let here : m ≡ i = last.0 ∙ had.all in
-        let same : ◌≡◌ {A = MemEntry} e entry = let f = at in let g = entry_at in cc in
-        subst (λ (x : MemEntry). IsDriver b.cells x d) same
-          (driver_is b.cells e wide d kind room (h.fit k d (ap (λ l. slice_get l k) last.1 ∙ d_at)))
-    ];
+      elim (get_either ports ds m some there) [
+        | inl old ↦ driver_later a.cells b.cells entry d h.grows.cells (had.fit m some entry old entry_at k d d_at)
+        | inr last ↦
+            let here : m ≡ i = last.0 ∙ had.all in
+            let same : ◌≡◌ {A = MemEntry} e entry = let f = at in let g = entry_at in cc in
+            subst (λ (x : MemEntry). IsDriver b.cells x d) same
+            (driver_is b.cells e wide d kind room (h.fit k d (ap (λ l. slice_get l k) last.1 ∙ d_at)))
+      ];
 }
 
 -- the same where memories, groups and the new list go by other names
@@ -87,9 +87,9 @@ pub ports_on : (p : Program) → IsThin p → (a b : Drafted) (ports more : List
 ports_on p thin a b ports more ds items groups i rows wide e same gs lt is count room h grown had =
     let at : slice_get p.table i ≡ Some e = ap (λ l. slice_get l i) (sym same) ∙ slice_get_read items (length items) i e refl lt is in
     subst (λ (x : List (List Driver)). HasPorts b.cells x p (i + 1)) (sym grown)
-      (has_more p a b ports ds i wide e at (thin_width e (at_place IsThinEntry p.table i e thin.entries at))
-        (subst (λ (n : ℕ). IsRowWidth n wide) count room)
-        (subst (λ (x : List (List Store)). AddsPort a b ds i wide x) gs h) had)
+    (has_more p a b ports ds i wide e at (thin_width e (at_place IsThinEntry p.table i e thin.entries at))
+    (subst (λ (n : ℕ). IsRowWidth n wide) count room)
+    (subst (λ (x : List (List Store)). AddsPort a b ds i wide x) gs h) had)
 
 -- what the next port has to do, it can do
 pub port_fits : (p : Program) → IsThin p → (table items : List MemEntry) (groups : List (List Store)) (i rows wide : ℕ) (e : MemEntry) → table ≡ p.table
@@ -98,7 +98,7 @@ pub port_fits : (p : Program) → IsThin p → (table items : List MemEntry) (gr
 port_fits p thin table items groups i rows wide e known same gs lt is count room =
     let at : slice_get p.table i ≡ Some e = ap (λ l. slice_get l i) (sym same) ∙ slice_get_read items (length items) i e refl lt is in
     subst (λ (x : List (List Store)). FitsGroups table i wide x) (sym gs)
-      (groups_fit p thin table known i wide e at (subst (λ (n : ℕ). IsRowWidth n wide) count room))
+    (groups_fit p thin table known i wide e at (subst (λ (n : ℕ). IsRowWidth n wide) count room))
 
 pub entry_thin : (p : Program) → IsThin p → (items : List MemEntry) (i : ℕ) (e : MemEntry) → items ≡ p.table → i < length items → e ≡ get_or items i e
     → IsThinEntry e

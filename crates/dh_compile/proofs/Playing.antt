@@ -2,28 +2,23 @@
 -- before and the clock within this one, the banks are the memories as the step began, and what the
 -- group reads is held from its second clock on. With the last clock each bank takes what the group
 -- does to its memory: a sum is of held data, which is the element as the step began.
-use Rattle.std.proofs.Common.{◌≡◌, ℕ, ◌+◌, ◌%◌, ◌^◌, ◌<◌, ◌≤◌, ◌==◌, ◌↔◌, Bool, true, false, if◌then◌else◌, List, [], ◌∷◌, length, map, Option, Some, None, refl, sym, ap, ◌∙◌, zero, suc, arith, subst, inl, inr}
+use Rattle.std.proofs.Common.{◌≡◌, ℕ, ◌+◌, ◌%◌, ◌^◌, ◌<◌, ◌==◌, ◌↔◌, Bool, true, false, if◌then◌else◌, List, [], ◌∷◌, length, map, Option, Some, None, refl, sym, ap, ◌∙◌, suc, arith, subst}
 use Rattle.std.specs.Prelude.{slice_get, slice_index, slice_index_or, slice_set}
-use Rattle.std.specs.List.{AllByRecursion}
 use Rattle.std.proofs.lemmas.List.{ext_get_or, length-replicate}
-use Rattle.std.proofs.lemmas.Option.{slice_get_within, slice_get-get_or}
-use Rattle.std.proofs.lemmas.Bool.{cases_lt}
+use Rattle.std.proofs.lemmas.Option.{slice_get_within}
 use Rattle.std.proofs.Math.Nat.{mod-eq_of_lt, zero-add}
 use Rattle.std.proofs.lemmas.Bool.Decides.{nat_tests}
-use Rattle.dh_base.specs.declared.outcomes.FaultKind.{FaultKind}
 use Rattle.dh_base.specs.declared.outcomes.Outcome.{Outcome}
-use Rattle.dh_base.specs.declared.outcomes.Outcome.TheVariants.{Going, Ended, Faulted}
-use Rattle.dh_base.specs.declared.places.Place.{Place}
-use Rattle.dh_tree.specs.declared.tables.MemEntry.{MemEntry}
+use Rattle.dh_base.specs.declared.outcomes.Outcome.TheVariants.{Going, Ended}
 use Rattle.dh_tree.specs.declared.thin.Operand.{Operand}
 use Rattle.dh_tree.specs.declared.thin.Store.{Store}
 use Rattle.dh_tree.specs.declared.thin.Program.{Program}
-use Rattle.dh_tree.specs.Thin.{IsThin, IsGroup, IsStore, IsSource, IsElement, stores_of}
+use Rattle.dh_tree.specs.Thin.{IsThin, IsGroup, IsStore, IsSource, IsElement}
 use Rattle.dh_net.specs.declared.nets.Register.{Register}
 use Rattle.dh_net.specs.declared.nets.Net.{Net}
 use Rattle.dh_net.specs.Valid.{IsValid}
 use Rattle.dh_net.specs.Clock.{State, IsValuation, Settles, Clocks, start_of, has_clash, has_stray}
-use Rattle.dh_net.specs.Plays.{Run, clocks_of, IsGoing, IsFine, IsStuck, EndsAfter, Plays}
+use Rattle.dh_net.specs.Plays.{Run, IsGoing, IsFine, Plays}
 use Rattle.dh_net.specs.Simulates.{ShowsStep, ShowsEnded, Simulates}
 use Rattle.dh_net.proofs.Valuations.{some_valuation}
 use Rattle.dh_net.proofs.Fits.{last_going}
@@ -34,7 +29,7 @@ use Rattle.dh_compile.specs.Timetable.{use_in, group_length, total_length, uses_
 use Rattle.dh_compile.specs.Built.{IsShown, IsBuilt}
 use Rattle.dh_compile.specs.ThinRun.{AreLong, DoesGroups}
 use Rattle.dh_compile.proofs.Serving.{use_now, rows_do, held_do, RowsBelow, serves_rows, serves_held, no_clash, no_stray}
-use Rattle.dh_compile.proofs.Times.{group_length_least, group_length_most, use_at, uses_rise, uses_now, uses_over, ends_now, ends_over, clocks_before, within_total, clocks_before_all, clocks_before_more, total_length_most}
+use Rattle.dh_compile.proofs.Times.{group_length_least, group_length_most, use_at, uses_rise, uses_now, uses_over, ends_now, ends_over, clocks_before, within_total, clocks_before_all, clocks_before_more}
 use Rattle.dh_compile.proofs.Endings.{total_most, is_before, is_end, never_faults, stuck_never, some_group}
 use Rattle.dh_compile.proofs.Pointwise.{length-banks_after, length-held_after, bank_after, one_held_after, no_clashes, no_strays}
 use Rattle.dh_compile.proofs.Groups.{at_place, some_at, uses_below, writer_of, reads_source, sum_length}

@@ -1,6 +1,6 @@
 -- A net that is built for a thin program, and is valid, plays it: the checked run does the groups one
 -- after the other (`does_groups`), and the net plays any run that does so (`plays`).
-use Rattle.std.proofs.Common.{◌≡◌, ℕ, List, refl, Result, Ok, Err, IfOk}
+use Rattle.std.proofs.Common.{refl, Result, Ok, Err, IfOk}
 use Rattle.dh_base.specs.declared.lists.NoMemory.{NoMemory}
 use Rattle.dh_tree.specs.declared.thin.Program.{Program}
 use Rattle.dh_tree.specs.Thin.{IsThin}
@@ -17,13 +17,13 @@ pub plays_program : (p : Program) (net : Net) → IsThin p → IsValid net → I
 plays_program p net thin valid built = record {
   valid = valid;
   table = built.table;
-  plays = λ memories fits. plays p thin net valid built (run_of p memories) (does_groups p thin memories fits) memories refl
+  plays = λ memories fits. plays p thin net valid built (run_of p memories) (does_groups p thin memories fits) memories refl;
 }
 
 pub ends_soon : (p : Program) → IsThin p → EndsSoon p
 ends_soon p thin = record {
   ends = λ memories fits. ends_after p thin (run_of p memories) (does_groups p thin memories fits);
-  within = λ memories fits. ends_within p thin (run_of p memories) (does_groups p thin memories fits)
+  within = λ memories fits. ends_within p thin (run_of p memories) (does_groups p thin memories fits);
 }
 
 -- of the net that was built, where one was

@@ -2,12 +2,9 @@
 -- A group has a store for each two clocks at most, so 64 stores take no more than 128 clocks. A use of
 -- a memory is made by a store or its source, whose index is below the memory's size, and so is below
 -- any power of two that has all its rows.
-use Rattle.std.proofs.Common.{◌≡◌, ℕ, zero, suc, ◌+◌, ◌*◌, ◌^◌, ◌<◌, ◌≤◌, ◌⊎◌, inl, inr, Some, None, Option, List, [], ◌∷◌, ◌++◌, length, get_or, refl, sym, ap, subst, ◌∙◌, arith, length-append}
-use Rattle.std.specs.Prelude.{Bool, true, false, slice_get, slice_index, slice_index_or, if◌then◌else◌, ◌==◌}
+use Rattle.std.proofs.Common.{◌≡◌, ℕ, ◌*◌, ◌^◌, ◌<◌, ◌≤◌, Some, None, Option, List, [], ◌∷◌, refl, sym, ap, subst, ◌∙◌, arith}
+use Rattle.std.specs.Prelude.{Bool, true, false, slice_get, if◌then◌else◌, ◌==◌}
 use Rattle.std.specs.List.{AllByRecursion}
-use Rattle.std.proofs.Math.ListN.{get_or-append}
-use Rattle.std.proofs.Math.Seq.{get_or-append_seam}
-use Rattle.std.proofs.lemmas.Option.{slice_get_within}
 use Rattle.std.proofs.lemmas.Bool.Decides.{nat_tests}
 use Rattle.dh_tree.specs.declared.tables.MemEntry.{MemEntry}
 use Rattle.dh_tree.specs.declared.thin.Operand.{Operand}
@@ -15,15 +12,12 @@ use Rattle.dh_tree.specs.declared.thin.Store.{Store}
 use Rattle.dh_tree.specs.declared.thin.Program.{Program}
 use Rattle.dh_tree.specs.Tables.{elements_of, width_of}
 use Rattle.dh_tree.specs.Thin.{IsThinEntry, IsElement, IsSource, IsStore, IsGroup, IsThin, stores_of}
-use Rattle.dh_net.specs.Valid.{HasWidth, IsRowWidth, IsDriver}
-use Rattle.dh_net.specs.declared.nets.Cell.{Cell}
-use Rattle.dh_net.specs.declared.nets.Driver.{Driver}
+use Rattle.dh_net.specs.Valid.{IsRowWidth}
 use Rattle.dh_compile.specs.declared.uses.Use.{Use}
 use Rattle.dh_compile.specs.declared.uses.Use.TheVariants.{Reads, Writes}
-use Rattle.dh_compile.specs.Timetable.{use_of_source, use_in, any_read, group_length, total_length, uses_of}
-use Rattle.dh_compile.specs.Built.{Drives}
-use Rattle.dh_compile.specs.Drafts.{Drafted, Always, Extends, Grows, IsHeld}
-use Rattle.dh_compile.specs.Drivers.{FitsUse, FitsGroup, FitsGroups, FitsDriver, AddsPort, HasPorts}
+use Rattle.dh_compile.specs.Timetable.{use_of_source, use_in, any_read, total_length}
+use Rattle.dh_compile.specs.Drafts.{IsHeld}
+use Rattle.dh_compile.specs.Drivers.{FitsUse, FitsGroup, FitsGroups}
 use Rattle.dh_compile.proofs.Groups.{at_place}
 
 -- a thin program's memory has as many elements as it says, of 32 bits
@@ -64,7 +58,7 @@ source_fits : (table : List MemEntry) (memory wide : ℕ) (e : MemEntry) (o : Op
 source_fits table memory wide e o rest true at room h test others u use_ =
     let same : ◌≡◌ {A = Use} (Reads o.index) u = cc in
     subst (λ (x : Use). FitsUse table wide x) same
-      (index_fits table o.memory o.index wide e h (subst (λ (m : ℕ). slice_get table m ≡ Some e) (sym (tested o.memory memory test)) at) room)
+    (index_fits table o.memory o.index wide e h (subst (λ (m : ℕ). slice_get table m ≡ Some e) (sym (tested o.memory memory test)) at) room)
 source_fits table memory wide e o rest false at room h test others u use_ = others u use_
 
 any_source_fits : (table : List MemEntry) (memory wide : ℕ) (e : MemEntry) (source : Option Operand) (rest : Option Use) → slice_get table memory ≡ Some e
@@ -81,7 +75,7 @@ store_fits : (table : List MemEntry) → AllByRecursion IsThinEntry table → (m
 store_fits table thin memory wide e s rest true at room h test others u use_ =
     let same : ◌≡◌ {A = Use} (Writes s.index s.source s.number) u = cc in
     subst (λ (x : Use). FitsUse table wide x) same
-      (index_fits table s.memory s.index wide e h.target (subst (λ (m : ℕ). slice_get table m ≡ Some e) (sym (tested s.memory memory test)) at) room, (source_held table thin s.source h.source, h.number))
+    (index_fits table s.memory s.index wide e h.target (subst (λ (m : ℕ). slice_get table m ≡ Some e) (sym (tested s.memory memory test)) at) room, (source_held table thin s.source h.source, h.number))
 store_fits table thin memory wide e s rest false at room h test others u use_ = any_source_fits table memory wide e s.source rest at room h.source others u use_
 
 pub stores_fit : (table : List MemEntry) → AllByRecursion IsThinEntry table → (memory wide : ℕ) (e : MemEntry) → slice_get table memory ≡ Some e
@@ -95,7 +89,7 @@ pub groups_fit : (p : Program) → IsThin p → (table : List MemEntry) → tabl
     → IsRowWidth (elements_of e.shape.dims) wide → FitsGroups table memory wide p.groups
 groups_fit p thin table same memory wide e at room k g there =
     subst (λ (t : List MemEntry). FitsGroup t memory wide g) (sym same)
-      (stores_fit p.table thin.entries memory wide e at room.all g (at_place (IsGroup p.table) p.groups k g thin.groups there).stores)
+    (stores_fit p.table thin.entries memory wide e at room.all g (at_place (IsGroup p.table) p.groups k g thin.groups there).stores)
 
 -- the numbers of a thin memory's rows take 1 to 10 bits
 pub narrow : (e : MemEntry) → IsThinEntry e → (rows wide : ℕ) → rows ≡ elements_of e.shape.dims → IsRowWidth rows wide → wide ≤ 10

@@ -1,14 +1,13 @@
 -- What a few cells in a row say.
 -- Each cell's wire has the value of its form, and the facts of the wires that the form names are still
 -- true of the longer list. So the value of the last wire follows by putting theirs in their places.
-use Rattle.std.proofs.Common.{◌≡◌, ℕ, ◌+◌, ◌%◌, ◌^◌, ◌<◌, ◌≤◌, ◌⊎◌, inl, inr, Some, None, List, [], ◌∷◌, length, refl, sym, ap, ◌∙◌, arith}
-use Rattle.std.specs.Prelude.{slice_get, slice_index, option_map, if◌then◌else◌, ◌==◌}
+use Rattle.std.proofs.Common.{◌≡◌, ℕ, ◌+◌, ◌%◌, ◌^◌, inl, inr, List, length, refl, ◌∙◌, arith}
+use Rattle.std.specs.Prelude.{slice_index, if◌then◌else◌, ◌==◌}
 use Rattle.std.proofs.lemmas.Option.{slice_get_cases}
 use Rattle.dh_net.specs.declared.nets.Cell.{Cell}
-use Rattle.dh_net.specs.declared.nets.CellForm.{CellForm}
-use Rattle.dh_net.specs.declared.nets.CellForm.TheVariants.{Const, Reg, Data, Add, Or, Xor, Eq, Mux}
+use Rattle.dh_net.specs.declared.nets.CellForm.TheVariants.{Data, Add, Or, Eq, Mux}
 use Rattle.dh_net.specs.Valid.{HasWidth, IsOperand, AreOperands, IsPort}
-use Rattle.dh_compile.specs.Drafts.{Drafted, IsNext, Solves, Always, Grows, Adds, IsClock}
+use Rattle.dh_compile.specs.Drafts.{Drafted, IsNext, Always, Grows, Adds, IsClock}
 use Rattle.dh_compile.proofs.Cells.{width_later, later, grows_then}
 
 -- a wire that is there is one before the next cell

@@ -15,7 +15,11 @@ use dh_tree::{Program, copy_table};
 use std::alloc::Global;
 
 /// The two registers: the number of the clock, and whether the last clock ended a group.
-fn two_registers(alloc: Global, next_clock: u64, next_tick: u64) -> Result<Items<Register>, NoMemory>
+fn two_registers(
+    alloc: Global,
+    next_clock: u64,
+    next_tick: u64,
+) -> Result<Items<Register>, NoMemory>
     ensures { IfOk result (λ registers. registers ≡ clock_register next_clock ∷ (tick_register next_tick ∷ [])) }
 {
     let mut registers = Items::new(alloc);

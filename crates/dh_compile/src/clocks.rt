@@ -77,7 +77,11 @@ fn push_end(draft: &mut Draft, clock: u64, chain: u64, number: u64) -> Result<u6
 }
 
 /// Adds the wire that is 1 in the last clock of each group, and in no other.
-pub(crate) fn push_ends(draft: &mut Draft, clock: u64, groups: &[Items<Store>]) -> Result<u64, NoMemory>
+pub(crate) fn push_ends(
+    draft: &mut Draft,
+    clock: u64,
+    groups: &[Items<Store>],
+) -> Result<u64, NoMemory>
     requires clock { IsClock draft.old clock }
     requires total { total_length groups.now < 2 ^ 32 }
     ensures { IfOk result (λ wire. Adds draft.old draft.new wire 1 (λ registers held wires. if ends_at 0 groups.now (slice_index registers 0) then 1 else 0)) }

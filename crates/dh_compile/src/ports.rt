@@ -9,7 +9,7 @@ ghost use Rattle.dh_compile.specs.Drafts.{IsClock, IsHeld};
 ghost use Rattle.dh_compile.specs.Drivers.{use_clock, FitsUse, FitsGroup, FitsGroups, AddsUse, AddsDriver, AddsGroup, AddsPort, AddsPorts};
 
 use crate::drafts::Draft;
-use crate::uses::{group_length, use_in, Use};
+use crate::uses::{Use, group_length, use_in};
 use crate::wires::{push_at, push_constant, push_stored};
 use dh_base::{Items, NoMemory};
 use dh_net::{Driver, row_width};
@@ -56,7 +56,14 @@ fn push_read(draft: &mut Draft, enable: u64, row_width: u8, row: u64) -> Result<
 }
 
 /// Adds the cells of a driver that writes the row.
-fn push_write(draft: &mut Draft, enable: u64, row_width: u8, row: u64, source: Option<Operand>, number: u64) -> Result<Driver, NoMemory>
+fn push_write(
+    draft: &mut Draft,
+    enable: u64,
+    row_width: u8,
+    row: u64,
+    source: Option<Operand>,
+    number: u64,
+) -> Result<Driver, NoMemory>
     requires least { 1 ≤ row_width }
     requires greatest { row_width ≤ 64 }
     requires fits { row < 2 ^ row_width }
@@ -86,7 +93,11 @@ fn push_driver(draft: &mut Draft, port: Port, at: u64, used: Use) -> Result<Driv
     let enable = push_at(draft, port.clock, at)?;
     match used {
         Use::Reads { row } => push_read(draft, enable, port.row_width, row),
-        Use::Writes { row, source, number } => push_write(draft, enable, port.row_width, row, source, number),
+        Use::Writes {
+            row,
+            source,
+            number,
+        } => push_write(draft, enable, port.row_width, row, source, number),
     }
 }
 
@@ -118,7 +129,12 @@ fn push_group(
 }
 
 /// Adds the drivers of a memory's port: one for each group that uses the memory, in order.
-fn push_port(alloc: Global, draft: &mut Draft, port: Port, groups: &[Items<Store>]) -> Result<Items<Driver>, NoMemory>
+fn push_port(
+    alloc: Global,
+    draft: &mut Draft,
+    port: Port,
+    groups: &[Items<Store>],
+) -> Result<Items<Driver>, NoMemory>
     requires clock { IsClock draft.old port.clock }
     requires least { 1 ≤ port.row_width }
     requires greatest { port.row_width ≤ 64 }
@@ -138,7 +154,12 @@ fn push_port(alloc: Global, draft: &mut Draft, port: Port, groups: &[Items<Store
 }
 
 /// Adds the drivers of all ports, in order of memories. `clock` shows the number of the clock.
-pub(crate) fn push_ports(alloc: Global, draft: &mut Draft, clock: u64, program: &Program) -> Result<Items<Items<Driver>>, NoMemory>
+pub(crate) fn push_ports(
+    alloc: Global,
+    draft: &mut Draft,
+    clock: u64,
+    program: &Program,
+) -> Result<Items<Items<Driver>>, NoMemory>
     requires thin { IsThin program.now }
     requires table { draft.old.table ≡ program.now.table }
     requires clock { IsClock draft.old clock }

@@ -58,11 +58,7 @@ fn any_read(group: &[Store]) -> bool
 pub(crate) fn group_length(group: &[Store]) -> u64
     ensures { result ≡ group_length group.now }
 {
-    if any_read(group) {
-        2
-    } else {
-        1
-    }
+    if any_read(group) { 2 } else { 1 }
 }
 
 /// The clocks of the groups together, which a `u64` has to hold.

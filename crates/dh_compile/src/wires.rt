@@ -49,7 +49,11 @@ fn push_sum(draft: &mut Draft, memory: u32, number: u64) -> Result<u64, NoMemory
 }
 
 /// Adds a wire that shows what is stored: the number, or the sum of the held element and the number.
-pub(crate) fn push_stored(draft: &mut Draft, source: Option<Operand>, number: u64) -> Result<u64, NoMemory>
+pub(crate) fn push_stored(
+    draft: &mut Draft,
+    source: Option<Operand>,
+    number: u64,
+) -> Result<u64, NoMemory>
     requires source { IsHeld draft.old.table source }
     requires fits { number < 2 ^ 32 }
     ensures { IfOk result (λ wire. Adds draft.old draft.new wire 32 (λ registers held wires. stored_from held source number)) }

@@ -1,4 +1,4 @@
-use Rattle.std.proofs.Common.{◌≡◌, ℕ, List, refl, ap, sym, subst, ◌∙◌, arith}
+use Rattle.std.proofs.Common.{List, refl, ap, subst, ◌∙◌, arith}
 use Rattle.std.specs.Prelude.{slice_index, if◌then◌else◌}
 use Rattle.dh_tree.specs.declared.thin.Store.{Store}
 use Rattle.dh_net.specs.declared.nets.Net.{Net}
@@ -39,9 +39,9 @@ made : (c : goal.After-new) → HasParts (net_of c) c.args.program.now c.in_ok-h
 made c =
     let ends = subst (λ (x : List (List Store)). Adds c.push_head.new.draft c.push_ends.new.draft c.in_ok-next_tick.next_tick 1 (λ rs hs ws. if ends_at 0 x (slice_index rs 0) then 1 else 0)) c.as_slice-groups.ensures c.in_ok-next_tick.ensures in
     parts (net_of c) c.args.program.now c.new-draft.result c.push_head.new.draft c.push_ends.new.draft c.push_ports.new.draft c.in_ok-head.head c.total_length.result c.in_ok-next_tick.next_tick
-      (c.new-draft.ensures.table ∙ (c.in_ok-table.ensures ∙ c.as_slice.ensures)) (c.total_length.ensures ∙ ap total_length c.as_slice-groups.ensures)
-      c.in_ok-head.ensures ends c.in_ok-drivers.ensures c.into_parts-table.ensures.table c.into_parts-table.ensures.cells c.into_parts-table.ensures.valid c.new.ensures
-      c.in_ok-registers.ensures refl refl refl
+    (c.new-draft.ensures.table ∙ (c.in_ok-table.ensures ∙ c.as_slice.ensures)) (c.total_length.ensures ∙ ap total_length c.as_slice-groups.ensures)
+    c.in_ok-head.ensures ends c.in_ok-drivers.ensures c.into_parts-table.ensures.table c.into_parts-table.ensures.cells c.into_parts-table.ensures.valid c.new.ensures
+    c.in_ok-registers.ensures refl refl refl
 
 pub returns-clause-built : goal.returns-clause-built
 returns-clause-built c = built (net_of c) c.args.program.now c.in_ok-head.head.next_clock c.in_ok-next_tick.next_tick (made c)

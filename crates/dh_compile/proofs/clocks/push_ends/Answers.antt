@@ -1,7 +1,6 @@
-use Rattle.std.proofs.Common.{◌≡◌, ℕ, ◌+◌, List, refl, drop, ap, ◌∙◌, sym, arith}
-use Rattle.dh_tree.specs.declared.thin.Store.{Store}
-use Rattle.dh_compile.specs.Timetable.{group_length, total_length}
-use Rattle.dh_compile.proofs.Cells.{grows_none, grows_then, clock_later}
+use Rattle.std.proofs.Common.{◌≡◌, ◌+◌, ap, ◌∙◌, arith}
+use Rattle.dh_compile.specs.Timetable.{group_length}
+use Rattle.dh_compile.proofs.Cells.{grows_then, clock_later}
 use Rattle.dh_compile.proofs.Driven.{total_at}
 use Rattle.dh_compile.proofs.Counted.{links_start, links_on, links_end}
 use Rattle.dh_compile.proofs.clocks.push_ends.Goals as goal
@@ -26,7 +25,7 @@ loop-group-preserved c =
       total = omega (arith, lasts, rest, c.loop-group.invariant.total);
       wide = c.in_ok-chain-2.ensures.wide;
       links =
-        links_on c.loop-group.draft c.push_end.new.draft c.loop-group.chain c.in_ok-chain-2.chain c.loop-group.begin (c.loop-group.begin + c.group_length-begin.result) c.args.groups.now c.loop-group.group-index c.group-item.result
+          links_on c.loop-group.draft c.push_end.new.draft c.loop-group.chain c.in_ok-chain-2.chain c.loop-group.begin (c.loop-group.begin + c.group_length-begin.result) c.args.groups.now c.loop-group.group-index c.group-item.result
           c.loop-group-test.true c.group-item.is (ap (λ n. c.loop-group.begin + n) lasts) c.in_ok-chain-2.ensures c.loop-group.invariant.links;
     }
 

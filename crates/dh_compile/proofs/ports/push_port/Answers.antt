@@ -12,7 +12,7 @@ push_group-requires-clause-clock c = clock_later c.args.draft.now c.loop-group.d
 pub push_group-requires-clause-fits : goal.push_group-requires-clause-fits
 push_group-requires-clause-fits c =
     group_fits c.args.draft.now c.loop-group.draft c.args.port.memory c.args.port.row_width c.args.groups.now c.loop-group.group-index c.group-item.result c.as_slice-stores.result.now
-      c.loop-group.invariant.grows c.loop-group-test.true c.group-item.is c.as_slice-stores.ensures c.requires.fits
+    c.loop-group.invariant.grows c.loop-group-test.true c.group-item.is c.as_slice-stores.ensures c.requires.fits
 
 pub loop-group-preserved : goal.loop-group-preserved
 loop-group-preserved c =
@@ -23,7 +23,7 @@ loop-group-preserved c =
       grows = grows_then c.args.draft.now c.loop-group.draft c.push_group.new.draft c.loop-group.invariant.grows c.in_ok-push_group.ensures.grows;
       total = omega (arith, lasts, rest, c.loop-group.invariant.total);
       leads =
-        leads_on c.loop-group.draft c.push_group.new.draft c.loop-group.drivers c.push_group.new.drivers c.args.port.memory c.args.port.row_width c.loop-group.begin (c.loop-group.begin + c.group_length-length.result) c.args.groups.now c.loop-group.group-index c.group-item.result (uses_of c.args.port.memory 0 c.args.groups.now)
+          leads_on c.loop-group.draft c.push_group.new.draft c.loop-group.drivers c.push_group.new.drivers c.args.port.memory c.args.port.row_width c.loop-group.begin (c.loop-group.begin + c.group_length-length.result) c.args.groups.now c.loop-group.group-index c.group-item.result (uses_of c.args.port.memory 0 c.args.groups.now)
           c.loop-group-test.true c.group-item.is (ap (λ n. c.loop-group.begin + n) lasts)
           (subst (λ (x : List Store). AddsGroup c.loop-group.draft c.push_group.new.draft c.loop-group.drivers c.push_group.new.drivers c.args.port.memory c.args.port.row_width c.loop-group.begin x) same c.in_ok-push_group.ensures)
           c.loop-group.invariant.leads;

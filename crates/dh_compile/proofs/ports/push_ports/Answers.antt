@@ -1,4 +1,4 @@
-use Rattle.std.proofs.Common.{◌≡◌, ◌≤◌, ap, ◌∙◌, arith}
+use Rattle.std.proofs.Common.{ap, ◌∙◌, arith}
 use Rattle.dh_compile.specs.Timetable.{total_length}
 use Rattle.dh_compile.proofs.Cells.{grows_then, clock_later}
 use Rattle.dh_compile.proofs.Programs.{thin_total, narrow}
@@ -20,12 +20,12 @@ push_port-requires-clause-total c =
 pub push_port-requires-clause-fits : goal.push_port-requires-clause-fits
 push_port-requires-clause-fits c =
     port_fits c.args.program.now c.requires.thin c.loop-memory.draft.table c.as_slice-entry-items.result.now c.as_slice-groups.result.now c.loop-memory.memory c.element_count.result c.row_width.result c.entry-item.result
-      (c.loop-memory.invariant.grows.table ∙ c.requires.table) c.as_slice-entry-items.ensures c.as_slice-groups.ensures c.loop-memory-test.true c.entry-item.is c.element_count.ensures c.row_width.ensures
+    (c.loop-memory.invariant.grows.table ∙ c.requires.table) c.as_slice-entry-items.ensures c.as_slice-groups.ensures c.loop-memory-test.true c.entry-item.is c.element_count.ensures c.row_width.ensures
 
 pub loop-memory-preserved : goal.loop-memory-preserved
 loop-memory-preserved c = record {
   grows = grows_then c.args.draft.now c.loop-memory.draft c.push_port.new.draft c.loop-memory.invariant.grows c.in_ok-drivers.ensures.grows;
   has =
-    ports_on c.args.program.now c.requires.thin c.loop-memory.draft c.push_port.new.draft c.loop-memory.ports c.push.new.self c.in_ok-drivers.drivers c.as_slice-entry-items.result.now c.as_slice-groups.result.now c.loop-memory.memory c.element_count.result c.row_width.result c.entry-item.result
+      ports_on c.args.program.now c.requires.thin c.loop-memory.draft c.push_port.new.draft c.loop-memory.ports c.push.new.self c.in_ok-drivers.drivers c.as_slice-entry-items.result.now c.as_slice-groups.result.now c.loop-memory.memory c.element_count.result c.row_width.result c.entry-item.result
       c.as_slice-entry-items.ensures c.as_slice-groups.ensures c.loop-memory-test.true c.entry-item.is c.element_count.ensures c.row_width.ensures c.in_ok-drivers.ensures c.in_ok-push.ensures c.loop-memory.invariant.has;
 }
