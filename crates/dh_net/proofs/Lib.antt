@@ -1,1 +1,4 @@
 pub mod Valuations
+pub mod Fits
+pub mod Simulation
+pub mod Reporting

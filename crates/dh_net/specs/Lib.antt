@@ -4,4 +4,5 @@ pub mod Ends
 pub mod Plays
 pub mod Reports
 pub mod Laws
+pub mod Simulates
 pub mod Parts

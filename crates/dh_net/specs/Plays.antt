@@ -75,6 +75,10 @@ pub record FaultsWithin (r : Run) (clocks : ℕ) : Type 0 where
   pub faults : FaultsAfter r after kind place
   pub within : clocks_of r after + r.length after ≤ clocks
 
+-- each step of the run takes a clock at least
+abbrev pub TakesClocks : Run → Type 0
+TakesClocks r = (n : ℕ) → HasSteps r n → IsGoing (r.outcome n) → 1 ≤ r.length n
+
 -- what the net shows by these wires, in a state after so many clocks in which n steps fit
 pub record ShowsRun (net : Net) (r : Run) (clocks n : ℕ) (s : State) (wires : List ℕ) : Type 0 where
   pub no_clash : has_clashes wires net.drivers ≡ false
@@ -88,6 +92,7 @@ pub record ShowsRun (net : Net) (r : Run) (clocks n : ℕ) (s : State) (wires : 
 
 -- the net plays the run from these memories
 pub record Plays (net : Net) (r : Run) (start : List (List ℕ)) : Type 0 where
+  pub takes_clocks : TakesClocks r
   pub never_stuck : (n : ℕ) → IsStuck (r.outcome n) → ⊥
   pub fits : (clocks : ℕ) → (n : ℕ) × Fit r clocks n
   pub shows : (clocks n : ℕ) (s : State) (wires : List ℕ) → ClocksTo net clocks (start_of net start) s → Settles net s wires → Fit r clocks n

@@ -1,4 +1,11 @@
 pub mod Names
 pub mod Tables
+pub mod Tree
+pub mod Elements
+pub mod Effects
+pub mod Steps
 pub mod ThinTokens
+pub mod LongestToken
 pub mod Thin
+pub mod ThinTree
+pub mod ThinReading

@@ -1,0 +1,10 @@
+//! The program's top call: from the words to the status, over any files, output and engine.
+//! Stands on the crates of every stage. docs/ARCHITECTURE.md has the way of a program through them.
+#![tactic(auto)]
+
+mod engine;
+mod lines;
+mod words;
+
+pub use engine::{Engine, Finish};
+pub use words::Job;

@@ -1,0 +1,46 @@
+//! The words that the program is called with, and the job that they name.
+
+ghost use Rattle.std.specs.Prelude.{◌≡◌, [], ◌∷◌, map, string_bytes};
+ghost use Rattle.dh_app.specs.Words.{job_of, is_file_word};
+
+/// What a call of the program is to do. A file goes by the position of its word, from 0.
+#[derive(Clone, Copy, Debug, PartialEq, Eq)]
+pub enum Job {
+    /// Compile the program of a file, run its net from the memories of another, and report.
+    Simulate { file: u32, data_: u32 },
+}
+
+impl Job {
+    ghost use Rattle.dh_app.specs.Words.{job_of};
+
+    /// The job that a list of words names, or None where they name none.
+    pub fn of(words: &[String]) -> Option<Job>
+        ensures { result ≡ job_of (map string_bytes words.now) }
+    {
+        if words.len() != 3 {
+            return None;
+        }
+        simulate_of(words[0].as_str(), words[1].as_str(), words[2].as_str())
+    }
+}
+
+/// The job of three words.
+fn simulate_of(command: &str, file: &str, data_: &str) -> Option<Job>
+    ensures { result ≡ job_of (command.now ∷ (file.now ∷ (data_.now ∷ []))) }
+{
+    if command == "simulate" && is_file_word(file) && is_file_word(data_) {
+        Some(Job::Simulate { file: 1, data_: 2 })
+    } else {
+        None
+    }
+}
+
+/// Whether a word can name a file: it is not empty and does not begin with `-`.
+fn is_file_word(word: &str) -> bool
+    ensures { result ≡ is_file_word word.now }
+{
+    match word.as_bytes() {
+        [] => false,
+        [first, ..] => *first != b'-',
+    }
+}

@@ -1,0 +1,37 @@
+-- The checked run of a thin program, as its groups have it.
+use Rattle.std.specs.Prelude.{◌≡◌, ℕ, ◌<◌, ◌≤◌, suc, List, [], length, slice_get, slice_index_or, Some}
+use Rattle.dh_base.specs.declared.outcomes.Outcome.TheVariants.{Going, Ended}
+use Rattle.dh_tree.specs.declared.tables.MemEntry.{MemEntry}
+use Rattle.dh_tree.specs.declared.thin.Store.{Store}
+use Rattle.dh_tree.specs.declared.thin.Program.{Program}
+use Rattle.dh_tree.specs.Tables.{elements_of}
+use Rattle.dh_tree.specs.Steps.{standing, step_length}
+use Rattle.dh_tree.specs.ThinTree.{tree_of}
+use Rattle.dh_net.specs.Plays.{Run}
+use Rattle.dh_compile.specs.Timetable.{use_in, group_length, rows_after}
+
+-- the checked run of a thin program from these memories
+abbrev pub run_of : Program → List (List ℕ) → Run
+run_of p memories = record {
+  outcome = λ n. (standing (tree_of p) memories n).outcome;
+  memories = λ n. (standing (tree_of p) memories n).memories;
+  length = λ n. step_length (standing (tree_of p) memories n).threads;
+}
+
+-- each memory has its declared number of elements
+pub record AreLong (table : List MemEntry) (memories : List (List ℕ)) : Type 0 where
+  pub all : length memories ≡ length table
+  pub each : (i : ℕ) (e : MemEntry) → slice_get table i ≡ Some e → length (slice_index_or memories i []) ≡ elements_of e.shape.dims
+
+-- the step of this group leads from these memories to those
+pub record GroupDone (g : List Store) (old new : List (List ℕ)) : Type 0 where
+  pub all : length new ≡ length old
+  pub each : (i : ℕ) → slice_index_or new i [] ≡ rows_after old (use_in g i) (slice_index_or old i [])
+
+-- a run that does the groups one after the other, and then has ended
+pub record DoesGroups (p : Program) (r : Run) : Type 0 where
+  pub long : (n : ℕ) → AreLong p.table (r.memories n)
+  pub going : (n : ℕ) → n < length p.groups → r.outcome n ≡ Going
+  pub ended : (n : ℕ) → length p.groups ≤ n → r.outcome n ≡ Ended
+  pub lengths : (n : ℕ) (g : List Store) → slice_get p.groups n ≡ Some g → r.length n ≡ group_length g
+  pub steps : (n : ℕ) (g : List Store) → slice_get p.groups n ≡ Some g → GroupDone g (r.memories n) (r.memories (suc n))

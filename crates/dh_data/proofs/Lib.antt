@@ -1,0 +1,7 @@
+pub mod Options
+pub mod Lists
+pub mod Apart
+pub mod Views
+pub mod Signed
+pub mod Floats
+pub mod Memories
