@@ -25,12 +25,12 @@ fn sum(a: u64, b: u64, width: u8) -> u64
     low_bits(a.wrapping_add(b), width)
 }
 
-/// The value of a cell, by the registers, the held data and the wires.
-fn cell_value(cell: Cell, registers: &[u64], held: &[u64], wires: &[u64]) -> u64
-    requires least { 1 ≤ cell.width }
-    requires greatest { cell.width ≤ 64 }
-    requires rooms { IsInRooms (length registers.now) (length held.now) (length wires.now) cell.form }
-    ensures { result ≡ form_value registers.now held.now wires.now cell.width cell.form }
+// The value of a cell, by the registers, the held data and the wires.
+fn cell_value(cell: &Cell, registers: &[u64], held: &[u64], wires: &[u64]) -> u64
+    requires least { 1 ≤ cell.now.width }
+    requires greatest { cell.now.width ≤ 64 }
+    requires rooms { IsInRooms (length registers.now) (length held.now) (length wires.now) cell.now.form }
+    ensures { result ≡ form_value registers.now held.now wires.now cell.now.width cell.now.form }
 {
     match cell.form {
         CellForm::Const { bits } => bits,
@@ -59,7 +59,7 @@ pub fn settle(net: &Net, registers: &[u64], held: &[u64], wires: &mut [u64])
     ensures { IsValuation net.now.cells registers.now held.now wires.new }
 {
     for (i, cell) in net.cells.as_slice().iter().enumerate() {
-        let value = cell_value(*cell, registers, held, wires);
+        let value = cell_value(cell, registers, held, wires);
         wires[i] = value;
     }
 }
