@@ -3,6 +3,7 @@
 #![tactic(auto)]
 
 mod engine;
+mod lines;
 mod words;
 
 pub use engine::{Engine, Finish};

@@ -10,8 +10,10 @@ pub mod Serving
 pub mod Times
 pub mod Pointwise
 pub mod Groups
+pub mod Endings
 pub mod Playing
 pub mod GroupEvents
 pub mod Spending
 pub mod GroupWrites
 pub mod ThinRuns
+pub mod PlayingPrograms

@@ -7,9 +7,11 @@
 
 mod building;
 mod clocks;
+mod compiling;
 mod drafts;
 mod ports;
 mod uses;
 mod wires;
 
+pub use compiling::{compile, thin_programs_end};
 pub use uses::Use;

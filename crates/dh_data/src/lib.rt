@@ -3,6 +3,10 @@
 //! Stands on `dh_tree` and `serde_json`. docs/DATA.md tells both formats.
 #![tactic(auto)]
 
+mod reports;
+#[cfg(test)]
+mod tests;
 mod thin_data;
 
+pub use reports::{Ending, report};
 pub use thin_data::{DataFault, read};

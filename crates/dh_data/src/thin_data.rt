@@ -150,7 +150,7 @@ fn fits(number: u64, width: u8) -> bool
     width >= 64 || number < 1 << width
 }
 
-fn width(kind: Kind) -> u8
+pub(crate) fn width(kind: Kind) -> u8
     ensures { result ≡ width_of kind }
 {
     match kind {
