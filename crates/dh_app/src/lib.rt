@@ -4,7 +4,9 @@
 
 mod engine;
 mod lines;
+mod running;
 mod words;
 
 pub use engine::{Engine, Finish};
+pub use running::run;
 pub use words::Job;
