@@ -7,6 +7,6 @@ mod lines;
 mod running;
 mod words;
 
-pub use engine::{Engine, Finish};
+pub use engine::{Engine, Finish, NetEngine};
 pub use running::run;
 pub use words::Job;
