@@ -32,14 +32,14 @@ put_at : (o : Ordering) (k l : List ℕ) (d e : Data) (ms : Members) → has_flo
 put_at Less k l d e ms one all more = both _ _ one all
 put_at Equal k l d e ms one all more = both _ _ one (right (has_float e) _ all)
   where
-  right : (b c : Bool) → (b || c) ≡ false → c ≡ false
-  right true c e = cc
-  right false c e = e
+    right : (b c : Bool) → (b || c) ≡ false → c ≡ false
+    right true c e = cc
+    right false c e = e
 put_at Greater k l d e ms one all more = both _ _ (left (has_float e) _ all) more
   where
-  left : (b c : Bool) → (b || c) ≡ false → b ≡ false
-  left true c e = e
-  left false c e = refl
+    left : (b c : Bool) → (b || c) ≡ false → b ≡ false
+    left true c e = e
+    left false c e = refl
 
 behind : (b c : Bool) → (b || c) ≡ false → c ≡ false
 behind true c e = cc

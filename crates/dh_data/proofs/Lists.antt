@@ -105,7 +105,7 @@ member_read e found vs is =
     let p = was_passed (items_len items.0 == elements_of e.shape.dims) (numbers_in (width_of e.shape.kind) items.0) vs items.1.1 in
     let q = are_whole (width_of e.shape.kind) items.0 vs p.1 in
     let shape : here.0 ≡ data_object vs =
-        sole_member here.0 list.0 here.1.1 ∙ ap (λ a. object (member (codes "data") a no_members)) (of_array list.0 items.0 list.1.1 ∙ ap array q.0) in
+    sole_member here.0 list.0 here.1.1 ∙ ap (λ a. object (member (codes "data") a no_members)) (of_array list.0 items.0 list.1.1 ∙ ap array q.0) in
     let long : length vs ≡ elements_of e.shape.dims = sym (ap items_len q.0 ∙ long_items vs) ∙ eqb-true (items_len items.0) (elements_of e.shape.dims) p.0 in
     record { shown = here.1.0 ∙ ap Some shape; fits = record { long = long; small = q.1 } }
 

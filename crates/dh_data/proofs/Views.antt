@@ -23,8 +23,8 @@ got_member k (string s) ms e = absurd (none-some ms (sym e))
 got_member k (array ds) ms e = absurd (none-some ms (sym e))
 got_member k (object m) ms e = ap (get_member k) (same m ms e)
   where
-  same : (m ms : Members) → Some ms ≡ Some m → m ≡ ms
-  same m ms e = cc
+    same : (m ms : Members) → Some ms ≡ Some m → m ≡ ms
+    same m ms e = cc
 
 -- an object with more members than one, or none, has no only member
 pub not_sole : (d : Data) (es : List Entry) → Some (members_view es) ≡ as_object d → (length es ≡ 1 → ⊥) → None ≡ data_member d
@@ -61,5 +61,5 @@ pub tells_list : (e : MemEntry) (o : Option Data) (vs xs : List Value) (w : ℕ)
     → xs ≡ vs → w ≡ width_of e.shape.kind → Tells (numbers_in w (items_view xs)) r → Tells (list_in e o) r
 tells_list e o vs xs w r found long items width tells =
     let same : numbers_in w (items_view xs) ≡ list_in e o =
-        ap (λ n. numbers_in n (items_view xs)) width ∙ (ap (λ l. numbers_in (width_of e.shape.kind) (items_view l)) items ∙ (sym (is_counted e vs long) ∙ sym found)) in
+    ap (λ n. numbers_in n (items_view xs)) width ∙ (ap (λ l. numbers_in (width_of e.shape.kind) (items_view l)) items ∙ (sym (is_counted e vs long) ∙ sym found)) in
     subst (λ (p : Option (List ℕ)). Tells p r) same tells

@@ -75,11 +75,7 @@ fn contents_in(alloc: Global, table: &MemTable, value: &Value) -> Result<Memorie
     Ok(Memories::new(lists))
 }
 
-fn lists_of(
-    alloc: Global,
-    entries: &[MemEntry],
-    value: &Value,
-) -> Result<Vec<Vec<u64>>, DataFault>
+fn lists_of(alloc: Global, entries: &[MemEntry], value: &Value) -> Result<Vec<Vec<u64>>, DataFault>
     ensures { TellsLists (lists_in entries.now (view value.now)) result }
 {
     let mut lists = Vec::with_capacity(alloc, entries.len())?;
