@@ -105,6 +105,7 @@ fn list_of(alloc: Global, entry: &MemEntry, found: Option<&Value>) -> Result<Vec
 }
 
 /// The value of an object's only member, where that is `data`.
+#[tactic(auto, using(crate::proofs::Views::not_sole, crate::proofs::Views::is_sole))]
 fn data_of(member: &Value) -> Option<&Value>
     ensures { option_map (λ v. view v.now) result ≡ data_member (view member.now) }
 {
