@@ -2,7 +2,7 @@
 -- side differ, each memory has its member, and there are as many of both: were another member there,
 -- its name and those of the table would be more names than there are members. The other way round,
 -- where all names of each side are names of the other, both sides are as many.
-use Rattle.std.proofs.Common.{◌≡◌, ℕ, suc, ◌≤◌, List, [], ◌∷◌, length, map, Bool, true, false, ◌||◌, Option, Some, None, string_bytes, Ordering, Less, Equal, Greater, nat_cmp, string_cmp, is_eq, bytes_eq, Contains, refl, sym, ap, ◌∙◌, arith}
+use Rattle.std.proofs.Common.{◌≡◌, ℕ, suc, ◌≤◌, List, [], ◌∷◌, length, Bool, true, false, ◌||◌, Some, string_bytes, Ordering, Less, Equal, Greater, nat_cmp, string_cmp, is_eq, bytes_eq, Contains, refl, sym, ap, ◌∙◌, arith}
 use Rattle.std.specs.List.{AllByRecursion, IsDistinct}
 use Rattle.std.specs.Map.{keys_of}
 use Rattle.std.specs.Set.{is_member}

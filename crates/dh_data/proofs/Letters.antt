@@ -1,10 +1,10 @@
 -- Names of one letter, for the tests: no reserved word is so short.
-use Rattle.std.proofs.Common.{◌≡◌, ℕ, ◌≤◌, ◌⊎◌, inl, inr, List, [], ◌∷◌, Bool, true, false, codes, true≢false, refl, sym, ap, ◌∙◌, arith, Contains}
+use Rattle.std.proofs.Common.{◌≡◌, ℕ, inl, inr, List, false, codes, true≢false, refl, sym, ◌∙◌, arith}
 use Rattle.std.specs.Set.{is_member}
 use Rattle.std.specs.Str.{bytes_eq}
 use Rattle.std.proofs.lemmas.Slice.Eq.{bytes_eq-Decides}
 use Rattle.std.proofs.lemmas.Map.Made.{is_member-Decides}
-use Rattle.dh_tree.specs.Names.{IsName, IsWord, IsLetter, reserved}
+use Rattle.dh_tree.specs.Names.{IsName, IsWord, reserved}
 
 is_name : (bytes : List ℕ) → IsWord bytes → is_member bytes_eq reserved bytes ≡ false → IsName bytes
 is_name bytes word free = record { word = word; free = λ h. true≢false (sym ((is_member-Decides bytes_eq-Decides reserved bytes).1 h) ∙ free) }

@@ -61,6 +61,7 @@ pub fn read(alloc: Global, table: &MemTable, bytes: &[u8]) -> Result<Memories, D
     }
 }
 
+#[tactic(auto, using(crate::proofs::Lists::as_many_entries, crate::proofs::Lists::entries_are))]
 fn contents_in(alloc: Global, table: &MemTable, value: &Value) -> Result<Memories, DataFault>
     requires { IsTable table.now }
     ensures { Shows table.now (view value.now) result }
