@@ -27,6 +27,14 @@ elements_none k (v ∷ vs) = both _ _ (no_float (number_of k v)) (elements_none 
 memory_none : (k : Kind) (vs : List ℕ) → has_float (memory_data k vs) ≡ false
 memory_none k vs = both _ _ (elements_none k vs) refl
 
+behind : (b c : Bool) → (b || c) ≡ false → c ≡ false
+behind true c e = cc
+behind false c e = e
+
+before : (b c : Bool) → (b || c) ≡ false → b ≡ false
+before true c e = e
+before false c e = refl
+
 put_at : (o : Ordering) (k l : List ℕ) (d e : Data) (ms : Members) → has_float d ≡ false → members_have_float (member l e ms) ≡ false → members_have_float (put k d ms) ≡ false
     → members_have_float (match_ordering o (member k d (member l e ms)) (member l d ms) (member l e (put k d ms))) ≡ false
 put_at Less k l d e ms one all more = both _ _ one all
@@ -40,10 +48,6 @@ put_at Greater k l d e ms one all more = both _ _ (left (has_float e) _ all) mor
     left : (b c : Bool) → (b || c) ≡ false → b ≡ false
     left true c e = e
     left false c e = refl
-
-behind : (b c : Bool) → (b || c) ≡ false → c ≡ false
-behind true c e = cc
-behind false c e = e
 
 put_none : (k : List ℕ) (d : Data) (ms : Members) → has_float d ≡ false → members_have_float ms ≡ false → members_have_float (put k d ms) ≡ false
 put_none k d no_members one all = both _ _ one refl
