@@ -38,16 +38,8 @@ before false c e = refl
 put_at : (o : Ordering) (k l : List ℕ) (d e : Data) (ms : Members) → has_float d ≡ false → members_have_float (member l e ms) ≡ false → members_have_float (put k d ms) ≡ false
     → members_have_float (match_ordering o (member k d (member l e ms)) (member l d ms) (member l e (put k d ms))) ≡ false
 put_at Less k l d e ms one all more = both _ _ one all
-put_at Equal k l d e ms one all more = both _ _ one (right (has_float e) _ all)
-  where
-    right : (b c : Bool) → (b || c) ≡ false → c ≡ false
-    right true c e = cc
-    right false c e = e
-put_at Greater k l d e ms one all more = both _ _ (left (has_float e) _ all) more
-  where
-    left : (b c : Bool) → (b || c) ≡ false → b ≡ false
-    left true c e = e
-    left false c e = refl
+put_at Equal k l d e ms one all more = both _ _ one (behind (has_float e) _ all)
+put_at Greater k l d e ms one all more = both _ _ (before (has_float e) _ all) more
 
 put_none : (k : List ℕ) (d : Data) (ms : Members) → has_float d ≡ false → members_have_float ms ≡ false → members_have_float (put k d ms) ≡ false
 put_none k d no_members one all = both _ _ one refl
