@@ -2,7 +2,7 @@
 -- side differ, each memory has its member, and there are as many of both: were another member there,
 -- its name and those of the table would be more names than there are members. The other way round,
 -- where all names of each side are names of the other, both sides are as many.
-use Rattle.std.proofs.Common.{◌≡◌, ℕ, suc, ◌≤◌, List, [], ◌∷◌, length, map, Bool, true, false, ◌||◌, Option, Some, None, string_bytes, Ordering, Less, Equal, Greater, nat_cmp, string_cmp, is_eq, bytes_eq, Contains, refl, sym, ap, ◌∙◌, arith}
+use Rattle.std.proofs.Common.{◌≡◌, ℕ, suc, ◌≤◌, List, [], ◌∷◌, length, Bool, true, false, ◌||◌, Some, string_bytes, Ordering, Less, Equal, Greater, nat_cmp, string_cmp, is_eq, bytes_eq, Contains, refl, sym, ap, ◌∙◌, arith}
 use Rattle.std.specs.List.{AllByRecursion, IsDistinct}
 use Rattle.std.specs.Map.{keys_of}
 use Rattle.std.specs.Set.{is_member}
@@ -92,9 +92,9 @@ Within ns ks = (q : List ℕ) → is_member bytes_eq ns q ≡ true → is_member
 one_more : (ns ks : List (List ℕ)) (q : List ℕ) → Within ns ks → is_member bytes_eq ks q ≡ true → Within (q ∷ ns) ks
 one_more ns ks q all at p h = one_more_by (bytes_eq p q) ns ks q p refl h all at
   where
-  one_more_by : (b : Bool) (ns ks : List (List ℕ)) (q p : List ℕ) → bytes_eq p q ≡ b → (bytes_eq p q || is_member bytes_eq ns p) ≡ true → Within ns ks → is_member bytes_eq ks q ≡ true → is_member bytes_eq ks p ≡ true
-  one_more_by true ns ks q p same h all at = ap (is_member bytes_eq ks) ((bytes_eq-Decides p q).0 same) ∙ at
-  one_more_by false ns ks q p other h all at = all p (sym (ap (λ b. b || is_member bytes_eq ns p) other) ∙ h)
+    one_more_by : (b : Bool) (ns ks : List (List ℕ)) (q p : List ℕ) → bytes_eq p q ≡ b → (bytes_eq p q || is_member bytes_eq ns p) ≡ true → Within ns ks → is_member bytes_eq ks q ≡ true → is_member bytes_eq ks p ≡ true
+    one_more_by true ns ks q p same h all at = ap (is_member bytes_eq ks) ((bytes_eq-Decides p q).0 same) ∙ at
+    one_more_by false ns ks q p other h all at = all p (sym (ap (λ b. b || is_member bytes_eq ns p) other) ∙ h)
 
 none_else : (b : Bool) (ns ks : List (List ℕ)) (q : List ℕ) → is_member bytes_eq ns q ≡ b → IsDistinct bytes_eq ns → Within ns ks → length ks ≡ length ns → is_member bytes_eq ks q ≡ true → b ≡ true
 unfolding IsDistinct

@@ -1,16 +1,16 @@
 -- No number of a report is a float: elements are integers, and an object has no float where none of
 -- its members has one.
-use Rattle.std.proofs.Common.{◌≡◌, ℕ, ℤ, pos, negsuc, List, [], ◌∷◌, map, Bool, true, false, ◌||◌, if◌then◌else◌, Option, Some, None, Ordering, Less, Equal, Greater, nat_cmp, refl, sym, ap, ◌∙◌}
+use Rattle.std.proofs.Common.{◌≡◌, ℕ, ℤ, pos, negsuc, List, [], ◌∷◌, map, Bool, true, false, ◌||◌, if◌then◌else◌, Option, Some, None, Ordering, Less, Equal, Greater, nat_cmp, refl}
 use Rattle.std.specs.Ordering.{match_ordering}
 use Rattle.std.specs.Cmp.Lexicographic.{slice_cmp}
-use Rattle.serde_json.specs.Data.{Data, Items, no_items, item, Members, no_members, member, put, number}
+use Rattle.serde_json.specs.Data.{Data, Members, no_members, member, put}
 use Rattle.serde_json.specs.Find.{of_integer, is_float}
 use Rattle.serde_json.specs.View.{items_of}
 use Rattle.serde_json.specs.Written.{has_float, items_have_float, members_have_float}
 use Rattle.dh_tree.specs.declared.kinds.Kind.{Kind}
 use Rattle.dh_tree.specs.declared.tables.MemEntry.{MemEntry}
 use Rattle.dh_data.specs.declared.reports.Ending.{Ending}
-use Rattle.dh_data.specs.Reports.{number_of, element_data, memory_data, outside_data, clocks_first, report_data, outcome_text}
+use Rattle.dh_data.specs.Reports.{number_of, element_data, memory_data, outside_data, clocks_first, report_data}
 
 no_float : (z : ℤ) → is_float (of_integer z) ≡ false
 no_float (pos n) = refl
@@ -27,23 +27,19 @@ elements_none k (v ∷ vs) = both _ _ (no_float (number_of k v)) (elements_none 
 memory_none : (k : Kind) (vs : List ℕ) → has_float (memory_data k vs) ≡ false
 memory_none k vs = both _ _ (elements_none k vs) refl
 
-put_at : (o : Ordering) (k l : List ℕ) (d e : Data) (ms : Members) → has_float d ≡ false → members_have_float (member l e ms) ≡ false → members_have_float (put k d ms) ≡ false
-    → members_have_float (match_ordering o (member k d (member l e ms)) (member l d ms) (member l e (put k d ms))) ≡ false
-put_at Less k l d e ms one all more = both _ _ one all
-put_at Equal k l d e ms one all more = both _ _ one (right (has_float e) _ all)
-  where
-  right : (b c : Bool) → (b || c) ≡ false → c ≡ false
-  right true c e = cc
-  right false c e = e
-put_at Greater k l d e ms one all more = both _ _ (left (has_float e) _ all) more
-  where
-  left : (b c : Bool) → (b || c) ≡ false → b ≡ false
-  left true c e = e
-  left false c e = refl
-
 behind : (b c : Bool) → (b || c) ≡ false → c ≡ false
 behind true c e = cc
 behind false c e = e
+
+before : (b c : Bool) → (b || c) ≡ false → b ≡ false
+before true c e = e
+before false c e = refl
+
+put_at : (o : Ordering) (k l : List ℕ) (d e : Data) (ms : Members) → has_float d ≡ false → members_have_float (member l e ms) ≡ false → members_have_float (put k d ms) ≡ false
+    → members_have_float (match_ordering o (member k d (member l e ms)) (member l d ms) (member l e (put k d ms))) ≡ false
+put_at Less k l d e ms one all more = both _ _ one all
+put_at Equal k l d e ms one all more = both _ _ one (behind (has_float e) _ all)
+put_at Greater k l d e ms one all more = both _ _ (before (has_float e) _ all) more
 
 put_none : (k : List ℕ) (d : Data) (ms : Members) → has_float d ≡ false → members_have_float ms ≡ false → members_have_float (put k d ms) ≡ false
 put_none k d no_members one all = both _ _ one refl

@@ -5,3 +5,4 @@ pub mod Views
 pub mod Signed
 pub mod Floats
 pub mod Memories
+pub mod Letters

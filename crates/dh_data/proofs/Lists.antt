@@ -1,6 +1,6 @@
 -- Reading step by step finds exactly the contents that a value holds: each step undoes the one form
 -- that the contract allows, and refuses every other.
-use Rattle.std.proofs.Common.{◌≡◌, ℕ, suc, ◌<◌, ◌^◌, ◌==◌, nat_lt, ◌||◌, Contains, subst, List, [], ◌∷◌, length, Bool, true, false, if◌then◌else◌, codes, Option, Some, None, Result, Ok, Err, IfOk, option_map, option_and_then, Ordering, Less, Equal, Greater, nat_cmp, is_eq, bytes_eq, refl, sym, ap, ◌∙◌, arith}
+use Rattle.std.proofs.Common.{◌≡◌, ℕ, suc, ◌<◌, ◌^◌, ◌==◌, nat_lt, ◌||◌, Contains, subst, List, [], ◌∷◌, length, Bool, true, false, codes, Option, Some, None, Result, Ok, Err, IfOk, option_and_then, Ordering, Less, Equal, Greater, nat_cmp, string_cmp, is_eq, bytes_eq, refl, sym, ap, ◌∙◌, arith}
 use Rattle.std.specs.List.{AllByRecursion, IsDistinct}
 use Rattle.std.specs.Result.{IsErrAnd}
 use Rattle.std.specs.Set.{is_member}
@@ -10,17 +10,21 @@ use Rattle.std.proofs.lemmas.Bool.{eqb-true, eq-eqb, ltb-true, lt-ltb}
 use Rattle.std.proofs.lemmas.Option.{none-some, same_Some}
 use Rattle.std.proofs.lemmas.Slice.Eq.{bytes_eq-Decides}
 use Rattle.std.proofs.lemmas.Map.Text.{is_eq-slice_cmp}
-use Rattle.serde_json.specs.Data.{Num, unsigned, negative, float, Data, null, boolean, number, string, array, object, Items, no_items, item, Members, no_members, member}
+use Rattle.serde_json.specs.Data.{unsigned, negative, float, Data, null, boolean, number, string, array, object, Items, no_items, item, Members, no_members, member}
 use Rattle.serde_json.specs.Events.{items_len, members_len}
-use Rattle.serde_json.specs.Find.{get, get_member, as_array, as_object, as_number, as_u64}
+use Rattle.serde_json.specs.Find.{get_member, as_array, as_object}
 use Rattle.dh_tree.specs.Tables.{elements_of, width_of, FitsEntry, Fits, HasDistinctNames}
 use Rattle.dh_tree.specs.declared.tables.MemEntry.{MemEntry}
 use Rattle.dh_data.specs.ThinData.{whole_items, data_object, IsMember, AreMembers, IsDataOf, ReadsAs, Holds, Reads, names_of, names_in}
 use Rattle.dh_data.specs.declared.thin_data.DataFault.{DataFault}
 use Rattle.dh_data.specs.declared.thin_data.DataFault.TheVariants.{NotJson, NoMemory}
 use Rattle.dh_data.specs.Reading.{with_first, within, number_in, numbers_in, sole_data, data_member, counted, list_in, lists_in, Shows, TellsLists}
-use Rattle.dh_data.proofs.Options.{was_passed, went, IsCons, is_cons}
-use Rattle.dh_data.proofs.Apart.{Within, table_apart, length_names, length_table, found_name, no_more, as_many, each_named, from_named}
+use Rattle.dh_data.proofs.Options.{was_passed, went, is_cons}
+use Rattle.serde_json.specs.View.{members_view}
+use Rattle.serde_json.proofs.Views.{Entry, members_len-members_view}
+use Rattle.std.specs.Map.{keys_of}
+use Rattle.std.specs.List.Sorted.{IsStrictlySortedBy}
+use Rattle.dh_data.proofs.Apart.{members_apart, table_apart, length_names, length_table, found_name, no_more, as_many, each_named, from_named}
 
 -- ---- numbers
 
@@ -105,7 +109,7 @@ member_read e found vs is =
     let p = was_passed (items_len items.0 == elements_of e.shape.dims) (numbers_in (width_of e.shape.kind) items.0) vs items.1.1 in
     let q = are_whole (width_of e.shape.kind) items.0 vs p.1 in
     let shape : here.0 ≡ data_object vs =
-        sole_member here.0 list.0 here.1.1 ∙ ap (λ a. object (member (codes "data") a no_members)) (of_array list.0 items.0 list.1.1 ∙ ap array q.0) in
+    sole_member here.0 list.0 here.1.1 ∙ ap (λ a. object (member (codes "data") a no_members)) (of_array list.0 items.0 list.1.1 ∙ ap array q.0) in
     let long : length vs ≡ elements_of e.shape.dims = sym (ap items_len q.0 ∙ long_items vs) ∙ eqb-true (items_len items.0) (elements_of e.shape.dims) p.0 in
     record { shown = here.1.0 ∙ ap Some shape; fits = record { long = long; small = q.1 } }
 
@@ -215,3 +219,13 @@ refused table d NoMemory u = tt
 pub handed_on : (table : List MemEntry) (d : Data) (r : Result (List (List ℕ)) DataFault) (f : DataFault) → IsErrAnd r (λ e. e ≡ f) → Shows table d (Err f) → Shows table d r
 handed_on table d (Ok m) f is shows = absurd is
 handed_on table d (Err e) f is shows = subst (λ (x : DataFault). Shows table d (Err x)) (sym is) shows
+
+-- ---- the same over the entries of a map
+
+pub as_many_entries : (table : List MemEntry) (d : Data) (es : List Entry) (m : List (List ℕ)) → Some (members_view es) ≡ as_object d → HasDistinctNames table → IsStrictlySortedBy string_cmp (keys_of es)
+    → IsDataOf table d m → length es ≡ length table
+as_many_entries table d es m at here sorted is = sym (members_len-members_view es) ∙ other_count table d (members_view es) m (sym at) here (members_apart es sorted) is
+
+pub entries_are : (table : List MemEntry) (d : Data) (es : List Entry) (m : List (List ℕ)) → Some (members_view es) ≡ as_object d → HasDistinctNames table → length es ≡ length table
+    → lists_in table d ≡ Some m → IsDataOf table d m
+entries_are table d es m at here count is = read_is table d (members_view es) m (sym at) here (members_len-members_view es ∙ count) is

@@ -1,12 +1,11 @@
 -- What the calls on a `Value` tell of the data that it stands for.
-use Rattle.std.proofs.Common.{◌≡◌, ℕ, suc, ◌==◌, List, [], ◌∷◌, ◌++◌, length, get_or, map, drop, true, false, codes, Option, Some, None, Result, Vec, Global, option_map, option_and_then, subst, refl, sym, ap, ◌∙◌, arith}
-use Rattle.std.proofs.Math.Seq.{drop-cons}
+use Rattle.std.proofs.Common.{◌≡◌, ℕ, ◌==◌, List, length, true, false, codes, Option, Some, None, Result, Vec, Global, option_and_then, subst, sym, ap, ◌∙◌}
 use Rattle.std.proofs.lemmas.Bool.{eq-eqb, false_from_ne_true, eqb-true}
 use Rattle.std.proofs.lemmas.Option.{none-some}
 use Rattle.serde_json.specs.Data.{Data, null, boolean, number, string, array, object, Items, Members}
 use Rattle.serde_json.specs.Events.{items_len, members_len}
 use Rattle.serde_json.specs.Find.{get, get_member, as_object, as_array}
-use Rattle.serde_json.specs.View.{view, items_view, members_view}
+use Rattle.serde_json.specs.View.{items_view, members_view}
 use Rattle.serde_json.specs.declared.value.Value.{Value}
 use Rattle.serde_json.proofs.Views.{Entry, members_len-members_view, items_len-items_view}
 use Rattle.dh_tree.specs.Tables.{elements_of, width_of}
@@ -23,8 +22,8 @@ got_member k (string s) ms e = absurd (none-some ms (sym e))
 got_member k (array ds) ms e = absurd (none-some ms (sym e))
 got_member k (object m) ms e = ap (get_member k) (same m ms e)
   where
-  same : (m ms : Members) → Some ms ≡ Some m → m ≡ ms
-  same m ms e = cc
+    same : (m ms : Members) → Some ms ≡ Some m → m ≡ ms
+    same m ms e = cc
 
 -- an object with more members than one, or none, has no only member
 pub not_sole : (d : Data) (es : List Entry) → Some (members_view es) ≡ as_object d → (length es ≡ 1 → ⊥) → None ≡ data_member d
@@ -61,5 +60,5 @@ pub tells_list : (e : MemEntry) (o : Option Data) (vs xs : List Value) (w : ℕ)
     → xs ≡ vs → w ≡ width_of e.shape.kind → Tells (numbers_in w (items_view xs)) r → Tells (list_in e o) r
 tells_list e o vs xs w r found long items width tells =
     let same : numbers_in w (items_view xs) ≡ list_in e o =
-        ap (λ n. numbers_in n (items_view xs)) width ∙ (ap (λ l. numbers_in (width_of e.shape.kind) (items_view l)) items ∙ (sym (is_counted e vs long) ∙ sym found)) in
+    ap (λ n. numbers_in n (items_view xs)) width ∙ (ap (λ l. numbers_in (width_of e.shape.kind) (items_view l)) items ∙ (sym (is_counted e vs long) ∙ sym found)) in
     subst (λ (p : Option (List ℕ)). Tells p r) same tells

@@ -1,5 +1,5 @@
 -- How `read` finds the contents, step by step; for private clauses.
-use Rattle.std.specs.Prelude.{◌≡◌, ℕ, ◌==◌, ◌^◌, nat_lt, List, [], ◌∷◌, map, length, if◌then◌else◌, codes, Option, Some, None, option_map, option_and_then, Result, Ok, Err, Vec}
+use Rattle.std.specs.Prelude.{◌≡◌, ℕ, ◌==◌, ◌^◌, nat_lt, List, [], ◌∷◌, map, if◌then◌else◌, codes, Option, Some, None, option_map, option_and_then, Result, Ok, Err, Vec}
 use Rattle.std.specs.declared.alloc.Global.{Global}
 use Rattle.serde_json.specs.Data.{Data, Items, no_items, item, Members}
 use Rattle.serde_json.specs.Events.{items_len, members_len}

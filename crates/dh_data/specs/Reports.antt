@@ -76,7 +76,7 @@ clocks_first (Some clocks) ms = member (codes "clocks") (number (unsigned clocks
 abbrev pub report_data : List MemEntry → List (List ℕ) → Ending → Data
 report_data table memories ending =
     object (clocks_first ending.clocks (member (codes "memories") (object (outside_data table memories no_members))
-        (member (codes "outcome") (string (outcome_text table ending.outcome)) (member (codes "steps") (number (unsigned ending.steps)) no_members))))
+    (member (codes "outcome") (string (outcome_text table ending.outcome)) (member (codes "steps") (number (unsigned ending.steps)) no_members))))
 
 -- with the end of the line
 abbrev pub report_text : List MemEntry → List (List ℕ) → Ending → List ℕ

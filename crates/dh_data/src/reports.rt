@@ -164,7 +164,13 @@ fn outcome_text(alloc: Global, entries: &[MemEntry], outcome: Outcome) -> Result
         Outcome::Going => text.push_str("going")?,
         Outcome::Ended => text.push_str("done")?,
         Outcome::Faulted { kind, place } => {
-            write!(text, "fault {} {}:{}", fault_name(kind), place.line, place.column)?
+            write!(
+                text,
+                "fault {} {}:{}",
+                fault_name(kind),
+                place.line,
+                place.column
+            )?
         }
         Outcome::Stuck {
             memory,

@@ -58,20 +58,35 @@ fn reads_data_of_the_table_alone(rt: HostRuntime) -> Result<(), Fail> {
     let table = memories(rt.alloc(), "A", 2, "B")?;
     for (text, is_data) in [
         ("{\"A\":{\"data\":[1,2]},\"B\":{\"data\":[3]}}", true),
-        (" {\"B\": {\"data\": [3]}, \"A\": {\"data\": [1, 2]}}\n", true),
-        ("{\"A\":{\"data\":[9,9]},\"B\":{\"data\":[3]},\"A\":{\"data\":[1,2]}}", true),
+        (
+            " {\"B\": {\"data\": [3]}, \"A\": {\"data\": [1, 2]}}\n",
+            true,
+        ),
+        (
+            "{\"A\":{\"data\":[9,9]},\"B\":{\"data\":[3]},\"A\":{\"data\":[1,2]}}",
+            true,
+        ),
         ("[", false),
         ("{}", false),
         ("{\"A\":{\"data\":[1,2]}}", false),
-        ("{\"A\":{\"data\":[1,2]},\"B\":{\"data\":[3]},\"C\":{\"data\":[3]}}", false),
+        (
+            "{\"A\":{\"data\":[1,2]},\"B\":{\"data\":[3]},\"C\":{\"data\":[3]}}",
+            false,
+        ),
         ("{\"A\":{\"data\":[1]},\"B\":{\"data\":[3]}}", false),
         ("{\"A\":{\"data\":[1,2,3]},\"B\":{\"data\":[3]}}", false),
-        ("{\"A\":{\"data\":[1,4294967296]},\"B\":{\"data\":[3]}}", false),
+        (
+            "{\"A\":{\"data\":[1,4294967296]},\"B\":{\"data\":[3]}}",
+            false,
+        ),
         ("{\"A\":{\"data\":[1,-1]},\"B\":{\"data\":[3]}}", false),
         ("{\"A\":{\"data\":[1.0,2]},\"B\":{\"data\":[3]}}", false),
         ("{\"A\":{\"data\":[1e0,2]},\"B\":{\"data\":[3]}}", false),
         ("{\"A\":{\"data\":[[1],2]},\"B\":{\"data\":[3]}}", false),
-        ("{\"A\":{\"data\":[1,2],\"format\":{}},\"B\":{\"data\":[3]}}", false),
+        (
+            "{\"A\":{\"data\":[1,2],\"format\":{}},\"B\":{\"data\":[3]}}",
+            false,
+        ),
         ("{\"A\":{\"data\":[1,2]},\"B\":{\"data\":[3]}}x", false),
     ] {
         let is_right = match read(rt.alloc(), &table, text.as_bytes()) {
@@ -98,13 +113,29 @@ fn line(alloc: Global, table: &MemTable, text: &str, ending: &Ending) -> Result<
 #[test]
 fn reports_in_byte_order(rt: HostRuntime) -> Result<(), Fail> {
     let alloc = rt.alloc();
-    let at = Place { line: 5, column: 12 };
-    let fault = Outcome::Faulted { kind: FaultKind::OutOfRange, place: at };
-    let stuck = Outcome::Stuck { memory: 1, bank: 0, place: at };
+    let at = Place {
+        line: 5,
+        column: 12,
+    };
+    let fault = Outcome::Faulted {
+        kind: FaultKind::OutOfRange,
+        place: at,
+    };
+    let stuck = Outcome::Stuck {
+        memory: 1,
+        bank: 0,
+        place: at,
+    };
     let table = memories(alloc, "A", 1, "B")?;
     let text = "{\"A\":{\"data\":[7]},\"B\":{\"data\":[8]}}";
-    let done = Ending { outcome: Outcome::Ended, steps: 2, clocks: Some(3) };
-    assert!(rt; line(alloc, &table, text, &done)?.as_slice() == b"{\"clocks\":3,\"memories\":{\"A\":{\"data\":[7],\"format\":{\"is_signed\":false,\"numeric_type\":\"bitnum\",\"width\":32}},\"B\":{\"data\":[8],\"format\":{\"is_signed\":false,\"numeric_type\":\"bitnum\",\"width\":32}}},\"outcome\":\"done\",\"steps\":2}\n");
+    let done = Ending {
+        outcome: Outcome::Ended,
+        steps: 2,
+        clocks: Some(3),
+    };
+    let want =
+        "{\"clocks\":3,\"memories\":{\"A\":{\"data\":[7],\"format\":{\"is_signed\":false,\"numeric_type\":\"bitnum\",\"width\":32}},\"B\":{\"data\":[8],\"format\":{\"is_signed\":false,\"numeric_type\":\"bitnum\",\"width\":32}}},\"outcome\":\"done\",\"steps\":2}\n";
+    assert!(rt; line(alloc, &table, text, &done)?.as_slice() == want.as_bytes());
     let unsorted = memories(alloc, "b", 2, "B")?;
     let other = "{\"b\":{\"data\":[1,2]},\"B\":{\"data\":[4294967295]}}";
     for (outcome, tail) in [
@@ -112,9 +143,16 @@ fn reports_in_byte_order(rt: HostRuntime) -> Result<(), Fail> {
         (stuck, "stuck B 0 5:12"),
         (Outcome::Going, "going"),
     ] {
-        let ending = Ending { outcome, steps: 18446744073709551615, clocks: None };
+        let ending = Ending {
+            outcome,
+            steps: 18446744073709551615,
+            clocks: None,
+        };
         let found = line(alloc, &unsorted, other, &ending)?;
-        let mut want = String::from_str(alloc, "{\"memories\":{\"B\":{\"data\":[4294967295],\"format\":{\"is_signed\":false,\"numeric_type\":\"bitnum\",\"width\":32}},\"b\":{\"data\":[1,2],\"format\":{\"is_signed\":false,\"numeric_type\":\"bitnum\",\"width\":32}}},\"outcome\":\"")?;
+        let mut want = String::from_str(
+            alloc,
+            "{\"memories\":{\"B\":{\"data\":[4294967295],\"format\":{\"is_signed\":false,\"numeric_type\":\"bitnum\",\"width\":32}},\"b\":{\"data\":[1,2],\"format\":{\"is_signed\":false,\"numeric_type\":\"bitnum\",\"width\":32}}},\"outcome\":\"",
+        )?;
         want.push_str(tail)?;
         want.push_str("\",\"steps\":18446744073709551615}\n")?;
         assert!(rt; found.as_slice() == want.as_bytes(), "at {tail}");

@@ -61,6 +61,7 @@ pub fn read(alloc: Global, table: &MemTable, bytes: &[u8]) -> Result<Memories, D
     }
 }
 
+#[tactic(auto, using(crate::proofs::Lists::as_many_entries, crate::proofs::Lists::entries_are))]
 fn contents_in(alloc: Global, table: &MemTable, value: &Value) -> Result<Memories, DataFault>
     requires { IsTable table.now }
     ensures { Shows table.now (view value.now) result }
@@ -75,11 +76,7 @@ fn contents_in(alloc: Global, table: &MemTable, value: &Value) -> Result<Memorie
     Ok(Memories::new(lists))
 }
 
-fn lists_of(
-    alloc: Global,
-    entries: &[MemEntry],
-    value: &Value,
-) -> Result<Vec<Vec<u64>>, DataFault>
+fn lists_of(alloc: Global, entries: &[MemEntry], value: &Value) -> Result<Vec<Vec<u64>>, DataFault>
     ensures { TellsLists (lists_in entries.now (view value.now)) result }
 {
     let mut lists = Vec::with_capacity(alloc, entries.len())?;
@@ -109,6 +106,7 @@ fn list_of(alloc: Global, entry: &MemEntry, found: Option<&Value>) -> Result<Vec
 }
 
 /// The value of an object's only member, where that is `data`.
+#[tactic(auto, using(crate::proofs::Views::not_sole, crate::proofs::Views::is_sole))]
 fn data_of(member: &Value) -> Option<&Value>
     ensures { option_map (λ v. view v.now) result ≡ data_member (view member.now) }
 {

@@ -1,4 +1,4 @@
-use Rattle.std.proofs.Common.{◌≡◌, ◌∙◌, sym, ap, subst}
+use Rattle.std.proofs.Common.{◌∙◌, sym, ap, subst}
 use Rattle.dh_tree.specs.Tables.{FitsEntry}
 use Rattle.serde_json.specs.Data.{object}
 use Rattle.serde_json.proofs.Views.{view-Object}

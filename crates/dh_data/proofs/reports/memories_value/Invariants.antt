@@ -10,5 +10,5 @@ abbrev pub invariant-loop-i : goal.invariant-loop-i
 invariant-loop-i l = record {
   same : outside_data (drop l.i l.entries) (drop l.i (map (λ v. v.items) l.lists)) (members_view l.members.entries) ≡ outside_data l.entries (map (λ v. v.items) l.lists) no_members;
   table : AllByRecursion IsEntry (drop l.i l.entries);
-  fits : Fits (drop l.i l.entries) (drop l.i (map (λ v. v.items) l.lists))
+  fits : Fits (drop l.i l.entries) (drop l.i (map (λ v. v.items) l.lists));
 }

@@ -1,4 +1,4 @@
-use Rattle.std.proofs.Common.{◌≡◌, ◌∙◌, ◌^◌, ◌-◌, min, sym, ap, option_map, arith}
+use Rattle.std.proofs.Common.{◌∙◌, ◌^◌, ◌-◌, min, ap, option_map, arith}
 use Rattle.serde_json.specs.View.{view}
 use Rattle.dh_tree.specs.Tables.{elements_of}
 use Rattle.dh_data.proofs.Options.{capped_same, same_capped}

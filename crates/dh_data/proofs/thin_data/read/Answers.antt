@@ -1,4 +1,3 @@
-use Rattle.std.proofs.Common.{◌≡◌, ◌∙◌, sym}
 use Rattle.dh_data.proofs.Lists.{shows_reads, shows_only}
 use Rattle.dh_data.proofs.thin_data.read.Goals as goal
 
