@@ -1,7 +1,7 @@
 -- How a call of the program ends: for each status what is the case and what was written. The cases
 -- exclude one another, so each status comes exactly where its case holds, but where reading or writing
 -- failed or memory was refused.
-use Rattle.std.specs.Prelude.{◌≡◌, ℕ, ◌+◌, ◌≤◌, ◌⊎◌, Bool, true, List, [], ◌∷◌, ◌++◌, length, take, slice_index_or, Option, Some, None, option_map}
+use Rattle.std.specs.Prelude.{◌≡◌, ℕ, ◌+◌, ◌≤◌, ◌⊎◌, Bool, true, List, [], ◌∷◌, length, slice_index_or, Some, None}
 use Rattle.dh_base.specs.Limits.{greatest_of}
 use Rattle.dh_base.specs.Outside.{FilesSeen, SinkSeen, Rose, RoseBy, MayBe, IsAbsent, MayExceed, Grew, GrewByPart}
 use Rattle.dh_base.specs.declared.limits.Limit.{Limit}

@@ -124,12 +124,7 @@ fn run_all(
 }
 
 /// The run of a net from these memories.
-fn run_one(
-    alloc: Global,
-    net: &Net,
-    memories: Memories,
-    limit: u64,
-) -> Result<Finish, NoMemory>
+fn run_one(alloc: Global, net: &Net, memories: Memories, limit: u64) -> Result<Finish, NoMemory>
     requires valid { IsValid net.now }
     requires fits { Fits net.now.table memories }
     ensures answer { IfOk result (λ f. IsAnswer net.now f) }

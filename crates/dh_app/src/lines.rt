@@ -6,7 +6,8 @@ ghost use Rattle.dh_app.specs.Lines as lines;
 use dh_base::{Excess, NoMemory, Place, Rule};
 use std::alloc::{AllocError, Global};
 
-const USAGE: &str = "usage: dahlia check FILE | lower FILE [--multipliers N] [--chain N] | interpret FILE DATA [--steps N] [--unchecked] | simulate FILE DATA [--clocks N] [--multipliers N] [--chain N] | batch FILE LIST | workload N\n";
+const USAGE: &str =
+    "usage: dahlia check FILE | lower FILE [--multipliers N] [--chain N] | interpret FILE DATA [--steps N] [--unchecked] | simulate FILE DATA [--clocks N] [--multipliers N] [--chain N] | batch FILE LIST | workload N\n";
 
 /// How to call the program.
 pub fn usage_line(alloc: Global) -> Result<Vec<u8>, NoMemory>

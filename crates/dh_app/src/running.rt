@@ -158,7 +158,10 @@ fn too_large(alloc: Global, limit: Limit) -> Reply
     ensures { AnswersLine status.TooLarge (lines.too_large_line limit (greatest_of limit + 1)) result }
 {
     let count = limit.greatest() + 1;
-    answer_with(Status::TooLarge, too_large_line(alloc, Excess { limit, count }))
+    answer_with(
+        Status::TooLarge,
+        too_large_line(alloc, Excess { limit, count }),
+    )
 }
 
 /// The memories that a data file holds.

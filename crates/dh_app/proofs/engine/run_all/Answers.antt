@@ -13,6 +13,7 @@ run_one-requires c =
 
 pub loop-memories-preserved : goal.loop-memories-preserved
 loop-memories-preserved c =
-    rw c.in_ok-push.ensures.items
-      (answers_more c.args.net.now c.loop-memories.yielded c.loop-memories.answers.items c.in-Some.memories c.in_ok-answer.answer c.loop-memories.invariant.0 c.in_ok-answer.ensures.answer,
-       runs_more c.args.net.now c.args.limit c.loop-memories.yielded c.loop-memories.answers.items c.in-Some.memories c.in_ok-answer.answer c.loop-memories.invariant.1 c.in_ok-answer.ensures.right)
+    rw c.in_ok-push.ensures.items (
+      answers_more c.args.net.now c.loop-memories.yielded c.loop-memories.answers.items c.in-Some.memories c.in_ok-answer.answer c.loop-memories.invariant.0 c.in_ok-answer.ensures.answer,
+      runs_more c.args.net.now c.args.limit c.loop-memories.yielded c.loop-memories.answers.items c.in-Some.memories c.in_ok-answer.answer c.loop-memories.invariant.1 c.in_ok-answer.ensures.right,
+    )
