@@ -1,7 +1,7 @@
 -- From what the parts of the top call promise to what it promises. What one part knows of the files
 -- holds of them as the call began, since contents stay and no count falls; each status then has the
 -- case that its part of the call met.
-use Rattle.std.proofs.Common.{◌≡◌, ℕ, ◌≤◌, Bool, true, List, [], ◌∷◌, length, Result, Ok, Err, refl, sym, ap, arith, subst, inl, inr}
+use Rattle.std.proofs.Common.{◌∙◌, ◌≡◌, ℕ, ◌≤◌, Bool, true, List, [], ◌∷◌, length, Result, Ok, Err, IfOk, Vec, refl, sym, ap, arith, subst, inl, inr}
 use Rattle.dh_base.specs.Limits.{greatest_of}
 use Rattle.dh_base.specs.Outside.{Told, FilesSeen, KeepsFiles, Rose, RoseBy, MayBe, IsAbsent, MayExceed}
 use Rattle.dh_base.specs.declared.limits.Limit.{Limit}
@@ -16,9 +16,14 @@ use Rattle.dh_net.specs.declared.nets.Net.{Net}
 use Rattle.dh_net.specs.Plays.{IsStuck}
 use Rattle.dh_net.proofs.Reporting.{reports_by}
 use Rattle.dh_compile.specs.Compiled.{PlaysProgram}
+use Rattle.dh_data.specs.ThinData.{ReadsAs, IsDataOf}
+use Rattle.serde_json.specs.Data.{Data}
+use Rattle.dh_base.specs.declared.lists.NoMemory.{NoMemory}
+use Rattle.std.specs.declared.alloc.Global.{Global}
 use Rattle.dh_app.specs.Engines.{AnswersTo, AreRuns}
 use Rattle.dh_app.specs.Ends.{most_clocks, Names, MayRead, IsTooLong, FailsToRead, IsProgram, IsData, IsNoData, status_of, IsReport, Reported, Answers}
-use Rattle.dh_app.specs.Replies.{Replies, ProgramOf, ProgramRead, DataOf, DataRead, RunReplies, ReportsFirst}
+use Rattle.dh_app.specs.Lines.{not_json_line}
+use Rattle.dh_app.specs.Replies.{AnswersLine, AnswersWith, Replies, ProgramOf, ProgramRead, DataOf, DataRead, RunReplies, ReportsFirst}
 use Rattle.dh_app.specs.declared.engine.Finish.{Finish}
 use Rattle.dh_app.specs.declared.running.Answer.{Answer}
 use Rattle.dh_app.specs.declared.running.Reply.{Reply}
@@ -27,7 +32,7 @@ use Rattle.dh_app.specs.declared.running.Reply.TheVariants as reply
 -- a file that was read, and its text
 pub program_read : (old new : FilesSeen) (name text : List ℕ) (r : Result Program Reply) → MayBe (old.told name) text → length text ≤ greatest_of limit.Source
     → ProgramOf text r → ProgramRead old new name r
-program_read old new name text (Ok p) m l h = record { text = text; read = record { contents = m; within = l }; thin = h }
+program_read old new name text (Ok p) m l h = record { text = text; read = record { contents = m; within = l }; thin = h.0; only = h.1 }
 program_read old new name text (Err (reply.Answer a)) m l h =
     inr (record { none = record { text = text; read = record { contents = m; within = l }; not_thin = h.not_thin }; status_is = h.status_is; text_is = h.text_is })
 program_read old new name text (Err reply.ReadFault) m l h = absurd h
@@ -35,7 +40,7 @@ program_read old new name text (Err reply.NoMemory) m l h = tt
 
 pub data_read : (old new : FilesSeen) (name bytes : List ℕ) (p : Program) (r : Result (List (List ℕ)) Reply) → MayBe (old.told name) bytes → length bytes ≤ greatest_of limit.Data
     → DataOf bytes p r → DataRead old new name p r
-data_read old new name bytes p (Ok memories) m l h = (record { bytes = bytes; read = record { contents = m; within = l }; holds = h.0 }, h.1)
+data_read old new name bytes p (Ok memories) m l h = (record { bytes = bytes; read = record { contents = m; within = l }; holds = h.0; only = h.1.0 }, h.1.1)
 data_read old new name bytes p (Err (reply.Answer a)) m l h =
     inr (record { none = record { bytes = bytes; read = record { contents = m; within = l }; holds_none = h.holds_none }; status_is = h.status_is; text_is = h.text_is })
 data_read old new name bytes p (Err reply.ReadFault) m l h = absurd h
@@ -68,7 +73,7 @@ fails_before old mid new name k (inl r) = inl (rose_before old.faults mid.faults
 fails_before old mid new name k (inr a) = let P : Told → Type 0 = IsAbsent in inr (subst P (told_same old mid name k) a)
 
 data_before : (old mid : FilesSeen) (name : List ℕ) (p : Program) (memories : List (List ℕ)) → KeepsFiles old mid → IsData mid name p memories → IsData old name p memories
-data_before old mid name p memories k h = record { bytes = h.bytes; read = read_before old mid name limit.Data h.bytes k h.read; holds = h.holds }
+data_before old mid name p memories k h = record { bytes = h.bytes; read = read_before old mid name limit.Data h.bytes k h.read; holds = h.holds; only = h.only }
 
 no_data_before : (old mid : FilesSeen) (name : List ℕ) (p : Program) → KeepsFiles old mid → IsNoData mid name p → IsNoData old name p
 no_data_before old mid name p k h = record { bytes = h.bytes; read = read_before old mid name limit.Data h.bytes k h.read; holds_none = h.holds_none }
@@ -149,3 +154,18 @@ only_answer p net memories [] plays h = absurd h
 only_answer p net memories (f ∷ []) plays h =
     (f, (refl, (let P : List _ → Type 0 = λ t. Fits t f.memories in subst P plays.table h.0.fits)))
 only_answer p net memories (f ∷ (g ∷ fs)) plays h = absurd h.1
+
+-- an answer with a line that is this text
+pub with_line : (s : Status) (text : List ℕ) (line : Result (Vec ℕ Global) NoMemory) (r : Reply) → IfOk line (λ v. v.items ≡ text) → AnswersWith s line r → AnswersLine s text r
+with_line s text (Ok v) (reply.Answer a) e h = (h.0, h.1 ∙ e)
+with_line s text (Ok v) reply.ReadFault e h = absurd h
+with_line s text (Ok v) reply.NoMemory e h = tt
+with_line s text (Err f) (reply.Answer a) e h = absurd h
+with_line s text (Err f) reply.ReadFault e h = absurd h
+with_line s text (Err f) reply.NoMemory e h = tt
+
+-- bytes that hold no memories
+pub bad_bytes : (bytes : List ℕ) (p : Program) (r : Reply) → ((d : Data) (m : List (List ℕ)) → ReadsAs bytes d → IsDataOf p.table d m → ⊥) → AnswersLine status.BadData not_json_line r → DataOf bytes p (Err r)
+bad_bytes bytes p (reply.Answer a) h l = record { holds_none = λ m held. h held.0 m held.1.0 held.1.1; status_is = l.0; text_is = l.1 }
+bad_bytes bytes p reply.ReadFault h l = absurd l
+bad_bytes bytes p reply.NoMemory h l = tt

@@ -3,6 +3,7 @@
 -- failed or memory was refused.
 use Rattle.std.specs.Prelude.{◌≡◌, ℕ, ◌+◌, ◌≤◌, ◌⊎◌, Bool, true, List, [], ◌∷◌, length, slice_index_or, Some, None}
 use Rattle.dh_base.specs.Limits.{greatest_of}
+use Rattle.dh_base.specs.Outside as outside
 use Rattle.dh_base.specs.Outside.{FilesSeen, SinkSeen, Rose, RoseBy, MayBe, IsAbsent, MayExceed, Grew, GrewByPart}
 use Rattle.dh_base.specs.declared.limits.Limit.{Limit}
 use Rattle.dh_base.specs.declared.limits.Limit.TheVariants as limit
@@ -14,10 +15,10 @@ use Rattle.dh_base.specs.declared.statuses.Status.{Status}
 use Rattle.dh_base.specs.declared.statuses.Status.TheVariants as status
 use Rattle.dh_tree.specs.declared.thin.Program.{Program}
 use Rattle.dh_tree.specs.Thin.{IsThinText}
-use Rattle.dh_net.specs.Plays.{IsStuck}
+use Rattle.dh_net.specs.Plays.{IsStuck, EndsAfter, clocks_of}
 use Rattle.dh_net.specs.Reports.{Reports}
 use Rattle.dh_compile.specs.ThinRun.{run_of}
-use Rattle.dh_data.specs.ThinData.{ReadsAs, IsDataOf}
+use Rattle.dh_data.specs.ThinData.{Holds}
 use Rattle.dh_data.specs.Reports.{report_text}
 use Rattle.dh_data.specs.declared.reports.Ending.{Ending}
 use Rattle.dh_app.specs.Words.{job_of}
@@ -51,11 +52,12 @@ pub record IsTooLong (old new : FilesSeen) (name : List ℕ) (l : Limit) : Type 
 abbrev pub FailsToRead : (old new : FilesSeen) → (name : List ℕ) → Type 0
 FailsToRead old new name = Rose old.faults new.faults ⊎ IsAbsent (old.told name)
 
--- the file is the text of this program
+-- the file is the text of this program, and of no other
 pub record IsProgram (files : FilesSeen) (file : List ℕ) (p : Program) : Type 0 where
   pub text : List ℕ
   pub read : MayRead files file limit.Source text
   pub thin : IsThinText text p
+  pub only : (q : Program) → IsThinText text q → q ≡ p
 
 -- the file is the text of no thin program
 pub record IsNoProgram (files : FilesSeen) (file : List ℕ) : Type 0 where
@@ -63,17 +65,18 @@ pub record IsNoProgram (files : FilesSeen) (file : List ℕ) : Type 0 where
   pub read : MayRead files file limit.Source text
   pub not_thin : (p : Program) → IsThinText text p → ⊥
 
--- the file holds these memories of the program
+-- the file holds these memories of the program, and no others
 pub record IsData (files : FilesSeen) (data_ : List ℕ) (p : Program) (memories : List (List ℕ)) : Type 0 where
   pub bytes : List ℕ
   pub read : MayRead files data_ limit.Data bytes
-  pub holds : (d : _) × (ReadsAs bytes d × IsDataOf p.table d memories)
+  pub holds : Holds p.table bytes memories
+  pub only : (others : List (List ℕ)) → Holds p.table bytes others → others ≡ memories
 
 -- the file holds no memories of the program
 pub record IsNoData (files : FilesSeen) (data_ : List ℕ) (p : Program) : Type 0 where
   pub bytes : List ℕ
   pub read : MayRead files data_ limit.Data bytes
-  pub holds_none : (d : _) (memories : List (List ℕ)) → ReadsAs bytes d → IsDataOf p.table d memories → ⊥
+  pub holds_none : (memories : List (List ℕ)) → Holds p.table bytes memories → ⊥
 
 abbrev pub status_of : Outcome → Status
 status_of outcome.Going = status.Going
@@ -188,3 +191,35 @@ Ends words old new before after exact answers status.TooLarge = WritesAll words 
 Ends words old new before after exact answers status.ReadFault = ReadFails words old new × (after.bytes ≡ before.bytes)
 Ends words old new before after exact answers status.WriteFault = WritesPart words old new before after exact answers × Rose before.faults after.faults
 Ends words old new before after exact answers status.NoMemory = (after.bytes ≡ before.bytes) ⊎ WritesPart words old new before after exact answers
+
+-- nothing stands in the way: the words name two files that are there, a thin program and memories of
+-- it within the limits, the engine is exact, and no fault was counted
+pub record NothingFails (words : List (List ℕ)) (old new : FilesSeen) (before after : SinkSeen) (exact : Bool) (p : Program) (memories : List (List ℕ)) : Type 0 where
+  pub file : List ℕ
+  pub data_ : List ℕ
+  pub names : Names words file data_
+  pub text : List ℕ
+  pub text_told : old.told file ≡ outside.Holds text
+  pub text_within : length text ≤ greatest_of limit.Source
+  pub thin : IsThinText text p
+  pub bytes : List ℕ
+  pub bytes_told : old.told data_ ≡ outside.Holds bytes
+  pub bytes_within : length bytes ≤ greatest_of limit.Data
+  pub holds : Holds p.table bytes memories
+  pub exact_is : exact ≡ true
+  pub reads : Rose old.faults new.faults → ⊥
+  pub writes : Rose before.faults after.faults → ⊥
+
+-- the whole report of the program's run was written: it ended after its last step, with the memories
+-- and at the clock of the checked run
+pub record ReportsRun (p : Program) (memories : List (List ℕ)) (before after : SinkSeen) (s : Status) : Type 0 where
+  pub done : s ≡ status.Done
+  pub steps : ℕ
+  pub ends : EndsAfter (run_of p memories) steps
+  pub grew : Grew before after (report_text p.table ((run_of p memories).memories steps)
+      (record { outcome = outcome.Ended; steps = steps; clocks = Some (clocks_of (run_of p memories) steps) }))
+
+-- so the call succeeds, or memory was refused
+abbrev pub Succeeds : List (List ℕ) → (old new : FilesSeen) → (before after : SinkSeen) → (exact : Bool) → Status → Type 0
+Succeeds words old new before after exact s =
+    (p : Program) (memories : List (List ℕ)) → NothingFails words old new before after exact p memories → ReportsRun p memories before after s ⊎ (s ≡ status.NoMemory)

@@ -12,7 +12,7 @@ use Rattle.dh_base.specs.declared.statuses.Status.TheVariants as status
 use Rattle.dh_tree.specs.Tables.{Fits}
 use Rattle.dh_tree.specs.Thin.{IsThinText}
 use Rattle.dh_tree.specs.declared.thin.Program.{Program}
-use Rattle.dh_data.specs.ThinData.{ReadsAs, IsDataOf}
+use Rattle.dh_data.specs.ThinData.{Holds}
 use Rattle.dh_data.specs.Reports.{report_text}
 use Rattle.dh_app.specs.Ends.{IsTooLong, FailsToRead, IsProgram, IsNoProgram, IsData, IsNoData, IsReport, ReadFails, Answers, first_place, status_of, ending_of}
 use Rattle.dh_app.specs.Lines.{too_large_line, refused_line, not_json_line}
@@ -54,7 +54,7 @@ pub record RefusedText (text : List ℕ) (a : Answer) : Type 0 where
   pub text_is : a.text.items ≡ refused_line Unsupported first_place
 
 abbrev pub ProgramOf : List ℕ → Result Program Reply → Type 0
-ProgramOf text (Ok p) = IsThinText text p
+ProgramOf text (Ok p) = IsThinText text p × ((q : Program) → IsThinText text q → q ≡ p)
 ProgramOf text (Err (reply.Answer a)) = RefusedText text a
 ProgramOf text (Err reply.ReadFault) = ⊥
 ProgramOf text (Err reply.NoMemory) = Unit {0}
@@ -79,12 +79,12 @@ ProgramRead old new name (Err reply.NoMemory) = Unit {0}
 
 -- bytes hold no memories of a program
 pub record BadBytes (bytes : List ℕ) (p : Program) (a : Answer) : Type 0 where
-  pub holds_none : (d : _) (memories : List (List ℕ)) → ReadsAs bytes d → IsDataOf p.table d memories → ⊥
+  pub holds_none : (memories : List (List ℕ)) → Holds p.table bytes memories → ⊥
   pub status_is : a.status ≡ status.BadData
   pub text_is : a.text.items ≡ not_json_line
 
 abbrev pub DataOf : List ℕ → Program → Result (List (List ℕ)) Reply → Type 0
-DataOf bytes p (Ok m) = ((d : _) × (ReadsAs bytes d × IsDataOf p.table d m)) × Fits p.table m
+DataOf bytes p (Ok m) = Holds p.table bytes m × (((others : List (List ℕ)) → Holds p.table bytes others → others ≡ m) × Fits p.table m)
 DataOf bytes p (Err (reply.Answer a)) = BadBytes bytes p a
 DataOf bytes p (Err reply.ReadFault) = ⊥
 DataOf bytes p (Err reply.NoMemory) = Unit {0}
