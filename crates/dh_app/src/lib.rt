@@ -3,7 +3,10 @@
 #![tactic(auto)]
 
 mod engine;
+mod lines;
+mod running;
 mod words;
 
-pub use engine::{Engine, Finish};
+pub use engine::{Engine, Finish, NetEngine};
+pub use running::run;
 pub use words::Job;

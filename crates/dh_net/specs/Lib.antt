@@ -5,3 +5,4 @@ pub mod Plays
 pub mod Reports
 pub mod Laws
 pub mod Simulates
+pub mod Parts
