@@ -9,8 +9,8 @@ ghost use Rattle.dh_base.specs.Statuses.{code_of};
 
 mod files;
 mod output;
-mod stub;
 
+use dh_app::{NetEngine, run};
 use dh_base::{NoMemory, Status};
 use files::RealFiles;
 use output::StdSink;
@@ -18,7 +18,6 @@ use std::io::ErrorKind;
 use std::process::ExitCode;
 use std::rt::{Env, Files};
 use std::{env, io};
-use stub::{NetEngine, run};
 
 fn main(rt: HostRuntime) -> ExitCode {
     exit_code(answer(&rt))
