@@ -41,7 +41,7 @@ integer_width kind.Bool i = elim i [ ]
 integer_width (kind.Unsigned w) i = i
 integer_width (kind.Signed w) i = i
 
-same_width : (k l : Kind) → AreIntegers k l → width_of l ≡ width_of k
+pub same_width : (k l : Kind) → AreIntegers k l → width_of l ≡ width_of k
 same_width (kind.Unsigned m) (kind.Unsigned n) e = sym e
 same_width (kind.Signed m) (kind.Signed n) e = sym e
 same_width kind.Bool l e = elim e [ ]

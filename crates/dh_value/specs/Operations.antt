@@ -52,6 +52,18 @@ Suits op.Ne a b = AreAlike a b
 Suits op.Both a b = AreTruths a b
 Suits op.Either a b = AreTruths a b
 
+-- the kind of what an operation gives, by that of its left operand
+abbrev pub result_of : Op → Kind → Kind
+result_of op.Add k = k
+result_of op.Sub k = k
+result_of op.Mul k = k
+result_of op.And k = k
+result_of op.Or k = k
+result_of op.Xor k = k
+result_of op.Shl k = k
+result_of op.Shr k = k
+result_of _ k = kind.Bool
+
 -- the word of a truth
 abbrev pub truth : Bool → Word
 truth t = with_bits kind.Bool (if t then 1 else 0)

@@ -60,3 +60,9 @@ abbrev pub IsValue : Kind → ℤ → Type 0
 IsValue kind.Bool z = ⊥
 IsValue (kind.Unsigned w) z = (pos 0 ≤ℤ z) × (z <ℤ pos (2 ^ w))
 IsValue (kind.Signed w) z = (neg_ℤ (pos (2 ^ (w - 1))) ≤ℤ z) × (z <ℤ pos (2 ^ (w - 1)))
+
+-- an integer kind that has every value of the other: of the same sign, and no less wide
+abbrev pub Widens : (narrow wide : Kind) → Type 0
+Widens (kind.Unsigned m) (kind.Unsigned n) = m ≤ n
+Widens (kind.Signed m) (kind.Signed n) = m ≤ n
+Widens _ _ = ⊥

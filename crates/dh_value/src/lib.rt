@@ -5,11 +5,15 @@
 
 mod bits;
 mod kinds;
+mod laws;
 mod operations;
 mod operators;
+#[cfg(test)]
+mod tests;
 mod words;
 
 pub use kinds::{Kind, width};
+pub use laws::{operations_give_words, values_stay_in_words};
 pub use operations::binary;
 pub use operators::Op;
 pub use words::{Word, cast, fits, number};
