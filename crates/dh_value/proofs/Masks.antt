@@ -1,11 +1,11 @@
 -- Masks and shifts of numbers of 64 bits, as remainders and quotients by powers of 2. With the two
 -- halves of 2 ^ 64 = 2 ^ (64 - w) * 2 ^ w, each is a law of std on the digits of a number in base 2.
-use Rattle.std.proofs.Common.{◌≡◌, ℕ, ◌+◌, ◌-◌, ◌*◌, ◌/◌, ◌%◌, ◌^◌, ◌<◌, ◌≤◌, ◌↔◌, ◌⊎◌, inl, inr, ⊎_elim, IsTrue, nat_eq, nat_le, not, bit_and, bit_or, sym, ap, subst, ◌∙◌, arith}
+use Rattle.std.proofs.Common.{◌≡◌, ℕ, ◌+◌, ◌-◌, ◌*◌, ◌/◌, ◌%◌, ◌^◌, ◌<◌, ◌≤◌, ◌↔◌, ◌⊎◌, inl, inr, ⊎_elim, IsTrue, nat_eq, nat_le, not, bit_or, sym, ap, ◌∙◌, arith}
 use Rattle.std.proofs.lemmas.Bool.{cases_lt}
 use Rattle.std.proofs.lemmas.Bool.Decides.{nat_tests}
-use Rattle.std.proofs.lemmas.Nat.{le-div, pow_pos, pow-add, and_mask, or_shifted, or_comm}
+use Rattle.std.proofs.lemmas.Nat.{le-div, pow_pos, pow-add, or_shifted, or_comm}
 use Rattle.std.proofs.lemmas.Nat.Bits.{ones_shr}
-use Rattle.std.proofs.Math.Nat.{mod-eq_of_lt, div-eq_of_lt, mul-mod_left}
+use Rattle.std.proofs.Math.Nat.{div-eq_of_lt, mul-mod_left}
 use Rattle.std.proofs.Math.Pow.{pow_mono, mod-mod-pow}
 
 -- the greatest number of w bits

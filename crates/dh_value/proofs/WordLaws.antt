@@ -1,7 +1,7 @@
 -- Laws of words. A residue lies below its modulus, so every operation gives a word. A word's value
 -- lies within the bounds of its kind: a number below half of 2 ^ width is its own value, any other
 -- lies 2 ^ width above it. So the word of a number within the bounds has that number as its value.
-use Rattle.std.proofs.Common.{◌≡◌, ℕ, ◌+◌, ◌-◌, ◌%◌, ◌^◌, ◌<◌, ◌≤◌, ◌⊎◌, inl, inr, ⊎_elim, Bool, true, false, if◌then◌else◌, nat_lt, ℤ, pos, negsuc, neg_ℤ, ◌-ℤ◌, ◌≤ℤ◌, ◌<ℤ◌, refl, sym, ap, subst, ◌∙◌, arith}
+use Rattle.std.proofs.Common.{◌≡◌, ℕ, ◌+◌, ◌-◌, ◌^◌, ◌<◌, ◌≤◌, ⊎_elim, Bool, true, false, if◌then◌else◌, nat_lt, ℤ, pos, negsuc, neg_ℤ, ◌-ℤ◌, ◌≤ℤ◌, ◌<ℤ◌, refl, sym, ap, subst, ◌∙◌, arith}
 use Rattle.std.proofs.lemmas.Bool.{cases_lt, lt-ltb}
 use Rattle.std.proofs.lemmas.Bool.Decides.{nat_tests}
 use Rattle.std.proofs.lemmas.Int.{ints}
@@ -10,14 +10,14 @@ use Rattle.std.proofs.Math.Nat.{mod-eq_of_lt}
 use Rattle.std.proofs.Math.Pow.{pow_mono}
 use Rattle.dh_value.proofs.Masks.{half}
 use Rattle.dh_value.proofs.Residues.{residue-lt}
-use Rattle.dh_value.proofs.Values.{value_residue, same_width, integer_width}
+use Rattle.dh_value.proofs.Values.{value_residue, same_width}
 use Rattle.dh_value.specs.declared.kinds.Kind.{Kind}
 use Rattle.dh_value.specs.declared.kinds.Kind.TheVariants as kind
 use Rattle.dh_value.specs.declared.operators.Op.{Op}
 use Rattle.dh_value.specs.declared.operators.Op.TheVariants as op
 use Rattle.dh_value.specs.declared.words.Word.{Word}
-use Rattle.dh_value.specs.Words.{width_of, IsKind, IsInteger, IsWord, IsValue, Widens, signed, value_in, value_of, residue, with_bits, word_of}
-use Rattle.dh_value.specs.Operations.{AreIntegers, Suits, result_of, truth, binary_of}
+use Rattle.dh_value.specs.Words.{width_of, IsKind, IsInteger, IsWord, IsValue, Widens, signed, value_in, value_of, with_bits, word_of}
+use Rattle.dh_value.specs.Operations.{Suits, result_of, truth, binary_of}
 
 pub word_of_is_word : (k : Kind) (z : ℤ) → IsKind k → IsWord (word_of k z)
 word_of_is_word k z sized = record { sized = sized; fits = residue-lt (2 ^ width_of k) z (pow_pos (width_of k)) }

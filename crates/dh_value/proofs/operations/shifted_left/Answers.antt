@@ -1,4 +1,4 @@
-use Rattle.std.proofs.Common.{arith, ◌<◌, ◌≤◌, ◌^◌, ap, ◌∙◌}
+use Rattle.std.proofs.Common.{arith, ap, ◌∙◌}
 use Rattle.dh_value.specs.Words.{with_bits}
 use Rattle.dh_value.proofs.Values.{shl_bits, shl_nothing}
 use Rattle.dh_value.proofs.operations.shifted_left.Goals as goal
