@@ -4,7 +4,7 @@ ghost use Rattle.std.specs.Prelude.{◌≡◌, ◌+◌, [], ◌∷◌, map, stri
 ghost use Rattle.dh_base.specs.Outside.{KeepsFiles, KeepsSink};
 ghost use Rattle.dh_tree.specs.Tables.{Fits, IsTable};
 ghost use Rattle.dh_tree.specs.Thin.{IsThin};
-ghost use Rattle.dh_app.specs.Ends.{Names, Ends, status_of as status_of_lem};
+ghost use Rattle.dh_app.specs.Ends.{Names, Ends, Succeeds, status_of as status_of_lem};
 ghost use Rattle.dh_app.specs.declared.engine.Finish.{Finish};
 ghost use Rattle.dh_app.specs.Replies.{AnswersLine, AnswersWith, Written, Replies, ProgramRead, ProgramOf, DataRead, DataOf, RunReplies, ReportsFirst};
 ghost use Rattle.dh_app.specs.Lines as lines;
@@ -47,6 +47,22 @@ pub enum Reply {
 /// the engine run the net from the memories of the other, and writes the report of the engine's
 /// answer. `Ends` says for each status what is the case and what was written.
 pub fn run<F: Files, S: Sink, E: Engine>(
+    alloc: Global,
+    words: &[String],
+    files: &mut F,
+    out: &mut S,
+    engine: &mut E,
+) -> Status
+    ensures files { KeepsFiles (F.seen files.old) (F.seen files.new) }
+    ensures out { KeepsSink (S.seen out.old) (S.seen out.new) }
+    ensures engine { E.exact engine.new ≡ E.exact engine.old }
+    ensures ends { Ends (map string_bytes words.now) (F.seen files.old) (F.seen files.new) (S.seen out.old) (S.seen out.new) (E.exact engine.old) (E.given engine.new) result }
+    ensures succeeds { Succeeds (map string_bytes words.now) (F.seen files.old) (F.seen files.new) (S.seen out.old) (S.seen out.new) (E.exact engine.old) result }
+{
+    call(alloc, words, files, out, engine)
+}
+
+fn call<F: Files, S: Sink, E: Engine>(
     alloc: Global,
     words: &[String],
     files: &mut F,
