@@ -2,11 +2,10 @@
 -- ruled out by its own case: the files are read as they are, there is one program of the text and one
 -- list of memories of the data, and the run of a thin program ends within 128 clocks, so it neither
 -- faults nor goes on to the limit.
-use Rattle.std.proofs.Common.{◌≡◌, ℕ, ◌+◌, ◌<◌, ◌≤◌, ◌⊎◌, Bool, true, List, [], ◌∷◌, length, get_or, Option, Some, None, refl, sym, ap, ◌∙◌, arith, subst, inl, inr}
+use Rattle.std.proofs.Common.{◌≡◌, ℕ, ◌<◌, ◌≤◌, ◌⊎◌, Bool, List, [], ◌∷◌, length, get_or, Option, Some, None, refl, sym, ap, ◌∙◌, arith, subst, inl, inr}
 use Rattle.dh_base.specs.Limits.{greatest_of}
 use Rattle.dh_base.specs.Outside as outside
 use Rattle.dh_base.specs.Outside.{Told, FilesSeen, SinkSeen, Rose, MayBe, IsAbsent, MayExceed, Grew}
-use Rattle.dh_base.specs.declared.limits.Limit.{Limit}
 use Rattle.dh_base.specs.declared.limits.Limit.TheVariants as limit
 use Rattle.dh_base.specs.declared.outcomes.Outcome.{Outcome}
 use Rattle.dh_base.specs.declared.outcomes.Outcome.TheVariants as outcome
@@ -17,18 +16,17 @@ use Rattle.dh_tree.specs.declared.tables.MemEntry.{MemEntry}
 use Rattle.dh_tree.specs.declared.thin.Program.{Program}
 use Rattle.dh_tree.specs.Thin.{IsThinText}
 use Rattle.dh_net.specs.Plays.{EndsAfter, clocks_of}
-use Rattle.dh_net.specs.Reports.{Reports, ReportsAs}
+use Rattle.dh_net.specs.Reports.{ReportsAs}
 use Rattle.dh_net.proofs.Fits.{no_fault_at_end}
 use Rattle.dh_compile.specs.ThinRun.{run_of}
 use Rattle.dh_compile.proofs.PlayingPrograms.{ends_soon}
 use Rattle.dh_data.specs.ThinData.{Holds, AreMembers}
 use Rattle.serde_json.specs.Data.{Members}
 use Rattle.dh_data.specs.Reports.{report_text}
-use Rattle.dh_app.specs.Words.{job_of}
 use Rattle.dh_app.specs.declared.engine.Finish.{Finish}
 use Rattle.dh_app.specs.declared.words.Job.{Job}
 use Rattle.dh_app.specs.declared.words.Job.TheVariants.{Simulate}
-use Rattle.dh_app.specs.Ends.{most_clocks, Names, MayRead, IsTooLong, FailsToRead, IsProgram, IsData, IsNoData, status_of, ending_of, IsReport, Reported, ProgramTooLong, DataTooLong, Answers, WritesAll, ReadFails, Ends, NothingFails, ReportsRun, Succeeds}
+use Rattle.dh_app.specs.Ends.{most_clocks, Names, MayRead, FailsToRead, IsProgram, IsData, status_of, ending_of, IsReport, Reported, ProgramTooLong, DataTooLong, ReadFails, Ends, NothingFails, ReportsRun, Succeeds}
 
 -- two jobs of the same words name the same files
 abbrev first_of : Option Job → ℕ
@@ -78,7 +76,6 @@ is_ended (outcome.Stuck memory bank place) e = cc
 
 module _ (words : List (List ℕ)) (old new : FilesSeen) (before after : SinkSeen) (exact : Bool) (answers : List Finish) (p : Program) (memories : List (List ℕ))
     (n : NothingFails words old new before after exact p memories) where
-
   fits : Fits p.table memories
   fits = held_fits p.table n.bytes memories n.holds
 
@@ -131,10 +128,10 @@ module _ (words : List (List ℕ)) (old new : FilesSeen) (before after : SinkSee
       let stands = subst P o right.stands in
       let T : List ℕ → Type 0 = λ t. Grew before after t in
       let at : text ≡ report_text p.table ((run_of p memories).memories f.steps) (record { outcome = outcome.Ended; steps = f.steps; clocks = Some (clocks_of (run_of p memories) f.steps) }) =
-          h.text_is
-          ∙ (ap (λ ms. report_text p.table ms (ending_of f)) right.contents
-          ∙ (ap (λ x. report_text p.table ((run_of p memories).memories f.steps) (record { outcome = x; steps = f.steps; clocks = Some f.clocks })) o
-          ∙ ap (λ c. report_text p.table ((run_of p memories).memories f.steps) (record { outcome = outcome.Ended; steps = f.steps; clocks = Some c })) stands.at_end)) in
+      h.text_is
+      ∙ (ap (λ ms. report_text p.table ms (ending_of f)) right.contents
+      ∙ (ap (λ x. report_text p.table ((run_of p memories).memories f.steps) (record { outcome = x; steps = f.steps; clocks = Some f.clocks })) o
+      ∙ ap (λ c. report_text p.table ((run_of p memories).memories f.steps) (record { outcome = outcome.Ended; steps = f.steps; clocks = Some c })) stands.at_end)) in
       record { done = refl; steps = f.steps; ends = stands.ends; grew = subst T at grew }
 
   -- the run neither faults nor goes on
@@ -155,8 +152,10 @@ module _ (words : List (List ℕ)) (old new : FilesSeen) (before after : SinkSee
     where
       told_file : old.told r.file ≡ outside.Holds n.text
       told_file = let P : List ℕ → Type 0 = λ x. old.told x ≡ outside.Holds n.text in subst P (file_same words n.file n.data_ r.file r.data_ n.names r.names) n.text_told
+
       told_data : old.told r.data_ ≡ outside.Holds n.bytes
       told_data = let P : List ℕ → Type 0 = λ x. old.told x ≡ outside.Holds n.bytes in subst P (data_same words n.file n.data_ r.file r.data_ n.names r.names) n.bytes_told
+
       by : FailsToRead old new r.file ⊎ ((q : Program) × (IsProgram old r.file q × FailsToRead old new r.data_)) → ⊥
       by (inl (inl rose)) = n.reads rose
       by (inl (inr absent)) = told_there (old.told r.file) n.text told_file absent
@@ -204,5 +203,5 @@ module _ (words : List (List ℕ)) (old new : FilesSeen) (before after : SinkSee
   whole status.NoMemory w = inr refl
 
 pub succeeds : (words : List (List ℕ)) (old new : FilesSeen) (before after : SinkSeen) (exact : Bool) (answers : List Finish) (s : Status)
-  → Ends words old new before after exact answers s → Succeeds words old new before after exact s
+    → Ends words old new before after exact answers s → Succeeds words old new before after exact s
 succeeds words old new before after exact answers s e p memories n = whole words old new before after exact answers p memories n s e
