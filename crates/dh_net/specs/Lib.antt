@@ -1,4 +1,5 @@
 pub mod Valid
+pub mod Parts
 pub mod Clock
 pub mod Ends
 pub mod Plays

@@ -6,7 +6,9 @@
 mod laws;
 mod nets;
 mod playing;
+mod validity;
 
 pub use laws::valuation_is_unique;
 pub use nets::{Cell, CellForm, Driver, Net, Register};
 pub use playing::playing_tells_the_report;
+pub use validity::{row_width, valid};

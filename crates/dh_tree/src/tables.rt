@@ -7,7 +7,7 @@ mod validity;
 use crate::kinds::Kind;
 use dh_base::Items;
 use std::marker::Model;
-pub use validity::is_table;
+pub use validity::{element_count, is_table};
 
 /// A name of the language: an ASCII letter or `_`, then ASCII letters, digits and `_`. A contract
 /// sees its bytes.

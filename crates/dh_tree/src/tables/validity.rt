@@ -76,8 +76,8 @@ fn has_distinct_names(entries: &[MemEntry]) -> bool
     true
 }
 
-// The number of the memory's elements.
-fn element_count(entry: &MemEntry) -> u64
+/// The number of the memory's elements.
+pub fn element_count(entry: &MemEntry) -> u64
     requires { IsEntry entry.now }
     ensures { result ≡ elements_of entry.now.shape.dims }
 {
