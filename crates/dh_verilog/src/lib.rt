@@ -1,0 +1,11 @@
+//! The Verilog text of a net: what it is, a writer of it, and the law that a text is the text of at
+//! most one net.
+//! Stands on `dh_net`. docs/NETLIST.md tells the text's format.
+#![tactic(auto)]
+
+mod heads;
+mod ports;
+mod writing;
+
+pub use ports::{Port, Signal};
+pub use writing::write;
