@@ -5,6 +5,8 @@
 
 mod heads;
 mod ports;
+#[cfg(test)]
+mod tests;
 mod writing;
 
 pub use ports::{Port, Signal};

@@ -44,7 +44,7 @@ returns c =
     let drivers = moved (λ t. driving_text (ports_of 0 net.table) t) o7 o6 c.as_slice-3.result.now net.drivers c.as_slice-3.ensures (moved (λ t. driving_text (ports_of 0 t) c.as_slice-3.result.now) o7 o6 c.as_slice-table.result.now net.table c.as_slice-table.ensures c.in_ok-write_drivers.ensures) in
     on_ok_weaker c.write_clock.result
     (λ last.
-      five o0 o1 o2 o3 o4 o9 (codes "// dahlia netlist 1\n") (numbered memory_line 0 net.table) (numbered fault_line 1 net.faults) (module_text (ports_of 0 net.table)) (numbered register_line 0 net.registers ++ (numbered cell_line 0 net.cells ++ (driving_text (ports_of 0 net.table) net.drivers ++ (outputs_text net.tick net.done net.fault ++ clock_text net.registers)))) c.in_ok-push_str.ensures.bytes memories faults head
-      (five o4 o5 o6 o7 o8 o9 (numbered register_line 0 net.registers) (numbered cell_line 0 net.cells) (driving_text (ports_of 0 net.table) net.drivers) (outputs_text net.tick net.done net.fault) (clock_text net.registers) registers cells drivers c.in_ok-write_outputs.ensures
-        (moved clock_text o9 o8 c.as_slice-registers.result.now net.registers c.as_slice-registers.ensures last)))
+    five o0 o1 o2 o3 o4 o9 (codes "// dahlia netlist 1\n") (numbered memory_line 0 net.table) (numbered fault_line 1 net.faults) (module_text (ports_of 0 net.table)) (numbered register_line 0 net.registers ++ (numbered cell_line 0 net.cells ++ (driving_text (ports_of 0 net.table) net.drivers ++ (outputs_text net.tick net.done net.fault ++ clock_text net.registers)))) c.in_ok-push_str.ensures.bytes memories faults head
+    (five o4 o5 o6 o7 o8 o9 (numbered register_line 0 net.registers) (numbered cell_line 0 net.cells) (driving_text (ports_of 0 net.table) net.drivers) (outputs_text net.tick net.done net.fault) (clock_text net.registers) registers cells drivers c.in_ok-write_outputs.ensures
+    (moved clock_text o9 o8 c.as_slice-registers.result.now net.registers c.as_slice-registers.ensures last)))
     c.write_clock.ensures
