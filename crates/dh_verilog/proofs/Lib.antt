@@ -1,3 +1,6 @@
 pub mod Widths
 pub mod Appended
 pub mod Walks
+pub mod Reading
+pub mod Shapes
+pub mod Lines
