@@ -4,3 +4,6 @@ pub mod Walks
 pub mod Reading
 pub mod Shapes
 pub mod Lines
+pub mod Forms
+pub mod Declared
+pub mod Commented

@@ -1,7 +1,8 @@
 -- Numbers and words at the front of a text. A number is its digits up to the first other byte, a word
 -- is its bytes up to the first space. So a text that begins with one and goes on otherwise has one
 -- number, or one word, and one rest.
-use Rattle.std.proofs.Common.{◌≡◌, ℕ, ◌+◌, ◌<◌, ◌^◌, Bool, true, false, ◌&&◌, if◌then◌else◌, List, [], ◌∷◌, ◌++◌, ◌∙◌, ap, sym, refl, length, arith}
+use Rattle.std.proofs.Common.{◌≡◌, ℕ, ◌+◌, ◌<◌, ◌^◌, Bool, true, false, ◌&&◌, if◌then◌else◌, List, [], ◌∷◌, ◌++◌, ◌∙◌, ap, sym, refl, length, arith, eq-eqb}
+use Rattle.std.specs.Prelude.{not, ◌==◌}
 use Rattle.std.specs.Char.{is_ascii_digit}
 use Rattle.std.specs.Fmt.{decimal}
 use Rattle.std.specs.List.{AllByRecursion}
@@ -92,3 +93,23 @@ word_then (b ∷ m) (c ∷ n) x y hm hn e =
     let more = word_then m n x y hm.1 hn.1 rest in
     let whole : b ∷ m ≡ c ∷ n = cc (first, more.0) in
     (whole, more.1)
+
+-- two numbers that a test tells apart
+pub unlike : (a b : ℕ) → (a == b) ≡ false → a ≡ b → ⊥
+unlike a b t e =
+    let s : (a == b) ≡ true = eq-eqb a b e in
+    cc
+
+abbrev spaceless : List ℕ → Bool
+spaceless [] = true
+spaceless (b ∷ bs) = not (b == 32) && spaceless bs
+
+pub no_space : (bs : List ℕ) → spaceless bs ≡ true → NoSpace bs
+no_space [] e = tt
+no_space (b ∷ bs) e =
+    let two = both (not (b == 32)) (spaceless bs) e in
+    (λ same. off (b == 32) two.0 (eq-eqb b 32 same), no_space bs two.1)
+  where
+    off : (t : Bool) → not t ≡ true → t ≡ true → ⊥
+    off true h e = cc
+    off false h e = cc
