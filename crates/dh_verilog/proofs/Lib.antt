@@ -7,3 +7,4 @@ pub mod Lines
 pub mod Forms
 pub mod Declared
 pub mod Commented
+pub mod Driven

@@ -2,7 +2,7 @@
 -- is its bytes up to the first space. So a text that begins with one and goes on otherwise has one
 -- number, or one word, and one rest.
 use Rattle.std.proofs.Common.{◌≡◌, ℕ, ◌+◌, ◌<◌, ◌^◌, Bool, true, false, ◌&&◌, if◌then◌else◌, List, [], ◌∷◌, ◌++◌, ◌∙◌, ap, sym, refl, length, arith, eq-eqb}
-use Rattle.std.specs.Prelude.{not, ◌==◌}
+use Rattle.std.specs.Prelude.{not, ◌==◌, slice_index}
 use Rattle.std.specs.Char.{is_ascii_digit}
 use Rattle.std.specs.Fmt.{decimal}
 use Rattle.std.specs.List.{AllByRecursion}
@@ -113,3 +113,14 @@ no_space (b ∷ bs) e =
     off : (t : Bool) → not t ≡ true → t ≡ true → ⊥
     off true h e = cc
     off false h e = cc
+
+first_of : (ds x : List ℕ) (v : ℕ) → all_ascii_digits ds ≡ true → 0 < length ds → is_ascii_digit v ≡ false → slice_index (ds ++ x) 0 ≡ v → ⊥
+first_of [] x v h n s e = absurd (omega arith)
+first_of (d ∷ ds) x v h n s e =
+    let t : is_ascii_digit d ≡ is_ascii_digit v = ap is_ascii_digit e in
+    let u : is_ascii_digit d ≡ true = (both (is_ascii_digit d) (all_ascii_digits ds) h).0 in
+    cc
+
+-- a number does not begin with a byte that is no digit
+pub first_digit : (n v : ℕ) (x : List ℕ) → n < 2 ^ 64 → is_ascii_digit v ≡ false → slice_index (decimal n ++ x) 0 ≡ v → ⊥
+first_digit n v x h s e = first_of (decimal n) x v (digits_decimal own n h) (decimal_nonempty n h) s e
