@@ -8,3 +8,5 @@ pub mod Forms
 pub mod Declared
 pub mod Commented
 pub mod Driven
+pub mod Small
+pub mod Tells

@@ -43,9 +43,12 @@ from_is (suc n) rows w h all least = by_test (nat_le rows (2 ^ w)) refl (λ l. f
     by_test true e more = record { least = h; all = leb-true rows (2 ^ w) e; none_less = least }
     by_test false e more = more (next rows w e least)
 
-pub row_width_is : (rows w : ℕ) → IsRowWidth rows w → w ≡ row_width_of rows
+pub row_width_met : (rows : ℕ) → IsRowWidth rows (row_width_of rows)
 unfolding row_width_of
-row_width_is rows w h =
+row_width_met rows =
     let low : rows < 2 ^ rows = below_power rows in
     let more : 2 ^ rows < 2 ^ (1 + rows) = pow-lt (omega arith) in
-    one_width rows w _ h (from_is rows rows 1 (omega arith) (omega arith) (λ v p q. p))
+    from_is rows rows 1 (omega arith) (omega arith) (λ v p q. p)
+
+pub row_width_is : (rows w : ℕ) → IsRowWidth rows w → w ≡ row_width_of rows
+row_width_is rows w h = one_width rows w (row_width_of rows) h (row_width_met rows)

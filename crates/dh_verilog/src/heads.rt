@@ -4,6 +4,7 @@ ghost use Rattle.std.specs.Prelude.{◌≡◌, ◌++◌, OnOk, string_bytes};
 ghost use Rattle.std.specs.List.{AllByRecursion};
 ghost use Rattle.dh_tree.specs.Tables.{IsEntry};
 ghost use Rattle.dh_verilog.specs.Listed.{each, numbered};
+ghost use Rattle.dh_verilog.specs.Ranges.{IsPlace};
 ghost use Rattle.dh_verilog.specs.Head.{kind_text, dim_text, dims_text, side_text, memory_line, fault_name, fault_line, ports_of, pin_lines, module_text};
 
 use crate::ports::{port_of_memory, write_pins};
@@ -91,7 +92,8 @@ fn write_fault_line(
     kind: FaultKind,
     place: Place,
 ) -> Result<(), AllocError>
-    ensures { OnOk result (string_bytes out.new ≡ string_bytes out.old ++ fault_line number (kind, place)) }
+    ensures text { OnOk result (string_bytes out.new ≡ string_bytes out.old ++ fault_line number (kind, place)) }
+    ensures range { IsPlace place }
 {
     let name = name_of_fault(kind);
     write!(
@@ -103,7 +105,8 @@ fn write_fault_line(
 
 // Writes the comments on all faults.
 pub fn write_faults(out: &mut String, faults: &[(FaultKind, Place)]) -> Result<(), AllocError>
-    ensures { OnOk result (string_bytes out.new ≡ string_bytes out.old ++ numbered fault_line 1 faults.now) }
+    ensures text { OnOk result (string_bytes out.new ≡ string_bytes out.old ++ numbered fault_line 1 faults.now) }
+    ensures range { OnOk result (AllByRecursion (λ f. IsPlace f.1) faults.now) }
 {
     for (i, (kind, place)) in faults.iter().enumerate() {
         write_fault_line(out, i + 1, *kind, *place)?;

@@ -4,10 +4,12 @@
 #![tactic(auto)]
 
 mod heads;
+mod laws;
 mod ports;
 #[cfg(test)]
 mod tests;
 mod writing;
 
+pub use laws::text_tells_the_net;
 pub use ports::{Port, Signal};
 pub use writing::write;

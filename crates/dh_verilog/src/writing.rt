@@ -1,12 +1,13 @@
 //! The text of a net.
 
-ghost use Rattle.std.specs.Prelude.{◌≡◌, ◌≤◌, ◌++◌, IfOk, OnOk, string_bytes, length};
+ghost use Rattle.std.specs.Prelude.{◌≡◌, ◌<◌, ◌≤◌, ◌^◌, ◌++◌, IfOk, OnOk, string_bytes, length};
 ghost use Rattle.std.specs.List.{AllByRecursion};
 ghost use Rattle.dh_tree.specs.Tables.{IsEntry};
 ghost use Rattle.dh_net.specs.Valid.{IsValid};
 ghost use Rattle.dh_verilog.specs.Listed.{numbered};
 ghost use Rattle.dh_verilog.specs.Head.{ports_of};
 ghost use Rattle.dh_verilog.specs.Driving.{driving_text};
+ghost use Rattle.dh_verilog.specs.Ranges.{InRange};
 ghost use Rattle.dh_verilog.specs.Text.{register_line, binary_text, form_text, cell_line, outputs_text, update_line, clock_text, text_of};
 
 use crate::heads::{write_faults, write_memories, write_module};
@@ -36,7 +37,8 @@ fn write_register(out: &mut String, number: usize, register: Register) -> Result
 // Writes the declarations of all registers.
 fn write_registers(out: &mut String, registers: &[Register]) -> Result<(), AllocError>
     requires { AllByRecursion (λ r. 1 ≤ r.width) registers.now }
-    ensures { OnOk result (string_bytes out.new ≡ string_bytes out.old ++ numbered register_line 0 registers.now) }
+    ensures text { OnOk result (string_bytes out.new ≡ string_bytes out.old ++ numbered register_line 0 registers.now) }
+    ensures count { length registers.now < 2 ^ 64 }
 {
     for (i, register) in registers.iter().enumerate() {
         write_register(out, i, *register)?;
@@ -83,7 +85,8 @@ fn write_cell(out: &mut String, number: usize, cell: Cell) -> Result<(), AllocEr
 // Writes the declarations of all wires.
 fn write_cells(out: &mut String, cells: &[Cell]) -> Result<(), AllocError>
     requires { AllByRecursion (λ c. 1 ≤ c.width) cells.now }
-    ensures { OnOk result (string_bytes out.new ≡ string_bytes out.old ++ numbered cell_line 0 cells.now) }
+    ensures text { OnOk result (string_bytes out.new ≡ string_bytes out.old ++ numbered cell_line 0 cells.now) }
+    ensures count { length cells.now < 2 ^ 64 }
 {
     for (i, cell) in cells.iter().enumerate() {
         write_cell(out, i, *cell)?;
@@ -146,7 +149,8 @@ fn write_clock(out: &mut String, registers: &[Register]) -> Result<(), AllocErro
 // Writes the text of the net.
 fn write_net(out: &mut String, net: &Net) -> Result<(), AllocError>
     requires { IsValid net.now }
-    ensures { OnOk result (string_bytes out.new ≡ string_bytes out.old ++ text_of net.now) }
+    ensures text { OnOk result (string_bytes out.new ≡ string_bytes out.old ++ text_of net.now) }
+    ensures range { OnOk result (InRange net.now) }
 {
     let table = net.table.as_slice();
     let registers = net.registers.as_slice();
@@ -164,7 +168,8 @@ fn write_net(out: &mut String, net: &Net) -> Result<(), AllocError>
 /// The text of a valid net, in time linear in its length. Fails only where memory is refused.
 pub fn write(alloc: Global, net: &Net) -> Result<Vec<u8>, NoMemory>
     requires { IsValid net.now }
-    ensures { IfOk result (λ bytes. bytes.items ≡ text_of net.now) }
+    ensures text { IfOk result (λ bytes. bytes.items ≡ text_of net.now) }
+    ensures range { OnOk result (InRange net.now) }
 {
     let mut out = String::new(alloc);
     write_net(&mut out, net)?;

@@ -23,8 +23,8 @@ write_cells-requires c =
     subst (λ (l : List Cell). AllByRecursion (λ k. 1 ≤ k.width) l) (sym c.as_slice-2.ensures)
     (of_each (λ (k : Cell). 1 ≤ k.width) c.args.net.now.cells (λ i k at. (c.requires.cells i k at).least))
 
-pub returns : goal.returns
-returns c =
+pub returns-clause-text : goal.returns-clause-text
+returns-clause-text c =
     let net = c.args.net.now in
     let o0 = string_bytes c.args.out.now in
     let o1 = string_bytes c.push_str.new.self in
@@ -37,10 +37,10 @@ returns c =
     let o8 = string_bytes c.write_outputs.new.out in
     let o9 = string_bytes c.write_clock.new.out in
     let memories = moved (numbered memory_line 0) o2 o1 c.as_slice-table.result.now net.table c.as_slice-table.ensures c.in_ok-write_memories.ensures in
-    let faults = moved (numbered fault_line 1) o3 o2 c.as_slice.result.now net.faults c.as_slice.ensures c.in_ok-write_faults.ensures in
+    let faults = moved (numbered fault_line 1) o3 o2 c.as_slice.result.now net.faults c.as_slice.ensures c.in_ok-write_faults.ensures.text in
     let head = moved (λ t. module_text (ports_of 0 t)) o4 o3 c.as_slice-table.result.now net.table c.as_slice-table.ensures c.in_ok-write_module.ensures in
-    let registers = moved (numbered register_line 0) o5 o4 c.as_slice-registers.result.now net.registers c.as_slice-registers.ensures c.in_ok-write_registers.ensures in
-    let cells = moved (numbered cell_line 0) o6 o5 c.as_slice-2.result.now net.cells c.as_slice-2.ensures c.in_ok-write_cells.ensures in
+    let registers = moved (numbered register_line 0) o5 o4 c.as_slice-registers.result.now net.registers c.as_slice-registers.ensures c.in_ok-write_registers.ensures.text in
+    let cells = moved (numbered cell_line 0) o6 o5 c.as_slice-2.result.now net.cells c.as_slice-2.ensures c.in_ok-write_cells.ensures.text in
     let drivers = moved (λ t. driving_text (ports_of 0 net.table) t) o7 o6 c.as_slice-3.result.now net.drivers c.as_slice-3.ensures (moved (λ t. driving_text (ports_of 0 t) c.as_slice-3.result.now) o7 o6 c.as_slice-table.result.now net.table c.as_slice-table.ensures c.in_ok-write_drivers.ensures) in
     on_ok_weaker c.write_clock.result
     (λ last.
