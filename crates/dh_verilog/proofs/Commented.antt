@@ -126,8 +126,8 @@ one_entry : (a b : MemEntry) → a.name ≡ b.name → a.shape.kind ≡ b.shape.
 one_entry a b p q r s t =
     ap (λ n. entry_of n a.shape.kind a.shape.ports a.shape.dims a.outside) p
     ∙ (ap (λ k. entry_of b.name k a.shape.ports a.shape.dims a.outside) q
-      ∙ (ap (λ m. entry_of b.name b.shape.kind m a.shape.dims a.outside) r
-        ∙ (ap (λ d. entry_of b.name b.shape.kind b.shape.ports d a.outside) s ∙ ap (λ o. entry_of b.name b.shape.kind b.shape.ports b.shape.dims o) t)))
+    ∙ (ap (λ m. entry_of b.name b.shape.kind m a.shape.dims a.outside) r
+    ∙ (ap (λ d. entry_of b.name b.shape.kind b.shape.ports d a.outside) s ∙ ap (λ o. entry_of b.name b.shape.kind b.shape.ports b.shape.dims o) t)))
 
 abbrev side_end : MemEntry → List ℕ
 side_end e = codes " " ++ (side_text e.outside ++ codes "\n")
@@ -157,12 +157,12 @@ pub memory_tells : Tells memory_line IsSmallEntry (λ a b. a ≡ b) Anything
 memory_tells i a b x y ha hb nx ny e =
     let t = same_line (memory_pieces i a) (memory_pieces i b) (kind_end a) (kind_end b) x y (refl, (refl, (refl, (name_no_space a.name ha.name, (name_no_space b.name hb.name, tt))))) e in
     let k = same_kind a.shape.kind b.shape.kind (ports_end a ++ x) (ports_end b ++ y) ha.integer hb.integer refl refl
-        (sym (append_assoc (kind_text a.shape.kind) (ports_end a) x) ∙ (t.1 ∙ append_assoc (kind_text b.shape.kind) (ports_end b) y)) in
+    (sym (append_assoc (kind_text a.shape.kind) (ports_end a) x) ∙ (t.1 ∙ append_assoc (kind_text b.shape.kind) (ports_end b) y)) in
     let p = same_line (ports_pieces a) (ports_pieces b) (dims_end a) (dims_end b) x y (refl, (ha.ports, (hb.ports, (refl, (refl, (refl, tt)))))) k.1 in
     let d = same_dims a.shape.dims b.shape.dims (side_end a ++ x) (side_end b ++ y) ha.some hb.some ha.dims hb.dims (side_ends a x) (side_ends b y)
-        (sym (append_assoc (dims_text a.shape.dims) (side_end a) x) ∙ (p.1 ∙ append_assoc (dims_text b.shape.dims) (side_end b) y)) in
+    (sym (append_assoc (dims_text a.shape.dims) (side_end a) x) ∙ (p.1 ∙ append_assoc (dims_text b.shape.dims) (side_end b) y)) in
     let s = same_side a.outside b.outside (codes "\n" ++ x) (codes "\n" ++ y)
-        (sym (append_assoc (side_text a.outside) (codes "\n") x) ∙ (append_cancel_left (codes " ") ((side_text a.outside ++ codes "\n") ++ x) ((side_text b.outside ++ codes "\n") ++ y) d.1 ∙ append_assoc (side_text b.outside) (codes "\n") y)) in
+    (sym (append_assoc (side_text a.outside) (codes "\n") x) ∙ (append_cancel_left (codes " ") ((side_text a.outside ++ codes "\n") ++ x) ((side_text b.outside ++ codes "\n") ++ y) d.1 ∙ append_assoc (side_text b.outside) (codes "\n") y)) in
     (one_entry a b t.0.0 k.0 p.0.0 d.0 s.0, append_cancel_left (codes "\n") x y s.1)
 
 -- faults
@@ -197,5 +197,5 @@ wide_place n h = omega arith
 pub fault_tells : Tells fault_line (λ f. IsPlace f.1) (λ f g. f ≡ g) Anything
 fault_tells i f g x y hf hg nx ny e =
     let t = same_line (fault_pieces i f) (fault_pieces i g) [] [] x y
-        (refl, (refl, (refl, (fault_no_space f.0, (fault_no_space g.0, (wide_place f.1.line hf.line, (wide_place g.1.line hg.line, (refl, (refl, (refl, (wide_place f.1.column hf.column, (wide_place g.1.column hg.column, (refl, (refl, (refl, tt))))))))))))))) e in
+    (refl, (refl, (refl, (fault_no_space f.0, (fault_no_space g.0, (wide_place f.1.line hf.line, (wide_place g.1.line hg.line, (refl, (refl, (refl, (wide_place f.1.column hf.column, (wide_place g.1.column hg.column, (refl, (refl, (refl, tt))))))))))))))) e in
     (one_fault f g (one_fault_kind f.0 g.0 t.0.0) (one_place f.1 g.1 t.0.1.0 t.0.1.1.0), t.1)

@@ -52,7 +52,7 @@ register_tells i r s x y hr hs nx ny e =
     let r1 : r.width - 1 < 2 ^ 64 = omega arith in
     let s1 : s.width - 1 < 2 ^ 64 = omega arith in
     let t = same_line (register_pieces i r) (register_pieces i s) [] [] x y
-        (refl, (r1, (s1, (refl, (refl, (refl, (refl, (refl, (small_width r.width hr.greatest, (small_width s.width hs.greatest, (refl, (refl, (refl, (hr.initial, (hs.initial, (refl, (refl, (refl, tt)))))))))))))))))) e in
+    (refl, (r1, (s1, (refl, (refl, (refl, (refl, (refl, (small_width r.width hr.greatest, (small_width s.width hs.greatest, (refl, (refl, (refl, (hr.initial, (hs.initial, (refl, (refl, (refl, tt)))))))))))))))))) e in
     ((t.0.1.0, t.0.1.1.0), t.1)
 
 abbrev update_pieces : ℕ → Register → List Piece
@@ -93,7 +93,7 @@ cell_tells i c d x y hc hd nx ny e =
     let d1 : d.width - 1 < 2 ^ 64 = omega arith in
     let end = codes ";\n" in
     let t = same_line (cell_pieces i c) (cell_pieces i d) (form_text c.width c.form ++ end) (form_text d.width d.form ++ end) x y
-        (refl, (c1, (d1, (refl, (refl, (refl, (refl, (refl, tt)))))))) e in
+    (refl, (c1, (d1, (refl, (refl, (refl, (refl, (refl, tt)))))))) e in
     let u = same_form c.width d.width c.form d.form (end ++ x) (end ++ y) (small_width c.width hc.greatest) (small_width d.width hd.greatest) hc.form hd.form refl refl
-        (sym (append_assoc (form_text c.width c.form) end x) ∙ (t.1 ∙ append_assoc (form_text d.width d.form) end y)) in
+    (sym (append_assoc (form_text c.width c.form) end x) ∙ (t.1 ∙ append_assoc (form_text d.width d.form) end y)) in
     (one_cell c d (one_less c.width d.width hc.least hd.least t.0.0) u.0, append_cancel_left end x y u.1)

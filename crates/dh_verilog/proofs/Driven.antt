@@ -124,8 +124,8 @@ zero_ends : (w : ℕ) (x : List ℕ) → w < 2 ^ 64 → Ends 0 119 Anything ((ze
 zero_ends w x h =
     record {
       other =
-      λ e. first_digit w 119 (codes "'d0;\n" ++ x) h refl (ap (λ l. slice_index l 0) (sym (ap (λ l. l ++ x) (append_assoc (decimal w) (codes "'d0") (codes ";\n")) ∙ append_assoc (decimal w) (codes "'d0;\n") x)) ∙ e);
-      next = tt
+          λ e. first_digit w 119 (codes "'d0;\n" ++ x) h refl (ap (λ l. slice_index l 0) (sym (ap (λ l. l ++ x) (append_assoc (decimal w) (codes "'d0") (codes ";\n")) ∙ append_assoc (decimal w) (codes "'d0;\n") x)) ∙ e);
+      next = tt;
     }
 
 same_choice_line : (s : Signal) (p : Port) (ds es : List Driver) (x y : List ℕ) → IsSmallPort p → AllByRecursion IsSmallDriver ds → AllByRecursion IsSmallDriver es
@@ -134,7 +134,7 @@ same_choice_line s p ds es x y hp gd ge h =
     let end = zero_text (signal_width s p) ++ codes ";\n" in
     let t = same_line (pin_pieces p (ending_of s)) (pin_pieces p (ending_of s)) (each (choice_text s p) ds ++ end) (each (choice_text s p) es ++ end) x y (refl, (refl, (refl, tt))) h in
     let u = same_each (choice_text s p) 0 119 IsSmallDriver (ValuedAlike s) Anything (choice_begins s p) (choice_tells s p hp) ds es (end ++ x) (end ++ y) gd ge (zero_ends (signal_width s p) x (small_signal s p hp)) (zero_ends (signal_width s p) y (small_signal s p hp))
-        (sym (append_assoc (each (choice_text s p) ds) end x) ∙ (t.1 ∙ append_assoc (each (choice_text s p) es) end y)) in
+    (sym (append_assoc (each (choice_text s p) ds) end x) ∙ (t.1 ∙ append_assoc (each (choice_text s p) es) end y)) in
     (u.0, append_cancel_left end x y u.1)
 
 -- the four lines together
@@ -149,7 +149,7 @@ one_driver : (d e : Driver) → EnabledAlike d e → ValuedAlike signal.Write d 
 one_driver d e a b c o zd ze =
     ap (λ n. driver_of n d.write d.row d.data_) a
     ∙ (ap (λ w. driver_of e.enable w d.row d.data_) b
-      ∙ (ap (λ r. driver_of e.enable e.write r d.data_) c ∙ ap (λ n. driver_of e.enable e.write e.row n) (same_data d.write e.write d.data_ e.data_ b o zd ze)))
+    ∙ (ap (λ r. driver_of e.enable e.write r d.data_) c ∙ ap (λ n. driver_of e.enable e.write e.row n) (same_data d.write e.write d.data_ e.data_ b o zd ze)))
 
 same_head : {A : Type 0} (a b : A) (xs ys : List A) → a ≡ b → xs ≡ ys → a ∷ xs ≡ b ∷ ys
 same_head a b xs ys p q = cc
@@ -188,7 +188,7 @@ same_driving (p ∷ ps) [] ess x y hp m n gd ge zd ze h = absurd (omega arith)
 same_driving (p ∷ ps) (ds ∷ dss) [] x y hp m n gd ge zd ze h = absurd (omega arith)
 same_driving (p ∷ ps) (ds ∷ dss) (es ∷ ess) x y hp m n gd ge zd ze h =
     let t = same_port p ds es (driving_text ps dss ++ x) (driving_text ps ess ++ y) hp.0 gd.0 ge.0 zd.0 ze.0
-        (sym (append_assoc (port_lines p ds) (driving_text ps dss) x) ∙ (h ∙ append_assoc (port_lines p es) (driving_text ps ess) y)) in
+    (sym (append_assoc (port_lines p ds) (driving_text ps dss) x) ∙ (h ∙ append_assoc (port_lines p es) (driving_text ps ess) y)) in
     let m' : length dss ≡ length ps = omega arith in
     let n' : length ess ≡ length ps = omega arith in
     let more = same_driving ps dss ess x y hp.1 m' n' gd.1 ge.1 zd.1 ze.1 t.1 in

@@ -87,7 +87,7 @@ reads w (Const bits) x hw h stop =
     let s = codes "'d" ++ (decimal bits ++ x) in
     ap read (append_assoc (decimal w) (codes "'d" ++ decimal bits) x)
     ∙ (ap (λ p. by_first (slice_index p 0) (decimal w ++ s)) (past_decimal w s hw refl)
-      ∙ two_is (λ width b. Const b) w bits (decimal w ++ s) s x (value_decimal w s hw refl) (rest_decimal w s hw refl) (value_decimal bits x h stop) (rest_decimal bits x h stop))
+    ∙ two_is (λ width b. Const b) w bits (decimal w ++ s) s x (value_decimal w s hw refl) (rest_decimal w s hw refl) (value_decimal bits x h stop) (rest_decimal bits x h stop))
 reads w (Reg register) x hw h stop = same_found _ _ _ _ (ap Reg (value_decimal register x h stop)) (rest_decimal register x h stop)
 reads w (Data memory bank port) x hw h stop =
     let u = codes "_in" ++ x in
@@ -112,7 +112,7 @@ reads w (Mux c a b) x hw h stop =
     let s = codes " ? w" ++ (decimal a ++ t) in
     ap (λ r. read (119 ∷ r)) (append_assoc (decimal c) (codes " ? w" ++ (decimal a ++ (codes " : w" ++ decimal b))) x ∙ ap (λ r. decimal c ++ (codes " ? w" ++ r)) (append_assoc (decimal a) (codes " : w" ++ decimal b) x))
     ∙ (ap (λ r. by_sign (slice_index r 1) (119 ∷ (decimal c ++ s))) (rest_decimal c s h.0 refl)
-      ∙ three_is Mux c a b (119 ∷ (decimal c ++ s)) s t x (value_decimal c s h.0 refl) (rest_decimal c s h.0 refl) (value_decimal a t h.1.0 refl) (rest_decimal a t h.1.0 refl) (value_decimal b x h.1.1 stop) (rest_decimal b x h.1.1 stop))
+    ∙ three_is Mux c a b (119 ∷ (decimal c ++ s)) s t x (value_decimal c s h.0 refl) (rest_decimal c s h.0 refl) (value_decimal a t h.1.0 refl) (rest_decimal a t h.1.0 refl) (value_decimal b x h.1.1 stop) (rest_decimal b x h.1.1 stop))
 
 pub same_form : (v w : ℕ) (f g : CellForm) (x y : List ℕ) → v < 2 ^ 64 → w < 2 ^ 64 → HasSmall f → HasSmall g → NoDigit x → NoDigit y → form_text v f ++ x ≡ form_text w g ++ y → (f ≡ g) × (x ≡ y)
 same_form v w f g x y hv hw hf hg sx sy e =

@@ -52,7 +52,7 @@ same_numbered text k v Good R Next b tells i [] (c ∷ ys) x y gx gy ex ey e = a
 same_numbered text k v Good R Next b tells i (a ∷ xs) [] x y gx gy ex ey e = absurd (begun text k v Next b i a xs x y ey (sym e))
 same_numbered text k v Good R Next b tells i (a ∷ xs) (c ∷ ys) x y gx gy ex ey e =
     let one = tells i a c (numbered text (i + 1) xs ++ x) (numbered text (i + 1) ys ++ y) gx.0 gy.0 (next_on text k v Next b (i + 1) xs x ex.next) (next_on text k v Next b (i + 1) ys y ey.next)
-        (sym (append_assoc (text i a) (numbered text (i + 1) xs) x) ∙ (e ∙ append_assoc (text i c) (numbered text (i + 1) ys) y)) in
+    (sym (append_assoc (text i a) (numbered text (i + 1) xs) x) ∙ (e ∙ append_assoc (text i c) (numbered text (i + 1) ys) y)) in
     let more = same_numbered text k v Good R Next b tells (i + 1) xs ys x y gx.1 gy.1 ex ey one.1 in
     ((one.0, more.0), more.1)
 

@@ -35,8 +35,8 @@ there width xs i v h =
   where
     nothing : {A : Type 0} (width : A → ℕ) (o : Option A) (v : ℕ) → o ≡ None → option_map width o ≡ Some v → ⊥
     nothing width o v none some =
-      let t : option_map width o ≡ None = ap (option_map width) none in
-      cc
+        let t : option_map width o ≡ None = ap (option_map width) none in
+        cc
 
 wire_small : (cells : List Cell) (wire width : ℕ) → length cells < 2 ^ 64 → HasWidth cells wire width → wire < 2 ^ 64
 wire_small cells wire width h at =
@@ -68,7 +68,7 @@ entry_small e h few =
       integer = h.integer;
       ports = ports;
       some = subst IsSomeDims (sym h.line) tt;
-      dims = subst (λ (ds : List Dim). AllByRecursion IsSmallDim ds) (sym h.line) (dim, tt)
+      dims = subst (λ (ds : List Dim). AllByRecursion IsSmallDim ds) (sym h.line) (dim, tt);
     }
 
 entries_small : (es : List MemEntry) → AllByRecursion IsEntry es → AllByRecursion (λ e. elements_of e.shape.dims ≤ 1048576) es → AllByRecursion IsSmallEntry es
@@ -122,7 +122,7 @@ registers_small net v r = of_each IsSmallRegister net.registers λ i g at. small
   where
     small : (g : Register) → IsRegister net.cells g → IsSmallRegister g
     small g h =
-      record { least = h.least; greatest = h.greatest; initial = bits_small g.initial g.width h.greatest h.initial; next = wire_small net.cells g.next g.width r.cells h.next }
+        record { least = h.least; greatest = h.greatest; initial = bits_small g.initial g.width h.greatest h.initial; next = wire_small net.cells g.next g.width r.cells h.next }
 
 -- cells
 operand_small : (cells : List Cell) (i a width : ℕ) → length cells < 2 ^ 64 → IsOperand cells i a width → a < 2 ^ 64
@@ -163,15 +163,15 @@ pub drivers_small : (net : Net) → IsValid net → InRange net → AllDrivers I
 drivers_small net v r =
     of_each (λ ds. AllByRecursion IsSmallDriver ds) net.drivers λ p ds at.
     elim ((slice_get_cases net.table p).1) [
-      inl found ↦ of_each IsSmallDriver ds λ k d here. driver_small net.cells found.0 d r.cells (v.drivers p ds found.0 at found.2 k d here)
-    | inr past ↦ absurd (too_far p ds at past.0)
+      | inl found ↦ of_each IsSmallDriver ds λ k d here. driver_small net.cells found.0 d r.cells (v.drivers p ds found.0 at found.2 k d here)
+      | inr past ↦ absurd (too_far p ds at past.0)
     ]
   where
     too_far : (p : ℕ) (ds : List Driver) → slice_get net.drivers p ≡ Some ds → length net.table ≤ p → ⊥
     too_far p ds at past =
-      let t : p < length net.drivers = slice_get_within net.drivers p ds at in
-      let u : length net.drivers ≡ length net.table = v.ports in
-      omega arith
+        let t : p < length net.drivers = slice_get_within net.drivers p ds at in
+        let u : length net.drivers ≡ length net.table = v.ports in
+        omega arith
 
 -- outputs
 pub record HasSmallOutputs (net : Net) : Type 0 where

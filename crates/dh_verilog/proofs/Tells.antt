@@ -71,7 +71,7 @@ outputs_at net = driving_at (ports_of 0 net.table) net.drivers (after_drivers ne
 same_table : (m n : Net) → IsValid m → IsValid n → text_of m ≡ text_of n → (m.table ≡ n.table) × (after_memories m ≡ after_memories n)
 same_table m n vm vn e =
     let t = same_numbered memory_line 3 109 IsSmallEntry (λ a b. a ≡ b) Anything memory_begins memory_tells 0 m.table n.table (after_memories m) (after_memories n) (table_small m.table vm.table) (table_small n.table vn.table) (faults_end m.faults (after_faults m) refl) (faults_end n.faults (after_faults n) refl)
-        (append_cancel_left (codes "// dahlia netlist 1\n") (numbered memory_line 0 m.table ++ after_memories m) (numbered memory_line 0 n.table ++ after_memories n) e) in
+    (append_cancel_left (codes "// dahlia netlist 1\n") (numbered memory_line 0 m.table ++ after_memories m) (numbered memory_line 0 n.table ++ after_memories n) e) in
     (equal_items m.table n.table t.0, t.1)
 
 same_faults : (m n : Net) → InRange m → InRange n → after_memories m ≡ after_memories n → (m.faults ≡ n.faults) × (after_faults m ≡ after_faults n)
@@ -108,13 +108,13 @@ output_pieces net =
 same_outputs : (m n : Net) → HasSmallOutputs m → HasSmallOutputs n → after_drivers m ≡ after_drivers n → ((m.tick ≡ n.tick) × ((m.done ≡ n.done) × (m.fault ≡ n.fault))) × (clock_text m.registers ≡ clock_text n.registers)
 same_outputs m n hm hn e =
     let t = same_line (output_pieces m) (output_pieces n) [] [] (clock_text m.registers) (clock_text n.registers)
-        (refl, (hm.tick, (hn.tick, (refl, (refl, (refl, (hm.done, (hn.done, (refl, (refl, (refl, (hm.fault, (hn.fault, (refl, (refl, (refl, tt)))))))))))))))) e in
+    (refl, (hm.tick, (hn.tick, (refl, (refl, (refl, (hm.done, (hn.done, (refl, (refl, (refl, (hm.fault, (hn.fault, (refl, (refl, (refl, tt)))))))))))))))) e in
     ((t.0.0, (t.0.1.0, t.0.1.1.0)), t.1)
 
 same_updates : (m n : Net) → IsValid m → IsValid n → InRange m → InRange n → clock_text m.registers ≡ clock_text n.registers → Pointwise StepsAlike m.registers n.registers
 same_updates m n vm vn rm rn e =
     (same_numbered update_line 2 32 IsSmallRegister StepsAlike Anything update_begins update_tells 0 m.registers n.registers last last (registers_small m vm rm) (registers_small n vn rn) (ends 2 32 101 last refl (unlike 32 101 refl)) (ends 2 32 101 last refl (unlike 32 101 refl))
-      (append_cancel_left (codes "  always @(posedge clk) begin\n") (numbered update_line 0 m.registers ++ last) (numbered update_line 0 n.registers ++ last) e)).0
+    (append_cancel_left (codes "  always @(posedge clk) begin\n") (numbered update_line 0 m.registers ++ last) (numbered update_line 0 n.registers ++ last) e)).0
 
 one_list : (rs ss : List Register) → Pointwise StartsAlike rs ss → Pointwise StepsAlike rs ss → rs ≡ ss
 one_list [] [] a b = refl
@@ -133,11 +133,11 @@ one_net : (m n : Net) → m.table ≡ n.table → m.faults ≡ n.faults → m.re
 one_net m n a b c d e f g h =
     ap (λ x. net_of x m.faults m.registers m.cells m.drivers m.tick m.done m.fault) a
     ∙ (ap (λ x. net_of n.table x m.registers m.cells m.drivers m.tick m.done m.fault) b
-      ∙ (ap (λ x. net_of n.table n.faults x m.cells m.drivers m.tick m.done m.fault) c
-        ∙ (ap (λ x. net_of n.table n.faults n.registers x m.drivers m.tick m.done m.fault) d
-          ∙ (ap (λ x. net_of n.table n.faults n.registers n.cells x m.tick m.done m.fault) e
-            ∙ (ap (λ x. net_of n.table n.faults n.registers n.cells n.drivers x m.done m.fault) f
-              ∙ (ap (λ x. net_of n.table n.faults n.registers n.cells n.drivers n.tick x m.fault) g ∙ ap (λ x. net_of n.table n.faults n.registers n.cells n.drivers n.tick n.done x) h))))))
+    ∙ (ap (λ x. net_of n.table n.faults x m.cells m.drivers m.tick m.done m.fault) c
+    ∙ (ap (λ x. net_of n.table n.faults n.registers x m.drivers m.tick m.done m.fault) d
+    ∙ (ap (λ x. net_of n.table n.faults n.registers n.cells x m.tick m.done m.fault) e
+    ∙ (ap (λ x. net_of n.table n.faults n.registers n.cells n.drivers x m.done m.fault) f
+    ∙ (ap (λ x. net_of n.table n.faults n.registers n.cells n.drivers n.tick x m.fault) g ∙ ap (λ x. net_of n.table n.faults n.registers n.cells n.drivers n.tick n.done x) h))))))
 
 pub text_tells : (m n : Net) → IsValid m → IsValid n → InRange m → InRange n → HasReadsZero m → HasReadsZero n → text_of m ≡ text_of n → m ≡ n
 text_tells m n vm vn rm rn zm zn e =

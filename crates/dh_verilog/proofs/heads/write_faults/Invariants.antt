@@ -9,5 +9,5 @@ abbrev pub invariant-loop-i : goal.invariant-loop-i
 invariant-loop-i l =
     record {
       text : string_bytes l.out ++ numbered fault_line (l.i + 1) (drop l.i l.faults) ≡ string_bytes l.fn.out ++ numbered fault_line 1 l.faults;
-      range : AllByRecursion (λ f. IsPlace f.1) (drop l.i l.faults) → AllByRecursion (λ f. IsPlace f.1) l.faults
+      range : AllByRecursion (λ f. IsPlace f.1) (drop l.i l.faults) → AllByRecursion (λ f. IsPlace f.1) l.faults;
     }
