@@ -1,5 +1,5 @@
 -- The comments on memories and on faults tell what they are about.
-use Rattle.std.proofs.Common.{◌≡◌, ℕ, ◌+◌, ◌*◌, ◌<◌, ◌≤◌, ◌^◌, Bool, true, false, List, [], ◌∷◌, ◌++◌, ◌∙◌, ap, sym, refl, append_assoc, append-nil, arith, inl, inr, ◌⊎◌}
+use Rattle.std.proofs.Common.{◌≡◌, ℕ, ◌<◌, ◌≤◌, ◌^◌, Bool, true, false, List, [], ◌∷◌, ◌++◌, ◌∙◌, ap, sym, refl, append_assoc, append-nil, arith, inl, inr}
 use Rattle.std.specs.Prelude.{codes, slice_index}
 use Rattle.std.specs.Fmt.{decimal}
 use Rattle.std.specs.List.{AllByRecursion}
@@ -7,7 +7,7 @@ use Rattle.std.proofs.lemmas.List.{append_cancel_left}
 use Rattle.dh_base.specs.declared.outcomes.FaultKind.{FaultKind}
 use Rattle.dh_base.specs.declared.outcomes.FaultKind.TheVariants as fault
 use Rattle.dh_base.specs.declared.places.Place.{Place}
-use Rattle.dh_tree.specs.Names.{IsLetter, IsNameByte, IsWord, IsName}
+use Rattle.dh_tree.specs.Names.{IsLetter, IsNameByte, IsWord}
 use Rattle.dh_tree.specs.Tables.{IsInteger}
 use Rattle.dh_tree.specs.declared.kinds.Kind.{Kind}
 use Rattle.dh_tree.specs.declared.kinds.Kind.TheVariants as kind
@@ -15,7 +15,6 @@ use Rattle.dh_tree.specs.declared.tables.Dim.{Dim}
 use Rattle.dh_tree.specs.declared.tables.MemEntry.{MemEntry}
 use Rattle.dh_tree.specs.declared.tables.Shape.{Shape}
 use Rattle.dh_verilog.specs.Head.{kind_text, dim_text, dims_text, side_text, memory_line, fault_name, fault_line}
-use Rattle.dh_verilog.specs.Listed.{each}
 use Rattle.dh_verilog.specs.Ranges.{IsPlace}
 use Rattle.dh_verilog.proofs.Reading.{NoDigit, NoSpace, number_then, no_space, unlike}
 use Rattle.dh_verilog.proofs.Shapes.{Piece, fixed, numeral, word, same_line}

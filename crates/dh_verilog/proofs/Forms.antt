@@ -1,7 +1,7 @@
 -- The expression of a cell is read back: the byte after the first digits, and for an operation the
 -- byte of its sign, tell the form, and its numbers are the runs of digits in order. What is read back
 -- is the form, so no two forms have one text.
-use Rattle.std.proofs.Common.{◌≡◌, ℕ, ◌<◌, ◌^◌, ◌==◌, if◌then◌else◌, List, [], ◌∷◌, ◌++◌, ◌∙◌, ap, sym, refl, append_assoc}
+use Rattle.std.proofs.Common.{◌≡◌, ℕ, ◌<◌, ◌^◌, ◌==◌, if◌then◌else◌, List, ◌∷◌, ◌++◌, ◌∙◌, ap, sym, refl, append_assoc}
 use Rattle.std.specs.Prelude.{codes, slice_index}
 use Rattle.std.specs.Fmt.{decimal}
 use Rattle.dh_net.specs.declared.nets.CellForm.{CellForm}

@@ -1,13 +1,13 @@
 -- Numbers and words at the front of a text. A number is its digits up to the first other byte, a word
 -- is its bytes up to the first space. So a text that begins with one and goes on otherwise has one
 -- number, or one word, and one rest.
-use Rattle.std.proofs.Common.{◌≡◌, ℕ, ◌+◌, ◌<◌, ◌^◌, Bool, true, false, ◌&&◌, if◌then◌else◌, List, [], ◌∷◌, ◌++◌, ◌∙◌, ap, sym, refl, length, arith, eq-eqb}
+use Rattle.std.proofs.Common.{◌≡◌, ℕ, ◌<◌, ◌^◌, Bool, true, false, ◌&&◌, if◌then◌else◌, List, [], ◌∷◌, ◌++◌, ◌∙◌, ap, sym, refl, length, arith, eq-eqb}
 use Rattle.std.specs.Prelude.{not, ◌==◌, slice_index}
 use Rattle.std.specs.Char.{is_ascii_digit}
 use Rattle.std.specs.Fmt.{decimal}
 use Rattle.std.specs.List.{AllByRecursion}
 use Rattle.std.specs.Str.{all_ascii_digits}
-use Rattle.std.specs.Str.Parse.{IsNumeral, digits_value}
+use Rattle.std.specs.Str.Parse.{digits_value}
 use Rattle.std.proofs.lemmas.Fmt.{digits_decimal, digits_value-decimal, decimal_nonempty}
 use Rattle.std.proofs.lemmas.Str.Parse.{IsNumeralModel, numerals_by_value, tells_all_ascii_digits}
 

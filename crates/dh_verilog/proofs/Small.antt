@@ -1,11 +1,11 @@
 -- Every number of a valid net that the program can hold is below 2^64: wires and registers are fewer
 -- than that, widths are at most 64, and a table has at most 1048576 elements.
-use Rattle.std.proofs.Common.{◌≡◌, ℕ, ◌+◌, ◌*◌, ◌<◌, ◌≤◌, ◌^◌, List, [], ◌∷◌, ◌∙◌, ap, sym, refl, subst, length, suc, true, arith, inl, inr, ◌⊎◌}
+use Rattle.std.proofs.Common.{◌≡◌, ℕ, ◌+◌, ◌*◌, ◌<◌, ◌≤◌, ◌^◌, List, [], ◌∷◌, ap, sym, refl, subst, length, suc, arith, inl, inr}
 use Rattle.std.specs.Prelude.{slice_get, Option, Some, None, option_map}
 use Rattle.std.specs.List.{AllByRecursion}
 use Rattle.std.proofs.Math.Pow.{pow_mono}
 use Rattle.std.proofs.lemmas.Option.{slice_get_cases, slice_get_within}
-use Rattle.dh_tree.specs.Tables.{IsInteger, IsEntry, IsTable, width_of, line_of, elements_of, elements_in}
+use Rattle.dh_tree.specs.Tables.{IsInteger, IsEntry, IsTable, width_of, elements_of, elements_in}
 use Rattle.dh_tree.specs.declared.kinds.Kind.{Kind}
 use Rattle.dh_tree.specs.declared.kinds.Kind.TheVariants as kind
 use Rattle.dh_tree.specs.declared.tables.Dim.{Dim}
@@ -16,11 +16,10 @@ use Rattle.dh_net.specs.declared.nets.CellForm.TheVariants.{Const, Reg, Data, Ad
 use Rattle.dh_net.specs.declared.nets.Driver.{Driver}
 use Rattle.dh_net.specs.declared.nets.Net.{Net}
 use Rattle.dh_net.specs.declared.nets.Register.{Register}
-use Rattle.dh_net.specs.Valid.{HasWidth, IsOperand, AreOperands, IsPort, FormFits, IsCell, IsRegister, IsDriver, IsValid}
+use Rattle.dh_net.specs.Valid.{HasWidth, IsOperand, AreOperands, FormFits, IsRegister, IsDriver, IsValid}
 use Rattle.dh_verilog.specs.Head.{port_of, ports_of}
 use Rattle.dh_verilog.specs.Ranges.{InRange}
 use Rattle.dh_verilog.specs.Rows.{row_width_of}
-use Rattle.dh_verilog.specs.declared.ports.Port.{Port}
 use Rattle.dh_verilog.proofs.Walks.{of_each}
 use Rattle.dh_verilog.proofs.Widths.{row_width_met}
 use Rattle.dh_verilog.proofs.Forms.{HasSmall}

@@ -1,8 +1,7 @@
 -- A text tells its net. The parts of two equal texts are peeled off in order: each list of lines ends
 -- where another kind of line begins, which a byte of it shows, so each part is the same in both.
-use Rattle.std.proofs.Common.{◌≡◌, ℕ, ◌<◌, ◌≤◌, ◌^◌, List, [], ◌∷◌, ◌++◌, ◌∙◌, ap, sym, refl, subst, append_assoc, length}
+use Rattle.std.proofs.Common.{◌≡◌, ℕ, List, [], ◌∷◌, ◌++◌, ◌∙◌, ap, sym, refl, length}
 use Rattle.std.specs.Prelude.{codes, slice_index}
-use Rattle.std.specs.List.{AllByRecursion}
 use Rattle.std.proofs.lemmas.List.{append_cancel_left}
 use Rattle.dh_base.specs.declared.outcomes.FaultKind.{FaultKind}
 use Rattle.dh_base.specs.declared.places.Place.{Place}
@@ -15,7 +14,7 @@ use Rattle.dh_net.specs.Valid.{IsValid}
 use Rattle.dh_verilog.specs.Listed.{numbered}
 use Rattle.dh_verilog.specs.Head.{memory_line, fault_line, ports_of, module_text}
 use Rattle.dh_verilog.specs.Driving.{driving_text}
-use Rattle.dh_verilog.specs.Ranges.{IsPlace, InRange, ReadsZero, HasReadsZero}
+use Rattle.dh_verilog.specs.Ranges.{IsPlace, InRange, HasReadsZero}
 use Rattle.dh_verilog.specs.Text.{register_line, cell_line, outputs_text, update_line, clock_text, text_of}
 use Rattle.dh_verilog.specs.declared.ports.Port.{Port}
 use Rattle.dh_verilog.proofs.Reading.{unlike}

@@ -1,8 +1,7 @@
 -- One turn of a loop over a table of memories: the text of the first port that is left, then the rest.
-use Rattle.std.proofs.Common.{◌≡◌, ℕ, ◌+◌, ◌<◌, List, ◌∷◌, [], ◌++◌, ◌∙◌, ap, sym, append_assoc, length, drop, drop-cons, get_or, add-one, zero, suc, subst, refl, arith}
-use Rattle.std.specs.Prelude.{slice_get, Some, Option}
+use Rattle.std.proofs.Common.{◌≡◌, ℕ, ◌+◌, ◌<◌, List, ◌∷◌, [], ◌++◌, ◌∙◌, ap, sym, append_assoc, length, drop, drop-cons, get_or, add-one, suc, refl}
+use Rattle.std.specs.Prelude.{slice_get, Some}
 use Rattle.std.specs.List.{AllByRecursion}
-use Rattle.dh_net.specs.declared.nets.Driver.{Driver}
 use Rattle.dh_tree.specs.declared.tables.MemEntry.{MemEntry}
 use Rattle.dh_verilog.specs.Listed.{each}
 use Rattle.dh_verilog.specs.Head.{port_of, ports_of}

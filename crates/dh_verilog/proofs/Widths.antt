@@ -2,8 +2,7 @@
 -- that has them is the least; there is one, since a number is below 2 to its own power.
 use Rattle.std.proofs.Common.{◌≡◌, ℕ, ◌+◌, ◌<◌, ◌≤◌, ◌^◌, zero, suc, arith, true, Bool, refl, if◌then◌else◌}
 use Rattle.std.specs.Prelude.{nat_le}
-use Rattle.std.proofs.lemmas.Bool.Decides.{nat_tests}
-use Rattle.std.proofs.Common.{subst, inl, inr, ◌⊎◌, false}
+use Rattle.std.proofs.Common.{subst, inl, inr, false}
 use Rattle.std.proofs.lemmas.Bool.{leb-true, le-leb, cases_lt}
 use Rattle.std.proofs.Math.Pow.{pow-lt}
 use Rattle.dh_net.specs.Valid.{IsRowWidth}

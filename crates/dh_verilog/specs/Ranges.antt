@@ -1,10 +1,11 @@
 -- What the types of the program add to the validity of a net.
 use Rattle.std.specs.Prelude.{◌≡◌, ℕ, ◌<◌, ◌^◌, false, List, length}
 use Rattle.std.specs.List.{AllByRecursion}
-use Rattle.dh_base.specs.declared.outcomes.FaultKind.{FaultKind}
 use Rattle.dh_base.specs.declared.places.Place.{Place}
 use Rattle.dh_net.specs.declared.nets.Driver.{Driver}
 use Rattle.dh_net.specs.declared.nets.Net.{Net}
+use Rattle.dh_net.specs.Valid.{IsValid}
+use Rattle.dh_verilog.specs.Text.{text_of}
 
 -- the place has a line and a column below 2^32
 pub record IsPlace (p : Place) : Type 0 where
@@ -25,3 +26,7 @@ ReadsZero d = d.write ≡ false → d.data_ ≡ 0
 -- each read of the net has data 0, which no text shows
 abbrev pub HasReadsZero : Net → Type 0
 HasReadsZero net = AllByRecursion (λ ds. AllByRecursion ReadsZero ds) net.drivers
+
+-- no other valid net of the program, with reads of data 0, has this text
+abbrev pub IsAlone : List ℕ → Net → Type 0
+IsAlone text net = (other : Net) → IsValid other → InRange other → HasReadsZero other → text_of other ≡ text → other ≡ net

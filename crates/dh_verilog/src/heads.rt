@@ -66,7 +66,7 @@ fn write_memory_line(out: &mut String, number: usize, entry: &MemEntry) -> Resul
     write!(out, " {}\n", side(entry.outside))
 }
 
-// Writes the comments on all memories.
+/// Writes the comments on all memories.
 pub fn write_memories(out: &mut String, table: &[MemEntry]) -> Result<(), AllocError>
     ensures { OnOk result (string_bytes out.new ≡ string_bytes out.old ++ numbered memory_line 0 table.now) }
 {
@@ -103,7 +103,7 @@ fn write_fault_line(
     )
 }
 
-// Writes the comments on all faults.
+/// Writes the comments on all faults.
 pub fn write_faults(out: &mut String, faults: &[(FaultKind, Place)]) -> Result<(), AllocError>
     ensures text { OnOk result (string_bytes out.new ≡ string_bytes out.old ++ numbered fault_line 1 faults.now) }
     ensures range { OnOk result (AllByRecursion (λ f. IsPlace f.1) faults.now) }
@@ -125,7 +125,7 @@ fn write_all_pins(out: &mut String, table: &[MemEntry]) -> Result<(), AllocError
     Ok(())
 }
 
-// Writes the list of the module's ports.
+/// Writes the list of the module's ports.
 pub fn write_module(out: &mut String, table: &[MemEntry]) -> Result<(), AllocError>
     requires { AllByRecursion IsEntry table.now }
     ensures { OnOk result (string_bytes out.new ≡ string_bytes out.old ++ module_text (ports_of 0 table.now)) }

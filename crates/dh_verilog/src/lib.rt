@@ -11,5 +11,4 @@ mod tests;
 mod writing;
 
 pub use laws::text_tells_the_net;
-pub use ports::{Port, Signal};
 pub use writing::write;

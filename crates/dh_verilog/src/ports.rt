@@ -37,7 +37,7 @@ pub enum Signal {
     Out,
 }
 
-// The port of the memory with this number.
+/// The port of the memory with this number.
 #[tactic(auto, using(crate::proofs::Widths::row_width_is))]
 pub fn port_of_memory(memory: usize, entry: &MemEntry) -> Port
     requires { IsEntry entry.now }
@@ -88,7 +88,7 @@ fn write_wide_pin(
     write_pin(out, port, ending)
 }
 
-// Writes the lines of the five pins.
+/// Writes the lines of the five pins.
 pub fn write_pins(out: &mut String, port: Port) -> Result<(), AllocError>
     requires rows { 1 ≤ port.row_width }
     requires data { 1 ≤ port.width }
@@ -221,7 +221,7 @@ fn write_choice_line(
     out.push_str(";\n")
 }
 
-// Writes the four lines that say what drives the port.
+/// Writes the four lines that say what drives the port.
 pub fn write_port_lines(out: &mut String, port: Port, drivers: &[Driver]) -> Result<(), AllocError>
     ensures { OnOk result (string_bytes out.new ≡ string_bytes out.old ++ port_lines port drivers.now) }
 {

@@ -7,7 +7,7 @@ ghost use Rattle.dh_net.specs.Valid.{IsValid};
 ghost use Rattle.dh_verilog.specs.Listed.{numbered};
 ghost use Rattle.dh_verilog.specs.Head.{ports_of};
 ghost use Rattle.dh_verilog.specs.Driving.{driving_text};
-ghost use Rattle.dh_verilog.specs.Ranges.{InRange};
+ghost use Rattle.dh_verilog.specs.Ranges.{InRange, HasReadsZero, IsAlone};
 ghost use Rattle.dh_verilog.specs.Text.{register_line, binary_text, form_text, cell_line, outputs_text, update_line, clock_text, text_of};
 
 use crate::heads::{write_faults, write_memories, write_module};
@@ -170,6 +170,7 @@ pub fn write(alloc: Global, net: &Net) -> Result<Vec<u8>, NoMemory>
     requires { IsValid net.now }
     ensures text { IfOk result (λ bytes. bytes.items ≡ text_of net.now) }
     ensures range { OnOk result (InRange net.now) }
+    ensures alone { HasReadsZero net.now → IfOk result (λ bytes. IsAlone bytes.items net.now) }
 {
     let mut out = String::new(alloc);
     write_net(&mut out, net)?;

@@ -1,9 +1,8 @@
-use Rattle.std.proofs.Common.{◌≡◌, ◌≤◌, ◌++◌, ◌∙◌, ap, sym, subst, List, ℕ}
+use Rattle.std.proofs.Common.{◌≤◌, ◌++◌, sym, subst, List}
 use Rattle.std.specs.Prelude.{codes, string_bytes}
 use Rattle.std.specs.List.{AllByRecursion}
 use Rattle.std.proofs.lemmas.Result.{on_ok_weaker}
 use Rattle.dh_net.specs.declared.nets.Cell.{Cell}
-use Rattle.dh_net.specs.declared.nets.Driver.{Driver}
 use Rattle.dh_net.specs.declared.nets.Register.{Register}
 use Rattle.dh_verilog.specs.Listed.{numbered}
 use Rattle.dh_verilog.specs.Head.{memory_line, fault_line, ports_of, module_text}
