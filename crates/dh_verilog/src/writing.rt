@@ -165,7 +165,8 @@ fn write_net(out: &mut String, net: &Net) -> Result<(), AllocError>
     write_clock(out, registers)
 }
 
-/// The text of a valid net, in time linear in its length. Fails only where memory is refused.
+/// The text of a valid net, in time linear in its length. Where the net's reads have data 0, no other
+/// such net has this text. Fails only where memory is refused.
 pub fn write(alloc: Global, net: &Net) -> Result<Vec<u8>, NoMemory>
     requires { IsValid net.now }
     ensures text { IfOk result (λ bytes. bytes.items ≡ text_of net.now) }
