@@ -1,1 +1,5 @@
 pub mod Words
+pub mod Engines
+pub mod Lines
+pub mod Ends
+pub mod Replies

@@ -2,6 +2,11 @@
 //! Stands on the crates of every stage. docs/ARCHITECTURE.md has the way of a program through them.
 #![tactic(auto)]
 
+mod engine;
+mod lines;
+mod running;
 mod words;
 
+pub use engine::{Engine, Finish, NetEngine};
+pub use running::run;
 pub use words::Job;

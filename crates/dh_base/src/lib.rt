@@ -5,14 +5,20 @@
 
 mod limits;
 mod lists;
+mod mem_files;
+mod mem_sink;
 mod outcomes;
+mod outside;
 mod places;
 mod rules;
 mod statuses;
 
 pub use limits::{Excess, Limit};
 pub use lists::{Items, NoMemory};
+pub use mem_files::MemFiles;
+pub use mem_sink::MemSink;
 pub use outcomes::{FaultKind, Outcome};
+pub use outside::{FileFault, Files, Sink, SinkFault};
 pub use places::Place;
 pub use rules::Rule;
 pub use statuses::Status;

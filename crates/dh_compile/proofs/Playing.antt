@@ -2,28 +2,23 @@
 -- before and the clock within this one, the banks are the memories as the step began, and what the
 -- group reads is held from its second clock on. With the last clock each bank takes what the group
 -- does to its memory: a sum is of held data, which is the element as the step began.
-use Rattle.std.proofs.Common.{◌≡◌, ℕ, ◌+◌, ◌%◌, ◌^◌, ◌<◌, ◌≤◌, ◌==◌, ◌↔◌, Bool, true, false, if◌then◌else◌, List, [], ◌∷◌, length, map, Option, Some, None, refl, sym, ap, ◌∙◌, zero, suc, arith, subst, inl, inr}
+use Rattle.std.proofs.Common.{◌≡◌, ℕ, ◌+◌, ◌%◌, ◌^◌, ◌<◌, ◌==◌, ◌↔◌, Bool, true, false, if◌then◌else◌, List, [], ◌∷◌, length, map, Option, Some, None, refl, sym, ap, ◌∙◌, suc, arith, subst}
 use Rattle.std.specs.Prelude.{slice_get, slice_index, slice_index_or, slice_set}
-use Rattle.std.specs.List.{AllByRecursion}
 use Rattle.std.proofs.lemmas.List.{ext_get_or, length-replicate}
-use Rattle.std.proofs.lemmas.Option.{slice_get_within, slice_get-get_or}
-use Rattle.std.proofs.lemmas.Bool.{cases_lt}
+use Rattle.std.proofs.lemmas.Option.{slice_get_within}
 use Rattle.std.proofs.Math.Nat.{mod-eq_of_lt, zero-add}
 use Rattle.std.proofs.lemmas.Bool.Decides.{nat_tests}
-use Rattle.dh_base.specs.declared.outcomes.FaultKind.{FaultKind}
 use Rattle.dh_base.specs.declared.outcomes.Outcome.{Outcome}
-use Rattle.dh_base.specs.declared.outcomes.Outcome.TheVariants.{Going, Ended, Faulted}
-use Rattle.dh_base.specs.declared.places.Place.{Place}
-use Rattle.dh_tree.specs.declared.tables.MemEntry.{MemEntry}
+use Rattle.dh_base.specs.declared.outcomes.Outcome.TheVariants.{Going, Ended}
 use Rattle.dh_tree.specs.declared.thin.Operand.{Operand}
 use Rattle.dh_tree.specs.declared.thin.Store.{Store}
 use Rattle.dh_tree.specs.declared.thin.Program.{Program}
-use Rattle.dh_tree.specs.Thin.{IsThin, IsGroup, IsStore, IsSource, IsElement, stores_of}
+use Rattle.dh_tree.specs.Thin.{IsThin, IsGroup, IsStore, IsSource, IsElement}
 use Rattle.dh_net.specs.declared.nets.Register.{Register}
 use Rattle.dh_net.specs.declared.nets.Net.{Net}
 use Rattle.dh_net.specs.Valid.{IsValid}
 use Rattle.dh_net.specs.Clock.{State, IsValuation, Settles, Clocks, start_of, has_clash, has_stray}
-use Rattle.dh_net.specs.Plays.{Run, clocks_of, IsGoing, IsFine, IsStuck, EndsAfter, Plays}
+use Rattle.dh_net.specs.Plays.{Run, IsGoing, IsFine, Plays}
 use Rattle.dh_net.specs.Simulates.{ShowsStep, ShowsEnded, Simulates}
 use Rattle.dh_net.proofs.Valuations.{some_valuation}
 use Rattle.dh_net.proofs.Fits.{last_going}
@@ -34,21 +29,10 @@ use Rattle.dh_compile.specs.Timetable.{use_in, group_length, total_length, uses_
 use Rattle.dh_compile.specs.Built.{IsShown, IsBuilt}
 use Rattle.dh_compile.specs.ThinRun.{AreLong, DoesGroups}
 use Rattle.dh_compile.proofs.Serving.{use_now, rows_do, held_do, RowsBelow, serves_rows, serves_held, no_clash, no_stray}
-use Rattle.dh_compile.proofs.Times.{group_length_least, group_length_most, use_at, uses_rise, uses_now, uses_over, ends_now, ends_over, clocks_before, within_total, clocks_before_all, clocks_before_more, total_length_most}
+use Rattle.dh_compile.proofs.Times.{group_length_least, group_length_most, use_at, uses_rise, uses_now, uses_over, ends_now, ends_over, clocks_before, within_total, clocks_before_all, clocks_before_more}
+use Rattle.dh_compile.proofs.Endings.{total_most, is_before, is_end, never_faults, stuck_never, some_group}
 use Rattle.dh_compile.proofs.Pointwise.{length-banks_after, length-held_after, bank_after, one_held_after, no_clashes, no_strays}
 use Rattle.dh_compile.proofs.Groups.{at_place, some_at, uses_below, writer_of, reads_source, sum_length}
-
--- a thin program has at most 64 groups
-pub groups_most : (gs : List (List Store)) (table : List MemEntry) → AllByRecursion (IsGroup table) gs → length gs ≤ stores_of gs
-groups_most [] table h = omega arith
-groups_most (g ∷ gs) table h = let some = h.0.least in let more = groups_most gs table h.1 in omega arith
-
-pub total_most : (p : Program) → IsThin p → total_length p.groups ≤ 128
-total_most p thin =
-    let a = total_length_most p.groups in
-    let b = groups_most p.groups p.table thin.groups in
-    let c = thin.commands in
-    omega arith
 
 -- what a group stores by the held data is what it stores by the memories
 stored_same : (held : List ℕ) (memories : List (List ℕ)) (source : Option Operand) (number : ℕ)
@@ -92,31 +76,6 @@ first_held j long row u rows had z e =
 module _ (p : Program) (thin : IsThin p) (net : Net) (valid : IsValid net) (built : IsBuilt net p) (r : Run) (does : DoesGroups p r) where
   ports_table : length net.drivers ≡ length p.table
   ports_table = built.ports
-
-  -- the clocks of the first n steps are those of the first n groups
-  clocks_is : (n : ℕ) → n ≤ length p.groups → clocks_of r n ≡ clocks_before n p.groups
-  clocks_is zero l = refl
-  clocks_is (suc n) l =
-      let before = clocks_is n (omega arith) in
-      let there = slice_get-get_or p.groups n [] (omega arith) in
-      let long = does.lengths n (slice_index_or p.groups n []) there in
-      let more = clocks_before_more n p.groups (slice_index_or p.groups n []) there in
-      omega arith
-
-  -- a run that goes on is before the last group
-  is_before : (n : ℕ) → IsGoing (r.outcome n) → n < length p.groups
-  is_before n g = elim (cases_lt n (length p.groups)) [ inl l ↦ l | inr k ↦ absurd (let P : Outcome → Type 0 = IsGoing in subst P (does.ended n k) g) ]
-
-  -- a run that has ended did so after the last group
-  is_end : (n : ℕ) → EndsAfter r n → n ≡ length p.groups
-  is_end n e =
-      elim (cases_lt n (length p.groups)) [
-        | inl l ↦ (let both : Going ≡ Ended = sym (does.going n l) ∙ e.ended in cc)
-        | inr k ↦ elim (cases_lt (length p.groups) n) [
-          | inl l ↦ absurd (let P : Outcome → Type 0 = IsGoing in subst P (does.ended (length p.groups) (omega arith)) (e.steps (length p.groups) l).0)
-          | inr k' ↦ omega arith
-        ]
-      ]
 
   -- at clock j of the step of group n
   pub record Inside (n j : ℕ) (s : State) : Type 0 where
@@ -372,7 +331,7 @@ module _ (p : Program) (thin : IsThin p) (net : Net) (valid : IsValid net) (buil
   -- the group of a step of the run
   group_at : (n : ℕ) → IsGoing (r.outcome n) → (g : List Store) × ((slice_get p.groups n ≡ Some g) × (r.length n ≡ group_length g))
   group_at n going =
-      let g = some_at p.groups n (is_before n going) in
+      let g = some_at p.groups n (is_before p thin r does n going) in
       (g.0, (g.1, does.lengths n g.0 g.1))
 
   first_inside : (m : List (List ℕ)) → r.memories 0 ≡ m → Inside 0 0 (start_of net m)
@@ -385,63 +344,24 @@ module _ (p : Program) (thin : IsThin p) (net : Net) (valid : IsValid net) (buil
     held = λ z. absurd (let y : 0 < 0 = z in omega arith);
   }
 
-  never_faults : (n : ℕ) (kind : FaultKind) (place : Place) → r.outcome n ≡ Faulted kind place → ⊥
-  never_faults n kind place e =
-      elim (cases_lt n (length p.groups)) [
-        | inl l ↦ (let both : Going ≡ Faulted kind place = sym (does.going n l) ∙ e in cc)
-        | inr k ↦ (let both : Ended ≡ Faulted kind place = sym (does.ended n k) ∙ e in cc)
-      ]
-
-  stuck_never : (n : ℕ) → IsStuck (r.outcome n) → ⊥
-  stuck_never n e =
-      let P : Outcome → Type 0 = IsStuck in
-      elim (cases_lt n (length p.groups)) [
-        | inl l ↦ subst P (does.going n l) e
-        | inr k ↦ subst P (does.ended n k) e
-      ]
-
-  some_group : 0 < length p.groups
-  some_group = let g = thin.some_group in omega arith
-
   simulates : (m : List (List ℕ)) → r.memories 0 ≡ m → Simulates net r m Inside Over
   simulates m e = record {
     takes_clocks = λ n steps going. (let g = group_at n going in let least = group_length_least g.0 in let long = g.1.1 in omega arith);
-    never_stuck = stuck_never;
-    begins = (let P : Outcome → Type 0 = IsFine in subst P (sym (does.going 0 some_group)) tt);
+    never_stuck = stuck_never p thin r does;
+    begins = (let P : Outcome → Type 0 = IsFine in subst P (sym (does.going 0 (some_group p thin r does))) tt);
     settles = λ s. some_valuation net valid s;
     starts = λ going. first_inside m e;
-    starts_over = λ ended. (let both : Going ≡ Ended = sym (does.going 0 some_group) ∙ ended in cc);
+    starts_over = λ ended. (let both : Going ≡ Ended = sym (does.going 0 (some_group p thin r does)) ∙ ended in cc);
     waits = λ n j s s' steps going l inside c. (let g = group_at n going in waits n j s s' g.0 g.1.0 (let long = g.1.1 in omega arith) inside c);
     goes_on = λ n j s s' steps going l inside c. (let g = group_at n (last_going r n steps) in goes_on n j s s' g.0 g.1.0 (l ∙ g.1.1) inside c);
-    ends = λ n j s s' over l inside c. (let g = group_at n (last_going r n over.steps) in ends n j s s' g.0 g.1.0 (is_end (suc n) over) (l ∙ g.1.1) inside c);
-    faults = λ n j kind place s s' f l inside c. absurd (never_faults (suc n) kind place f.faulted);
+    ends = λ n j s s' over l inside c. (let g = group_at n (last_going r n over.steps) in ends n j s s' g.0 g.1.0 (is_end p thin r does (suc n) over) (l ∙ g.1.1) inside c);
+    faults = λ n j kind place s s' f l inside c. absurd (never_faults p thin r does (suc n) kind place f.faulted);
     stays = stays;
     shows = λ n j s wires steps going l inside v. (let g = group_at n going in shows_step n j s wires g.0 g.1.0 (let long = g.1.1 in omega arith) inside v);
     shows_ended = λ n j s wires over at v. shows_over n j s wires at v;
-    shows_faulted = λ n j kind place s wires f at v. absurd (never_faults (suc n) kind place f.faulted);
+    shows_faulted = λ n j kind place s wires f at v. absurd (never_faults p thin r does (suc n) kind place f.faulted);
   }
 
   -- the net plays the run from the memories that the run begins with
   pub plays : (m : List (List ℕ)) → r.memories 0 ≡ m → Plays net r m
   plays m e = plays_by (simulates m e)
-
-  -- the run ends after its last group, within 128 clocks
-  pub ends_after : EndsAfter r (length p.groups)
-  ends_after = record {
-    steps = λ k l. (
-      (let P : Outcome → Type 0 = IsGoing in subst P (sym (does.going k l)) tt),
-      (let P : Outcome → Type 0 = IsFine in
-          elim (cases_lt (suc k) (length p.groups)) [
-            | inl l' ↦ subst P (sym (does.going (suc k) l')) tt
-            | inr k' ↦ subst P (sym (does.ended (suc k) k')) tt
-          ]),
-    );
-    ended = does.ended (length p.groups) (omega arith);
-  }
-
-  pub ends_within : clocks_of r (length p.groups) ≤ 128
-  ends_within =
-      let most = total_most p thin in
-      let all = clocks_is (length p.groups) (omega arith) in
-      let before = clocks_before_all p.groups in
-      omega arith

@@ -5,6 +5,13 @@
 //! Stands on `dh_net`. The whole compiler will take its place.
 #![tactic(auto)]
 
+mod building;
+mod clocks;
+mod compiling;
+mod drafts;
+mod ports;
 mod uses;
+mod wires;
 
+pub use compiling::{compile, thin_programs_end};
 pub use uses::Use;

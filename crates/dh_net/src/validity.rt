@@ -11,7 +11,8 @@ use crate::nets::{Cell, CellForm, Driver, Net, Register};
 use dh_base::Items;
 use dh_tree::{Kind, MemEntry, element_count, is_table};
 
-/// The width of the numbers of so many rows: the least of at least 1 that has them all.
+/// The bits of the numbers of so many rows: the least width of at least 1 that has them all, from 1
+/// to 64.
 pub fn row_width(rows: u64) -> u8
     ensures { IsRowWidth rows result }
 {
@@ -224,8 +225,12 @@ fn has_outputs(net: &Net) -> bool
 pub fn valid(net: &Net) -> bool
     ensures { IsTrue result ↔ IsValid net.now }
 {
+    // The tests of the ports count the rows of memories that a net can have, and of no others.
     if !is_table(&net.table) {
         return false;
     }
     are_registers(net) && are_cells(net) && have_ports(net) && has_outputs(net)
 }
+
+#[cfg(test)]
+mod tests;

@@ -8,3 +8,4 @@ pub mod ThinTokens
 pub mod LongestToken
 pub mod Thin
 pub mod ThinTree
+pub mod ThinReading

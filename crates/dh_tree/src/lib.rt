@@ -11,5 +11,5 @@ mod thin;
 
 pub use contents::Memories;
 pub use kinds::Kind;
-pub use tables::{Dim, MemEntry, MemTable, Name, Shape, element_count, is_table};
-pub use thin::{Operand, Program, Store, Token};
+pub use tables::{Dim, MemEntry, MemTable, Name, Shape, copy_table, element_count, is_table};
+pub use thin::{Operand, Program, Store, Token, read_thin};

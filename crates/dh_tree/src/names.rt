@@ -48,7 +48,7 @@ fn is_one_of(text: &str, words: &[&str]) -> bool
     false
 }
 
-// Whether the text is a word that names nothing else.
+// Whether the text is a word of the language, or one that it keeps out.
 fn is_reserved(text: &str) -> bool
     ensures { IsTrue result ↔ Contains reserved text.now }
 {

@@ -1,11 +1,12 @@
 //! The table of a program's memories.
 
-ghost use Rattle.std.specs.Prelude.{◌≡◌, string_bytes};
+ghost use Rattle.std.specs.Prelude.{◌≡◌, IfOk, string_bytes};
 
 mod validity;
 
 use crate::kinds::Kind;
-use dh_base::Items;
+use dh_base::{Items, NoMemory};
+use std::alloc::Global;
 use std::marker::Model;
 pub use validity::{element_count, is_table};
 
@@ -38,6 +39,14 @@ impl Name {
     {
         self.text.as_str()
     }
+
+    /// An equal name.
+    pub fn try_clone(&self, alloc: Global) -> Result<Name, NoMemory>
+        ensures { IfOk result (λ copy. copy ≡ self.now) }
+    {
+        let text = String::from_str(alloc, self.text.as_str())?;
+        Ok(Name { text })
+    }
 }
 
 /// One dimension of a memory: `size` elements, dealt out over `banks` banks. `banks` divides `size`.
@@ -61,6 +70,20 @@ pub struct Shape {
     pub dims: Items<Dim>,
 }
 
+impl Shape {
+    /// An equal shape.
+    pub fn try_clone(&self, alloc: Global) -> Result<Shape, NoMemory>
+        ensures { IfOk result (λ copy. copy ≡ self.now) }
+    {
+        let dims = Vec::from_slice(alloc, self.dims.as_slice())?;
+        Ok(Shape {
+            kind: self.kind,
+            ports: self.ports,
+            dims: Items::from_vec(dims),
+        })
+    }
+}
+
 /// A memory of a program.
 #[derive(Debug, Drop)]
 pub struct MemEntry {
@@ -72,6 +95,30 @@ pub struct MemEntry {
     pub outside: bool,
 }
 
+impl MemEntry {
+    /// An equal memory.
+    pub fn try_clone(&self, alloc: Global) -> Result<MemEntry, NoMemory>
+        ensures { IfOk result (λ copy. copy ≡ self.now) }
+    {
+        Ok(MemEntry {
+            name: self.name.try_clone(alloc)?,
+            shape: self.shape.try_clone(alloc)?,
+            outside: self.outside,
+        })
+    }
+}
+
 /// The memories of a program: those of `decl` in text order, then the local ones. A memory is named
 /// by its number in this list, from 0.
 pub type MemTable = Items<MemEntry>;
+
+/// An equal table.
+pub fn copy_table(alloc: Global, table: &[MemEntry]) -> Result<MemTable, NoMemory>
+    ensures { IfOk result (λ copy. copy ≡ table.now) }
+{
+    let mut copy = Items::new(alloc);
+    for entry in table {
+        copy.push(entry.try_clone(alloc)?)?;
+    }
+    Ok(copy)
+}

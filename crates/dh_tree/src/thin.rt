@@ -1,11 +1,16 @@
 //! Thin programs, the first forms of the language that are built: stores of numbers, and of an
 //! element plus a number, in groups that `---` separates.
 
+mod checking;
 mod lexing;
+mod parsing;
+mod reading;
+mod texts;
 mod tokens;
 
 use crate::tables::MemTable;
 use dh_base::Items;
+pub use texts::read_thin;
 pub use tokens::Token;
 
 /// An element that a store reads.

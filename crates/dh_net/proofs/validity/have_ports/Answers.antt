@@ -1,4 +1,4 @@
-use Rattle.std.proofs.Common.{ℕ, ◌≡◌, ◌↔◌, List, IsTrue, Bool, length, subst, rules}
+use Rattle.std.proofs.Common.{◌≡◌, ◌↔◌, List, IsTrue, Bool, length, subst, rules}
 use Rattle.dh_tree.specs.declared.tables.MemEntry.{MemEntry}
 use Rattle.dh_net.specs.declared.nets.Cell.{Cell}
 use Rattle.dh_net.specs.declared.nets.Driver.{Driver}

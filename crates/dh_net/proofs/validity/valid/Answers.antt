@@ -1,5 +1,5 @@
 -- The tests of the parts together are the test of the whole.
-use Rattle.std.proofs.Common.{ℕ, ◌≡◌, Some, length, IsTrue, true, false, sym, ◌∙◌}
+use Rattle.std.proofs.Common.{ℕ, ◌≡◌, Some, length, sym, ◌∙◌}
 use Rattle.std.specs.Prelude.{slice_get}
 use Rattle.dh_tree.specs.Tables.{IsTable}
 use Rattle.dh_net.specs.declared.nets.Register.{Register}

@@ -1,0 +1,60 @@
+-- How a read of an open file ends, from the facts of its steps. The reader was cut one byte past the
+-- limit. If more bytes came than the limit, the file has more, since a cut takes a prefix. If no
+-- more came, the cut was not reached, so the prefix is the whole file.
+use Rattle.std.proofs.Common.{ℕ, ◌≡◌, ◌<◌, ◌≤◌, ◌+◌, ◌-◌, ◌^◌, List, [], ◌++◌, take, length, min, Option, Some, None, option_map, IfSome, sym, ◌∙◌, ap, subst, inl, Result, Ok, Err, Vec, arith}
+use Rattle.std.proofs.lemmas.List.{length-take, take_all}
+use Rattle.dh_base.specs.declared.outside.FileFault.{FileFault}
+use Rattle.dh_base.specs.declared.outside.FileFault.TheVariants as file
+use Rattle.std.specs.declared.alloc.Global.{Global}
+use Rattle.dh_base.specs.Outside.{Told, Untold, Reads, Rose, RoseBy, MayBe, MayExceed}
+use Rattle.dahlia.specs.Counted.{Counts, Meets, files_with, told_of}
+
+-- an error ends the read, whatever is told of the file; no fault was counted before it
+pub met_ends : (told : Told) (name : List ℕ) (limit : ℕ) (old now new : Counts) (fault : FileFault) → now.faults ≡ old.faults
+    → Meets now new fault → Reads (files_with told old) (files_with told new) name limit (Err fault)
+met_ends told name limit old now new file.Failed same rose = inl (subst (λ n. Rose n new.faults) same rose)
+met_ends told name limit old now new file.TooLong same none = elim none [ ]
+met_ends told name limit old now new file.NoMemory same rose = tt
+
+-- what came of a file that was cut: after these first bytes, its first bytes up to the cut
+abbrev Came : Option (List ℕ) → ℕ → List ℕ → List ℕ → Type 0
+Came left cut first items = IfSome (option_map (take cut) left) (λ bytes. items ≡ first ++ bytes)
+
+exceeds : (left : Option (List ℕ)) (cut limit : ℕ) (items : List ℕ) → Came left cut [] items → limit < length items
+    → MayExceed (told_of left) limit
+exceeds None cut limit items came long = tt
+exceeds (Some bytes) cut limit items came long =
+    let e = ap length came in let l = length-take cut bytes in grind arith
+
+is_whole : (left : Option (List ℕ)) (cut limit : ℕ) (items : List ℕ) → cut ≡ min (limit + 1) (2 ^ 64 - 1) → Came left cut [] items
+    → length items ≤ limit → length items < 2 ^ 63 → MayBe (told_of left) items
+is_whole None cut limit items c came short small = tt
+is_whole (Some bytes) cut limit items c came short small =
+    let e = ap length came in
+    let l = length-take cut bytes in
+    let within : length bytes ≤ cut = grind arith in
+    sym (came ∙ take_all cut bytes within)
+
+-- the reader that was cut is the file, and nothing stood before what came
+module _ {F : Type 0} (remaining : F → Option (List ℕ)) (cut_reader reader : F) (same : cut_reader ≡ reader) (cut limit : ℕ)
+    (first items : List ℕ) (empty : first ≡ []) (came : Came (remaining cut_reader) cut first items) where
+  all_came : Came (remaining reader) cut [] items
+  all_came = subst (λ f. Came (remaining f) cut [] items) same (subst (λ l. Came (remaining cut_reader) cut l items) empty came)
+
+  pub too_long : (before taken : ℕ) → taken ≡ min (before + length items) (2 ^ 64 - 1) → limit < length items
+      → RoseBy limit before taken × MayExceed (told_of (remaining reader)) limit
+  too_long before taken t long = (grind arith, exceeds (remaining reader) cut limit items all_came long)
+
+  pub whole : cut ≡ min (limit + 1) (2 ^ 64 - 1) → length items ≤ limit → length items < 2 ^ 63
+      → MayBe (told_of (remaining reader)) items × (length items ≤ limit)
+  whole c short small = (is_whole (remaining reader) cut limit items c all_came short small, short)
+
+-- what a read answers stays true where nothing is told of the file
+pub untold : (left : Option (List ℕ)) (first name : List ℕ) (limit : ℕ) (old new : Counts) (result : Result (Vec ℕ Global) FileFault)
+    → Reads (files_with (told_of left) old) (files_with (told_of left) new) first limit result
+    → Reads (files_with Untold old) (files_with Untold new) name limit result
+untold left first name limit old new (Ok bytes) reads = (tt, reads.1)
+untold None first name limit old new (Err file.Failed) reads = reads
+untold (Some bytes) first name limit old new (Err file.Failed) reads = reads
+untold left first name limit old new (Err file.TooLong) reads = (reads.0, tt)
+untold left first name limit old new (Err file.NoMemory) reads = tt

@@ -1,0 +1,128 @@
+//! The files of the system, as the named files that the program reads.
+
+ghost use Rattle.std.specs.Prelude.{◌≡◌, []};
+ghost use Rattle.std.specs.IoError.{error_kind};
+ghost use Rattle.dh_base.specs.Outside.{Untold, KeepsFiles, Reads};
+ghost use Rattle.dahlia.specs.Counted.{Counts, Meets, files_with, told_of};
+
+use dh_base::{FileFault, Files};
+use std::alloc::Global;
+use std::io::{ErrorKind, Read};
+use std::marker::Model;
+use std::{fs, io};
+
+/// The files of the system, each named by its path. Clauses see two counts, of the faults met and of
+/// the bytes taken, and nothing of the files' bytes, which other programs may change at any time. A
+/// count that stands at its last value, 2^64 - 1, stays there.
+#[derive(Drop)]
+pub struct RealFiles<'a, R: std::rt::Files> {
+    rt: &'a R,
+    faults: u64,
+    taken: u64,
+}
+
+impl<'a, R: std::rt::Files> Model for RealFiles<'a, R> {
+    ghost use Rattle.dahlia.specs.Counted.{Counts};
+
+    ghost Value = { Counts };
+
+    ghost view = { λ f. record { faults = f.faults; taken = f.taken } };
+}
+
+impl<'a, R: std::rt::Files> RealFiles<'a, R> {
+    /// The files of this runtime, with both counts at 0.
+    pub fn new(rt: &'a R) -> RealFiles<'a, R>
+        ensures { result ≡ record { faults = 0; taken = 0 } }
+    {
+        RealFiles {
+            rt,
+            faults: 0,
+            taken: 0,
+        }
+    }
+
+    /// The bytes that an open file has left, if they are no longer than the limit. No more than
+    /// one byte past it is taken, so a file that never ends is too long.
+    fn read_open<F: Read + Drop>(
+        &mut self,
+        alloc: Global,
+        file: F,
+        limit: u64,
+    ) -> Result<Vec<u8>, FileFault>
+        ensures keeps { KeepsFiles (files_with Untold self.old) (files_with Untold self.new) }
+        ensures answer { Reads (files_with (told_of (F.remaining file)) self.old) (files_with (told_of (F.remaining file)) self.new) [] limit result }
+    {
+        let mut contents = Vec::new(alloc);
+        let cut = limit.saturating_add(1);
+        let end = file.take(cut).read_to_end(&mut contents);
+        let long = contents.len() as u64;
+        self.taken = self.taken.saturating_add(long);
+        match end {
+            Err(error) => Err(self.met(&error)),
+            Ok(_) if limit < long => Err(FileFault::TooLong),
+            Ok(_) => Ok(contents),
+        }
+    }
+
+    /// The fault that an error of the system is: want of memory, or one to be counted.
+    fn met(&mut self, error: &io::Error) -> FileFault
+        ensures keeps { KeepsFiles (files_with Untold self.old) (files_with Untold self.new) }
+        ensures answer { Meets self.old self.new result }
+        ensures memory { result ≡ FileFault.NoMemory → error_kind error.now ≡ ErrorKind.OutOfMemory }
+    {
+        if error.kind() == ErrorKind::OutOfMemory {
+            return FileFault::NoMemory;
+        }
+        self.faults = self.faults.saturating_add(1);
+        FileFault::Failed
+    }
+}
+
+impl<'a, R: std::rt::Files> Files for RealFiles<'a, R> {
+    ghost seen = { files_with Untold };
+
+    fn read(&mut self, alloc: Global, name: &str, limit: u64) -> Result<Vec<u8>, FileFault> {
+        match fs::open(self.rt, name) {
+            Ok(file) => self.read_open(alloc, file, limit),
+            Err(error) => Err(self.met(&error)),
+        }
+    }
+}
+
+#[cfg(test)]
+mod tests {
+    use super::*;
+    use std::test::Fail;
+
+    const FOUR_BYTES: &str = "dahlia_real_files_test";
+
+    #[test]
+    fn reads_within_limits(rt: HostRuntime) -> Result<(), Fail> {
+        fs::write(&rt, FOUR_BYTES, "four")?;
+        let mut files = RealFiles::new(&rt);
+        let reads = [
+            (FOUR_BYTES, 5, Ok("four"), 0, 4),
+            (FOUR_BYTES, 4, Ok("four"), 0, 8),
+            (FOUR_BYTES, 3, Err(FileFault::TooLong), 0, 12),
+            (FOUR_BYTES, 0, Err(FileFault::TooLong), 0, 13),
+            ("dahlia_absent", 4, Err(FileFault::Failed), 1, 13),
+            (".", 4, Err(FileFault::Failed), 2, 13),
+            ("/dev/zero", 9, Err(FileFault::TooLong), 2, 23),
+        ];
+        for (name, limit, want, faults, taken) in reads {
+            match (files.read(rt.alloc(), name, limit), want) {
+                (Ok(bytes), Ok(held)) => assert_eq!(rt;
+                    bytes.as_slice(),
+                    held.as_bytes(),
+                    "{name}"
+                ),
+                (Err(fault), Err(told)) => assert_eq!(rt; fault, told, "{name}"),
+                _ => panic!(rt; "{name} at {limit}"),
+            }
+            assert_eq!(rt; files.faults, faults, "faults at {name}");
+            assert_eq!(rt; files.taken, taken, "taken at {name}");
+        }
+        fs::remove_file(&rt, FOUR_BYTES)?;
+        Ok(())
+    }
+}

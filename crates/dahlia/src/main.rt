@@ -1,0 +1,60 @@
+//! The program: the words it is called with, the system's files, the standard output and the engine
+//! of nets, put round the top call of `dh_app`, whose contract says what the program does. Here
+//! stands only what meets the system. docs/ARCHITECTURE.md has the map.
+#![tactic(auto)]
+
+ghost use Rattle.std.specs.Prelude.{◌≡◌};
+ghost use Rattle.std.specs.Process.{exit_status};
+ghost use Rattle.dh_base.specs.Statuses.{code_of};
+
+mod files;
+mod output;
+
+use dh_app::{NetEngine, run};
+use dh_base::{NoMemory, Status};
+use files::RealFiles;
+use output::StdSink;
+use std::io::ErrorKind;
+use std::process::ExitCode;
+use std::rt::{Env, Files};
+use std::{env, io};
+
+fn main(rt: HostRuntime) -> ExitCode {
+    exit_code(answer(&rt))
+}
+
+/// Does the job that the words name, and says how it ended.
+fn answer<R: Env + Files + Print + AllocGlobal>(rt: &R) -> Status {
+    let Ok(words) = words_after_name(rt) else {
+        return Status::NoMemory;
+    };
+    let mut files = RealFiles::new(rt);
+    let mut out = StdSink::new(io::writer(rt));
+    let mut engine = NetEngine::new(rt.alloc());
+    run(
+        rt.alloc(),
+        words.as_slice(),
+        &mut files,
+        &mut out,
+        &mut engine,
+    )
+}
+
+/// The words that follow the program's name, or none where one of them is not UTF-8: such words
+/// name no job, and neither do none.
+fn words_after_name<R: Env + AllocGlobal>(rt: &R) -> Result<Vec<String>, NoMemory> {
+    let mut words = match env::args(rt) {
+        Ok(words) => words,
+        Err(error) if error.kind() == ErrorKind::OutOfMemory => return Err(NoMemory),
+        Err(_) => return Ok(Vec::new(rt.alloc())),
+    };
+    words.next();
+    Ok(words.collect(rt.alloc())?)
+}
+
+/// The exit code of the process that ends so.
+fn exit_code(status: Status) -> ExitCode
+    ensures { exit_status result ≡ code_of status }
+{
+    ExitCode::from(status.code())
+}

@@ -1,0 +1,86 @@
+//! The standard output, or any other writer, as the output that the program writes.
+
+ghost use Rattle.std.specs.Prelude.{◌≡◌, None, OnErr, OnOk};
+ghost use Rattle.std.specs.Io.KnownBytes.{Appends};
+ghost use Rattle.dh_base.specs.Outside.{Rose, KeepsSink, Writes};
+
+use dh_base::{Sink, SinkFault};
+use std::io;
+use std::io::Write;
+
+/// An output to a writer, as the standard output is one. Clauses see how many of its writes failed,
+/// a count that stays at 2^64 - 1 once it is there, and no bytes.
+#[derive(Drop)]
+pub struct StdSink<W: Write> {
+    writer: W,
+    faults: u64,
+}
+
+impl<W: Write> StdSink<W> {
+    /// An output to this writer, of which no write failed yet.
+    pub fn new(writer: W) -> StdSink<W>
+        ensures writer { result.writer ≡ writer }
+        ensures faults { result.faults ≡ 0 }
+    {
+        StdSink { writer, faults: 0 }
+    }
+}
+
+impl<W: Write> Sink for StdSink<W> {
+    ghost seen = { λ s. record { bytes = None; faults = s.faults } };
+
+    /// As the trait says, and the writer holds the whole piece after an `Ok`. Each `Err` counts as a
+    /// fault, also that of a flush, and of a writer that takes nothing of a piece that isn't empty.
+    fn write(&mut self, piece: &[u8]) -> Result<(), SinkFault>
+        ensures keeps { KeepsSink (record { bytes = None; faults = self.old.faults }) (record { bytes = None; faults = self.new.faults }) }
+        ensures answer { Writes (record { bytes = None; faults = self.old.faults }) (record { bytes = None; faults = self.new.faults }) piece.now result }
+        ensures counted { OnErr result (Rose self.old.faults self.new.faults) }
+        ensures whole { OnOk result (Appends (W.contents self.old.writer) (W.contents self.new.writer) piece.now) }
+    {
+        match write_out(&mut self.writer, piece) {
+            Ok(()) => Ok(()),
+            Err(_) => {
+                self.faults = self.faults.saturating_add(1);
+                Err(SinkFault::Failed)
+            }
+        }
+    }
+}
+
+/// Writes a whole piece, and what the writer may have kept back of it.
+fn write_out<W: Write>(writer: &mut W, piece: &[u8]) -> io::Result<()>
+    ensures { OnOk result (Appends (W.contents writer.old) (W.contents writer.new) piece.now) }
+{
+    writer.write_all(piece)?;
+    writer.flush()
+}
+
+#[cfg(test)]
+mod tests {
+    use super::*;
+
+    #[test]
+    fn writes_to_standard_output(rt: HostRuntime) {
+        let mut out = StdSink::new(io::writer(&rt));
+        for piece in ["a line\n", "", "another\n"] {
+            assert_eq!(rt; out.write(piece.as_bytes()), Ok(()), "{piece}");
+            assert_eq!(rt; out.faults, 0, "faults at {piece}");
+        }
+    }
+
+    #[test]
+    fn fails_where_nothing_is_taken(rt: HostRuntime) {
+        let mut room = [0; 4];
+        let mut out = StdSink::new(room.as_mut_slice());
+        let writes = [
+            ("abc", Ok(()), 0),
+            ("de", Err(SinkFault::Failed), 1),
+            ("", Ok(()), 1),
+            ("f", Err(SinkFault::Failed), 2),
+        ];
+        for (piece, want, faults) in writes {
+            assert_eq!(rt; out.write(piece.as_bytes()), want, "{piece}");
+            assert_eq!(rt; out.faults, faults, "faults at {piece}");
+        }
+    }
+}

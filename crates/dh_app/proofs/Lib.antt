@@ -1,0 +1,3 @@
+pub mod Replying
+pub mod Runs
+pub mod Succeeding

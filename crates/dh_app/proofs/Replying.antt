@@ -1,0 +1,171 @@
+-- From what the parts of the top call promise to what it promises. What one part knows of the files
+-- holds of them as the call began, since contents stay and no count falls; each status then has the
+-- case that its part of the call met.
+use Rattle.std.proofs.Common.{◌∙◌, ◌≡◌, ℕ, ◌≤◌, Bool, true, List, [], ◌∷◌, length, Result, Ok, Err, IfOk, Vec, refl, sym, ap, arith, subst, inl, inr}
+use Rattle.dh_base.specs.Limits.{greatest_of}
+use Rattle.dh_base.specs.Outside.{Told, FilesSeen, KeepsFiles, Rose, RoseBy, MayBe, IsAbsent, MayExceed}
+use Rattle.dh_base.specs.declared.limits.Limit.{Limit}
+use Rattle.dh_base.specs.declared.limits.Limit.TheVariants as limit
+use Rattle.dh_base.specs.declared.outcomes.Outcome.{Outcome}
+use Rattle.dh_base.specs.declared.outcomes.Outcome.TheVariants as outcome
+use Rattle.dh_base.specs.declared.statuses.Status.{Status}
+use Rattle.dh_base.specs.declared.statuses.Status.TheVariants as status
+use Rattle.dh_tree.specs.Tables.{Fits}
+use Rattle.dh_tree.specs.declared.thin.Program.{Program}
+use Rattle.dh_net.specs.declared.nets.Net.{Net}
+use Rattle.dh_net.specs.Plays.{IsStuck}
+use Rattle.dh_net.proofs.Reporting.{reports_by}
+use Rattle.dh_compile.specs.Compiled.{PlaysProgram}
+use Rattle.dh_data.specs.ThinData.{ReadsAs, IsDataOf}
+use Rattle.serde_json.specs.Data.{Data}
+use Rattle.dh_base.specs.declared.lists.NoMemory.{NoMemory}
+use Rattle.std.specs.declared.alloc.Global.{Global}
+use Rattle.dh_app.specs.Engines.{AnswersTo, AreRuns}
+use Rattle.dh_app.specs.Ends.{most_clocks, Names, MayRead, IsTooLong, FailsToRead, IsProgram, IsData, IsNoData, status_of, IsReport, Reported, Answers}
+use Rattle.dh_app.specs.Lines.{not_json_line}
+use Rattle.dh_app.specs.Replies.{AnswersLine, AnswersWith, Replies, ProgramOf, ProgramRead, DataOf, DataRead, RunReplies, ReportsFirst}
+use Rattle.dh_app.specs.declared.engine.Finish.{Finish}
+use Rattle.dh_app.specs.declared.running.Answer.{Answer}
+use Rattle.dh_app.specs.declared.running.Reply.{Reply}
+use Rattle.dh_app.specs.declared.running.Reply.TheVariants as reply
+
+-- a file that was read, and its text
+pub program_read : (old new : FilesSeen) (name text : List ℕ) (r : Result Program Reply) → MayBe (old.told name) text → length text ≤ greatest_of limit.Source
+    → ProgramOf text r → ProgramRead old new name r
+program_read old new name text (Ok p) m l h = record { text = text; read = record { contents = m; within = l }; thin = h.0; only = h.1 }
+program_read old new name text (Err (reply.Answer a)) m l h =
+    inr (record { none = record { text = text; read = record { contents = m; within = l }; not_thin = h.not_thin }; status_is = h.status_is; text_is = h.text_is })
+program_read old new name text (Err reply.ReadFault) m l h = absurd h
+program_read old new name text (Err reply.NoMemory) m l h = tt
+
+pub data_read : (old new : FilesSeen) (name bytes : List ℕ) (p : Program) (r : Result (List (List ℕ)) Reply) → MayBe (old.told name) bytes → length bytes ≤ greatest_of limit.Data
+    → DataOf bytes p r → DataRead old new name p r
+data_read old new name bytes p (Ok memories) m l h = (record { bytes = bytes; read = record { contents = m; within = l }; holds = h.0; only = h.1.0 }, h.1.1)
+data_read old new name bytes p (Err (reply.Answer a)) m l h =
+    inr (record { none = record { bytes = bytes; read = record { contents = m; within = l }; holds_none = h.holds_none }; status_is = h.status_is; text_is = h.text_is })
+data_read old new name bytes p (Err reply.ReadFault) m l h = absurd h
+data_read old new name bytes p (Err reply.NoMemory) m l h = tt
+
+-- what is known of a name stays
+told_same : (old mid : FilesSeen) (name : List ℕ) → KeepsFiles old mid → mid.told name ≡ old.told name
+told_same old mid name k = ap (λ (t : List ℕ → Told). t name) k.told
+
+read_before : (old mid : FilesSeen) (name : List ℕ) (l : Limit) (bytes : List ℕ) → KeepsFiles old mid → MayRead mid name l bytes → MayRead old name l bytes
+read_before old mid name l bytes k h =
+    let P : Told → Type 0 = λ t. MayBe t bytes in
+    record { contents = subst P (told_same old mid name k) h.contents; within = h.within }
+
+rose_before : (a b c : ℕ) → a ≤ b → Rose b c → Rose a c
+rose_before a b c l (inl r) = inl (omega arith)
+rose_before a b c l (inr r) = inr r
+
+rose_by_before : (more a b c : ℕ) → a ≤ b → RoseBy more b c → RoseBy more a c
+rose_by_before more a b c l (inl r) = inl (omega arith)
+rose_by_before more a b c l (inr r) = inr r
+
+long_before : (old mid new : FilesSeen) (name : List ℕ) (l : Limit) → KeepsFiles old mid → IsTooLong mid new name l → IsTooLong old new name l
+long_before old mid new name l k h =
+    let P : Told → Type 0 = λ t. MayExceed t (greatest_of l) in
+    record { longer = subst P (told_same old mid name k) h.longer; taken = rose_by_before (greatest_of l) old.taken mid.taken new.taken k.taken h.taken }
+
+fails_before : (old mid new : FilesSeen) (name : List ℕ) → KeepsFiles old mid → FailsToRead mid new name → FailsToRead old new name
+fails_before old mid new name k (inl r) = inl (rose_before old.faults mid.faults new.faults k.faults r)
+fails_before old mid new name k (inr a) = let P : Told → Type 0 = IsAbsent in inr (subst P (told_same old mid name k) a)
+
+data_before : (old mid : FilesSeen) (name : List ℕ) (p : Program) (memories : List (List ℕ)) → KeepsFiles old mid → IsData mid name p memories → IsData old name p memories
+data_before old mid name p memories k h = record { bytes = h.bytes; read = read_before old mid name limit.Data h.bytes k h.read; holds = h.holds; only = h.only }
+
+no_data_before : (old mid : FilesSeen) (name : List ℕ) (p : Program) → KeepsFiles old mid → IsNoData mid name p → IsNoData old name p
+no_data_before old mid name p k h = record { bytes = h.bytes; read = read_before old mid name limit.Data h.bytes k h.read; holds_none = h.holds_none }
+
+-- a report's status is that of an outcome
+report_answers : (words : List (List ℕ)) (old new : FilesSeen) (exact : Bool) (answers : List Finish) (o : Outcome) (text : List ℕ) → (IsStuck o → ⊥)
+    → Reported words old exact answers (status_of o) text → Answers words old new exact answers (status_of o) text
+report_answers words old new exact answers outcome.Going text n h = h
+report_answers words old new exact answers outcome.Ended text n h = h
+report_answers words old new exact answers (outcome.Faulted kind place) text n h = h
+report_answers words old new exact answers (outcome.Stuck memory bank place) text n h = absurd (n tt)
+
+-- the text of the answer is this line, and its status that one
+with_status : (words : List (List ℕ)) (old new : FilesSeen) (exact : Bool) (answers : List Finish) (a : Answer) (s : Status) → a.status ≡ s
+    → Answers words old new exact answers s a.text.items → Answers words old new exact answers a.status a.text.items
+with_status words old new exact answers a s e h =
+    let P : Status → Type 0 = λ x. Answers words old new exact answers x a.text.items in
+    subst P (sym e) h
+
+-- the program's file gave no program
+pub no_program : (old new : FilesSeen) (file data_ : List ℕ) (exact : Bool) (answers : List Finish) (r : Reply) → ProgramRead old new file (Err r)
+    → (words : List (List ℕ)) → Names words file data_ → Replies words old new exact answers r
+no_program old new file data_ exact answers (reply.Answer a) (inl h) words names =
+    with_status words old new exact answers a status.TooLarge h.status_is
+    (inl (record { file = file; data_ = data_; names = names; too_long = h.long; text_is = h.text_is }))
+no_program old new file data_ exact answers (reply.Answer a) (inr h) words names =
+    with_status words old new exact answers a status.Refused h.status_is
+    (record { file = file; data_ = data_; names = names; no_program = h.none; text_is = h.text_is })
+no_program old new file data_ exact answers reply.ReadFault h words names = record { file = file; data_ = data_; names = names; fails = inl h }
+no_program old new file data_ exact answers reply.NoMemory h words names = tt
+
+-- the data file gave no memories
+pub no_memories : (old mid new : FilesSeen) (file data_ : List ℕ) (p : Program) (exact : Bool) (answers : List Finish) (r : Reply) → KeepsFiles old mid → IsProgram old file p
+    → DataRead mid new data_ p (Err r) → (words : List (List ℕ)) → Names words file data_ → Replies words old new exact answers r
+no_memories old mid new file data_ p exact answers (reply.Answer a) k program (inl h) words names =
+    with_status words old new exact answers a status.TooLarge h.status_is
+    (inr (record { file = file; data_ = data_; names = names; program = p; is_program = program; too_long = long_before old mid new data_ limit.Data k h.long; text_is = h.text_is }))
+no_memories old mid new file data_ p exact answers (reply.Answer a) k program (inr h) words names =
+    with_status words old new exact answers a status.BadData h.status_is
+    (record { file = file; data_ = data_; names = names; program = p; is_program = program; no_data = no_data_before old mid data_ p k h.none; text_is = h.text_is })
+no_memories old mid new file data_ p exact answers reply.ReadFault k program h words names =
+    record { file = file; data_ = data_; names = names; fails = inr (p, (program, fails_before old mid new data_ k h)) }
+no_memories old mid new file data_ p exact answers reply.NoMemory k program h words names = tt
+
+-- the run was reported
+pub run_replied : (old mid new : FilesSeen) (file data_ : List ℕ) (p : Program) (memories : List (List ℕ)) (exact : Bool) (answers : List Finish) (r : Reply) → KeepsFiles old mid → IsProgram old file p
+    → DataRead mid new data_ p (Ok memories) → RunReplies p memories exact answers r → (words : List (List ℕ)) → Names words file data_ → Replies words old new exact answers r
+run_replied old mid new file data_ p memories exact answers (reply.Answer a) k program found h words names =
+    let o = h.finish.outcome in
+    let P : Status → Type 0 = λ s. IsReport p memories exact answers s a.text.items in
+    with_status words old new exact answers a (status_of o) h.status_is
+    (report_answers words old new exact answers o a.text.items h.not_stuck
+    (record { file = file; data_ = data_; names = names; program = p; is_program = program; memories = memories; is_data = data_before old mid data_ p memories k found.0; report = subst P h.status_is h }))
+run_replied old mid new file data_ p memories exact answers reply.ReadFault k program found h words names = absurd h
+run_replied old mid new file data_ p memories exact answers reply.NoMemory k program found h words names = tt
+
+-- the one answer of the engine is reported
+pub one_report : (p : Program) (net : Net) (memories : List (List ℕ)) (exact : Bool) (answers : List Finish) (r : Reply) → PlaysProgram net p → Fits p.table memories
+    → AnswersTo net (memories ∷ []) answers → (exact ≡ true → AreRuns net most_clocks (memories ∷ []) answers) → ReportsFirst p answers r → RunReplies p memories exact answers r
+one_report p net memories exact answers (reply.Answer a) plays fits answered runs h =
+    let P : List Finish → Type 0 = λ fs. AnswersTo net (memories ∷ []) fs in
+    let Q : List Finish → Type 0 = λ fs. AreRuns net most_clocks (memories ∷ []) fs in
+    record {
+      finish = h.finish;
+      answered = h.answered;
+      not_stuck = (subst P h.answered answered).0.not_stuck;
+      status_is = h.status_is;
+      text_is = h.text_is;
+      right = λ e. reports_by (plays.plays memories fits) (subst Q h.answered (runs e)).0;
+    }
+one_report p net memories exact answers reply.ReadFault plays fits answered runs h = absurd h
+one_report p net memories exact answers reply.NoMemory plays fits answered runs h = tt
+
+-- one answer to one set of memories
+pub only_answer : (p : Program) (net : Net) (memories : List (List ℕ)) (answers : List Finish) → PlaysProgram net p → AnswersTo net (memories ∷ []) answers
+    → (f : Finish) × ((answers ≡ f ∷ []) × Fits p.table f.memories)
+only_answer p net memories [] plays h = absurd h
+only_answer p net memories (f ∷ []) plays h =
+    (f, (refl, (let P : List _ → Type 0 = λ t. Fits t f.memories in subst P plays.table h.0.fits)))
+only_answer p net memories (f ∷ (g ∷ fs)) plays h = absurd h.1
+
+-- an answer with a line that is this text
+pub with_line : (s : Status) (text : List ℕ) (line : Result (Vec ℕ Global) NoMemory) (r : Reply) → IfOk line (λ v. v.items ≡ text) → AnswersWith s line r → AnswersLine s text r
+with_line s text (Ok v) (reply.Answer a) e h = (h.0, h.1 ∙ e)
+with_line s text (Ok v) reply.ReadFault e h = absurd h
+with_line s text (Ok v) reply.NoMemory e h = tt
+with_line s text (Err f) (reply.Answer a) e h = absurd h
+with_line s text (Err f) reply.ReadFault e h = absurd h
+with_line s text (Err f) reply.NoMemory e h = tt
+
+-- bytes that hold no memories
+pub bad_bytes : (bytes : List ℕ) (p : Program) (r : Reply) → ((d : Data) (m : List (List ℕ)) → ReadsAs bytes d → IsDataOf p.table d m → ⊥) → AnswersLine status.BadData not_json_line r → DataOf bytes p (Err r)
+bad_bytes bytes p (reply.Answer a) h l = record { holds_none = λ m held. h held.0 m held.1.0 held.1.1; status_is = l.0; text_is = l.1 }
+bad_bytes bytes p reply.ReadFault h l = absurd l
+bad_bytes bytes p reply.NoMemory h l = tt

@@ -1,0 +1,10 @@
+-- The text that was read is the program's or not.
+use Rattle.std.proofs.Common.{arith}
+use Rattle.dh_app.proofs.Replying.{program_read}
+use Rattle.dh_app.proofs.running.read_program.Goals as goal
+
+pub returns-in-Ok-clause-read : goal.returns-in-Ok-clause-read
+returns-in-Ok-clause-read g c =
+    let h = c.in-Ok.ensures.answer in
+    program_read (g.F.Files.seen c.args.files.now) (g.F.Files.seen c.read.new.self) c.args.name.now c.in-Ok.text.items c.program_of.result h.0
+    (omega (arith, h.1, c.greatest.ensures)) (rw c.as_slice.ensures.value at c.program_of.ensures)

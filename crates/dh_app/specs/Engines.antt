@@ -1,0 +1,27 @@
+-- What the answers of an engine are: one for each of the memories that it was given, and for an exact
+-- engine each the run of the net from them.
+use Rattle.std.specs.Prelude.{ℕ, List, [], ◌∷◌}
+use Rattle.dh_tree.specs.Tables.{Fits}
+use Rattle.dh_net.specs.declared.nets.Net.{Net}
+use Rattle.dh_net.specs.Ends.{IsRunOf}
+use Rattle.dh_net.specs.Plays.{IsStuck}
+use Rattle.dh_app.specs.declared.engine.Finish.{Finish}
+
+-- an answer for a net: its memories fit the net's table, and it is not stuck
+pub record IsAnswer (net : Net) (f : Finish) : Type 0 where
+  pub fits : Fits net.table f.memories
+  pub not_stuck : IsStuck f.outcome → ⊥
+
+-- one answer for each of these memories
+abbrev pub AnswersTo : Net → List (List (List ℕ)) → List Finish → Type 0
+AnswersTo net [] [] = Unit {0}
+AnswersTo net [] (f ∷ fs) = ⊥
+AnswersTo net (m ∷ ms) [] = ⊥
+AnswersTo net (m ∷ ms) (f ∷ fs) = IsAnswer net f × AnswersTo net ms fs
+
+-- each the run of the net from its memories under the limit
+abbrev pub AreRuns : Net → (limit : ℕ) → List (List (List ℕ)) → List Finish → Type 0
+AreRuns net limit [] [] = Unit {0}
+AreRuns net limit [] (f ∷ fs) = ⊥
+AreRuns net limit (m ∷ ms) [] = ⊥
+AreRuns net limit (m ∷ ms) (f ∷ fs) = IsRunOf net m limit f.outcome f.steps f.clocks f.memories × AreRuns net limit ms fs

@@ -1,0 +1,120 @@
+-- What the parts of the top call promise one another, step by step to what is written.
+use Rattle.std.specs.Prelude.{◌≡◌, ℕ, ◌+◌, ◌⊎◌, Bool, List, [], ◌∷◌, Result, Ok, Err, Vec}
+use Rattle.std.specs.declared.alloc.Global.{Global}
+use Rattle.dh_base.specs.Limits.{greatest_of}
+use Rattle.dh_base.specs.Outside.{FilesSeen, SinkSeen, Rose, Grew, GrewByPart}
+use Rattle.dh_base.specs.declared.limits.Limit.{Limit}
+use Rattle.dh_base.specs.declared.limits.Limit.TheVariants as limit
+use Rattle.dh_base.specs.declared.lists.NoMemory.{NoMemory}
+use Rattle.dh_base.specs.declared.rules.Rule.TheVariants.{Unsupported}
+use Rattle.dh_base.specs.declared.statuses.Status.{Status}
+use Rattle.dh_base.specs.declared.statuses.Status.TheVariants as status
+use Rattle.dh_tree.specs.Tables.{Fits}
+use Rattle.dh_tree.specs.Thin.{IsThinText}
+use Rattle.dh_tree.specs.declared.thin.Program.{Program}
+use Rattle.dh_data.specs.ThinData.{Holds}
+use Rattle.dh_data.specs.Reports.{report_text}
+use Rattle.dh_app.specs.Ends.{IsTooLong, FailsToRead, IsProgram, IsNoProgram, IsData, IsNoData, IsReport, ReadFails, Answers, first_place, status_of, ending_of}
+use Rattle.dh_app.specs.Lines.{too_large_line, refused_line, not_json_line}
+use Rattle.dh_app.specs.declared.engine.Finish.{Finish}
+use Rattle.dh_app.specs.declared.running.Answer.{Answer}
+use Rattle.dh_app.specs.declared.running.Reply.{Reply}
+use Rattle.dh_app.specs.declared.running.Reply.TheVariants as reply
+
+-- an answer with this status and text, or want of memory
+abbrev pub AnswersLine : Status → List ℕ → Reply → Type 0
+AnswersLine s text (reply.Answer a) = (a.status ≡ s) × (a.text.items ≡ text)
+AnswersLine s text reply.ReadFault = ⊥
+AnswersLine s text reply.NoMemory = Unit {0}
+
+-- an answer with this line, where memory for it was had
+abbrev pub AnswersWith : Status → Result (Vec ℕ Global) NoMemory → Reply → Type 0
+AnswersWith s (Ok line) r = AnswersLine s line.items r
+AnswersWith s (Err e) (reply.Answer a) = ⊥
+AnswersWith s (Err e) reply.ReadFault = ⊥
+AnswersWith s (Err e) reply.NoMemory = Unit {0}
+
+-- the answer was written whole, or a part of it because writing failed or memory was refused
+abbrev pub Written : (before after : SinkSeen) → Answer → Status → Type 0
+Written before after a s =
+    ((s ≡ a.status) × Grew before after a.text.items)
+    ⊎ (((s ≡ status.WriteFault) × (GrewByPart before after a.text.items × Rose before.faults after.faults))
+    ⊎ ((s ≡ status.NoMemory) × GrewByPart before after a.text.items))
+
+-- the reply is an answer to the words
+abbrev pub Replies : List (List ℕ) → (old new : FilesSeen) → (exact : Bool) → List Finish → Reply → Type 0
+Replies words old new exact answers (reply.Answer a) = Answers words old new exact answers a.status a.text.items
+Replies words old new exact answers reply.ReadFault = ReadFails words old new
+Replies words old new exact answers reply.NoMemory = Unit {0}
+
+-- a text is refused
+pub record RefusedText (text : List ℕ) (a : Answer) : Type 0 where
+  pub not_thin : (p : Program) → IsThinText text p → ⊥
+  pub status_is : a.status ≡ status.Refused
+  pub text_is : a.text.items ≡ refused_line Unsupported first_place
+
+abbrev pub ProgramOf : List ℕ → Result Program Reply → Type 0
+ProgramOf text (Ok p) = IsThinText text p × ((q : Program) → IsThinText text q → q ≡ p)
+ProgramOf text (Err (reply.Answer a)) = RefusedText text a
+ProgramOf text (Err reply.ReadFault) = ⊥
+ProgramOf text (Err reply.NoMemory) = Unit {0}
+
+-- a file is longer than a limit
+pub record LongFile (old new : FilesSeen) (name : List ℕ) (l : Limit) (a : Answer) : Type 0 where
+  pub long : IsTooLong old new name l
+  pub status_is : a.status ≡ status.TooLarge
+  pub text_is : a.text.items ≡ too_large_line l (greatest_of l + 1)
+
+-- a file is the text of no program
+pub record RefusedFile (old : FilesSeen) (name : List ℕ) (a : Answer) : Type 0 where
+  pub none : IsNoProgram old name
+  pub status_is : a.status ≡ status.Refused
+  pub text_is : a.text.items ≡ refused_line Unsupported first_place
+
+abbrev pub ProgramRead : (old new : FilesSeen) → (name : List ℕ) → Result Program Reply → Type 0
+ProgramRead old new name (Ok p) = IsProgram old name p
+ProgramRead old new name (Err (reply.Answer a)) = LongFile old new name limit.Source a ⊎ RefusedFile old name a
+ProgramRead old new name (Err reply.ReadFault) = FailsToRead old new name
+ProgramRead old new name (Err reply.NoMemory) = Unit {0}
+
+-- bytes hold no memories of a program
+pub record BadBytes (bytes : List ℕ) (p : Program) (a : Answer) : Type 0 where
+  pub holds_none : (memories : List (List ℕ)) → Holds p.table bytes memories → ⊥
+  pub status_is : a.status ≡ status.BadData
+  pub text_is : a.text.items ≡ not_json_line
+
+abbrev pub DataOf : List ℕ → Program → Result (List (List ℕ)) Reply → Type 0
+DataOf bytes p (Ok m) = Holds p.table bytes m × (((others : List (List ℕ)) → Holds p.table bytes others → others ≡ m) × Fits p.table m)
+DataOf bytes p (Err (reply.Answer a)) = BadBytes bytes p a
+DataOf bytes p (Err reply.ReadFault) = ⊥
+DataOf bytes p (Err reply.NoMemory) = Unit {0}
+
+-- a file holds no memories of a program
+pub record BadFile (old : FilesSeen) (name : List ℕ) (p : Program) (a : Answer) : Type 0 where
+  pub none : IsNoData old name p
+  pub status_is : a.status ≡ status.BadData
+  pub text_is : a.text.items ≡ not_json_line
+
+abbrev pub DataRead : (old new : FilesSeen) → (name : List ℕ) → Program → Result (List (List ℕ)) Reply → Type 0
+DataRead old new name p (Ok m) = IsData old name p m × Fits p.table m
+DataRead old new name p (Err (reply.Answer a)) = LongFile old new name limit.Data a ⊎ BadFile old name p a
+DataRead old new name p (Err reply.ReadFault) = FailsToRead old new name
+DataRead old new name p (Err reply.NoMemory) = Unit {0}
+
+-- the run of a program from these memories is reported
+abbrev pub RunReplies : Program → List (List ℕ) → (exact : Bool) → List Finish → Reply → Type 0
+RunReplies p memories exact answers (reply.Answer a) = IsReport p memories exact answers a.status a.text.items
+RunReplies p memories exact answers reply.ReadFault = ⊥
+RunReplies p memories exact answers reply.NoMemory = Unit {0}
+
+-- the one answer is reported
+pub record ReportOf (p : Program) (answers : List Finish) (a : Answer) : Type 0 where
+  pub finish : Finish
+  pub answered : answers ≡ finish ∷ []
+  pub status_is : a.status ≡ status_of finish.outcome
+  pub text_is : a.text.items ≡ report_text p.table finish.memories (ending_of finish)
+
+abbrev pub ReportsFirst : Program → List Finish → Reply → Type 0
+ReportsFirst p answers (reply.Answer a) = ReportOf p answers a
+ReportsFirst p answers reply.ReadFault = ⊥
+ReportsFirst p answers reply.NoMemory = Unit {0}

@@ -1,0 +1,261 @@
+//! The top call: from the words to the status.
+
+ghost use Rattle.std.specs.Prelude.{◌≡◌, ◌+◌, [], ◌∷◌, map, string_bytes, List, ℕ, IfOk};
+ghost use Rattle.dh_base.specs.Outside.{KeepsFiles, KeepsSink};
+ghost use Rattle.dh_tree.specs.Tables.{Fits, IsTable};
+ghost use Rattle.dh_tree.specs.Thin.{IsThin};
+ghost use Rattle.dh_app.specs.Ends.{Names, Ends, status_of as status_of_lem};
+ghost use Rattle.dh_app.specs.declared.engine.Finish.{Finish};
+ghost use Rattle.dh_app.specs.Replies.{AnswersLine, AnswersWith, Written, Replies, ProgramRead, ProgramOf, DataRead, DataOf, RunReplies, ReportsFirst};
+ghost use Rattle.dh_app.specs.Lines as lines;
+ghost use Rattle.dh_base.specs.Limits.{greatest_of};
+ghost use Rattle.dh_base.specs.declared.statuses.Status.TheVariants as status;
+
+use crate::engine::{Engine, Finish};
+use crate::lines::{not_json_line, refused_line, too_large_line, usage_line};
+use crate::words::Job;
+use dh_base::{
+    Excess, FileFault, Files, Limit, NoMemory, Outcome, Place, Rule, Sink, SinkFault, Status,
+};
+use dh_compile::compile;
+use dh_data::{DataFault, Ending, report};
+use dh_tree::{Memories, Program, read_thin};
+use std::alloc::Global;
+
+/// The clocks that a run may take.
+pub const MOST_CLOCKS: u64 = 10_000_000;
+
+/// What is to be written, and the status once it is.
+#[derive(Debug, Drop)]
+pub struct Answer {
+    status: Status,
+    text: Vec<u8>,
+}
+
+/// What the words, the files and the engine come to before anything is written.
+#[derive(Debug, Drop)]
+pub enum Reply {
+    /// A text to write.
+    Answer(Answer),
+    /// A file could not be read.
+    ReadFault,
+    /// Memory was refused.
+    NoMemory,
+}
+
+/// Does all that the program does: `simulate FILE DATA` compiles the program of a file to a net, has
+/// the engine run the net from the memories of the other, and writes the report of the engine's
+/// answer. `Ends` says for each status what is the case and what was written.
+pub fn run<F: Files, S: Sink, E: Engine>(
+    alloc: Global,
+    words: &[String],
+    files: &mut F,
+    out: &mut S,
+    engine: &mut E,
+) -> Status
+    ensures files { KeepsFiles (F.seen files.old) (F.seen files.new) }
+    ensures out { KeepsSink (S.seen out.old) (S.seen out.new) }
+    ensures engine { E.exact engine.new ≡ E.exact engine.old }
+    ensures ends { Ends (map string_bytes words.now) (F.seen files.old) (F.seen files.new) (S.seen out.old) (S.seen out.new) (E.exact engine.old) (E.given engine.new) result }
+{
+    match reply_to(alloc, words, files, engine) {
+        Reply::Answer(answer) => write_answer(out, &answer),
+        Reply::ReadFault => Status::ReadFault,
+        Reply::NoMemory => Status::NoMemory,
+    }
+}
+
+/// Writes an answer in one piece.
+fn write_answer<S: Sink>(out: &mut S, answer: &Answer) -> Status
+    ensures out { KeepsSink (S.seen out.old) (S.seen out.new) }
+    ensures written { Written (S.seen out.old) (S.seen out.new) answer.now result }
+{
+    match out.write(answer.text.as_slice()) {
+        Ok(()) => answer.status,
+        Err(SinkFault::Failed) => Status::WriteFault,
+        Err(SinkFault::NoMemory) => Status::NoMemory,
+    }
+}
+
+fn reply_to<F: Files, E: Engine>(
+    alloc: Global,
+    words: &[String],
+    files: &mut F,
+    engine: &mut E,
+) -> Reply
+    ensures files { KeepsFiles (F.seen files.old) (F.seen files.new) }
+    ensures engine { E.exact engine.new ≡ E.exact engine.old }
+    ensures replies { Replies (map string_bytes words.now) (F.seen files.old) (F.seen files.new) (E.exact engine.old) (E.given engine.new) result }
+{
+    match Job::of(words) {
+        None => answer_with(Status::Usage, usage_line(alloc)),
+        Some(Job::Simulate { file, data_ }) => {
+            let file = words[file as usize].as_str();
+            let data_ = words[data_ as usize].as_str();
+            simulate(alloc, file, data_, files, engine)
+        }
+    }
+}
+
+/// An answer with a line, where memory for it was had.
+fn answer_with(status: Status, line: Result<Vec<u8>, NoMemory>) -> Reply
+    ensures { AnswersWith status line result }
+{
+    match line {
+        Ok(text) => Reply::Answer(Answer { status, text }),
+        Err(NoMemory) => Reply::NoMemory,
+    }
+}
+
+fn simulate<F: Files, E: Engine>(
+    alloc: Global,
+    file: &str,
+    data_: &str,
+    files: &mut F,
+    engine: &mut E,
+) -> Reply
+    ensures files { KeepsFiles (F.seen files.old) (F.seen files.new) }
+    ensures engine { E.exact engine.new ≡ E.exact engine.old }
+    ensures replies { (words : List (List ℕ)) → Names words file.now data_.now → Replies words (F.seen files.old) (F.seen files.new) (E.exact engine.old) (E.given engine.new) result }
+{
+    match read_program(alloc, file, files) {
+        Ok(program) => match read_memories(alloc, data_, &program, files) {
+            Ok(memories) => report_run(alloc, &program, memories, engine),
+            Err(reply) => reply,
+        },
+        Err(reply) => reply,
+    }
+}
+
+/// The program of a file.
+fn read_program<F: Files>(alloc: Global, name: &str, files: &mut F) -> Result<Program, Reply>
+    ensures files { KeepsFiles (F.seen files.old) (F.seen files.new) }
+    ensures read { ProgramRead (F.seen files.old) (F.seen files.new) name.now result }
+{
+    match files.read(alloc, name, Limit::Source.greatest()) {
+        Ok(text) => program_of(alloc, text.as_slice()),
+        Err(FileFault::Failed) => Err(Reply::ReadFault),
+        Err(FileFault::TooLong) => Err(too_large(alloc, Limit::Source)),
+        Err(FileFault::NoMemory) => Err(Reply::NoMemory),
+    }
+}
+
+fn program_of(alloc: Global, text: &[u8]) -> Result<Program, Reply>
+    ensures { ProgramOf text.now result }
+{
+    match read_thin(alloc, text) {
+        Ok(Some(program)) => Ok(program),
+        Ok(None) => Err(answer_with(
+            Status::Refused,
+            refused_line(alloc, Rule::Unsupported, Place { line: 1, column: 1 }),
+        )),
+        Err(NoMemory) => Err(Reply::NoMemory),
+    }
+}
+
+/// That a file is longer than its limit: the count is the limit and one.
+fn too_large(alloc: Global, limit: Limit) -> Reply
+    ensures { AnswersLine status.TooLarge (lines.too_large_line limit (greatest_of limit + 1)) result }
+{
+    let count = limit.greatest() + 1;
+    answer_with(
+        Status::TooLarge,
+        too_large_line(alloc, Excess { limit, count }),
+    )
+}
+
+/// The memories that a data file holds.
+fn read_memories<F: Files>(
+    alloc: Global,
+    name: &str,
+    program: &Program,
+    files: &mut F,
+) -> Result<Memories, Reply>
+    requires { IsThin program.now }
+    ensures files { KeepsFiles (F.seen files.old) (F.seen files.new) }
+    ensures read { DataRead (F.seen files.old) (F.seen files.new) name.now program.now result }
+{
+    match files.read(alloc, name, Limit::Data.greatest()) {
+        Ok(bytes) => memories_of(alloc, program, bytes.as_slice()),
+        Err(FileFault::Failed) => Err(Reply::ReadFault),
+        Err(FileFault::TooLong) => Err(too_large(alloc, Limit::Data)),
+        Err(FileFault::NoMemory) => Err(Reply::NoMemory),
+    }
+}
+
+fn memories_of(alloc: Global, program: &Program, bytes: &[u8]) -> Result<Memories, Reply>
+    requires { IsThin program.now }
+    ensures { DataOf bytes.now program.now result }
+{
+    match dh_data::read(alloc, &program.table, bytes) {
+        Ok(memories) => Ok(memories),
+        Err(DataFault::NotJson) => Err(answer_with(Status::BadData, not_json_line(alloc))),
+        Err(DataFault::NoMemory) => Err(Reply::NoMemory),
+    }
+}
+
+/// Compiles a program, has the engine run its net, and reports the engine's answer.
+fn report_run<E: Engine>(
+    alloc: Global,
+    program: &Program,
+    memories: Memories,
+    engine: &mut E,
+) -> Reply
+    requires thin { IsThin program.now }
+    requires fits { Fits program.now.table memories }
+    ensures engine { E.exact engine.new ≡ E.exact engine.old }
+    ensures replies { RunReplies program.now memories (E.exact engine.old) (E.given engine.new) result }
+{
+    let Ok(net) = compile(alloc, program) else {
+        return Reply::NoMemory;
+    };
+    let Ok(sets) = only(alloc, memories) else {
+        return Reply::NoMemory;
+    };
+    let Ok(()) = engine.finish(&net, sets, MOST_CLOCKS) else {
+        return Reply::NoMemory;
+    };
+    report_first(alloc, program, engine.answers())
+}
+
+/// The list of one item.
+fn only(alloc: Global, memories: Memories) -> Result<Vec<Memories>, NoMemory>
+    ensures { IfOk result (λ v. v.items ≡ memories ∷ []) }
+{
+    let mut sets = Vec::with_capacity(alloc, 1)?;
+    sets.push(memories)?;
+    Ok(sets)
+}
+
+/// Reports the first of an engine's answers.
+fn report_first(alloc: Global, program: &Program, answers: &[Finish]) -> Reply
+    requires answers { (finish : Finish) × ((answers.now ≡ finish ∷ []) × Fits program.now.table finish.memories) }
+    requires table { IsTable program.now.table }
+    ensures { ReportsFirst program.now answers.now result }
+{
+    let finish = &answers[0];
+    let ending = Ending {
+        outcome: finish.outcome,
+        steps: finish.steps,
+        clocks: Some(finish.clocks),
+    };
+    match report(alloc, &program.table, &finish.memories, &ending) {
+        Ok(text) => Reply::Answer(Answer {
+            status: status_of(finish.outcome),
+            text,
+        }),
+        Err(NoMemory) => Reply::NoMemory,
+    }
+}
+
+/// The status of a report.
+fn status_of(outcome: Outcome) -> Status
+    ensures { result ≡ status_of_lem outcome }
+{
+    match outcome {
+        Outcome::Going => Status::Going,
+        Outcome::Ended => Status::Done,
+        Outcome::Faulted { .. } => Status::Faulted,
+        Outcome::Stuck { .. } => Status::Stuck,
+    }
+}

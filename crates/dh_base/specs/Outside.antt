@@ -1,0 +1,81 @@
+-- What clauses see of the outside, named files and an output, and what one call may do to it.
+use Rattle.std.specs.Prelude.{ℕ, ◌+◌, ◌-◌, ◌^◌, ◌<◌, ◌≤◌, ◌≡◌, ◌⊎◌, List, ◌++◌, length, take, Option, option_map, Result, Ok, Err, Vec}
+use Rattle.std.specs.declared.alloc.Global.{Global}
+use Rattle.dh_base.specs.declared.outside.FileFault.{FileFault}
+use Rattle.dh_base.specs.declared.outside.FileFault.TheVariants as file
+use Rattle.dh_base.specs.declared.outside.SinkFault.{SinkFault}
+use Rattle.dh_base.specs.declared.outside.SinkFault.TheVariants as sink
+
+-- what a clause knows of a name: nothing, that no file has it, or the file's bytes
+pub data Told : Type 0 where
+  Untold : Told
+  Absent : Told
+  Holds : (bytes : List ℕ) → Told
+
+-- what a clause sees of the files: what is known of each name, how many faults they met, how many bytes were taken from them
+pub record FilesSeen : Type 0 where
+  pub told : List ℕ → Told
+  pub faults : ℕ
+  pub taken : ℕ
+
+-- what a clause sees of an output: the bytes written, where they are told, and how many faults it met
+pub record SinkSeen : Type 0 where
+  pub bytes : Option (List ℕ)
+  pub faults : ℕ
+
+-- a count has risen, or stands at its last value
+abbrev pub Rose : ℕ → ℕ → Type 0
+Rose before after = (before < after) ⊎ (after ≡ 2 ^ 64 - 1)
+
+-- it has risen by more than a number, or stands at its last value
+abbrev pub RoseBy : ℕ → ℕ → ℕ → Type 0
+RoseBy more before after = (before + more < after) ⊎ (after ≡ 2 ^ 64 - 1)
+
+-- these may be the bytes of the name
+abbrev pub MayBe : Told → List ℕ → Type 0
+MayBe Untold bytes = Unit {0}
+MayBe Absent bytes = ⊥
+MayBe (Holds held) bytes = held ≡ bytes
+
+-- it is known that no file has the name
+abbrev pub IsAbsent : Told → Type 0
+IsAbsent Untold = ⊥
+IsAbsent Absent = Unit {0}
+IsAbsent (Holds held) = ⊥
+
+-- the name may have more bytes than the limit
+abbrev pub MayExceed : Told → ℕ → Type 0
+MayExceed Untold limit = Unit {0}
+MayExceed Absent limit = ⊥
+MayExceed (Holds held) limit = limit < length held
+
+-- what is true of every read: contents stay, and no count falls
+pub record KeepsFiles (old new : FilesSeen) : Type 0 where
+  pub told : new.told ≡ old.told
+  pub faults : old.faults ≤ new.faults
+  pub taken : old.taken ≤ new.taken
+
+-- a read of a name under a limit answers so
+abbrev pub Reads : FilesSeen → FilesSeen → List ℕ → ℕ → Result (Vec ℕ Global) FileFault → Type 0
+Reads old new name limit (Ok bytes) = MayBe (old.told name) bytes.items × (length bytes.items ≤ limit)
+Reads old new name limit (Err file.Failed) = Rose old.faults new.faults ⊎ IsAbsent (old.told name)
+Reads old new name limit (Err file.TooLong) = RoseBy limit old.taken new.taken × MayExceed (old.told name) limit
+Reads old new name limit (Err file.NoMemory) = Unit {0}
+
+-- what is true of every write: no count falls
+pub record KeepsSink (old new : SinkSeen) : Type 0 where
+  pub faults : old.faults ≤ new.faults
+
+-- the output has grown by these bytes, where its bytes are told
+abbrev pub Grew : SinkSeen → SinkSeen → List ℕ → Type 0
+Grew old new piece = new.bytes ≡ option_map (λ bytes. bytes ++ piece) old.bytes
+
+-- the output has grown by the first bytes of a piece, by none or all of it too
+abbrev pub GrewByPart : SinkSeen → SinkSeen → List ℕ → Type 0
+GrewByPart old new piece = (n : ℕ) × Grew old new (take n piece)
+
+-- a write of a piece answers so
+abbrev pub Writes : SinkSeen → SinkSeen → List ℕ → Result (Unit {0}) SinkFault → Type 0
+Writes old new piece (Ok _) = Grew old new piece
+Writes old new piece (Err sink.Failed) = GrewByPart old new piece × Rose old.faults new.faults
+Writes old new piece (Err sink.NoMemory) = GrewByPart old new piece

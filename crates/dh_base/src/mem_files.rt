@@ -1,0 +1,133 @@
+//! Files in memory, which fail at the calls they are told to: for tests, and to state what a run
+//! does when the outside is known.
+
+ghost use Rattle.std.specs.Prelude.{◌≡◌, [], map, MatchOption, MatchResult};
+ghost use Rattle.dh_base.specs.Outside.{Absent, Holds, KeepsFiles, Reads};
+ghost use Rattle.dh_base.specs.Stores.{FileStore, stored, told_of, files_seen, StoreReads};
+
+use crate::outside::{FileFault, Files};
+use std::alloc::Global;
+use std::marker::Model;
+
+/// Files in memory. Clauses see their state as a `FileStore`.
+#[derive(Debug, Drop)]
+pub struct MemFiles {
+    entries: Vec<(String, Vec<u8>)>,
+    failing: Vec<u64>,
+    calls: u64,
+    faults: u64,
+    taken: u64,
+}
+
+impl Model for MemFiles {
+    ghost use Rattle.std.specs.Prelude.{map};
+    ghost use Rattle.dh_base.specs.Stores.{FileStore, stored};
+
+    ghost Value = { FileStore };
+
+    ghost view = { λ f. record { entries = map stored f.entries.items; failing = f.failing.items; calls = f.calls; faults = f.faults; taken = f.taken } };
+}
+
+impl MemFiles {
+    /// Files with these names and contents; where a name stands twice, the first entry counts.
+    /// The calls of `read` whose numbers, from 1, are in `failing` fail and count as faults.
+    /// No call and no fault was counted yet.
+    pub fn new(entries: Vec<(String, Vec<u8>)>, failing: Vec<u64>) -> MemFiles
+        ensures { result ≡ record { entries = map stored entries.items; failing = failing.items; calls = 0; faults = 0; taken = 0 } }
+    {
+        MemFiles {
+            entries,
+            failing,
+            calls: 0,
+            faults: 0,
+            taken: 0,
+        }
+    }
+}
+
+impl Files for MemFiles {
+    ghost seen = { files_seen };
+
+    /// As the trait says, and exactly: a listed call fails and counts as a fault; else a name that no
+    /// entry has fails; else contents longer than `limit` are too long, and else they are given.
+    /// Every call counts as one, and the bytes looked at as taken: `limit` and one more where the
+    /// contents are longer. A count that stands at its last value stays there.
+    fn read(&mut self, alloc: Global, name: &str, limit: u64) -> Result<Vec<u8>, FileFault>
+        ensures keeps { KeepsFiles (files_seen self.old) (files_seen self.new) }
+        ensures answer { Reads (files_seen self.old) (files_seen self.new) name.now limit result }
+        ensures exact { StoreReads self.old self.new name.now limit result }
+    {
+        self.calls = self.calls.saturating_add(1);
+        if self.failing.contains(&self.calls) {
+            self.faults = self.faults.saturating_add(1);
+            return Err(FileFault::Failed);
+        }
+        let Some(bytes) = contents(&self.entries, name) else {
+            return Err(FileFault::Failed);
+        };
+        let long = bytes.len() as u64;
+        if limit < long {
+            self.taken = self.taken.saturating_add(limit + 1);
+            return Err(FileFault::TooLong);
+        }
+        self.taken = self.taken.saturating_add(long);
+        copied(alloc, bytes)
+    }
+}
+
+/// A copy of these bytes.
+fn copied(alloc: Global, bytes: &[u8]) -> Result<Vec<u8>, FileFault>
+    ensures { MatchResult result (λ copy. copy.items ≡ bytes.now) (λ e. e ≡ FileFault.NoMemory) }
+{
+    match Vec::from_slice(alloc, bytes) {
+        Ok(copy) => Ok(copy),
+        Err(_) => Err(FileFault::NoMemory),
+    }
+}
+
+/// The contents of the first entry with this name.
+fn contents<'a>(entries: &'a [(String, Vec<u8>)], name: &str) -> Option<&'a [u8]>
+    ensures { MatchOption result (told_of (map stored entries.now) name.now ≡ Absent) (λ b. told_of (map stored entries.now) name.now ≡ Holds b.now) }
+{
+    for entry in entries {
+        if entry.0.as_str() == name {
+            return Some(entry.1.as_slice());
+        }
+    }
+    None
+}
+
+#[cfg(test)]
+mod tests {
+    use super::*;
+    use std::test::Fail;
+
+    #[test]
+    fn answers_in_order_of_calls(rt: HostRuntime) -> Result<(), Fail> {
+        let mut entries = Vec::new(rt.alloc());
+        for (name, text) in [("twice", "first"), ("twice", "second"), ("none", "")] {
+            let bytes = Vec::from_slice(rt.alloc(), text.as_bytes())?;
+            entries.push((String::from_str(rt.alloc(), name)?, bytes))?;
+        }
+        let failing = Vec::from_slice(rt.alloc(), &[2, 6])?;
+        let mut files = MemFiles::new(entries, failing);
+        let calls = [
+            ("twice", 5, Ok("first".as_bytes()), 0, 5),
+            ("twice", 5, Err(FileFault::Failed), 1, 5),
+            ("absent", 5, Err(FileFault::Failed), 1, 5),
+            ("twice", 3, Err(FileFault::TooLong), 1, 9),
+            ("none", 0, Ok("".as_bytes()), 1, 9),
+            ("absent", 5, Err(FileFault::Failed), 2, 9),
+        ];
+        for (name, limit, want, faults, taken) in calls {
+            match (files.read(rt.alloc(), name, limit), want) {
+                (Ok(bytes), Ok(held)) => assert_eq!(rt; bytes.as_slice(), held, "{name}"),
+                (Err(fault), Err(told)) => assert_eq!(rt; fault, told, "{name}"),
+                _ => panic!(rt; "{name} at {limit}"),
+            }
+            assert_eq!(rt; files.faults, faults, "faults at {name}");
+            assert_eq!(rt; files.taken, taken, "taken at {name}");
+        }
+        Ok(())
+    }
+}

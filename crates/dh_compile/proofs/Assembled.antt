@@ -1,0 +1,169 @@
+-- A net of the parts that were built is as the program has it, and valid.
+-- Each wire's value holds of every solution of the cells' equations, and so of each valuation. The
+-- cells were valid beside two registers of the same widths, and to a cell no more matters of them.
+use Rattle.std.proofs.Common.{◌≡◌, ℕ, zero, suc, ◌+◌, ◌*◌, ◌%◌, ◌^◌, ◌≤◌, Some, List, [], ◌∷◌, length, refl, sym, ap, subst, ◌∙◌, arith}
+use Rattle.std.specs.Prelude.{slice_get, slice_index, option_map, if◌then◌else◌, ◌==◌}
+use Rattle.std.specs.List.{AllByRecursion}
+use Rattle.std.proofs.lemmas.Option.{slice_get_within}
+use Rattle.dh_tree.specs.declared.tables.MemEntry.{MemEntry}
+use Rattle.dh_tree.specs.declared.thin.Program.{Program}
+use Rattle.dh_tree.specs.Tables.{elements_in, IsInteger, IsEntry, IsTable}
+use Rattle.dh_tree.specs.Thin.{IsThinEntry, IsThin}
+use Rattle.dh_net.specs.Valid.{HasWidth, FormFits, IsCell, IsRegister, IsValid}
+use Rattle.dh_net.specs.declared.nets.Cell.{Cell}
+use Rattle.dh_net.specs.declared.nets.CellForm.{CellForm}
+use Rattle.dh_net.specs.declared.nets.CellForm.TheVariants.{Const, Reg, Data, Add, Or, Xor, Eq, Mux}
+use Rattle.dh_net.specs.declared.nets.Register.{Register}
+use Rattle.dh_net.specs.declared.nets.Net.{Net}
+use Rattle.dh_net.specs.Clock.{IsValuation}
+use Rattle.dh_compile.specs.declared.clocks.Head.{Head}
+use Rattle.dh_compile.specs.Timetable.{total_length, ends_at}
+use Rattle.dh_compile.specs.Built.{clock_register, tick_register, IsBuilt}
+use Rattle.dh_compile.specs.Drafts.{Drafted, plain_registers, AreCells, Solves, Grows, Adds, Shows}
+use Rattle.dh_compile.specs.Drivers.{HasPorts, AddsPorts}
+use Rattle.dh_compile.specs.Heads.{AddsHead}
+use Rattle.dh_compile.proofs.Cells.{later, width_later, grows_then}
+use Rattle.dh_compile.proofs.Programs.{thin_size}
+
+-- the parts of a net
+pub record HasParts (net : Net) (p : Program) (next_clock next_tick : ℕ) : Type 0 where
+  pub table : net.table ≡ p.table
+  pub faults : net.faults ≡ []
+  pub registers : net.registers ≡ clock_register next_clock ∷ (tick_register next_tick ∷ [])
+  pub cells : AreCells net.table net.cells
+  pub next : Shows net.cells next_clock 32 (λ rs hs ws. if slice_index rs 0 == total_length p.groups then slice_index rs 0 else (slice_index rs 0 + 1) % 2 ^ 32)
+  pub ends : Shows net.cells next_tick 1 (λ rs hs ws. if ends_at 0 p.groups (slice_index rs 0) then 1 else 0)
+  pub ticks : Shows net.cells net.tick 1 (λ rs hs ws. slice_index rs 1)
+  pub done : Shows net.cells net.done 1 (λ rs hs ws. if slice_index rs 0 == total_length p.groups then 1 else 0)
+  pub fault : Shows net.cells net.fault 32 (λ rs hs ws. 0)
+  pub ports : HasPorts net.cells net.drivers p (length p.table)
+
+solved : (cells : List Cell) (rs hs ws : List ℕ) → IsValuation cells rs hs ws → Solves cells rs hs ws
+solved cells rs hs ws v = record { each = v.each }
+
+pub built : (net : Net) (p : Program) (next_clock next_tick : ℕ) → HasParts net p next_clock next_tick → IsBuilt net p
+built net p next_clock next_tick h = record {
+  table = h.table;
+  faults = h.faults;
+  next_clock = next_clock;
+  next_tick = next_tick;
+  registers = h.registers;
+  ports = h.ports.all;
+  shown = λ now tick held wires v.
+      let s = solved net.cells (now ∷ (tick ∷ [])) held wires v in
+      record {
+        done = h.done.is (now ∷ (tick ∷ [])) held wires s;
+        ticks = h.ticks.is (now ∷ (tick ∷ [])) held wires s;
+        fault = h.fault.is (now ∷ (tick ∷ [])) held wires s;
+        counts = h.next.is (now ∷ (tick ∷ [])) held wires s;
+        ends = h.ends.is (now ∷ (tick ∷ [])) held wires s;
+        drives = λ m lt. h.ports.drives m lt (now ∷ (tick ∷ [])) held wires s;
+      };
+}
+
+-- a thin memory is one that a net can have
+entry_of_thin : (e : MemEntry) → IsThinEntry e → IsEntry e
+entry_of_thin e h = record {
+  name = h.name;
+  integer = subst (λ (x : MemEntry). IsInteger x.shape.kind) (sym h.is) (omega arith, omega arith);
+  ports = ap (λ (x : MemEntry). x.shape.ports) h.is;
+  size = h.size;
+  line = ap (λ (x : MemEntry). x.shape.dims) h.is;
+  least = h.least;
+  outside = ap (λ (x : MemEntry). x.outside) h.is;
+}
+
+entries_of_thin : (es : List MemEntry) → AllByRecursion IsThinEntry es → AllByRecursion IsEntry es
+entries_of_thin [] h = tt
+entries_of_thin (e ∷ es) h = (entry_of_thin e h.0, entries_of_thin es h.1)
+
+few_elements : (es : List MemEntry) → AllByRecursion IsThinEntry es → elements_in es ≤ 1024 * length es
+few_elements [] h = omega arith
+few_elements (e ∷ es) h = omega (arith, thin_size e h.0, h.0.greatest, few_elements es h.1)
+
+pub table_of_thin : (p : Program) → IsThin p → IsTable p.table
+table_of_thin p thin = record {
+  entries = entries_of_thin p.table thin.entries;
+  names = thin.names;
+  elements = omega (arith, few_elements p.table thin.entries, thin.memories);
+}
+
+-- a cell that is valid beside registers is so beside others of the same widths
+width_alike : (next_clock next_tick register : ℕ)
+    → option_map (λ (r : Register). r.width) (slice_get (clock_register next_clock ∷ (tick_register next_tick ∷ [])) register)
+    ≡ option_map (λ (r : Register). r.width) (slice_get plain_registers register)
+width_alike next_clock next_tick zero = refl
+width_alike next_clock next_tick (suc zero) = refl
+width_alike next_clock next_tick (suc (suc k)) = refl
+
+fits_alike : (table : List MemEntry) (next_clock next_tick : ℕ) (cells : List Cell) (i width : ℕ) (f : CellForm) → FormFits table plain_registers cells i width f
+    → FormFits table (clock_register next_clock ∷ (tick_register next_tick ∷ [])) cells i width f
+fits_alike table n m cells i width (Const bits) h = h
+fits_alike table n m cells i width (Reg register) h = width_alike n m register ∙ h
+fits_alike table n m cells i width (Data memory bank port) h = h
+fits_alike table n m cells i width (Add a b) h = h
+fits_alike table n m cells i width (Or a b) h = h
+fits_alike table n m cells i width (Xor a b) h = h
+fits_alike table n m cells i width (Eq a b) h = h
+fits_alike table n m cells i width (Mux c a b) h = h
+
+cell_alike : (table : List MemEntry) (next_clock next_tick : ℕ) (cells : List Cell) (i : ℕ) (c : Cell) → IsCell table plain_registers cells i c
+    → IsCell table (clock_register next_clock ∷ (tick_register next_tick ∷ [])) cells i c
+cell_alike table n m cells i c h = record { least = h.least; greatest = h.greatest; form = fits_alike table n m cells i c.width c.form h.form }
+
+-- both registers are valid
+register_is : (cells : List Cell) (next_clock next_tick : ℕ) → HasWidth cells next_clock 32 → HasWidth cells next_tick 1 → (i : ℕ) (r : Register)
+    → slice_get (clock_register next_clock ∷ (tick_register next_tick ∷ [])) i ≡ Some r → IsRegister cells r
+register_is cells n m h k zero r at =
+    let same : ◌≡◌ {A = Register} (clock_register n) r = cc in
+    subst (λ (x : Register). IsRegister cells x) same (record { least = omega arith; greatest = omega arith; initial = omega arith; next = h })
+register_is cells n m h k (suc zero) r at =
+    let same : ◌≡◌ {A = Register} (tick_register m) r = cc in
+    subst (λ (x : Register). IsRegister cells x) same (record { least = omega arith; greatest = omega arith; initial = omega arith; next = k })
+register_is cells n m h k (suc (suc i)) r at = absurd (omega (arith, slice_get_within (clock_register n ∷ (tick_register m ∷ [])) (suc (suc i)) r at))
+
+pub valid : (net : Net) (p : Program) → IsThin p → (next_clock next_tick : ℕ) → HasParts net p next_clock next_tick → IsValid net
+valid net p thin n m h = record {
+  table = subst IsTable (sym h.table) (table_of_thin p thin);
+  registers = λ i r at. register_is net.cells n m h.next.wide h.ends.wide i r (ap (λ l. slice_get l i) (sym h.registers) ∙ at);
+  cells = λ i c at.
+      subst (λ (x : List Register). IsCell net.table x net.cells i c) (sym h.registers) (cell_alike net.table n m net.cells i c (h.cells i c at));
+  ports = h.ports.all ∙ ap length (sym h.table);
+  drivers = λ i ds e there at. h.ports.fit i ds e there (ap (λ l. slice_get l i) (sym h.table) ∙ at);
+  tick = h.ticks.wide;
+  done = h.done.wide;
+  fault = h.fault.wide;
+}
+
+-- what a wire shows, it shows among more cells
+shows_later : (old new : Drafted) (wire width : ℕ) (value : List ℕ → List ℕ → List ℕ → ℕ) → Grows old new → Shows old.cells wire width value
+    → Shows new.cells wire width value
+shows_later old new wire width value g h = record {
+  wide = width_later old.cells new.cells wire width g.cells h.wide;
+  is = later old.cells new.cells _ g.cells h.is;
+}
+
+-- the pieces, made one after the other, are the parts of the net
+pub parts : (net : Net) (p : Program) (a b c d : Drafted) (h : Head) (total next_tick : ℕ) → a.table ≡ p.table → total ≡ total_length p.groups
+    → AddsHead a b h total → Adds b c next_tick 1 (λ rs hs ws. if ends_at 0 p.groups (slice_index rs 0) then 1 else 0)
+    → AddsPorts c d net.drivers p → net.table ≡ d.table → net.cells ≡ d.cells → AreCells net.table net.cells → net.faults ≡ []
+    → net.registers ≡ clock_register h.next_clock ∷ (tick_register next_tick ∷ [])
+    → net.tick ≡ h.tick → net.done ≡ h.done → net.fault ≡ h.fault → HasParts net p h.next_clock next_tick
+parts net p a b c d h total next_tick copied counted head ends ports table cells valid faults registers tick done fault =
+    let bd = grows_then b c d ends.grows ports.grows in
+    let all : (wire width : ℕ) (value : List ℕ → List ℕ → List ℕ → ℕ) → Shows b.cells wire width value → Shows net.cells wire width value
+    = λ wire width value s. subst (λ (x : List Cell). Shows x wire width value) (sym cells) (shows_later b d wire width value bd s) in
+    record {
+      table = table ∙ (bd.table ∙ (head.grows.table ∙ copied));
+      faults = faults;
+      registers = registers;
+      cells = valid;
+      next = subst (λ (t : ℕ). Shows net.cells h.next_clock 32 (λ rs hs ws. if slice_index rs 0 == t then slice_index rs 0 else (slice_index rs 0 + 1) % 2 ^ 32)) counted (all _ _ _ head.next);
+      ends = subst (λ (x : List Cell). Shows x next_tick 1 (λ rs hs ws. if ends_at 0 p.groups (slice_index rs 0) then 1 else 0)) (sym cells)
+          (shows_later c d next_tick 1 (λ rs hs ws. if ends_at 0 p.groups (slice_index rs 0) then 1 else 0) ports.grows (record { wide = ends.wide; is = ends.is }));
+      ticks = subst (λ (w : ℕ). Shows net.cells w 1 (λ rs hs ws. slice_index rs 1)) (sym tick) (all _ _ _ head.ticks);
+      done = subst (λ (w : ℕ). Shows net.cells w 1 (λ rs hs ws. if slice_index rs 0 == total_length p.groups then 1 else 0)) (sym done)
+          (subst (λ (t : ℕ). Shows net.cells h.done 1 (λ rs hs ws. if slice_index rs 0 == t then 1 else 0)) counted (all _ _ _ head.done));
+      fault = subst (λ (w : ℕ). Shows net.cells w 32 (λ rs hs ws. 0)) (sym fault) (all _ _ _ head.fault);
+      ports = subst (λ (x : List Cell). HasPorts x net.drivers p (length p.table)) (sym cells) ports.has;
+    }

@@ -1,0 +1,146 @@
+-- Cells that are appended leave what was known of the cells before as it was.
+-- An element of a list stands at the same place of a longer one, so an equation of an old cell is one
+-- of the new cells, and what solves the new ones solves the old ones: each fact of every solution of
+-- the old cells is one of the new. In the same way the operands of an old cell stay where they were.
+use Rattle.std.proofs.Common.{◌≡◌, ℕ, ◌⊎◌, inl, inr, Some, List, [], ◌∷◌, ◌++◌, length, refl, sym, ap, subst, ◌∙◌, arith, length-append}
+use Rattle.std.specs.Prelude.{slice_get, option_map}
+use Rattle.std.proofs.Math.ListN.{get_or-append}
+use Rattle.std.proofs.Math.Seq.{get_or-append_seam}
+use Rattle.std.proofs.lemmas.Option.{slice_get_cases, slice_get_within, slice_get_read, get_or_from_slice_get}
+use Rattle.dh_tree.specs.declared.tables.MemEntry.{MemEntry}
+use Rattle.dh_net.specs.declared.nets.Register.{Register}
+use Rattle.dh_net.specs.declared.nets.Cell.{Cell}
+use Rattle.dh_net.specs.declared.nets.CellForm.{CellForm}
+use Rattle.dh_net.specs.declared.nets.CellForm.TheVariants.{Const, Reg, Data, Add, Or, Xor, Eq, Mux}
+use Rattle.dh_net.specs.Valid.{HasWidth, IsOperand, AreOperands, FormFits, IsCell}
+use Rattle.dh_net.specs.Clock.{form_value}
+use Rattle.dh_compile.specs.Drafts.{Drafted, drafted, plain_registers, AreCells, IsNext, Solves, Always, Extends, Grows, Adds, IsClock}
+
+-- an element stays where it is
+pub get_longer : {A : Type 0} (xs : List A) (x : A) (i : ℕ) (y : A) → slice_get xs i ≡ Some y → slice_get (xs ++ x ∷ []) i ≡ Some y
+get_longer xs x i y at =
+    let within = slice_get_within xs i y at in
+    slice_get_read (xs ++ x ∷ []) _ i y refl (omega (arith, within, length-append xs (x ∷ []))) (sym (get_or-append xs (x ∷ []) y i within ∙ get_or_from_slice_get xs i y y at))
+
+-- the new element stands at the end
+pub get_last : {A : Type 0} (xs : List A) (x : A) → slice_get (xs ++ x ∷ []) (length xs) ≡ Some x
+get_last xs x = slice_get_read (xs ++ x ∷ []) _ (length xs) x refl (omega (arith, length-append xs (x ∷ []))) (sym (get_or-append_seam xs x [] x))
+
+-- an element of the longer list is an old one or the new one
+pub get_either : {A : Type 0} (xs : List A) (x : A) (i : ℕ) (y : A) → slice_get (xs ++ x ∷ []) i ≡ Some y
+    → (slice_get xs i ≡ Some y) ⊎ ((i ≡ length xs) × (x ≡ y))
+get_either {A = A} xs x i y at =
+    elim (slice_get_cases xs i).1 [
+      | inl found ↦
+          let e : ◌≡◌ {A = A} found.0 y = let l = get_longer xs x i found.0 found.2 in cc in
+          inl (found.2 ∙ ap (λ z. Some z) e)
+      | inr past ↦
+          let here : i ≡ length xs = omega (arith, past.0, slice_get_within (xs ++ x ∷ []) i y at, length-append xs (x ∷ [])) in
+          let e : ◌≡◌ {A = A} x y = let l = get_last xs x in cc in
+          inr (here, e)
+    ]
+
+pub extends_longer : (cells : List Cell) (c : Cell) → Extends cells (cells ++ c ∷ [])
+extends_longer cells c i d at = get_longer cells c i d at
+
+-- what solves more cells solves fewer
+pub solves_fewer : (old new : List Cell) (rs hs ws : List ℕ) → Extends old new → Solves new rs hs ws → Solves old rs hs ws
+solves_fewer old new rs hs ws e s = record { each = λ i c at. s.each i c (e i c at) }
+
+-- a fact of every solution stays one
+pub later : (old new : List Cell) (P : List ℕ → List ℕ → List ℕ → Type 0) → Extends old new → Always old P → Always new P
+later old new P e a rs hs ws s = a rs hs ws (solves_fewer old new rs hs ws e s)
+
+-- a width stays one
+width_from : (old new : List Cell) (wire width : ℕ) → Extends old new → (c : Cell) → slice_get old wire ≡ Some c → HasWidth old wire width
+    → HasWidth new wire width
+width_from old new wire width e c at h =
+    let there = e wire c at in
+    ap (option_map (λ c. c.width)) there ∙ (sym (ap (option_map (λ c. c.width)) at) ∙ h)
+
+pub width_later : (old new : List Cell) (wire width : ℕ) → Extends old new → HasWidth old wire width → HasWidth new wire width
+width_later old new wire width e h =
+    elim (slice_get_cases old wire).1 [
+      | inl found ↦ width_from old new wire width e found.0 found.2 h
+      | inr past ↦ absurd (let none = past.1 in cc)
+    ]
+
+operand_later : (old new : List Cell) (i wire width : ℕ) → Extends old new → IsOperand old i wire width → IsOperand new i wire width
+operand_later old new i wire width e h = record { earlier = h.earlier; wide = width_later old new wire width e h.wide }
+
+operands_later : (old new : List Cell) (i a b width : ℕ) → Extends old new → AreOperands old i a b width → AreOperands new i a b width
+operands_later old new i a b width e h =
+    record { left = operand_later old new i a width e h.left; right = operand_later old new i b width e h.right }
+
+-- a form fits still
+pub fits_later : (table : List MemEntry) (registers : List Register) (old new : List Cell) (i width : ℕ) (f : CellForm) → Extends old new
+    → FormFits table registers old i width f → FormFits table registers new i width f
+fits_later table registers old new i width (Const bits) e h = h
+fits_later table registers old new i width (Reg register) e h = h
+fits_later table registers old new i width (Data memory bank port) e h = h
+fits_later table registers old new i width (Add a b) e h = operands_later old new i a b width e h
+fits_later table registers old new i width (Or a b) e h = operands_later old new i a b width e h
+fits_later table registers old new i width (Xor a b) e h = operands_later old new i a b width e h
+fits_later table registers old new i width (Eq a b) e h = (h.0, (h.1.0, operands_later old new i a b h.1.0 e h.1.1))
+fits_later table registers old new i width (Mux c a b) e h = (operand_later old new i c 1 e h.0, operands_later old new i a b width e h.1)
+
+cell_later : (table : List MemEntry) (registers : List Register) (old new : List Cell) (i : ℕ) (c : Cell) → Extends old new
+    → IsCell table registers old i c → IsCell table registers new i c
+cell_later table registers old new i c e h =
+    record { least = h.least; greatest = h.greatest; form = fits_later table registers old new i c.width c.form e h.form }
+
+-- the cells are valid with the next one
+pub cells_more : (table : List MemEntry) (cells : List Cell) (c : Cell) → AreCells table cells → IsNext (drafted table cells) c.width c.form
+    → AreCells table (cells ++ c ∷ [])
+cells_more table cells c all next i d at =
+    let e = extends_longer cells c in
+    elim (get_either cells c i d at) [
+      | inl old ↦ cell_later table plain_registers cells (cells ++ c ∷ []) i d e (all i d old)
+      | inr last ↦
+          let new : IsCell table plain_registers (cells ++ c ∷ []) (length cells) c
+          = record { least = next.least; greatest = next.greatest; form = fits_later table plain_registers cells (cells ++ c ∷ []) (length cells) c.width c.form e next.fits } in
+          subst (λ (x : ℕ). IsCell table plain_registers (cells ++ c ∷ []) x d) (sym last.0)
+          (subst (λ (x : Cell). IsCell table plain_registers (cells ++ c ∷ []) (length cells) x) last.1 new)
+    ]
+
+-- what the next cell adds
+pub adds_next : (table : List MemEntry) (cells : List Cell) (c : Cell)
+    → Adds (drafted table cells) (drafted table (cells ++ c ∷ [])) (length cells) c.width (λ rs hs ws. form_value rs hs ws c.width c.form)
+adds_next table cells c = record {
+  grows = record { table = refl; cells = extends_longer cells c };
+  wide = ap (option_map (λ c. c.width)) (get_last cells c);
+  is = λ rs hs ws s. s.each (length cells) c (get_last cells c);
+}
+
+-- one growth after another
+pub grows_then : (a b c : Drafted) → Grows a b → Grows b c → Grows a c
+grows_then a b c g h = record { table = h.table ∙ g.table; cells = λ i d at. h.cells i d (g.cells i d at) }
+
+pub grows_none : (a : Drafted) → Grows a a
+grows_none a = record { table = refl; cells = λ i d at. at }
+
+-- the wire shows the count still
+pub clock_later : (old new : Drafted) (wire : ℕ) → Grows old new → IsClock old wire → IsClock new wire
+clock_later old new wire g h = record {
+  wide = width_later old.cells new.cells wire 32 g.cells h.wide;
+  is = later old.cells new.cells _ g.cells h.is;
+}
+
+abbrev mk_cell : (width : ℕ) (form : CellForm) → Cell
+mk_cell width form = record { width = width; form = form }
+
+-- the same where the draft and the new cells go by other names
+pub valid_push : (d : Drafted) (table : List MemEntry) (cells new : List Cell) (width : ℕ) (form : CellForm) → drafted table cells ≡ d
+    → new ≡ cells ++ mk_cell width form ∷ [] → AreCells table cells → IsNext d width form → AreCells table new
+valid_push d table cells new width form view more all next =
+    subst (λ (x : List Cell). AreCells table x) (sym more)
+    (cells_more table cells (mk_cell width form) all (subst (λ (x : Drafted). IsNext x width form) (sym view) next))
+
+pub adds_push : (d : Drafted) (table : List MemEntry) (cells new : List Cell) (wire width : ℕ) (form : CellForm) → drafted table cells ≡ d
+    → new ≡ cells ++ mk_cell width form ∷ [] → wire ≡ length cells
+    → Adds d (drafted table new) wire width (λ rs hs ws. form_value rs hs ws width form)
+adds_push d table cells new wire width form view more last =
+    subst (λ (x : Drafted). Adds x (drafted table new) wire width (λ rs hs ws. form_value rs hs ws width form)) view
+    (subst (λ (x : List Cell). Adds (drafted table cells) (drafted table x) wire width (λ rs hs ws. form_value rs hs ws width form)) (sym more)
+    (subst (λ (x : ℕ). Adds (drafted table cells) (drafted table (cells ++ mk_cell width form ∷ [])) x width (λ rs hs ws. form_value rs hs ws width form)) (sym last)
+    (adds_next table cells (mk_cell width form))))

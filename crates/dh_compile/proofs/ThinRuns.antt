@@ -1,0 +1,206 @@
+-- The checked run of a thin program does its groups one after the other. By induction on the steps:
+-- what is still to come is the groups that are not yet done, one phase for each, since no group is
+-- empty; and a step does the first of them, with no fault and no bank beyond its port.
+use Rattle.std.proofs.Common.{◌≡◌, ℕ, max, ◌<◌, ◌≤◌, ◌||◌, Bool, true, false, if◌then◌else◌, List, [], ◌∷◌, length, drop, Option, Some, None, refl, sym, ap, ◌∙◌, zero, suc, arith, subst}
+use Rattle.std.specs.Prelude.{map, slice_get, slice_index_or}
+use Rattle.std.specs.List.{AllByRecursion}
+use Rattle.std.proofs.lemmas.List.{append-nil, length-set}
+use Rattle.dh_base.specs.declared.outcomes.Outcome.TheVariants.{Going, Ended}
+use Rattle.dh_tree.specs.declared.tables.MemEntry.{MemEntry}
+use Rattle.dh_tree.specs.declared.thin.Operand.{Operand}
+use Rattle.dh_tree.specs.declared.thin.Store.{Store}
+use Rattle.dh_tree.specs.declared.thin.Program.{Program}
+use Rattle.dh_tree.specs.Tables.{elements_of, Fits}
+use Rattle.dh_tree.specs.Effects.{commands_events, written, stop_after}
+use Rattle.dh_tree.specs.Steps.{Phase, straight, phases_of, level_of, command_level, commands_level, Threads, step_events, step_length, after_step, Standing, outcome_of, stands_at, next_standing, step_from, standing}
+use Rattle.dh_tree.specs.ThinTree.{value_term, command_of, tree_of}
+use Rattle.dh_tree.specs.Thin.{IsThinEntry, IsGroup, IsThin}
+use Rattle.dh_compile.specs.declared.uses.Use.{Use}
+use Rattle.dh_compile.specs.declared.uses.Use.TheVariants.{Reads, Writes}
+use Rattle.dh_compile.specs.Timetable.{use_in, is_read, any_read, group_length, stored_of, rows_after}
+use Rattle.dh_compile.specs.ThinRun.{run_of, AreLong, GroupDone, DoesGroups}
+use Rattle.dh_compile.proofs.Groups.{at_place, some_at}
+use Rattle.dh_compile.proofs.GroupEvents.{group_events, events_are}
+use Rattle.dh_compile.proofs.Spending.{no_stop, group_agrees, group_ports}
+use Rattle.dh_compile.proofs.GroupWrites.{group_done}
+
+-- the phase of each group
+abbrev pub phases_from : List (List Store) → List Phase
+phases_from [] = []
+phases_from (g ∷ gs) = straight (map command_of g) ∷ phases_from gs
+
+abbrev pub threads_from : List (List Store) → Threads
+threads_from gs = phases_from gs ∷ []
+
+one_phase : (g : List Store) (rest : List (List _)) → 1 ≤ length g → phases_of (map command_of g ∷ rest) ≡ straight (map command_of g) ∷ phases_of rest
+one_phase [] rest l = absurd (let z : 1 ≤ 0 = l in omega arith)
+one_phase (s ∷ ss) rest l = refl
+
+phases_are : (table : List MemEntry) (gs : List (List Store)) → AllByRecursion (IsGroup table) gs → phases_of (map (map command_of) gs) ≡ phases_from gs
+phases_are table [] h = refl
+phases_are table (g ∷ gs) h =
+    one_phase g (map (map command_of) gs) h.0.least ∙ ap (λ ps. straight (map command_of g) ∷ ps) (phases_are table gs h.1)
+
+-- the levels: one where some store has a source
+store_level : (s : Store) → command_level (command_of s) ≡ (if is_read s.source then 1 else 0)
+store_level s = by s.source
+  where
+    by : (source : Option Operand) → max (level_of (value_term source s.number)) (max 0 0) ≡ (if is_read source then 1 else 0)
+    by None = refl
+    by (Some o) = refl
+
+max_levels : (a b : Bool) → max (if a then 1 else 0) (if b then 1 else 0) ≡ (if a || b then 1 else 0)
+max_levels true true = refl
+max_levels true false = refl
+max_levels false true = refl
+max_levels false false = refl
+
+levels_are : (g : List Store) → commands_level (map command_of g) ≡ (if any_read g then 1 else 0)
+levels_are [] = refl
+levels_are (s ∷ ss) =
+    ap (λ n. max n (commands_level (map command_of ss))) (store_level s)
+    ∙ (ap (λ n. max (if is_read s.source then 1 else 0) n) (levels_are ss)
+    ∙ max_levels (is_read s.source) (any_read ss))
+
+one_more : (b : Bool) → max (suc (if b then 1 else 0)) 0 ≡ (if b then 2 else 1)
+one_more true = refl
+one_more false = refl
+
+length_is : (g : List Store) (gs : List (List Store)) → step_length (threads_from (g ∷ gs)) ≡ group_length g
+length_is g gs = ap (λ n. max (suc n) 0) (levels_are g) ∙ one_more (any_read g)
+
+-- how a run stands when these groups are still to come
+pub record IsAt (table : List MemEntry) (s : Standing) (gs : List (List Store)) : Type 0 where
+  pub threads : s.threads ≡ threads_from gs
+  pub outcome : s.outcome ≡ outcome_of (threads_from gs)
+  pub long : AreLong table s.memories
+
+-- the step of a group keeps all lengths
+length-rows_after : (old : List (List ℕ)) (u : Option Use) (rows : List ℕ) → length (rows_after old u rows) ≡ length rows
+length-rows_after old None rows = refl
+length-rows_after old (Some (Reads row)) rows = refl
+length-rows_after old (Some (Writes row source number)) rows = length-set rows row (stored_of old source number)
+
+still_long : (table : List MemEntry) (g : List Store) (old new : List (List ℕ)) → AreLong table old → GroupDone g old new → AreLong table new
+still_long table g old new h d = record {
+  all = d.all ∙ h.all;
+  each = λ i e at. ap length (d.each i) ∙ (length-rows_after old (use_in g i) (slice_index_or old i []) ∙ h.each i e at);
+}
+
+events_of_step : (table : List MemEntry) (memories : List (List ℕ)) (g : List Store) (gs : List (List Store)) → AllByRecursion IsThinEntry table → IsGroup table g
+    → step_events table memories (threads_from (g ∷ gs)) ≡ group_events memories g
+events_of_step table memories g gs h k = append-nil (commands_events table memories (map command_of g)) ∙ events_are table memories g h k.stores
+
+-- where the next group's step leads
+step_is : (table : List MemEntry) (s : Standing) (g : List Store) (gs : List (List Store)) → AllByRecursion IsThinEntry table → IsGroup table g → IsAt table s (g ∷ gs)
+    → step_from table s s.outcome ≡ stands_at (written (group_events s.memories g) s.memories) (threads_from gs)
+step_is table s g gs h k a =
+    let events : step_events table s.memories s.threads ≡ group_events s.memories g =
+    ap (λ ts. step_events table s.memories ts) a.threads ∙ events_of_step table s.memories g gs h k in
+    let goes : stop_after table [] (group_events s.memories g) ≡ None =
+    no_stop table [] (group_events s.memories g) (group_agrees s.memories g k.ports) (group_ports table s.memories g h k.stores) in
+    ap (λ o. step_from table s o) a.outcome
+    ∙ (ap (λ es. next_standing es s (stop_after table [] es)) events
+    ∙ (ap (λ o. next_standing (group_events s.memories g) s o) goes
+    ∙ ap (λ ts. stands_at (written (group_events s.memories g) s.memories) (after_step ts)) a.threads))
+
+-- the groups that are left after a step
+abbrev pub rest_of : List (List Store) → List (List Store)
+rest_of [] = []
+rest_of (g ∷ gs) = gs
+
+next_at : (table : List MemEntry) (s : Standing) (gs : List (List Store)) → AllByRecursion IsThinEntry table → AllByRecursion (IsGroup table) gs → IsAt table s gs
+    → IsAt table (step_from table s s.outcome) (rest_of gs)
+next_at table s [] h k a =
+    let P : Standing → Type 0 = λ x. IsAt table x [] in
+    let stays : step_from table s s.outcome ≡ s = ap (λ o. step_from table s o) a.outcome in
+    subst P (sym stays) a
+next_at table s (g ∷ gs) h k a =
+    let P : Standing → Type 0 = λ x. IsAt table x gs in
+    let there : IsAt table (stands_at (written (group_events s.memories g) s.memories) (threads_from gs)) gs =
+    record { threads = refl; outcome = refl; long = still_long table g s.memories (written (group_events s.memories g) s.memories) a.long (group_done s.memories g k.0.ports) } in
+    subst P (sym (step_is table s g gs h k.0 a)) there
+
+drop_next : (gs : List (List Store)) (n : ℕ) → rest_of (drop n gs) ≡ drop (suc n) gs
+drop_next [] zero = refl
+drop_next [] (suc n) = refl
+drop_next (g ∷ gs) zero = refl
+drop_next (g ∷ gs) (suc n) = drop_next gs n
+
+drop_at : (gs : List (List Store)) (n : ℕ) (g : List Store) → slice_get gs n ≡ Some g → drop n gs ≡ g ∷ drop (suc n) gs
+drop_at [] n g e = cc
+drop_at (f ∷ fs) zero g e = let same : f ≡ g = cc in ap (λ x. x ∷ fs) same
+drop_at (f ∷ fs) (suc n) g e = drop_at fs n g e
+
+all_dropped : (P : List Store → Type 0) (gs : List (List Store)) (n : ℕ) → AllByRecursion P gs → AllByRecursion P (drop n gs)
+all_dropped P gs zero h = h
+all_dropped P [] (suc n) h = tt
+all_dropped P (g ∷ gs) (suc n) h = all_dropped P gs n h.1
+
+fits_long : (table : List MemEntry) (memories : List (List ℕ)) → Fits table memories → AreLong table memories
+fits_long table memories h = record { all = lengths table memories h; each = each table memories h }
+  where
+    lengths : (es : List MemEntry) (ms : List (List ℕ)) → Fits es ms → length ms ≡ length es
+    lengths [] [] h = refl
+    lengths [] (m ∷ ms) h = absurd h
+    lengths (e ∷ es) [] h = absurd h
+    lengths (e ∷ es) (m ∷ ms) h = ap suc (lengths es ms h.1)
+
+    each : (es : List MemEntry) (ms : List (List ℕ)) → Fits es ms → (i : ℕ) (e : MemEntry) → slice_get es i ≡ Some e → length (slice_index_or ms i []) ≡ elements_of e.shape.dims
+    each [] ms h i e d = cc
+    each (f ∷ fs) [] h i e d = absurd h
+    each (f ∷ fs) (m ∷ ms) h zero e d = let same : f ≡ e = cc in h.0.long ∙ ap (λ x. elements_of x.shape.dims) same
+    each (f ∷ fs) (m ∷ ms) h (suc i) e d = each fs ms h.1 i e d
+
+-- after n steps the first n groups are done
+is_at : (p : Program) (memories : List (List ℕ)) → IsThin p → Fits p.table memories → (n : ℕ) → IsAt p.table (standing (tree_of p) memories n) (drop n p.groups)
+is_at p memories h f zero =
+    let ts : threads_of ≡ threads_from p.groups = ap (λ ps. ps ∷ []) (phases_are p.table p.groups h.groups) in
+    record { threads = ts; outcome = ap outcome_of ts; long = fits_long p.table memories f }
+  where
+    threads_of : Threads
+    threads_of = phases_of (map (map command_of) p.groups) ∷ []
+is_at p memories h f (suc n) =
+    let P : List (List Store) → Type 0 = λ gs. IsAt p.table (standing (tree_of p) memories (suc n)) gs in
+    subst P (drop_next p.groups n)
+    (next_at p.table (standing (tree_of p) memories n) (drop n p.groups) h.entries (all_dropped (IsGroup p.table) p.groups n h.groups) (is_at p memories h f n))
+
+-- the next group, where there is one
+is_next : (p : Program) (memories : List (List ℕ)) → IsThin p → Fits p.table memories → (n : ℕ) (g : List Store) → slice_get p.groups n ≡ Some g
+    → IsAt p.table (standing (tree_of p) memories n) (g ∷ drop (suc n) p.groups)
+is_next p memories h f n g e =
+    let P : List (List Store) → Type 0 = λ gs. IsAt p.table (standing (tree_of p) memories n) gs in
+    subst P (drop_at p.groups n g e) (is_at p memories h f n)
+
+no_more : (gs : List (List Store)) (n : ℕ) → length gs ≤ n → drop n gs ≡ []
+no_more [] zero l = refl
+no_more [] (suc n) l = refl
+no_more (g ∷ gs) zero l = absurd (let z : suc (length gs) ≤ 0 = l in omega arith)
+no_more (g ∷ gs) (suc n) l = no_more gs n (let z : suc (length gs) ≤ suc n = l in omega arith)
+
+has_ended : (p : Program) (memories : List (List ℕ)) → IsThin p → Fits p.table memories → (n : ℕ) → length p.groups ≤ n
+    → (standing (tree_of p) memories n).outcome ≡ Ended
+has_ended p memories h f n l = (is_at p memories h f n).outcome ∙ ap (λ gs. outcome_of (threads_from gs)) (no_more p.groups n l)
+
+is_going : (p : Program) (memories : List (List ℕ)) → IsThin p → Fits p.table memories → (n : ℕ) → n < length p.groups
+    → (standing (tree_of p) memories n).outcome ≡ Going
+is_going p memories h f n l = let next = some_at p.groups n l in (is_next p memories h f n next.0 next.1).outcome
+
+does_group : (p : Program) (memories : List (List ℕ)) → IsThin p → Fits p.table memories → (n : ℕ) (g : List Store) → slice_get p.groups n ≡ Some g
+    → GroupDone g (standing (tree_of p) memories n).memories (standing (tree_of p) memories (suc n)).memories
+does_group p memories h f n g e =
+    let s : Standing = standing (tree_of p) memories n in
+    let group : IsGroup p.table g = at_place (IsGroup p.table) p.groups n g h.groups e in
+    let P : Standing → Type 0 = λ x. GroupDone g s.memories x.memories in
+    subst P (sym (step_is p.table s g (drop (suc n) p.groups) h.entries group (is_next p memories h f n g e)))
+    (group_done s.memories g group.ports)
+
+-- a thin program's run does its groups
+pub does_groups : (p : Program) → IsThin p → (m : List (List ℕ)) → Fits p.table m → DoesGroups p (run_of p m)
+does_groups p h m f = record {
+  long = λ n. (is_at p m h f n).long;
+  going = λ n l. is_going p m h f n l;
+  ended = λ n l. has_ended p m h f n l;
+  lengths = λ n g e. ap step_length (is_next p m h f n g e).threads ∙ length_is g (drop (suc n) p.groups);
+  steps = λ n g e. does_group p m h f n g e;
+}

@@ -1,0 +1,20 @@
+-- What the compiler promises of a net: it is valid, its table is the program's, and from all fitting
+-- memories it plays the checked run of the program.
+use Rattle.std.specs.Prelude.{◌≡◌, ℕ, ◌≤◌, List, length}
+use Rattle.dh_tree.specs.declared.thin.Program.{Program}
+use Rattle.dh_tree.specs.Tables.{Fits}
+use Rattle.dh_net.specs.declared.nets.Net.{Net}
+use Rattle.dh_net.specs.Valid.{IsValid}
+use Rattle.dh_net.specs.Plays.{EndsAfter, Plays, clocks_of}
+use Rattle.dh_compile.specs.ThinRun.{run_of}
+
+-- for all fitting memories and every number of clocks
+pub record PlaysProgram (net : Net) (p : Program) : Type 0 where
+  pub valid : IsValid net
+  pub table : net.table ≡ p.table
+  pub plays : (memories : List (List ℕ)) → Fits p.table memories → Plays net (run_of p memories) memories
+
+-- the run of a thin program ends after its last group, within 128 clocks
+pub record EndsSoon (p : Program) : Type 0 where
+  pub ends : (memories : List (List ℕ)) → Fits p.table memories → EndsAfter (run_of p memories) (length p.groups)
+  pub within : (memories : List (List ℕ)) → Fits p.table memories → clocks_of (run_of p memories) (length p.groups) ≤ 128

@@ -1,0 +1,84 @@
+-- What the drivers of a port say while a net is being built.
+use Rattle.std.specs.Prelude.{◌≡◌, ℕ, ◌+◌, ◌-◌, ◌<◌, ◌^◌, true, List, [], ◌++◌, length, slice_get, slice_index, slice_index_or, Some}
+use Rattle.dh_tree.specs.declared.tables.MemEntry.{MemEntry}
+use Rattle.dh_tree.specs.declared.thin.Store.{Store}
+use Rattle.dh_tree.specs.declared.thin.Program.{Program}
+use Rattle.dh_net.specs.Valid.{HasWidth, IsDriver}
+use Rattle.dh_net.specs.declared.nets.Cell.{Cell}
+use Rattle.dh_net.specs.declared.nets.Driver.{Driver}
+use Rattle.dh_compile.specs.declared.uses.Use.{Use}
+use Rattle.dh_compile.specs.declared.uses.Use.TheVariants.{Reads, Writes}
+use Rattle.dh_compile.specs.Timetable.{Timed, use_in, group_length, put_use, uses_of}
+use Rattle.dh_compile.specs.Built.{EnabledAt, Does, Drives}
+use Rattle.dh_compile.specs.Drafts.{Drafted, Always, Grows, IsHeld}
+
+-- the clock of a use by a group that begins at this clock and has this length
+abbrev pub use_clock : (begin length : ℕ) → Use → ℕ
+use_clock begin length (Reads row) = begin
+use_clock begin length (Writes row source number) = begin + length - 1
+
+-- a use whose row has a number of this width, and whose data can be had
+abbrev pub FitsUse : List MemEntry → (wide : ℕ) → Use → Type 0
+FitsUse table wide (Reads row) = row < 2 ^ wide
+FitsUse table wide (Writes row source number) = (row < 2 ^ wide) × (IsHeld table source × (number < 2 ^ 32))
+
+-- the group uses the memory so, if at all
+abbrev pub FitsGroup : List MemEntry → (memory wide : ℕ) → List Store → Type 0
+FitsGroup table memory wide g = (u : Use) → use_in g memory ≡ Some u → FitsUse table wide u
+
+-- the driver's wires are there, with the widths that a port of 32 bits needs
+pub record FitsDriver (cells : List Cell) (wide : ℕ) (d : Driver) : Type 0 where
+  pub enable : HasWidth cells d.enable 1
+  pub row : HasWidth cells d.row wide
+  pub out : d.write ≡ true → HasWidth cells d.data_ 32
+
+abbrev pub FitDrivers : List Cell → (wide : ℕ) → List Driver → Type 0
+FitDrivers cells wide ds = (k : ℕ) (d : Driver) → slice_get ds k ≡ Some d → FitsDriver cells wide d
+
+-- cells were added for a driver with this enable wire that does this
+pub record AddsUse (old new : Drafted) (d : Driver) (enable wide : ℕ) (u : Use) : Type 0 where
+  pub grows : Grows old new
+  pub same : d.enable ≡ enable
+  pub does : Always new.cells (λ registers held wires. Does held wires d u)
+  pub row : HasWidth new.cells d.row wide
+  pub out : d.write ≡ true → HasWidth new.cells d.data_ 32
+
+-- cells were added for a driver that does this at this clock alone
+pub record AddsDriver (old new : Drafted) (d : Driver) (wide at : ℕ) (u : Use) : Type 0 where
+  pub grows : Grows old new
+  pub enabled : Always new.cells (λ registers held wires. EnabledAt (slice_index registers 0) wires d at)
+  pub does : Always new.cells (λ registers held wires. Does held wires d u)
+  pub fits : FitsDriver new.cells wide d
+
+-- with drivers for what is still to come, these drivers do all
+abbrev pub Leads : List Cell → List Driver → (rest all : List Timed) → Type 0
+Leads cells ds rest all =
+    Always cells (λ registers held wires. (x : List Driver) → Drives (slice_index registers 0) held wires x rest → Drives (slice_index registers 0) held wires (ds ++ x) all)
+
+-- the drivers have come to do what a group does
+pub record AddsGroup (old new : Drafted) (ds more : List Driver) (memory wide begin : ℕ) (g : List Store) : Type 0 where
+  pub grows : Grows old new
+  pub leads : (rest all : List Timed) → Leads old.cells ds (put_use begin (group_length g) (use_in g memory) rest) all → Leads new.cells more rest all
+  pub fit : FitDrivers old.cells wide ds → FitDrivers new.cells wide more
+
+-- cells were added for drivers that do what all groups do
+pub record AddsPort (old new : Drafted) (ds : List Driver) (memory wide : ℕ) (groups : List (List Store)) : Type 0 where
+  pub grows : Grows old new
+  pub drives : Always new.cells (λ registers held wires. Drives (slice_index registers 0) held wires ds (uses_of memory 0 groups))
+  pub fit : FitDrivers new.cells wide ds
+
+-- what the groups do can be done by the port of this memory
+abbrev pub FitsGroups : List MemEntry → (memory wide : ℕ) → List (List Store) → Type 0
+FitsGroups table memory wide groups = (k : ℕ) (g : List Store) → slice_get groups k ≡ Some g → FitsGroup table memory wide g
+
+-- the ports of the first memories have their drivers
+pub record HasPorts (cells : List Cell) (ports : List (List Driver)) (p : Program) (memories : ℕ) : Type 0 where
+  pub all : length ports ≡ memories
+  pub drives : (m : ℕ) → m < memories → Always cells (λ registers held wires. Drives (slice_index registers 0) held wires (slice_index_or ports m []) (uses_of m 0 p.groups))
+  pub fit : (m : ℕ) (ds : List Driver) (e : MemEntry) → slice_get ports m ≡ Some ds → slice_get p.table m ≡ Some e
+      → (k : ℕ) (d : Driver) → slice_get ds k ≡ Some d → IsDriver cells e d
+
+-- cells were added for the drivers of all ports
+pub record AddsPorts (old new : Drafted) (ports : List (List Driver)) (p : Program) : Type 0 where
+  pub grows : Grows old new
+  pub has : HasPorts new.cells ports p (length p.table)

@@ -1,0 +1,65 @@
+//! Wires that a draft gains by a few cells in a row.
+
+ghost use Rattle.std.specs.Prelude.{◌≡◌, ◌+◌, ◌%◌, ◌^◌, ◌==◌, ◌<◌, ◌≤◌, if◌then◌else◌, slice_index, IfOk};
+ghost use Rattle.dh_net.specs.Valid.{IsPort};
+ghost use Rattle.dh_compile.specs.Timetable.{stored_from};
+ghost use Rattle.dh_compile.specs.Drafts.{Adds, IsClock, IsHeld};
+
+use crate::drafts::Draft;
+use dh_base::NoMemory;
+use dh_net::CellForm;
+use dh_tree::Operand;
+
+/// Adds a wire that shows these bits.
+pub(crate) fn push_constant(draft: &mut Draft, width: u8, bits: u64) -> Result<u64, NoMemory>
+    requires least { 1 ≤ width }
+    requires greatest { width ≤ 64 }
+    requires fits { bits < 2 ^ width }
+    ensures { IfOk result (λ wire. Adds draft.old draft.new wire width (λ registers held wires. bits)) }
+{
+    draft.push(width, CellForm::Const { bits })
+}
+
+/// Adds a wire that is 1 in the clock with this number alone. `clock` shows the number of the clock.
+pub(crate) fn push_at(draft: &mut Draft, clock: u64, number: u64) -> Result<u64, NoMemory>
+    requires clock { IsClock draft.old clock }
+    requires fits { number < 2 ^ 32 }
+    ensures { IfOk result (λ wire. Adds draft.old draft.new wire 1 (λ registers held wires. if slice_index registers 0 == number then 1 else 0)) }
+{
+    let right = push_constant(draft, 32, number)?;
+    draft.push(1, CellForm::Eq { a: clock, b: right })
+}
+
+/// Adds a wire that shows the sum of the held data of a memory's port and the number.
+fn push_sum(draft: &mut Draft, memory: u32, number: u64) -> Result<u64, NoMemory>
+    requires port { IsPort draft.old.table memory 0 0 32 }
+    requires fits { number < 2 ^ 32 }
+    ensures { IfOk result (λ wire. Adds draft.old draft.new wire 32 (λ registers held wires. (slice_index held memory + number) % 2 ^ 32)) }
+{
+    let right = push_constant(draft, 32, number)?;
+    let left = draft.push(
+        32,
+        CellForm::Data {
+            memory,
+            bank: 0,
+            port: 0,
+        },
+    )?;
+    draft.push(32, CellForm::Add { a: left, b: right })
+}
+
+/// Adds a wire that shows what is stored: the number, or the sum of the held element and the number.
+pub(crate) fn push_stored(
+    draft: &mut Draft,
+    source: Option<Operand>,
+    number: u64,
+) -> Result<u64, NoMemory>
+    requires source { IsHeld draft.old.table source }
+    requires fits { number < 2 ^ 32 }
+    ensures { IfOk result (λ wire. Adds draft.old draft.new wire 32 (λ registers held wires. stored_from held source number)) }
+{
+    match source {
+        None => push_constant(draft, 32, number),
+        Some(operand) => push_sum(draft, operand.memory, number),
+    }
+}

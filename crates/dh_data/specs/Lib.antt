@@ -1,0 +1,3 @@
+pub mod ThinData
+pub mod Reading
+pub mod Reports

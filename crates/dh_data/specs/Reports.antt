@@ -1,0 +1,83 @@
+-- The report of a run: one line of compact JSON (this project's format of reports).
+use Rattle.std.specs.Prelude.{ℕ, ◌*◌, ◌^◌, ℤ, pos, ◌-ℤ◌, map, List, [], ◌∷◌, ◌++◌, Bool, true, false, if◌then◌else◌, nat_lt, codes, decimal, slice_get, Option, Some, None, option_map, unwrap_or}
+use Rattle.serde_json.specs.Data.{Data, number, unsigned, boolean, string, array, object, Members, no_members, member, put}
+use Rattle.serde_json.specs.Find.{of_integer}
+use Rattle.serde_json.specs.View.{items_of}
+use Rattle.serde_json.specs.Written.{compact_text}
+use Rattle.dh_base.specs.declared.outcomes.FaultKind.{FaultKind}
+use Rattle.dh_base.specs.declared.outcomes.FaultKind.TheVariants as fault
+use Rattle.dh_base.specs.declared.outcomes.Outcome.{Outcome}
+use Rattle.dh_base.specs.declared.outcomes.Outcome.TheVariants as outcome
+use Rattle.dh_base.specs.declared.places.Place.{Place}
+use Rattle.dh_tree.specs.Tables.{width_of}
+use Rattle.dh_tree.specs.declared.kinds.Kind.{Kind}
+use Rattle.dh_tree.specs.declared.kinds.Kind.TheVariants as kind
+use Rattle.dh_tree.specs.declared.tables.MemEntry.{MemEntry}
+use Rattle.dh_data.specs.declared.reports.Ending.{Ending}
+
+-- ---- memories
+
+-- the number that bits of a kind stand for, in two's complement where the kind is signed
+abbrev pub number_of : Kind → ℕ → ℤ
+number_of kind.Bool bits = pos bits
+number_of (kind.Unsigned w) bits = pos bits
+number_of (kind.Signed w) bits = if nat_lt (2 * bits) (2 ^ w) then pos bits else pos bits -ℤ pos (2 ^ w)
+
+abbrev pub is_signed : Kind → Bool
+is_signed kind.Bool = false
+is_signed (kind.Unsigned w) = false
+is_signed (kind.Signed w) = true
+
+-- an element
+abbrev pub element_data : Kind → ℕ → Data
+element_data k bits = number (of_integer (number_of k bits))
+
+abbrev pub format_data : Kind → Data
+format_data k =
+    object (member (codes "is_signed") (boolean (is_signed k)) (member (codes "numeric_type") (string (codes "bitnum")) (member (codes "width") (number (unsigned (width_of k))) no_members)))
+
+-- the member of a memory
+abbrev pub memory_data : Kind → List ℕ → Data
+memory_data k values = object (member (codes "data") (array (items_of (map (element_data k) values))) (member (codes "format") (format_data k) no_members))
+
+-- the members, with one more where a memory is outside; names are in byte order
+abbrev pub with_outside : MemEntry → List ℕ → Members → Members
+with_outside e m found = if e.outside then put e.name (memory_data e.shape.kind m) found else found
+
+abbrev pub outside_data : List MemEntry → List (List ℕ) → Members → Members
+outside_data [] ms found = found
+outside_data (e ∷ es) [] found = found
+outside_data (e ∷ es) (m ∷ ms) found = outside_data es ms (with_outside e m found)
+
+-- ---- outcomes
+
+abbrev pub fault_name : FaultKind → List ℕ
+fault_name fault.OutOfRange = codes "OutOfRange"
+
+abbrev pub place_text : Place → List ℕ
+place_text p = decimal p.line ++ (codes ":" ++ decimal p.column)
+
+-- the name of a memory; none where the table has no such memory
+abbrev pub name_at : List MemEntry → ℕ → List ℕ
+name_at table memory = unwrap_or (option_map (λ e. e.name) (slice_get table memory)) []
+
+abbrev pub outcome_text : List MemEntry → Outcome → List ℕ
+outcome_text table outcome.Going = codes "going"
+outcome_text table outcome.Ended = codes "done"
+outcome_text table (outcome.Faulted f p) = codes "fault " ++ (fault_name f ++ (codes " " ++ place_text p))
+outcome_text table (outcome.Stuck m b p) = codes "stuck " ++ (name_at table m ++ (codes " " ++ (decimal b ++ (codes " " ++ place_text p))))
+
+-- ---- the report
+
+abbrev pub clocks_first : Option ℕ → Members → Members
+clocks_first None ms = ms
+clocks_first (Some clocks) ms = member (codes "clocks") (number (unsigned clocks)) ms
+
+abbrev pub report_data : List MemEntry → List (List ℕ) → Ending → Data
+report_data table memories ending =
+    object (clocks_first ending.clocks (member (codes "memories") (object (outside_data table memories no_members))
+    (member (codes "outcome") (string (outcome_text table ending.outcome)) (member (codes "steps") (number (unsigned ending.steps)) no_members))))
+
+-- with the end of the line
+abbrev pub report_text : List MemEntry → List (List ℕ) → Ending → List ℕ
+report_text table memories ending = compact_text (report_data table memories ending) ++ codes "\n"

@@ -1,0 +1,207 @@
+//! Writes a report: how a run stands and the contents of its outside memories, as a line of JSON.
+
+ghost use Rattle.std.specs.Prelude.{◌≡◌, ◌<◌, ◌≤◌, ◌^◌, ◌*◌, ◌-ℤ◌, pos, if◌then◌else◌, nat_lt, map, IfOk, OnOk, string_bytes};
+ghost use Rattle.std.specs.List.{AllByRecursion};
+ghost use Rattle.serde_json.specs.Data.{object, no_members};
+ghost use Rattle.serde_json.specs.View.{view, members_view};
+ghost use Rattle.dh_tree.specs.Tables.{IsTable, IsEntry, IsInteger, FitsEntry, Fits, width_of};
+ghost use Rattle.dh_data.specs.Reports.{report_text, report_data, outside_data, with_outside, memory_data, element_data, is_signed, outcome_text as outcome_bytes, name_at, fault_name as fault_bytes};
+
+use crate::thin_data::width;
+use dh_base::{FaultKind, NoMemory, Outcome, Place};
+use dh_tree::{Kind, MemEntry, MemTable, Memories};
+use serde_json::{Map, Value, json};
+use std::alloc::{AllocError, Global};
+
+/// How a run stood when it was left.
+#[derive(Clone, Copy, Debug, PartialEq, Eq)]
+pub struct Ending {
+    /// Whether it had ended, and how.
+    pub outcome: Outcome,
+    /// Logical steps that it took.
+    pub steps: u64,
+    /// Clocks that the net took; none where no net ran.
+    pub clocks: Option<u64>,
+}
+
+/// The report of a run: an object of compact JSON, its members in byte order, and LF. `clocks` is
+/// left out where no net ran; `memories` has the outside memories alone, and signed elements as
+/// signed numbers. Takes time and memory linear in the number of elements.
+pub fn report(
+    alloc: Global,
+    table: &MemTable,
+    m: &Memories,
+    ending: &Ending,
+) -> Result<Vec<u8>, NoMemory>
+    requires table { IsTable table.now }
+    requires fits { Fits table.now m.now }
+    ensures { IfOk result (λ b. b.items ≡ report_text table.now m.now ending.now) }
+{
+    let value = report_value(alloc, table, m, ending)?;
+    let mut text = value.to_vec(alloc)?;
+    text.push(b'\n')?;
+    Ok(text)
+}
+
+fn report_value(
+    alloc: Global,
+    table: &MemTable,
+    m: &Memories,
+    ending: &Ending,
+) -> Result<Value, AllocError>
+    requires table { IsTable table.now }
+    requires fits { Fits table.now m.now }
+    ensures { IfOk result (λ v. view v ≡ report_data table.now m.now ending.now) }
+{
+    let memories = memories_value(alloc, table.as_slice(), m.lists())?;
+    let outcome = outcome_text(alloc, table.as_slice(), ending.outcome)?;
+    match ending.clocks {
+        Some(clocks) => json!(in alloc; {
+            "clocks": clocks,
+            "memories": memories,
+            "outcome": outcome,
+            "steps": ending.steps
+        }),
+        None => json!(in alloc; {
+            "memories": memories,
+            "outcome": outcome,
+            "steps": ending.steps
+        }),
+    }
+}
+
+fn memories_value(
+    alloc: Global,
+    entries: &[MemEntry],
+    lists: &[Vec<u64>],
+) -> Result<Value, AllocError>
+    requires table { AllByRecursion IsEntry entries.now }
+    requires fits { Fits entries.now (map (λ v. v.items) lists.now) }
+    ensures { IfOk result (λ v. view v
+        ≡ object (outside_data entries.now (map (λ l. l.items) lists.now) no_members)) }
+{
+    let mut members = Map::new(alloc);
+    for (i, entry) in entries.iter().enumerate() {
+        put_memory(alloc, &mut members, entry, lists[i].as_slice())?;
+    }
+    Ok(Value::Object(members))
+}
+
+/// Adds the member of a memory, if it is outside.
+fn put_memory(
+    alloc: Global,
+    members: &mut Map<String, Value>,
+    entry: &MemEntry,
+    values: &[u64],
+) -> Result<(), AllocError>
+    requires entry { IsEntry entry.now }
+    requires fits { FitsEntry entry.now values.now }
+    ensures { OnOk result (members_view members.new.entries
+        ≡ with_outside entry.now values.now (members_view members.old.entries)) }
+{
+    if !entry.outside {
+        return Ok(());
+    }
+    let memory = memory_value(alloc, entry.shape.kind, values)?;
+    serde_json::put(members, alloc, entry.name.as_str(), memory)
+}
+
+fn memory_value(alloc: Global, kind: Kind, values: &[u64]) -> Result<Value, AllocError>
+    requires kind { IsInteger kind }
+    requires small { AllByRecursion (λ v. v < 2 ^ width_of kind) values.now }
+    ensures { IfOk result (λ v. view v ≡ memory_data kind values.now) }
+{
+    let mut data = Vec::with_capacity(alloc, values.len())?;
+    for bits in values {
+        data.push(element(kind, *bits))?;
+    }
+    json!(in alloc; {
+        "data": data,
+        "format": {
+            "is_signed": signed(kind),
+            "numeric_type": "bitnum",
+            "width": width(kind)
+        }
+    })
+}
+
+fn element(kind: Kind, bits: u64) -> Value
+    requires kind { IsInteger kind }
+    requires small { bits < 2 ^ width_of kind }
+    ensures { view result ≡ element_data kind bits }
+{
+    match kind {
+        Kind::Bool | Kind::Unsigned(_) => Value::from(bits),
+        Kind::Signed(width) => Value::from(signed_number(bits, width)),
+    }
+}
+
+/// The number that these bits stand for in two's complement.
+fn signed_number(bits: u64, width: u8) -> i64
+    requires width { (1 ≤ width) × (width ≤ 64) }
+    requires small { bits < 2 ^ width }
+    ensures { result ≡ (if nat_lt (2 * bits) (2 ^ width) then pos bits else pos bits -ℤ pos (2 ^ width)) }
+{
+    let greatest = u64::MAX >> (64 - width);
+    if bits <= greatest / 2 {
+        bits as i64
+    } else {
+        -1 - (greatest - bits) as i64
+    }
+}
+
+fn signed(kind: Kind) -> bool
+    ensures { result ≡ is_signed kind }
+{
+    matches!(kind, Kind::Signed(_))
+}
+
+fn outcome_text(alloc: Global, entries: &[MemEntry], outcome: Outcome) -> Result<String, AllocError>
+    ensures { IfOk result (λ s. string_bytes s ≡ outcome_bytes entries.now outcome) }
+{
+    let mut text = String::new(alloc);
+    match outcome {
+        Outcome::Going => text.push_str("going")?,
+        Outcome::Ended => text.push_str("done")?,
+        Outcome::Faulted { kind, place } => {
+            write!(
+                text,
+                "fault {} {}:{}",
+                fault_name(kind),
+                place.line,
+                place.column
+            )?
+        }
+        Outcome::Stuck {
+            memory,
+            bank,
+            place,
+        } => write!(
+            text,
+            "stuck {} {} {}:{}",
+            name_of(entries, memory),
+            bank,
+            place.line,
+            place.column
+        )?,
+    }
+    Ok(text)
+}
+
+fn fault_name(kind: FaultKind) -> &'static str
+    ensures { result.now ≡ fault_bytes kind }
+{
+    match kind {
+        FaultKind::OutOfRange => "OutOfRange",
+    }
+}
+
+/// The name of a memory; empty where the table has no such memory.
+fn name_of(entries: &[MemEntry], memory: u32) -> &str
+    ensures { result.now ≡ name_at entries.now memory }
+{
+    match entries.get(memory as usize) {
+        Some(entry) => entry.name.as_str(),
+        None => "",
+    }
+}

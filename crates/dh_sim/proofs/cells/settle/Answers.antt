@@ -1,0 +1,18 @@
+use Rattle.std.proofs.Common.{◌≡◌, ◌<◌, ◌≤◌, length, arith, ap, ◌∙◌}
+use Rattle.dh_sim.proofs.Settling.{walk_on, all_hold, cell_there}
+use Rattle.dh_sim.proofs.cells.settle.Goals as goal
+
+pub loop-i-preserved : goal.loop-i-preserved
+loop-i-preserved c =
+    let items = c.as_slice-cell-items.result.now in
+    let same : items ≡ c.args.net.now.cells = c.as_slice-cell-items.ensures in
+    let many = ap length same in
+    let inside : c.loop-i.i < length c.loop-i.wires = omega (arith, c.loop-i.auto.wires, c.requires.wires, many, c.loop-i-test.true) in
+    walk_on c.args.net.now c.requires.valid _ _ c.loop-i.wires c.loop-i.i _ _ (cell_there _ items c.loop-i.i _ same c.loop-i-test.true) inside c.loop-i.invariant c.cell_value-value.ensures
+
+pub returns : goal.returns
+returns c =
+    let items = c.as_slice-cell-items.result.now in
+    let many = ap length c.as_slice-cell-items.ensures in
+    let past : length c.args.net.now.cells ≤ c.loop-i.i = omega (arith, many, c.loop-i-test.false) in
+    all_hold _ _ _ c.loop-i.wires c.loop-i.i (c.loop-i.auto.wires ∙ c.requires.wires) past c.loop-i.invariant

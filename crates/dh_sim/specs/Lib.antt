@@ -1,0 +1,4 @@
+pub mod Rooms
+pub mod Points
+pub mod Shows
+pub mod Underway

@@ -1,0 +1,110 @@
+//! The flat arrays of a simulator: how they are made, and what a clock does to them.
+
+ghost use Rattle.std.specs.Prelude.{◌≡◌, ◌<◌, ◌^◌, length, map, replicate, slice_index, IfOk};
+ghost use Rattle.dh_net.specs.Valid.{IsValid};
+ghost use Rattle.dh_net.specs.Clock.{IsValuation, Clocks, has_clashes};
+ghost use Rattle.dh_sim.specs.Points.{IsSound, state_of};
+ghost use Rattle.dh_sim.specs.Shows.{ShowsAs};
+
+use crate::cells::settle;
+use crate::ports::{is_any_clash, load_registers, serve_ports};
+use dh_base::NoMemory;
+use dh_net::Net;
+use std::alloc::Global;
+
+/// What a net shows in a state.
+#[derive(Clone, Copy, Debug, PartialEq, Eq)]
+pub struct Shown {
+    /// Whether the last clock ended a logical step without fault.
+    pub tick: bool,
+    /// Whether the program has ended.
+    pub done: bool,
+    /// The number of the fault in which the program ended, from 1, else 0.
+    pub fault: u32,
+    /// Whether the last clock had two active drivers on one port.
+    pub clash: bool,
+}
+
+/// The values of the registers before the first clock.
+pub fn initial_registers(alloc: Global, net: &Net) -> Result<Vec<u64>, NoMemory>
+    ensures { IfOk result (λ v. v.items ≡ map (λ r. r.initial) net.now.registers) }
+{
+    Ok(
+        net.registers
+            .as_slice()
+            .iter()
+            .map(|r| r.initial)
+            .collect(alloc)?,
+    )
+}
+
+/// So many zeros.
+pub fn zeros(alloc: Global, count: usize) -> Result<Vec<u64>, NoMemory>
+    ensures { IfOk result (λ v. v.items ≡ replicate count 0) }
+{
+    Ok(vec![in alloc; 0; count]?)
+}
+
+/// The wires of a state.
+pub fn settled_wires(
+    alloc: Global,
+    net: &Net,
+    registers: &[u64],
+    held: &[u64],
+) -> Result<Vec<u64>, NoMemory>
+    requires valid { IsValid net.now }
+    requires registers { length registers.now ≡ length net.now.registers }
+    requires held { length held.now ≡ length net.now.drivers }
+    ensures { IfOk result (λ v. IsValuation net.now.cells registers.now held.now v.items) }
+{
+    let mut wires = zeros(alloc, net.cells.len())?;
+    settle(net, registers, held, &mut wires);
+    Ok(wires)
+}
+
+/// A copy of lists.
+pub fn copied(alloc: Global, lists: &[Vec<u64>]) -> Result<Vec<Vec<u64>>, NoMemory>
+    ensures { IfOk result (λ v. map (λ b. b.items) v.items ≡ map (λ b. b.items) lists.now) }
+{
+    let mut copies = Vec::with_capacity(alloc, lists.len())?;
+    for list in lists {
+        let copy = Vec::from_slice(alloc, list.as_slice())?;
+        copies.push(copy)?;
+    }
+    Ok(copies)
+}
+
+/// What the net shows by these wires.
+pub fn shown_by(net: &Net, wires: &[u64], clash: bool) -> Shown
+    requires valid { IsValid net.now }
+    requires wires { length wires.now ≡ length net.now.cells }
+    requires small { slice_index wires.now net.now.fault < 2 ^ 32 }
+    ensures { ShowsAs result net.now wires.now clash }
+{
+    Shown {
+        tick: wires[net.tick as usize] == 1,
+        done: wires[net.done as usize] == 1,
+        fault: wires[net.fault as usize] as u32,
+        clash,
+    }
+}
+
+/// Clocks the net once, and tells whether two active drivers met on some port. Takes no memory.
+pub fn clock_arrays(
+    net: &Net,
+    registers: &mut [u64],
+    held: &mut [u64],
+    banks: &mut [Vec<u64>],
+    wires: &mut [u64],
+) -> bool
+    requires { IsSound net.now (state_of registers.old held.old banks.old) wires.old }
+    ensures clocked { Clocks net.now (state_of registers.old held.old banks.old) (state_of registers.new held.new banks.new) }
+    ensures sound { IsSound net.now (state_of registers.new held.new banks.new) wires.new }
+    ensures clash { result ≡ has_clashes wires.old net.now.drivers }
+{
+    let clash = is_any_clash(net, wires);
+    serve_ports(net, wires, held, banks);
+    load_registers(net, wires, registers);
+    settle(net, registers, held, wires);
+    clash
+}

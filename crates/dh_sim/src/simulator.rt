@@ -1,0 +1,108 @@
+//! The simulator: a net with its registers, held data, banks and wires in flat arrays.
+
+ghost use Rattle.std.specs.Prelude.{◌≡◌, ◌<◌, ◌^◌, false, length, map, replicate, slice_index, IfOk, List, ℕ};
+ghost use Rattle.dh_tree.specs.Tables.{Fits};
+ghost use Rattle.dh_net.specs.Valid.{IsValid};
+ghost use Rattle.dh_net.specs.Clock.{Settles, Clocks, start_of, has_clashes};
+ghost use Rattle.dh_sim.specs.Shows.{ShowsAs};
+
+use crate::arrays::{
+    Shown, clock_arrays, copied, initial_registers, settled_wires, shown_by, zeros,
+};
+use dh_base::NoMemory;
+use dh_net::Net;
+use dh_tree::Memories;
+use std::alloc::Global;
+use std::marker::Model;
+
+/// A net in a state. A contract sees the net, the state, and whether the last clock had a clash.
+#[derive(Drop)]
+pub struct Sim<'a> {
+    net: &'a Net,
+    registers: Vec<u64>,
+    // the held data of each port; a port, its bank and its memory have one number
+    held: Vec<u64>,
+    banks: Vec<Vec<u64>>,
+    // the wires of the present state
+    wires: Vec<u64>,
+    clash: bool,
+}
+
+impl<'a> Model for Sim<'a> {
+    ghost use Rattle.dh_sim.specs.Points.{Point, IsSound, state_of};
+
+    ghost Value = { Point };
+
+    ghost view = { λ s. record { net = s.net.now; state = state_of s.registers.items s.held.items s.banks.items; clash = s.clash } };
+
+    ghost invariant = { λ s. IsSound s.net.now (state_of s.registers.items s.held.items s.banks.items) s.wires.items };
+}
+
+impl<'a> Sim<'a> {
+    /// The net before its first clock, with these memories. Makes all room that the simulator needs.
+    ///
+    /// # Errors
+    ///
+    /// `NoMemory` where an allocation was refused.
+    pub fn new(alloc: Global, net: &'a Net, memories: Memories) -> Result<Sim<'a>, NoMemory>
+        requires valid { IsValid net.now }
+        requires fits { Fits net.now.table memories }
+        ensures { IfOk result (λ s. s ≡ record { net = net.now; state = start_of net.now memories; clash = false }) }
+    {
+        let registers = initial_registers(alloc, net)?;
+        let held = zeros(alloc, net.drivers.len())?;
+        let wires = settled_wires(alloc, net, &registers, &held)?;
+        let banks = memories.into_lists();
+        Ok(Sim {
+            net,
+            registers,
+            held,
+            banks,
+            wires,
+            clash: false,
+        })
+    }
+
+    /// Clocks the net once, and tells what it shows then. Takes no memory.
+    pub fn clock(&mut self) -> Shown
+        ensures net { self.new.net ≡ self.old.net }
+        ensures clocked { Clocks self.old.net self.old.state self.new.state }
+        ensures clash { (wires : List ℕ) → Settles self.old.net self.old.state wires → self.new.clash ≡ has_clashes wires self.old.net.drivers }
+        ensures shown { (wires : List ℕ) → Settles self.new.net self.new.state wires → ShowsAs result self.new.net wires self.new.clash }
+    {
+        self.clash = clock_arrays(
+            self.net,
+            &mut self.registers,
+            &mut self.held,
+            &mut self.banks,
+            &mut self.wires,
+        );
+        self.shown()
+    }
+
+    /// What the net shows in the present state.
+    pub fn shown(&self) -> Shown
+        ensures { (wires : List ℕ) → Settles self.now.net self.now.state wires → ShowsAs result self.now.net wires self.now.clash }
+    {
+        shown_by(self.net, &self.wires, self.clash)
+    }
+
+    /// A copy of the memories in the present state.
+    ///
+    /// # Errors
+    ///
+    /// `NoMemory` where an allocation was refused.
+    pub fn memories(&self, alloc: Global) -> Result<Memories, NoMemory>
+        ensures { IfOk result (λ m. m ≡ self.now.state.banks) }
+    {
+        Ok(Memories::new(copied(alloc, &self.banks)?))
+    }
+
+    /// The memories in the present state. Takes no memory.
+    pub fn into_memories(self) -> Memories
+        ensures contents { result ≡ self.entry.state.banks }
+        ensures fits { Fits self.entry.net.table result }
+    {
+        Memories::new(self.banks)
+    }
+}
