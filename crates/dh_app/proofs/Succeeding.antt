@@ -18,24 +18,28 @@ use Rattle.dh_tree.specs.Thin.{IsThinText}
 use Rattle.dh_net.specs.Plays.{EndsAfter, clocks_of}
 use Rattle.dh_net.specs.Reports.{ReportsAs}
 use Rattle.dh_net.proofs.Fits.{no_fault_at_end}
+use Rattle.dh_compile.specs.Compiled.{PlaysProgram}
 use Rattle.dh_compile.specs.ThinRun.{run_of}
+use Rattle.dh_verilog.specs.Ranges.{IsAlone}
 use Rattle.dh_compile.proofs.PlayingPrograms.{ends_soon}
 use Rattle.dh_data.specs.ThinData.{Holds, AreMembers}
 use Rattle.serde_json.specs.Data.{Members}
 use Rattle.dh_data.specs.Reports.{report_text}
 use Rattle.dh_app.specs.declared.engine.Finish.{Finish}
 use Rattle.dh_app.specs.declared.words.Job.{Job}
-use Rattle.dh_app.specs.declared.words.Job.TheVariants.{Simulate}
-use Rattle.dh_app.specs.Ends.{most_clocks, Names, MayRead, FailsToRead, IsProgram, IsData, status_of, ending_of, IsReport, Reported, ProgramTooLong, DataTooLong, ReadFails, Ends, NothingFails, ReportsRun, Succeeds}
+use Rattle.dh_app.specs.declared.words.Job.TheVariants.{Lower, Simulate}
+use Rattle.dh_app.specs.Ends.{most_clocks, Names, NamesLower, NamesProgram, Lowered, NothingFailsLower, WritesNet, MayRead, FailsToRead, IsProgram, IsData, status_of, ending_of, IsReport, Reported, ProgramTooLong, DataTooLong, ReadFails, Ends, NothingFails, ReportsRun, Succeeds}
 
 -- two jobs of the same words name the same files
 abbrev first_of : Option Job → ℕ
 first_of None = 0
 first_of (Some (Simulate a b)) = a
+first_of (Some (Lower a)) = a
 
 abbrev second_of : Option Job → ℕ
 second_of None = 0
 second_of (Some (Simulate a b)) = b
+second_of (Some (Lower a)) = 0
 
 file_same : (words : List (List ℕ)) (f d f' d' : List ℕ) → Names words f d → Names words f' d' → f ≡ f'
 file_same words f d f' d' n m =
@@ -84,6 +88,15 @@ module _ (words : List (List ℕ)) (old new : FilesSeen) (before after : SinkSee
 
   soon : clocks_of (run_of p memories) (length p.groups) ≤ most_clocks
   soon = let w = (ends_soon p n.thin.parsed.thin).within memories fits in omega arith
+
+  -- the words are not to lower a program
+  no_lower : (f : List ℕ) → NamesLower words f → ⊥
+  no_lower f names = let both : Some (Simulate n.names.file_at n.names.data_at) ≡ Some (Lower names.file_at) = sym n.names.job ∙ names.job in cc
+
+  -- the file of the program
+  file_is : (f : List ℕ) → NamesProgram words f → n.file ≡ f
+  file_is f (inl names) = absurd (no_lower f names)
+  file_is f (inr names) = file_same words n.file n.data_ f names.0 n.names names.1
 
   -- the one program of the file
   program_is : (f d : List ℕ) → Names words f d → (q : Program) → IsProgram old f q → q ≡ p
@@ -148,25 +161,30 @@ module _ (words : List (List ℕ)) (old new : FilesSeen) (before after : SinkSee
   never_going (outcome.Stuck memory bank place) steps clocks e h = h
 
   read_fails : ReadFails words old new → ⊥
-  read_fails r = by r.fails
+  read_fails (inl r) = by r.fails
     where
-      told_file : old.told r.file ≡ outside.Holds n.text
-      told_file = let P : List ℕ → Type 0 = λ x. old.told x ≡ outside.Holds n.text in subst P (file_same words n.file n.data_ r.file r.data_ n.names r.names) n.text_told
-
-      told_data : old.told r.data_ ≡ outside.Holds n.bytes
-      told_data = let P : List ℕ → Type 0 = λ x. old.told x ≡ outside.Holds n.bytes in subst P (data_same words n.file n.data_ r.file r.data_ n.names r.names) n.bytes_told
-
-      by : FailsToRead old new r.file ⊎ ((q : Program) × (IsProgram old r.file q × FailsToRead old new r.data_)) → ⊥
-      by (inl (inl rose)) = n.reads rose
-      by (inl (inr absent)) = told_there (old.told r.file) n.text told_file absent
-      by (inr (q, (is, inl rose))) = n.reads rose
-      by (inr (q, (is, inr absent))) = told_there (old.told r.data_) n.bytes told_data absent
+      told : old.told r.file ≡ outside.Holds n.text
+      told = let P : List ℕ → Type 0 = λ x. old.told x ≡ outside.Holds n.text in subst P (file_is r.file r.names) n.text_told
+      by : FailsToRead old new r.file → ⊥
+      by (inl rose) = n.reads rose
+      by (inr absent) = told_there (old.told r.file) n.text told absent
+  read_fails (inr r) = by r.fails
+    where
+      told : old.told r.data_ ≡ outside.Holds n.bytes
+      told = let P : List ℕ → Type 0 = λ x. old.told x ≡ outside.Holds n.bytes in subst P (data_same words n.file n.data_ r.file r.data_ n.names r.names) n.bytes_told
+      by : FailsToRead old new r.data_ → ⊥
+      by (inl rose) = n.reads rose
+      by (inr absent) = told_there (old.told r.data_) n.bytes told absent
 
   pub whole : (s : Status) → Ends words old new before after exact answers s → ReportsRun p memories before after s ⊎ (s ≡ status.NoMemory)
-  whole status.Done w = inl (done w.text (report_is status.Done w.text w.answer) w.grew)
+  whole status.Done w = by w.answer
+    where
+      by : Reported words old exact answers status.Done w.text ⊎ Lowered words old w.text → ReportsRun p memories before after status.Done ⊎ (status.Done ≡ status.NoMemory)
+      by (inl a) = inl (done w.text (report_is status.Done w.text a) w.grew)
+      by (inr a) = absurd (no_lower a.file a.names)
   whole status.Refused w =
       let a = w.answer in
-      let same = file_same words n.file n.data_ a.file a.data_ n.names a.names in
+      let same = file_is a.file a.names in
       let P : List ℕ → Type 0 = λ x. old.told x ≡ outside.Holds n.text in
       let text = told_bytes (old.told a.file) n.text a.no_program.text (subst P same n.text_told) a.no_program.read.contents in
       let Q : List ℕ → Type 0 = λ x. IsThinText x p in
@@ -188,7 +206,7 @@ module _ (words : List (List ℕ)) (old new : FilesSeen) (before after : SinkSee
       by : ProgramTooLong words old new w.text ⊎ DataTooLong words old new w.text → ⊥
       by (inl a) =
           let P : List ℕ → Type 0 = λ x. old.told x ≡ outside.Holds n.text in
-          let told = subst P (file_same words n.file n.data_ a.file a.data_ n.names a.names) n.text_told in
+          let told = subst P (file_is a.file a.names) n.text_told in
           let long = told_long (old.told a.file) n.text (greatest_of limit.Source) told a.too_long.longer in
           let within = n.text_within in
           omega arith
@@ -202,6 +220,78 @@ module _ (words : List (List ℕ)) (old new : FilesSeen) (before after : SinkSee
   whole status.WriteFault w = absurd (n.writes w.1)
   whole status.NoMemory w = inr refl
 
+-- the same of a call that lowers a program
+module _ (words : List (List ℕ)) (old new : FilesSeen) (before after : SinkSeen) (exact : Bool) (answers : List Finish) (p : Program)
+    (n : NothingFailsLower words old new before after p) where
+
+  no_simulate : (f d : List ℕ) → Names words f d → ⊥
+  no_simulate f d names = let both : Some (Lower n.names.file_at) ≡ Some (Simulate names.file_at names.data_at) = sym n.names.job ∙ names.job in cc
+
+  lowered_file : (f : List ℕ) → NamesLower words f → n.file ≡ f
+  lowered_file f names =
+      let at : n.names.file_at ≡ names.file_at = ap first_of (sym n.names.job ∙ names.job) in
+      sym n.names.file_is ∙ (ap (λ k. get_or words k []) at ∙ names.file_is)
+
+  lower_file : (f : List ℕ) → NamesProgram words f → n.file ≡ f
+  lower_file f (inl names) = lowered_file f names
+  lower_file f (inr names) = absurd (no_simulate f names.0 names.1)
+
+  lower_told : (f : List ℕ) → n.file ≡ f → old.told f ≡ outside.Holds n.text
+  lower_told f same = let P : List ℕ → Type 0 = λ x. old.told x ≡ outside.Holds n.text in subst P same n.text_told
+
+  lower_program : (f : List ℕ) → n.file ≡ f → (q : Program) → IsProgram old f q → q ≡ p
+  lower_program f same q h =
+      let text : n.text ≡ h.text = told_bytes (old.told f) n.text h.text (lower_told f same) h.read.contents in
+      let Q : List ℕ → Type 0 = λ x. IsThinText x p in
+      sym (h.only p (subst Q text n.thin))
+
+  written : (text : List ℕ) → Lowered words old text → Grew before after text → WritesNet p before after status.Done
+  written text a grew =
+      let e = lower_program a.file (lowered_file a.file a.names) a.program a.is_program in
+      let P : Program → Type 0 = λ q. PlaysProgram a.net q in
+      let T : List ℕ → Type 0 = λ t. Grew before after t in
+      let A : List ℕ → Type 0 = λ t. IsAlone t a.net in
+      record { done = refl; net = a.net; plays = subst P e a.plays; alone = subst A a.text_is a.alone; grew = subst T a.text_is grew }
+
+  no_read_fails : ReadFails words old new → ⊥
+  no_read_fails (inl r) = by r.fails
+    where
+      by : FailsToRead old new r.file → ⊥
+      by (inl rose) = n.reads rose
+      by (inr absent) = told_there (old.told r.file) n.text (lower_told r.file (lower_file r.file r.names)) absent
+  no_read_fails (inr r) = no_simulate r.file r.data_ r.names
+
+  pub whole_text : (s : Status) → Ends words old new before after exact answers s → WritesNet p before after s ⊎ (s ≡ status.NoMemory)
+  whole_text status.Done w = by w.answer
+    where
+      by : Reported words old exact answers status.Done w.text ⊎ Lowered words old w.text → WritesNet p before after status.Done ⊎ (status.Done ≡ status.NoMemory)
+      by (inl a) = absurd (no_simulate a.file a.data_ a.names)
+      by (inr a) = inl (written w.text a w.grew)
+  whole_text status.Refused w =
+      let a = w.answer in
+      let text = told_bytes (old.told a.file) n.text a.no_program.text (lower_told a.file (lower_file a.file a.names)) a.no_program.read.contents in
+      let Q : List ℕ → Type 0 = λ x. IsThinText x p in
+      absurd (a.no_program.not_thin p (subst Q text n.thin))
+  whole_text status.Usage w = let both : None ≡ Some (Lower n.names.file_at) = sym w.answer.0 ∙ n.names.job in cc
+  whole_text status.Faulted w = absurd (no_simulate w.answer.file w.answer.data_ w.answer.names)
+  whole_text status.Stuck w = absurd w
+  whole_text status.Going w = absurd (no_simulate w.answer.file w.answer.data_ w.answer.names)
+  whole_text status.BadData w = absurd (no_simulate w.answer.file w.answer.data_ w.answer.names)
+  whole_text status.TooLarge w = absurd (by w.answer)
+    where
+      by : ProgramTooLong words old new w.text ⊎ DataTooLong words old new w.text → ⊥
+      by (inl a) =
+          let long = told_long (old.told a.file) n.text (greatest_of limit.Source) (lower_told a.file (lower_file a.file a.names)) a.too_long.longer in
+          let within = n.text_within in
+          omega arith
+      by (inr a) = no_simulate a.file a.data_ a.names
+  whole_text status.ReadFault w = absurd (no_read_fails w.0)
+  whole_text status.WriteFault w = absurd (n.writes w.1)
+  whole_text status.NoMemory w = inr refl
+
 pub succeeds : (words : List (List ℕ)) (old new : FilesSeen) (before after : SinkSeen) (exact : Bool) (answers : List Finish) (s : Status)
-    → Ends words old new before after exact answers s → Succeeds words old new before after exact s
-succeeds words old new before after exact answers s e p memories n = whole words old new before after exact answers p memories n s e
+  → Ends words old new before after exact answers s → Succeeds words old new before after exact s
+succeeds words old new before after exact answers s e = record {
+  reports = λ p memories n. whole words old new before after exact answers p memories n s e;
+  lowers = λ p n. whole_text words old new before after exact answers p n s e
+}

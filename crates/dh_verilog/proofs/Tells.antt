@@ -14,7 +14,8 @@ use Rattle.dh_net.specs.Valid.{IsValid}
 use Rattle.dh_verilog.specs.Listed.{numbered}
 use Rattle.dh_verilog.specs.Head.{memory_line, fault_line, ports_of, module_text}
 use Rattle.dh_verilog.specs.Driving.{driving_text}
-use Rattle.dh_verilog.specs.Ranges.{IsPlace, InRange, HasReadsZero}
+use Rattle.dh_net.specs.Valid.{HasReadsZero}
+use Rattle.dh_verilog.specs.Ranges.{IsPlace, InRange}
 use Rattle.dh_verilog.specs.Text.{register_line, cell_line, outputs_text, update_line, clock_text, text_of}
 use Rattle.dh_verilog.specs.declared.ports.Port.{Port}
 use Rattle.dh_verilog.proofs.Reading.{unlike}

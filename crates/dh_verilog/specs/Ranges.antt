@@ -1,10 +1,9 @@
 -- What the types of the program add to the validity of a net.
-use Rattle.std.specs.Prelude.{◌≡◌, ℕ, ◌<◌, ◌^◌, false, List, length}
+use Rattle.std.specs.Prelude.{◌≡◌, ℕ, ◌<◌, ◌^◌, List, length}
 use Rattle.std.specs.List.{AllByRecursion}
 use Rattle.dh_base.specs.declared.places.Place.{Place}
-use Rattle.dh_net.specs.declared.nets.Driver.{Driver}
 use Rattle.dh_net.specs.declared.nets.Net.{Net}
-use Rattle.dh_net.specs.Valid.{IsValid}
+use Rattle.dh_net.specs.Valid.{IsValid, HasReadsZero}
 use Rattle.dh_verilog.specs.Text.{text_of}
 
 -- the place has a line and a column below 2^32
@@ -18,14 +17,6 @@ pub record InRange (net : Net) : Type 0 where
   pub registers : length net.registers < 2 ^ 64
   pub cells : length net.cells < 2 ^ 64
   pub faults : AllByRecursion (λ f. IsPlace f.1) net.faults
-
--- a read has data 0
-abbrev pub ReadsZero : Driver → Type 0
-ReadsZero d = d.write ≡ false → d.data_ ≡ 0
-
--- each read of the net has data 0, which no text shows
-abbrev pub HasReadsZero : Net → Type 0
-HasReadsZero net = AllByRecursion (λ ds. AllByRecursion ReadsZero ds) net.drivers
 
 -- no other valid net of the program, with reads of data 0, has this text
 abbrev pub IsAlone : List ℕ → Net → Type 0

@@ -3,7 +3,8 @@
 ghost use Rattle.std.specs.Prelude.{◌≡◌};
 ghost use Rattle.dh_net.specs.declared.nets.Net.{Net};
 ghost use Rattle.dh_net.specs.Valid.{IsValid};
-ghost use Rattle.dh_verilog.specs.Ranges.{InRange, HasReadsZero};
+ghost use Rattle.dh_net.specs.Valid.{HasReadsZero};
+ghost use Rattle.dh_verilog.specs.Ranges.{InRange};
 ghost use Rattle.dh_verilog.specs.Text.{text_of};
 
 /// A text is the text of at most one valid net whose reads have data 0. The nets are in range, as

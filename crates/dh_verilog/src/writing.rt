@@ -7,7 +7,8 @@ ghost use Rattle.dh_net.specs.Valid.{IsValid};
 ghost use Rattle.dh_verilog.specs.Listed.{numbered};
 ghost use Rattle.dh_verilog.specs.Head.{ports_of};
 ghost use Rattle.dh_verilog.specs.Driving.{driving_text};
-ghost use Rattle.dh_verilog.specs.Ranges.{InRange, HasReadsZero, IsAlone};
+ghost use Rattle.dh_net.specs.Valid.{HasReadsZero};
+ghost use Rattle.dh_verilog.specs.Ranges.{InRange, IsAlone};
 ghost use Rattle.dh_verilog.specs.Text.{register_line, binary_text, form_text, cell_line, outputs_text, update_line, clock_text, text_of};
 
 use crate::heads::{write_faults, write_memories, write_module};
