@@ -1,7 +1,7 @@
 //! The lexer: it takes the longest token at each point and never goes back, so that each byte is
 //! looked at a bounded number of times.
 
-ghost use Rattle.std.specs.Prelude.{◌≡◌, ◌+◌, ◌^◌, ◌<◌, ◌≤◌, List, [], ◌∷◌, ◌++◌, length, OnOk, OnErr};
+ghost use Rattle.std.specs.Prelude.{◌≡◌, ℕ, ◌+◌, ◌^◌, ◌<◌, ◌≤◌, List, [], ◌∷◌, ◌++◌, length, OnOk, OnErr};
 ghost use Rattle.dh_base.specs.declared.faults.PassFault.TheVariants as fault;
 ghost use Rattle.dh_base.specs.declared.places.Place.{Place};
 ghost use Rattle.dh_lexer.specs.LexedText as text;

@@ -5,7 +5,7 @@ use Rattle.dh_lexer.proofs.lexing.place_past.Given as goal
 
 abbrev pub invariant-loop-byte : goal.invariant-loop-byte
 invariant-loop-byte l = record {
-  is : place_from l.place (drop l.byte-index l.bytes) ≡ place_from l.start l.bytes;
+  is : place_from l.place (drop l.byte-index l.bytes) ≡ place_from l.fn.start l.bytes;
   lines : l.place.line + (length l.bytes - l.byte-index) < 2 ^ 32;
   columns : l.place.column + (length l.bytes - l.byte-index) < 2 ^ 32;
 }
