@@ -1,5 +1,5 @@
 -- Comments: `block_len` finds the first `*/`, by recursion on the text, and nothing where there is none.
-use Rattle.std.proofs.Common.{◌≡◌, ℕ, zero, suc, ◌+◌, ◌-◌, ◌<◌, ◌≤◌, Bool, true, false, List, [], ◌∷◌, ◌++◌, length, get_or, take, drop, ◌&&◌, ◌==◌, inl, inr, refl, ap, sym, ◌∙◌, subst, arith, eqb-true, codes, Option, Some, None, option_map, drop-drop, add-one}
+use Rattle.std.proofs.Common.{◌≡◌, ℕ, zero, suc, ◌+◌, ◌-◌, ◌<◌, ◌≤◌, Bool, true, false, List, [], ◌∷◌, ◌++◌, length, get_or, take, drop, ◌&&◌, ◌==◌, inl, inr, refl, ap, sym, ◌∙◌, subst, arith, eqb-true, codes, Option, Some, None, option_map, drop-drop, add-one, take-append-drop, append_assoc}
 use Rattle.std.specs.Cmp.{first_so, second_so}
 use Rattle.std.proofs.lemmas.Bool.{cond_both, cases_Bool, false≢true, false_from_ne_true}
 use Rattle.std.proofs.lemmas.Bool.Decides.{nat_tests}
@@ -80,7 +80,7 @@ body_more b bs other (Some n) h = record {
 }
   where
     front_is : get_or bs 0 0 ≡ get_or (h.body ++ (codes "*/" ++ drop n bs)) 0 0
-    front_is = ?
+    front_is = ap (λ l. get_or l 0 0) (sym (take-append-drop n bs) ∙ (ap (λ w. w ++ drop n bs) h.is ∙ append_assoc h.body (codes "*/") (drop n bs)))
 
 body_here : (b : ℕ) (bs : List ℕ) → ((b == 42) && (get_or bs 0 0 == 47)) ≡ true → IsBody (b ∷ bs) 2
 body_here b [] e = absurd (false≢true (second_so (b == 42) _ e))

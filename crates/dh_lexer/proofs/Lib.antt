@@ -5,3 +5,7 @@ pub mod WordsSpelled
 pub mod SignsSpelled
 pub mod TokensFound
 pub mod GapsFound
+pub mod FrontFound
+pub mod CutOnce
+pub mod LexedSoFar
+pub mod MostSeen

@@ -2,7 +2,7 @@
 -- token that the text begins with is longer; so the longest one has the same bytes, and one spelling
 -- is that of one token. Where it finds nothing the text begins with no token but a number that a
 -- letter, a digit or `_` follows.
-use Rattle.std.proofs.Common.{◌≡◌, ℕ, zero, suc, ◌<◌, ◌≤◌, Bool, true, false, List, [], ◌∷◌, ◌++◌, length, get_or, take, drop, inl, inr, refl, ap, sym, ◌∙◌, subst, arith, Option, Some, None, option_map, take-append-drop, length-drop}
+use Rattle.std.proofs.Common.{◌≡◌, ℕ, zero, suc, ◌<◌, ◌≤◌, Bool, true, false, List, [], ◌∷◌, ◌++◌, length, get_or, take, drop, inl, inr, refl, ap, sym, ◌∙◌, subst, arith, Option, Some, None, option_map, unwrap_or, take-append-drop, length-drop}
 use Rattle.std.specs.List.{AllByRecursion}
 use Rattle.std.specs.Char.{is_ascii_digit}
 use Rattle.std.proofs.Math.Seq.{take-append_seam, drop-append_seam}
@@ -101,7 +101,7 @@ no_cover : (n : ℕ) (o : Option (TokenKind × ℕ)) → o ≡ None → Covers n
 no_cover n None e h = h
 no_cover n (Some p) e h = absurd cc
 
-no_map : (m : ℕ) (o : Option TokenKind) → option_map (λ k. (k, m)) o ≡ None → o ≡ None
+no_map : (m : ℕ) (o : Option TokenKind) → option_map {U = TokenKind × ℕ} (λ k. (k, m)) o ≡ None → o ≡ None
 no_map m None e = refl
 no_map m (Some k) e = absurd cc
 
@@ -172,7 +172,9 @@ token_stands l k n starts e plain = record {
   where
     bound_of : (m : ℕ) (o : Option (TokenKind × ℕ)) → o ≡ Some (k, n) → Bounds m o → m ≤ n
     bound_of m None e h = absurd cc
-    bound_of m (Some p) e h = cc
+    bound_of m (Some p) e h =
+        let same : p ≡ (k, n) = ap (λ (o : Option (TokenKind × ℕ)). unwrap_or o p) e in
+        let long : p.1 ≡ n = ap (λ (x : TokenKind × ℕ). x.1) same in omega (arith, long, h)
     bounded : (j : TokenKind) (v more : List ℕ) → Spells j v → v ++ more ≡ l → length v ≤ length (take n l)
     bounded j v more spells is =
         let h = bound_of (length v) _ (ap token_of is ∙ e) (token_bounds j v more spells) in
