@@ -1,7 +1,7 @@
 -- A text is cut in one way: two pieces that stand in front of a text are the same, as both are found,
 -- and so are what follows them. So two cuts that end where no piece stands are the same, by recursion
 -- on the pieces; nothing stands in front of the empty text, nor where a text is refused.
-use Rattle.std.proofs.Common.{◌≡◌, ℕ, ◌+◌, ◌<◌, ◌≤◌, List, [], ◌∷◌, ◌++◌, length, take, drop, refl, ap, sym, ◌∙◌, subst, arith, Option, Some, None, unwrap_or}
+use Rattle.std.proofs.Common.{◌≡◌, ℕ, List, [], ◌∷◌, ◌++◌, length, take, drop, refl, ap, sym, ◌∙◌, subst, arith, Option, Some, None, unwrap_or}
 use Rattle.std.proofs.Math.Seq.{take-append_seam, drop-append_seam}
 use Rattle.dh_base.specs.declared.places.Place.{Place}
 use Rattle.dh_lexer.specs.Pieces.{Piece, gap, token, bytes, Stands, Cuts}

@@ -1,17 +1,17 @@
 -- `front_of` finds the piece that the text begins with, and no other. What it finds stands there, by
 -- its tests in their order. A piece that stands in front of a text is found: a space and a comment
 -- by their first bytes, and a token as it begins with neither.
-use Rattle.std.proofs.Common.{◌≡◌, ℕ, ◌+◌, ◌<◌, ◌≤◌, Bool, true, false, List, [], ◌∷◌, ◌++◌, length, get_or, take, drop, ◌&&◌, ◌==◌, inl, inr, refl, ap, sym, ◌∙◌, subst, arith, eqb-true, eq-eqb, codes, Option, Some, None, option_map, drop-drop, append_assoc, length-append}
+use Rattle.std.proofs.Common.{◌≡◌, ℕ, ◌+◌, ◌<◌, ◌≤◌, true, false, List, [], ◌∷◌, ◌++◌, length, get_or, take, drop, ◌&&◌, ◌==◌, inl, inr, refl, ap, sym, ◌∙◌, subst, arith, eqb-true, eq-eqb, codes, Option, Some, None, option_map, drop-drop, append_assoc, length-append}
 use Rattle.std.specs.List.{AllByRecursion}
 use Rattle.std.specs.Cmp.{first_so, second_so}
 use Rattle.std.proofs.Math.Seq.{take-add}
 use Rattle.std.proofs.lemmas.Bool.{cond_both, false≢true, false_from_ne_true}
 use Rattle.std.proofs.lemmas.List.Sums.{prefix_len-le-length}
-use Rattle.dh_lexer.specs.Pieces.{IsSpace, BeginsWithout, InLine, BeginsComment, IsLongest, IsLineComment, IsBlockComment, IsGap, Piece, gap, token, bytes, Stands}
+use Rattle.dh_lexer.specs.Pieces.{IsSpace, BeginsWithout, InLine, BeginsComment, IsLongest, Piece, gap, token, bytes, Stands}
 use Rattle.dh_lexer.specs.FrontPiece.{is_space, is_in_line, line_len, block_len, gap_of, front_token, token_of, sign, long_sign, short_sign, front_of}
 use Rattle.dh_lexer.proofs.Runs.{spaces_tell, line_is, line_all, line_stops}
-use Rattle.dh_lexer.proofs.TokensFound.{Starts, Right, token_right, token_is_found, token_stands, token_no_space}
-use Rattle.dh_lexer.proofs.GapsFound.{IsBody, FoundBody, block_is, block_right}
+use Rattle.dh_lexer.proofs.TokensFound.{Right, token_right, token_is_found, token_stands, token_no_space}
+use Rattle.dh_lexer.proofs.GapsFound.{FoundBody, block_is, block_right}
 use Rattle.dh_lexer.specs.declared.fronts.Front.{Front}
 use Rattle.dh_lexer.specs.declared.fronts.Front.TheVariants as front
 use Rattle.dh_lexer.specs.declared.tokens.TokenKind.{TokenKind}

@@ -1,10 +1,8 @@
 -- Comments: `block_len` finds the first `*/`, by recursion on the text, and nothing where there is none.
-use Rattle.std.proofs.Common.{◌≡◌, ℕ, zero, suc, ◌+◌, ◌-◌, ◌<◌, ◌≤◌, Bool, true, false, List, [], ◌∷◌, ◌++◌, length, get_or, take, drop, ◌&&◌, ◌==◌, inl, inr, refl, ap, sym, ◌∙◌, subst, arith, eqb-true, codes, Option, Some, None, option_map, drop-drop, add-one, take-append-drop, append_assoc}
+use Rattle.std.proofs.Common.{◌≡◌, ℕ, ◌+◌, ◌-◌, ◌≤◌, true, false, List, [], ◌∷◌, ◌++◌, length, get_or, take, drop, ◌&&◌, ◌==◌, refl, ap, sym, ◌∙◌, arith, eqb-true, codes, Option, Some, None, option_map, drop-drop, add-one, take-append-drop, append_assoc}
 use Rattle.std.specs.Cmp.{first_so, second_so}
-use Rattle.std.proofs.lemmas.Bool.{cond_both, cases_Bool, false≢true, false_from_ne_true}
-use Rattle.std.proofs.lemmas.Bool.Decides.{nat_tests}
+use Rattle.std.proofs.lemmas.Bool.{cond_both, false≢true, false_from_ne_true}
 use Rattle.dh_lexer.specs.FrontPiece.{block_len, gap_of}
-use Rattle.dh_lexer.specs.declared.fronts.Front.{Front}
 
 -- no `*/` in it
 abbrev pub NoEnd : List ℕ → Type 0

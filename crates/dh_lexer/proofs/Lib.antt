@@ -9,3 +9,4 @@ pub mod FrontFound
 pub mod CutOnce
 pub mod LexedSoFar
 pub mod MostSeen
+pub mod TokensReady

@@ -1,18 +1,18 @@
 -- The numbers that runs write. A numeral is told by a test of each digit and by its value, which is
 -- what std's parsing of digits says. A run that begins with `0x` is hexadecimal, and no decimal
 -- number begins so, as its second byte is a digit; and `0` begins no other decimal number.
-use Rattle.std.proofs.Common.{◌≡◌, ℕ, OkIff, ◌<◌, ◌≤◌, ◌^◌, ◌≢◌, Bool, true, false, Decides, List, [], ◌∷◌, ◌++◌, length, get_or, drop, not, ◌||◌, ◌&&◌, ◌==◌, lt-ltb, ltb-true, inl, inr, refl, ap, sym, ◌∙◌, subst, arith, codes, ne_eqb, eqb-true, Option, Some, None, Result, Ok, Err}
+use Rattle.std.proofs.Common.{◌≡◌, ℕ, OkIff, ◌<◌, ◌^◌, ◌≢◌, Bool, true, false, List, [], ◌∷◌, ◌++◌, length, get_or, drop, not, ◌&&◌, ◌==◌, lt-ltb, ltb-true, inl, inr, refl, ap, sym, ◌∙◌, subst, arith, codes, ne_eqb, eqb-true, Option, Some, None, Result, Ok, Err}
 use Rattle.std.specs.List.{AllByRecursion, list_all}
 use Rattle.std.specs.Cmp.{first_so, second_so}
 use Rattle.std.specs.Char.{is_ascii_digit, is_digit, digit_value}
 use Rattle.std.specs.Result.{result_ok}
 use Rattle.std.specs.Str.Parse.{digits_value, ParsesUnsigned, AllDigits, IsNumeral}
-use Rattle.std.proofs.lemmas.Bool.{false_from_ne_true, cond_both, false≢true}
-use Rattle.std.proofs.lemmas.Bool.Decides.{nat_tests, not_from_Decides}
+use Rattle.std.proofs.lemmas.Bool.{false_from_ne_true, cond_both}
+use Rattle.std.proofs.lemmas.Bool.Decides.{nat_tests}
 use Rattle.std.proofs.lemmas.Option.{cond_some}
 use Rattle.std.proofs.lemmas.Str.Parse.{without_leading_plus_none}
 use Rattle.dh_tree.specs.Names.{IsNameByte}
-use Rattle.dh_lexer.specs.Pieces.{IsDecimal, IsHexadecimal, Writes}
+use Rattle.dh_lexer.specs.Pieces.{Writes}
 use Rattle.dh_lexer.specs.FrontPiece.{is_numeral, digits_number, number_of}
 
 both_so : (a b : Bool) → a ≡ true → b ≡ true → (a && b) ≡ true

@@ -1,14 +1,13 @@
 -- Signs: `sign` finds the longest. The tables list signs of one and of two bytes, and `---` is the
 -- one of three; so a sign that the text begins with has three bytes and is found, or has two and is
 -- found where `---` is not, or has one and is found where no longer one is.
-use Rattle.std.proofs.Common.{◌≡◌, ℕ, ◌<◌, ◌≤◌, Bool, true, false, List, [], ◌∷◌, ◌++◌, length, get_or, take, drop, not, ◌&&◌, ◌==◌, inl, inr, refl, ap, sym, ◌∙◌, subst, arith, eqb-true, Option, Some, None, option_map, codes}
+use Rattle.std.proofs.Common.{◌≡◌, ℕ, ◌<◌, ◌≤◌, Bool, true, false, List, [], ◌∷◌, ◌++◌, length, get_or, take, not, ◌&&◌, ◌==◌, inl, inr, refl, sym, ◌∙◌, subst, arith, eqb-true, Option, Some, None, option_map}
 use Rattle.std.specs.List.{list_all}
 use Rattle.std.specs.Cmp.{first_so, second_so}
-use Rattle.std.proofs.lemmas.Bool.{cond_both, cases_Bool, false≢true}
-use Rattle.std.proofs.lemmas.Bool.Decides.{nat_tests}
+use Rattle.std.proofs.lemmas.Bool.{cond_both, false≢true}
 use Rattle.dh_lexer.specs.Spellings.{Entry, Lists, dashes, long_signs, short_signs}
 use Rattle.dh_lexer.specs.Pieces.{IsSign}
-use Rattle.dh_lexer.specs.FrontPiece.{is_name_byte, is_space, look_up, either, found, long_sign, short_sign, sign}
+use Rattle.dh_lexer.specs.FrontPiece.{is_name_byte, is_space, look_up, either, long_sign, short_sign, sign}
 use Rattle.dh_lexer.proofs.TableLooks.{look_lists, is_distinct, listed_looks, listed_pass}
 use Rattle.dh_lexer.specs.declared.tokens.TokenKind.{TokenKind}
 use Rattle.dh_lexer.specs.declared.tokens.TokenKind.TheVariants as kind

@@ -1,11 +1,11 @@
 -- What a look in a table of spellings finds: a listed token, and, where no spelling stands twice,
 -- each listed token. Each by recursion on the table, by the test of its first spelling. What holds
 -- of all spellings of a table, by a test that is computed, holds of what it lists.
-use Rattle.std.proofs.Common.{◌≡◌, ℕ, ◌<◌, Bool, true, false, Contains, List, [], ◌∷◌, map, not, ◌&&◌, is_some, refl, ap, sym, ◌∙◌, subst, arith, inl, inr, bytes_eq, Option, Some, None}
+use Rattle.std.proofs.Common.{◌≡◌, ℕ, Bool, true, false, Contains, List, [], ◌∷◌, map, not, ◌&&◌, is_some, refl, ap, sym, ◌∙◌, subst, inl, inr, bytes_eq, Option, Some, None}
 use Rattle.std.specs.List.{list_any, list_all}
 use Rattle.std.specs.Cmp.{first_so, second_so}
 use Rattle.std.proofs.lemmas.Bool.{cond_both, cases_Bool, false≢true, false_from_ne_true}
-use Rattle.std.proofs.lemmas.Bool.Decides.{Decides-by_or, not_from_Decides}
+use Rattle.std.proofs.lemmas.Bool.Decides.{Decides-by_or}
 use Rattle.std.proofs.lemmas.List.Elements.{Decides-contains}
 use Rattle.std.proofs.lemmas.Slice.Eq.{bytes_eq-Decides}
 use Rattle.dh_lexer.specs.Spellings.{Entry, Lists}

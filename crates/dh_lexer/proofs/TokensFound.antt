@@ -2,21 +2,20 @@
 -- token that the text begins with is longer; so the longest one has the same bytes, and one spelling
 -- is that of one token. Where it finds nothing the text begins with no token but a number that a
 -- letter, a digit or `_` follows.
-use Rattle.std.proofs.Common.{◌≡◌, ℕ, zero, suc, ◌<◌, ◌≤◌, Bool, true, false, List, [], ◌∷◌, ◌++◌, length, get_or, take, drop, inl, inr, refl, ap, sym, ◌∙◌, subst, arith, Option, Some, None, option_map, unwrap_or, take-append-drop, length-drop}
-use Rattle.std.specs.List.{AllByRecursion}
+use Rattle.std.proofs.Common.{◌≡◌, ℕ, zero, suc, ◌<◌, ◌≤◌, true, false, List, [], ◌∷◌, ◌++◌, length, get_or, take, drop, inl, inr, refl, ap, sym, ◌∙◌, subst, arith, Option, Some, None, option_map, unwrap_or, take-append-drop}
 use Rattle.std.specs.Char.{is_ascii_digit}
-use Rattle.std.proofs.Math.Seq.{take-append_seam, drop-append_seam}
+use Rattle.std.proofs.Math.Seq.{take-append_seam}
 use Rattle.std.proofs.lemmas.List.{length-take-le}
-use Rattle.std.proofs.lemmas.Bool.{cond_both, cases_Bool, false≢true}
+use Rattle.std.proofs.lemmas.Bool.{cond_both, false≢true}
 use Rattle.std.proofs.lemmas.Bool.Decides.{nat_tests}
 use Rattle.std.proofs.lemmas.List.Sums.{prefix_len-le-length}
 use Rattle.dh_tree.specs.Names.{IsNameByte}
 use Rattle.dh_lexer.specs.Pieces.{IsSign, IsRun, Spells, BeginsWithout, BeginsComment, IsLongest}
-use Rattle.dh_lexer.specs.FrontPiece.{is_name_byte, is_space, run_len, run_of, sign, token_of}
-use Rattle.dh_lexer.proofs.Runs.{name_bytes_tell, run_is, run_all, run_stops, run_long, run_some, run_ready}
+use Rattle.dh_lexer.specs.FrontPiece.{is_name_byte, is_space, run_len, run_of, token_of}
+use Rattle.dh_lexer.proofs.Runs.{name_bytes_tell, run_is, run_stops, run_long, run_some, run_ready}
 use Rattle.dh_lexer.proofs.Numerals.{IsFilled}
 use Rattle.dh_lexer.proofs.WordsSpelled.{run_is_found, run_names, digit_run, FoundRun, run_right, run_fails}
-use Rattle.dh_lexer.proofs.SignsSpelled.{IsSignFront, sign_front, StartsSign, FoundSign, sign_right, Covers, sign_at, sign_covers, one_sign}
+use Rattle.dh_lexer.proofs.SignsSpelled.{sign_front, FoundSign, sign_right, Covers, sign_at, sign_covers, one_sign}
 use Rattle.dh_lexer.specs.declared.tokens.TokenKind.{TokenKind}
 use Rattle.dh_lexer.specs.declared.tokens.TokenKind.TheVariants as kind
 
@@ -148,7 +147,7 @@ filled_right : (l : List ℕ) → 0 < length l → Right l (token_of l)
 filled_right [] filled = absurd (omega (arith, filled))
 filled_right (b ∷ l) filled = token_right b l
 
-spelled_some : (k : TokenKind) (w : List ℕ) → Spells k w → 0 < length w
+pub spelled_some : (k : TokenKind) (w : List ℕ) → Spells k w → 0 < length w
 spelled_some k w (inl s) = (sign_front k w s).some
 spelled_some k w (inr r) = (run_names k w r).some
 
@@ -175,6 +174,7 @@ token_stands l k n starts e plain = record {
     bound_of m (Some p) e h =
         let same : p ≡ (k, n) = ap (λ (o : Option (TokenKind × ℕ)). unwrap_or o p) e in
         let long : p.1 ≡ n = ap (λ (x : TokenKind × ℕ). x.1) same in omega (arith, long, h)
+
     bounded : (j : TokenKind) (v more : List ℕ) → Spells j v → v ++ more ≡ l → length v ≤ length (take n l)
     bounded j v more spells is =
         let h = bound_of (length v) _ (ap token_of is ∙ e) (token_bounds j v more spells) in
@@ -191,6 +191,7 @@ token_no_space k w more (inr r) = run_case w more (run_names k w r)
   where
     name_case : (b : ℕ) → IsNameByte b → is_space b ≡ false
     name_case b name = grind (arith, nat_tests)
+
     run_case : (w more : List ℕ) → IsFilled w → is_space (get_or (w ++ more) 0 0) ≡ false
     run_case [] more filled = absurd (omega (arith, filled.some))
     run_case (b ∷ w) more filled = name_case b filled.names.0

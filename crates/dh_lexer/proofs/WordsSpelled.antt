@@ -4,15 +4,15 @@ use Rattle.std.proofs.Common.{◌≡◌, ℕ, ◌<◌, Bool, true, false, Contai
 use Rattle.std.specs.List.{AllByRecursion, list_all}
 use Rattle.std.specs.Cmp.{first_so, second_so}
 use Rattle.std.specs.Char.{is_ascii_digit}
-use Rattle.std.proofs.lemmas.Bool.{cond_both, cases_Bool, false≢true, false_from_ne_true}
-use Rattle.std.proofs.lemmas.Bool.Decides.{nat_tests, not_from_Decides}
-use Rattle.dh_tree.specs.Names.{IsNameByte, IsLetter, IsDigit, IsWord, IsName, reserved}
+use Rattle.std.proofs.lemmas.Bool.{cond_both, cases_Bool, false≢true}
+use Rattle.std.proofs.lemmas.Bool.Decides.{nat_tests}
+use Rattle.dh_tree.specs.Names.{IsNameByte, IsLetter, IsWord, IsName, reserved}
 use Rattle.dh_lexer.specs.Spellings.{Entry, Lists, words}
-use Rattle.dh_lexer.specs.Pieces.{IsRun, Writes}
+use Rattle.dh_lexer.specs.Pieces.{IsRun}
 use Rattle.dh_lexer.specs.FrontPiece.{is_name_byte, look_up, either, kept_word, word_kind, number_of, run_of}
 use Rattle.dh_lexer.proofs.Runs.{name_bytes_tell}
 use Rattle.dh_lexer.proofs.Numerals.{IsFilled, number_found, number_written, number_names, number_begins}
-use Rattle.dh_lexer.proofs.TableLooks.{look_lists, look_none, is_distinct, listed_looks, listed_pass, spellings, look_none_spelled, listed_contained}
+use Rattle.dh_lexer.proofs.TableLooks.{look_lists, is_distinct, listed_looks, listed_pass, spellings, look_none_spelled, listed_contained}
 use Rattle.dh_lexer.specs.declared.tokens.TokenKind.{TokenKind}
 use Rattle.dh_lexer.specs.declared.tokens.TokenKind.TheVariants as kind
 
@@ -117,10 +117,13 @@ word_from b bs (inr digit) other all = absurd (grind (arith, nat_tests))
 kept_or_name : (w : List ℕ) → IsWord w → (o : Option TokenKind) → look_up words w ≡ o → FoundRun w (either o (Some (kind.Name w)))
 kept_or_name w word (Some k) e = inl (look_lists words w k e)
 kept_or_name w word None e =
-    inr (inl (refl, record {
-      word = word;
-      free = λ c. look_none_spelled words w e (subst (λ (rs : List (List ℕ)). Contains rs w) (sym words_reserved) c);
-    }))
+    inr (inl (
+      refl,
+      record {
+        word = word;
+        free = λ c. look_none_spelled words w e (subst (λ (rs : List (List ℕ)). Contains rs w) (sym words_reserved) c);
+      },
+    ))
 
 number_or_none : (w : List ℕ) (o : Option ℕ) → number_of w ≡ o → FoundRun w (option_map kind.Number o)
 number_or_none w None e = tt

@@ -1,10 +1,11 @@
 -- The tokens of a text with their places, and where a text is refused.
-use Rattle.std.specs.Prelude.{◌≡◌, ℕ, ◌+◌, ◌<◌, ◌==◌, if◌then◌else◌, List, [], ◌∷◌, ◌++◌, length, Result, Ok, Err, Vec}
+use Rattle.std.specs.Prelude.{◌≡◌, ℕ, ◌+◌, ◌^◌, ◌<◌, ◌≤◌, ◌==◌, if◌then◌else◌, List, [], ◌∷◌, ◌++◌, length, Result, Ok, Err, Vec}
 use Rattle.std.specs.declared.alloc.Global.{Global}
 use Rattle.dh_base.specs.declared.faults.PassFault.{PassFault}
 use Rattle.dh_base.specs.declared.faults.PassFault.TheVariants as fault
 use Rattle.dh_base.specs.declared.places.Place.{Place}
 use Rattle.dh_base.specs.declared.rules.Rule.TheVariants as rule
+use Rattle.dh_tree.specs.Names.{IsName}
 use Rattle.dh_lexer.specs.declared.fronts.Front.{Front}
 use Rattle.dh_lexer.specs.declared.fronts.Front.TheVariants as front
 use Rattle.dh_lexer.specs.declared.tokens.Token.{Token}
@@ -70,3 +71,20 @@ Lexed text (Ok v) = HasTokens text v.items × ((ts : List Token) → HasTokens t
 Lexed text (Err (fault.Refused r place)) =
     (r ≡ rule.Lex) × (IsBreach text place × (((p : Place) → IsBreach text p → p ≡ place) × ((ts : List Token) → HasTokens text ts → ⊥)))
 Lexed text (Err fault.NoMemory) = Unit {0}
+
+-- what a token holds: names are names, and numbers are below 2^64
+abbrev pub IsSound : TokenKind → Type 0
+IsSound (kind.Name n) = IsName n
+IsSound (kind.Number n) = n < 2 ^ 64
+IsSound _ = Unit {0}
+
+-- the last token is the end, and no other is
+abbrev pub AreEnded : List Token → Type 0
+AreEnded [] = ⊥
+AreEnded (t ∷ []) = t.kind ≡ kind.End
+AreEnded (t ∷ (u ∷ ts)) = (t.kind ≡ kind.End → ⊥) × (IsSound t.kind × AreEnded (u ∷ ts))
+
+-- what readers of tokens ask for
+pub record AreReady (text : List ℕ) (tokens : List Token) : Type 0 where
+  pub few : length tokens ≤ length text + 1
+  pub ended : AreEnded tokens

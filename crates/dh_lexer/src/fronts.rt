@@ -115,11 +115,7 @@ fn block_end(text: &[u8], at: usize) -> Option<usize>
 /// The token that begins at `at` and its length, or None where there is none. No longer one begins
 /// there.
 #[tactic(auto, unfolding(crate::specs::FrontPiece::token_of))]
-fn token_at(
-    alloc: Global,
-    text: &[u8],
-    at: usize,
-) -> Result<Option<(TokenKind, usize)>, NoMemory>
+fn token_at(alloc: Global, text: &[u8], at: usize) -> Result<Option<(TokenKind, usize)>, NoMemory>
     requires { at < length text.now }
     ensures { IfOk result (λ o. o ≡ token_of (drop at text.now)) }
 {

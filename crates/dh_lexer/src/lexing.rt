@@ -1,11 +1,11 @@
 //! The lexer: it takes the longest token at each point and never goes back, so that each byte is
 //! looked at a bounded number of times.
 
-ghost use Rattle.std.specs.Prelude.{◌≡◌, ℕ, ◌+◌, ◌^◌, ◌<◌, ◌≤◌, List, [], ◌∷◌, ◌++◌, length, OnOk, OnErr};
+ghost use Rattle.std.specs.Prelude.{◌≡◌, ℕ, ◌+◌, ◌^◌, ◌<◌, ◌≤◌, List, [], ◌∷◌, ◌++◌, length, OnOk, IfOk};
 ghost use Rattle.dh_base.specs.declared.faults.PassFault.TheVariants as fault;
 ghost use Rattle.dh_base.specs.declared.places.Place.{Place};
 ghost use Rattle.dh_lexer.specs.LexedText as text;
-ghost use Rattle.dh_lexer.specs.LexedText.{place_from, HasTokens, IsBreach, Lexed};
+ghost use Rattle.dh_lexer.specs.LexedText.{place_from, HasTokens, IsBreach, Lexed, AreReady};
 ghost use Rattle.dh_lexer.specs.declared.tokens.Token.{Token};
 
 use crate::fronts::{Front, front_at};
@@ -18,7 +18,8 @@ use std::alloc::Global;
 /// place where none of them begins. Linear in the text.
 pub fn lex(alloc: Global, text: &[u8]) -> Result<Vec<Token>, PassFault>
     requires { length text.now ≤ 1048576 }
-    ensures { Lexed text.now result }
+    ensures lexed { Lexed text.now result }
+    ensures ready { IfOk result (λ v. AreReady text.now v.items) }
 {
     let mut tokens = Vec::new(alloc);
     let mut place = Place { line: 1, column: 1 };
@@ -46,8 +47,7 @@ pub fn tokens_are_one()
     ensures tokens { (text : List ℕ) (ts us : List Token) → HasTokens text ts → HasTokens text us → ts ≡ us }
     ensures breach { (text : List ℕ) (p q : Place) → IsBreach text p → IsBreach text q → p ≡ q }
     ensures either { (text : List ℕ) (ts : List Token) (p : Place) → HasTokens text ts → IsBreach text p → ⊥ }
-{
-}
+{}
 
 /// Adds the token that stands at this place, if it is one.
 fn keep(tokens: &mut Vec<Token>, front: Front, place: Place) -> Result<(), NoMemory>

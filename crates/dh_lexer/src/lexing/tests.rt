@@ -43,10 +43,22 @@ fn takes_the_longest_tokens(rt: HostRuntime) -> Result<(), Fail> {
         ("a /* x\n\n */ b // c", "1:1(a) 3:5(b) 3:11. "),
         ("a//b\r\nc", "1:1(a) 2:1(c) 2:2. "),
         ("/***/x/=y", "1:6(x) 1:7SlashAssign 1:9(y) 1:10. "),
-        ("0 0xfF 0x00a 18446744073709551615", "1:1(0) 1:3(255) 1:8(10) 1:14(18446744073709551615) 1:34. "),
-        ("ubit<8>=>>=", "1:1Ubit 1:5Less 1:6(8) 1:7GreaterEqual 1:9ShiftRight 1:11Assign 1:12. "),
-        ("a----1..b", "1:1(a) 1:2Dashes 1:5Minus 1:6(1) 1:7Range 1:9(b) 1:10. "),
-        ("_decl float\tas_", "1:1(_decl) 1:7Out(Float) 1:13(as_) 1:16. "),
+        (
+            "0 0xfF 0x00a 18446744073709551615",
+            "1:1(0) 1:3(255) 1:8(10) 1:14(18446744073709551615) 1:34. ",
+        ),
+        (
+            "ubit<8>=>>=",
+            "1:1Ubit 1:5Less 1:6(8) 1:7GreaterEqual 1:9ShiftRight 1:11Assign 1:12. ",
+        ),
+        (
+            "a----1..b",
+            "1:1(a) 1:2Dashes 1:5Minus 1:6(1) 1:7Range 1:9(b) 1:10. ",
+        ),
+        (
+            "_decl float\tas_",
+            "1:1(_decl) 1:7Out(Float) 1:13(as_) 1:16. ",
+        ),
         ("", "1:1. "),
         ("decl A: ubit<8>[2]; @", "K1 1:21"),
         ("/*", "K1 1:1"),
@@ -82,7 +94,12 @@ fn counts_what_limits_bound(rt: HostRuntime) -> Result<(), Fail> {
         (")))((", 2, 0, 0),
         ("a + b * c; d < e --- f - g || h && i", 0, 3, 0),
         ("ubit<8> a == b { c += d += e } !=", 1, 3, 0),
-        ("if a { } else if b { } else /* */ if c { } else { if }", 1, 0, 2),
+        (
+            "if a { } else if b { } else /* */ if c { } else { if }",
+            1,
+            0,
+            2,
+        ),
     ] {
         let tokens = lex(alloc, text.as_bytes()).ok().ok_or("refused")?;
         let counted = counts(&tokens);

@@ -1,12 +1,12 @@
 -- The loop's turns, by the lemmas of `LexedSoFar` at the values of the code.
-use Rattle.std.proofs.Common.{◌≡◌, ◌+◌, ◌-◌, ◌≤◌, ◌<◌, drop, take, length, arith, sym, ◌∙◌, ap, rules, refl, subst}
-use Rattle.dh_lexer.specs.FrontPiece.{front_of}
+use Rattle.std.proofs.Common.{◌≡◌, ◌+◌, ◌-◌, arith, sym, ◌∙◌, rules, refl}
 use Rattle.dh_lexer.proofs.CutOnce.{one_list, one_breach, not_both}
-use Rattle.dh_lexer.proofs.LexedSoFar.{lexed_first, lexed_more, lexed_end, lexed_breach, length_at, place_room}
+use Rattle.dh_lexer.proofs.LexedSoFar.{lexed_more, lexed_end, lexed_breach, length_at, place_room}
+use Rattle.dh_lexer.proofs.TokensReady.{are_ready}
 use Rattle.dh_lexer.proofs.lexing.lex.Goals as goal
 
-pub returns-in_default : goal.returns-in_default
-returns-in_default c =
+pub returns-in_default-clause-lexed : goal.returns-in_default-clause-lexed
+returns-in_default-clause-lexed c =
     let breach = lexed_breach c.args.text.now _ _ c.loop-at.at c.loop-at-test.true c.loop-at.invariant (sym c.in_default.is ∙ c.in_ok-front.ensures) in
     (refl, (breach, (λ p h. one_breach c.args.text.now p _ h breach, λ ts h. not_both c.args.text.now ts _ h breach)))
 
@@ -41,4 +41,7 @@ loop-at-preserved c =
 pub returns : goal.returns
 returns c =
     let tokens = lexed_end c.args.text.now _ _ c.loop-at.at c.loop-at-test.false c.loop-at.invariant in
-    rw c.in_ok-push.ensures.items (tokens, λ ts h. one_list c.args.text.now ts _ h tokens)
+    rw c.in_ok-push.ensures.items (record {
+      lexed = (tokens, λ ts h. one_list c.args.text.now ts _ h tokens);
+      ready = are_ready c.args.text.now _ tokens;
+    })

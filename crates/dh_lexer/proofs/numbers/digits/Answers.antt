@@ -1,5 +1,5 @@
 -- Letters, digits and `_` are text, and std reads their digits.
-use Rattle.std.proofs.Common.{◌∙◌, sym, ap}
+use Rattle.std.proofs.Common.{◌∙◌}
 use Rattle.std.proofs.lemmas.Str.{IsUtf8-from_ascii}
 use Rattle.dh_lexer.proofs.Runs.{IsAscii-run}
 use Rattle.dh_lexer.proofs.Numerals.{digits_read}
