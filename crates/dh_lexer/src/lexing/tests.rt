@@ -59,6 +59,18 @@ fn takes_the_longest_tokens(rt: HostRuntime) -> Result<(), Fail> {
             "_decl float\tas_",
             "1:1(_decl) 1:7Out(Float) 1:13(as_) 1:16. ",
         ),
+        (
+            "decl def let view shrink suffix shift split by for while if else unroll combine bank bit ubit bool true false as",
+            "1:1Decl 1:6Def 1:10Let 1:14View 1:19Shrink 1:26Suffix 1:33Shift 1:39Split 1:45By 1:48For 1:52While 1:58If 1:61Else 1:66Unroll 1:73Combine 1:81Bank 1:86Bit 1:90Ubit 1:95Bool 1:100True 1:105False 1:111As 1:113. ",
+        ),
+        (
+            "float double fix ufix record import decor return",
+            "1:1Out(Float) 1:7Out(Double) 1:14Out(Fix) 1:18Out(Ufix) 1:23Out(Record) 1:30Out(Import) 1:37Out(Decor) 1:43Out(Return) 1:49. ",
+        ),
+        (
+            "( ) [ ] { } , ; : .. --- := = == != < > <= >= << >> + - * / % & | ^ && || += -= *= /=",
+            "1:1OpenParen 1:3CloseParen 1:5OpenBracket 1:7CloseBracket 1:9OpenBrace 1:11CloseBrace 1:13Comma 1:15Semicolon 1:17Colon 1:19Range 1:22Dashes 1:26Becomes 1:29Assign 1:31Equal 1:34NotEqual 1:37Less 1:39Greater 1:41LessEqual 1:44GreaterEqual 1:47ShiftLeft 1:50ShiftRight 1:53Plus 1:55Minus 1:57Star 1:59Slash 1:61Percent 1:63Ampersand 1:65Bar 1:67Caret 1:69And 1:72Or 1:75PlusAssign 1:78MinusAssign 1:81StarAssign 1:84SlashAssign 1:86. ",
+        ),
         ("", "1:1. "),
         ("decl A: ubit<8>[2]; @", "K1 1:21"),
         ("/*", "K1 1:1"),
@@ -80,6 +92,7 @@ fn takes_the_longest_tokens(rt: HostRuntime) -> Result<(), Fail> {
         let got = shown(alloc, text.as_bytes())?;
         assert_eq!(rt; got.as_str(), want, "at {text}");
     }
+    tokens_are_one();
     let got = shown(alloc, &[32, 200])?;
     assert_eq!(rt; got.as_str(), "K1 1:2");
     Ok(())
