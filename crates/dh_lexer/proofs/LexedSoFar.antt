@@ -95,8 +95,6 @@ pub lexed_more : (text : List ℕ) (tokens : List Token) (place : Place) (at : �
     → Some (x, n) ≡ front_of (drop at text) → LexedSoFar text (tokens ++ kept x place) (place_from place (take n (drop at text))) (at + n)
 lexed_more text tokens place at x n lexed e =
     let h = fronts_at text at x n e in
-    let w : List ℕ = take n (drop at text) in
-    let p : Piece = piece x (take n (drop at text)) in
     let taken_bytes : bytes (piece x (take n (drop at text))) ≡ take n (drop at text) = piece_bytes x (take n (drop at text)) in
     let split : drop at text ≡ bytes (piece x (take n (drop at text))) ++ drop n (drop at text) = sym (take-append-drop n (drop at text)) ∙ ap (λ l. l ++ drop n (drop at text)) (sym taken_bytes) in
     record {
