@@ -1,5 +1,5 @@
 -- The words that a job names are there: the job of a list tells its length. By cases on the list.
-use Rattle.std.proofs.Common.{◌∙◌, ◌≡◌, ℕ, ◌<◌, ◌&&◌, Bool, true, false, if◌then◌else◌, List, [], ◌∷◌, length, map, get_or, codes, Option, Some, None, refl, sym, ap, zero, suc, arith, subst}
+use Rattle.std.proofs.Common.{◌≡◌, ℕ, ◌<◌, ◌&&◌, Bool, true, false, if◌then◌else◌, List, [], ◌∷◌, length, map, get_or, codes, Some, None, sym, ap, zero, suc, arith}
 use Rattle.std.specs.Str.{bytes_eq}
 use Rattle.std.proofs.lemmas.List.{length-map}
 use Rattle.dh_app.specs.Words.{is_file_word, job_of}
@@ -49,13 +49,13 @@ simulate_within (a ∷ (b ∷ (c ∷ []))) f d e =
 simulate_within (a ∷ (b ∷ (c ∷ (x ∷ ws)))) f d e = cc
 
 pub names_lower : {S : Type 0} (view : S → List ℕ) (ws : List S) (f : ℕ) (w : S) → job_of (map view ws) ≡ Some (Lower f) → w ≡ get_or ws f w
-  → NamesLower (map view ws) (view w)
+    → NamesLower (map view ws) (view w)
 names_lower view ws f w job e =
     let within : f < length ws = omega (arith, lower_within (map view ws) f job, length-map ws view) in
     record { file_at = f; job = job; file_is = word_at view ws f w within e }
 
 pub names_simulate : {S : Type 0} (view : S → List ℕ) (ws : List S) (f d : ℕ) (v w : S) → job_of (map view ws) ≡ Some (Simulate f d) → v ≡ get_or ws f v → w ≡ get_or ws d w
-  → Names (map view ws) (view v) (view w)
+    → Names (map view ws) (view v) (view w)
 names_simulate view ws f d v w job e h =
     let both = simulate_within (map view ws) f d job in
     let first : f < length ws = omega (arith, both.0, length-map ws view) in

@@ -21,9 +21,9 @@ use Rattle.serde_json.specs.Data.{Data}
 use Rattle.dh_base.specs.declared.lists.NoMemory.{NoMemory}
 use Rattle.std.specs.declared.alloc.Global.{Global}
 use Rattle.dh_app.specs.Engines.{AnswersTo, AreRuns}
-use Rattle.dh_app.specs.Ends.{most_clocks, Names, NamesLower, NamesProgram, Lowered, ProgramUnread, DataUnread, MayRead, IsTooLong, FailsToRead, IsProgram, IsData, IsNoData, status_of, IsReport, Reported, Answers}
+use Rattle.dh_app.specs.Ends.{most_clocks, Names, NamesLower, NamesProgram, MayRead, IsTooLong, FailsToRead, IsProgram, IsData, IsNoData, status_of, IsReport, Reported, Answers}
 use Rattle.dh_app.specs.Lines.{not_json_line}
-use Rattle.dh_app.specs.Replies.{AnswersLine, AnswersWith, Replies, ProgramOf, ProgramRead, DataOf, DataRead, RunReplies, ReportsFirst, LowerReplies, NetText}
+use Rattle.dh_app.specs.Replies.{AnswersLine, AnswersWith, Replies, ProgramOf, ProgramRead, DataOf, DataRead, RunReplies, ReportsFirst, LowerReplies}
 use Rattle.dh_app.specs.declared.engine.Finish.{Finish}
 use Rattle.dh_app.specs.declared.running.Answer.{Answer}
 use Rattle.dh_app.specs.declared.running.Reply.{Reply}
@@ -95,7 +95,7 @@ with_status words old new exact answers a s e h =
 
 -- the program's file gave no program
 pub no_program : (old new : FilesSeen) (file : List ℕ) (exact : Bool) (answers : List Finish) (r : Reply) → ProgramRead old new file (Err r)
-  → (words : List (List ℕ)) → NamesProgram words file → Replies words old new exact answers r
+    → (words : List (List ℕ)) → NamesProgram words file → Replies words old new exact answers r
 no_program old new file exact answers (reply.Answer a) (inl h) words names =
     with_status words old new exact answers a status.TooLarge h.status_is (inl (record { file = file; names = names; too_long = h.long; text_is = h.text_is }))
 no_program old new file exact answers (reply.Answer a) (inr h) words names =
@@ -105,10 +105,10 @@ no_program old new file exact answers reply.NoMemory h words names = tt
 
 -- the program was lowered
 pub net_written : (old new : FilesSeen) (file : List ℕ) (p : Program) (exact : Bool) (answers : List Finish) (r : Reply) → IsProgram old file p → LowerReplies p r
-  → (words : List (List ℕ)) → NamesLower words file → Replies words old new exact answers r
+    → (words : List (List ℕ)) → NamesLower words file → Replies words old new exact answers r
 net_written old new file p exact answers (reply.Answer a) program h words names =
     with_status words old new exact answers a status.Done h.status_is
-      (inr (record { file = file; names = names; program = p; is_program = program; net = h.net; plays = h.plays; text_is = h.text_is; alone = h.alone }))
+    (inr (record { file = file; names = names; program = p; is_program = program; net = h.net; plays = h.plays; text_is = h.text_is; alone = h.alone }))
 net_written old new file p exact answers reply.ReadFault program h words names = absurd h
 net_written old new file p exact answers reply.NoMemory program h words names = tt
 

@@ -165,6 +165,7 @@ module _ (words : List (List ℕ)) (old new : FilesSeen) (before after : SinkSee
     where
       told : old.told r.file ≡ outside.Holds n.text
       told = let P : List ℕ → Type 0 = λ x. old.told x ≡ outside.Holds n.text in subst P (file_is r.file r.names) n.text_told
+
       by : FailsToRead old new r.file → ⊥
       by (inl rose) = n.reads rose
       by (inr absent) = told_there (old.told r.file) n.text told absent
@@ -172,6 +173,7 @@ module _ (words : List (List ℕ)) (old new : FilesSeen) (before after : SinkSee
     where
       told : old.told r.data_ ≡ outside.Holds n.bytes
       told = let P : List ℕ → Type 0 = λ x. old.told x ≡ outside.Holds n.bytes in subst P (data_same words n.file n.data_ r.file r.data_ n.names r.names) n.bytes_told
+
       by : FailsToRead old new r.data_ → ⊥
       by (inl rose) = n.reads rose
       by (inr absent) = told_there (old.told r.data_) n.bytes told absent
@@ -223,7 +225,6 @@ module _ (words : List (List ℕ)) (old new : FilesSeen) (before after : SinkSee
 -- the same of a call that lowers a program
 module _ (words : List (List ℕ)) (old new : FilesSeen) (before after : SinkSeen) (exact : Bool) (answers : List Finish) (p : Program)
     (n : NothingFailsLower words old new before after p) where
-
   no_simulate : (f d : List ℕ) → Names words f d → ⊥
   no_simulate f d names = let both : Some (Lower n.names.file_at) ≡ Some (Simulate names.file_at names.data_at) = sym n.names.job ∙ names.job in cc
 
@@ -290,8 +291,8 @@ module _ (words : List (List ℕ)) (old new : FilesSeen) (before after : SinkSee
   whole_text status.NoMemory w = inr refl
 
 pub succeeds : (words : List (List ℕ)) (old new : FilesSeen) (before after : SinkSeen) (exact : Bool) (answers : List Finish) (s : Status)
-  → Ends words old new before after exact answers s → Succeeds words old new before after exact s
+    → Ends words old new before after exact answers s → Succeeds words old new before after exact s
 succeeds words old new before after exact answers s e = record {
   reports = λ p memories n. whole words old new before after exact answers p memories n s e;
-  lowers = λ p n. whole_text words old new before after exact answers p n s e
+  lowers = λ p n. whole_text words old new before after exact answers p n s e;
 }

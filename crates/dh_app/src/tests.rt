@@ -140,6 +140,24 @@ fn each_text_gets_its_line(rt: HostRuntime) -> Result<(), Fail> {
 }
 
 #[test]
+fn the_text_of_the_first_program_is_a_netlist(rt: HostRuntime) -> Result<(), Fail> {
+    let alloc = rt.alloc();
+    let mut words = Vec::new(alloc);
+    for word in ["lower", "a"] {
+        words.push(String::from_str(alloc, word)?)?;
+    }
+    let mut files = files(alloc, PROGRAM, DATA, &[])?;
+    let mut out = MemSink::new(alloc, Vec::new(alloc), 0);
+    let mut engine = NetEngine::new(alloc);
+    let ended = run(alloc, words.as_slice(), &mut files, &mut out, &mut engine);
+    assert_eq!(rt; ended, Status::Done);
+    let first = b"// dahlia netlist 1\n";
+    assert!(rt; out.bytes().len() > first.len());
+    assert!(rt; out.bytes().starts_with(first.as_slice()));
+    Ok(())
+}
+
+#[test]
 fn a_second_read_that_fails_writes_nothing(rt: HostRuntime) -> Result<(), Fail> {
     let alloc = rt.alloc();
     let words = words(alloc)?;

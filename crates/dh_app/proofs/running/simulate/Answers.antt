@@ -18,5 +18,5 @@ returns-in-Ok-clause-replies g c =
 pub returns-clause-replies : goal.returns-clause-replies
 returns-clause-replies g c =
     λ words names.
-      no_program (g.F.Files.seen c.args.files.now) (g.F.Files.seen c.read_program.new.files) c.args.file.now
-        (g.E.Engine.exact c.args.engine.now) (g.E.Engine.given c.args.engine.now) c.in-Err.reply c.in-Err.ensures.read words (inr (c.args.data_.now, names))
+    no_program (g.F.Files.seen c.args.files.now) (g.F.Files.seen c.read_program.new.files) c.args.file.now
+    (g.E.Engine.exact c.args.engine.now) (g.E.Engine.given c.args.engine.now) c.in-Err.reply c.in-Err.ensures.read words (inr (c.args.data_.now, names))
