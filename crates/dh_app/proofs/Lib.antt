@@ -1,2 +1,4 @@
+pub mod Naming
 pub mod Replying
 pub mod Runs
+pub mod Succeeding

@@ -21,9 +21,9 @@ use Rattle.serde_json.specs.Data.{Data}
 use Rattle.dh_base.specs.declared.lists.NoMemory.{NoMemory}
 use Rattle.std.specs.declared.alloc.Global.{Global}
 use Rattle.dh_app.specs.Engines.{AnswersTo, AreRuns}
-use Rattle.dh_app.specs.Ends.{most_clocks, Names, MayRead, IsTooLong, FailsToRead, IsProgram, IsData, IsNoData, status_of, IsReport, Reported, Answers}
+use Rattle.dh_app.specs.Ends.{most_clocks, Names, NamesLower, NamesProgram, Lowered, ProgramUnread, DataUnread, MayRead, IsTooLong, FailsToRead, IsProgram, IsData, IsNoData, status_of, IsReport, Reported, Answers}
 use Rattle.dh_app.specs.Lines.{not_json_line}
-use Rattle.dh_app.specs.Replies.{AnswersLine, AnswersWith, Replies, ProgramOf, ProgramRead, DataOf, DataRead, RunReplies, ReportsFirst}
+use Rattle.dh_app.specs.Replies.{AnswersLine, AnswersWith, Replies, ProgramOf, ProgramRead, DataOf, DataRead, RunReplies, ReportsFirst, LowerReplies, NetText}
 use Rattle.dh_app.specs.declared.engine.Finish.{Finish}
 use Rattle.dh_app.specs.declared.running.Answer.{Answer}
 use Rattle.dh_app.specs.declared.running.Reply.{Reply}
@@ -82,7 +82,7 @@ no_data_before old mid name p k h = record { bytes = h.bytes; read = read_before
 report_answers : (words : List (List ℕ)) (old new : FilesSeen) (exact : Bool) (answers : List Finish) (o : Outcome) (text : List ℕ) → (IsStuck o → ⊥)
     → Reported words old exact answers (status_of o) text → Answers words old new exact answers (status_of o) text
 report_answers words old new exact answers outcome.Going text n h = h
-report_answers words old new exact answers outcome.Ended text n h = h
+report_answers words old new exact answers outcome.Ended text n h = inl h
 report_answers words old new exact answers (outcome.Faulted kind place) text n h = h
 report_answers words old new exact answers (outcome.Stuck memory bank place) text n h = absurd (n tt)
 
@@ -94,16 +94,23 @@ with_status words old new exact answers a s e h =
     subst P (sym e) h
 
 -- the program's file gave no program
-pub no_program : (old new : FilesSeen) (file data_ : List ℕ) (exact : Bool) (answers : List Finish) (r : Reply) → ProgramRead old new file (Err r)
-    → (words : List (List ℕ)) → Names words file data_ → Replies words old new exact answers r
-no_program old new file data_ exact answers (reply.Answer a) (inl h) words names =
-    with_status words old new exact answers a status.TooLarge h.status_is
-    (inl (record { file = file; data_ = data_; names = names; too_long = h.long; text_is = h.text_is }))
-no_program old new file data_ exact answers (reply.Answer a) (inr h) words names =
-    with_status words old new exact answers a status.Refused h.status_is
-    (record { file = file; data_ = data_; names = names; no_program = h.none; text_is = h.text_is })
-no_program old new file data_ exact answers reply.ReadFault h words names = record { file = file; data_ = data_; names = names; fails = inl h }
-no_program old new file data_ exact answers reply.NoMemory h words names = tt
+pub no_program : (old new : FilesSeen) (file : List ℕ) (exact : Bool) (answers : List Finish) (r : Reply) → ProgramRead old new file (Err r)
+  → (words : List (List ℕ)) → NamesProgram words file → Replies words old new exact answers r
+no_program old new file exact answers (reply.Answer a) (inl h) words names =
+    with_status words old new exact answers a status.TooLarge h.status_is (inl (record { file = file; names = names; too_long = h.long; text_is = h.text_is }))
+no_program old new file exact answers (reply.Answer a) (inr h) words names =
+    with_status words old new exact answers a status.Refused h.status_is (record { file = file; names = names; no_program = h.none; text_is = h.text_is })
+no_program old new file exact answers reply.ReadFault h words names = inl (record { file = file; names = names; fails = h })
+no_program old new file exact answers reply.NoMemory h words names = tt
+
+-- the program was lowered
+pub net_written : (old new : FilesSeen) (file : List ℕ) (p : Program) (exact : Bool) (answers : List Finish) (r : Reply) → IsProgram old file p → LowerReplies p r
+  → (words : List (List ℕ)) → NamesLower words file → Replies words old new exact answers r
+net_written old new file p exact answers (reply.Answer a) program h words names =
+    with_status words old new exact answers a status.Done h.status_is
+      (inr (record { file = file; names = names; program = p; is_program = program; net = h.net; plays = h.plays; text_is = h.text_is; alone = h.alone }))
+net_written old new file p exact answers reply.ReadFault program h words names = absurd h
+net_written old new file p exact answers reply.NoMemory program h words names = tt
 
 -- the data file gave no memories
 pub no_memories : (old mid new : FilesSeen) (file data_ : List ℕ) (p : Program) (exact : Bool) (answers : List Finish) (r : Reply) → KeepsFiles old mid → IsProgram old file p
@@ -115,7 +122,7 @@ no_memories old mid new file data_ p exact answers (reply.Answer a) k program (i
     with_status words old new exact answers a status.BadData h.status_is
     (record { file = file; data_ = data_; names = names; program = p; is_program = program; no_data = no_data_before old mid data_ p k h.none; text_is = h.text_is })
 no_memories old mid new file data_ p exact answers reply.ReadFault k program h words names =
-    record { file = file; data_ = data_; names = names; fails = inr (p, (program, fails_before old mid new data_ k h)) }
+    inr (record { file = file; data_ = data_; names = names; program = p; is_program = program; fails = fails_before old mid new data_ k h })
 no_memories old mid new file data_ p exact answers reply.NoMemory k program h words names = tt
 
 -- the run was reported

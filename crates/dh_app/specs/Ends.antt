@@ -17,26 +17,40 @@ use Rattle.dh_tree.specs.declared.thin.Program.{Program}
 use Rattle.dh_tree.specs.Thin.{IsThinText}
 use Rattle.dh_net.specs.Plays.{IsStuck, EndsAfter, clocks_of}
 use Rattle.dh_net.specs.Reports.{Reports}
+use Rattle.dh_net.specs.declared.nets.Net.{Net}
+use Rattle.dh_compile.specs.Compiled.{PlaysProgram}
 use Rattle.dh_compile.specs.ThinRun.{run_of}
+use Rattle.dh_verilog.specs.Ranges.{IsAlone}
+use Rattle.dh_verilog.specs.Text.{text_of}
 use Rattle.dh_data.specs.ThinData.{Holds}
 use Rattle.dh_data.specs.Reports.{report_text}
 use Rattle.dh_data.specs.declared.reports.Ending.{Ending}
 use Rattle.dh_app.specs.Words.{job_of}
 use Rattle.dh_app.specs.Lines.{usage_line, refused_line, too_large_line, not_json_line}
 use Rattle.dh_app.specs.declared.engine.Finish.{Finish}
-use Rattle.dh_app.specs.declared.words.Job.TheVariants.{Simulate}
+use Rattle.dh_app.specs.declared.words.Job.TheVariants.{Lower, Simulate}
 
 -- the clocks that a run may take
 abbrev pub most_clocks : ℕ
 most_clocks = 10000000
 
--- the words are a job over these files
+-- the words are to simulate the program of the one file from the memories of the other
 pub record Names (words : List (List ℕ)) (file data_ : List ℕ) : Type 0 where
   pub file_at : ℕ
   pub data_at : ℕ
   pub job : job_of words ≡ Some (Simulate file_at data_at)
   pub file_is : slice_index_or words file_at [] ≡ file
   pub data_is : slice_index_or words data_at [] ≡ data_
+
+-- the words are to lower the program of this file
+pub record NamesLower (words : List (List ℕ)) (file : List ℕ) : Type 0 where
+  pub file_at : ℕ
+  pub job : job_of words ≡ Some (Lower file_at)
+  pub file_is : slice_index_or words file_at [] ≡ file
+
+-- the words are a job over the program of this file
+abbrev pub NamesProgram : List (List ℕ) → List ℕ → Type 0
+NamesProgram words file = NamesLower words file ⊎ ((data_ : List ℕ) × Names words file data_)
 
 -- the contents of a file under a limit may be these
 pub record MayRead (files : FilesSeen) (name : List ℕ) (l : Limit) (bytes : List ℕ) : Type 0 where
@@ -107,11 +121,22 @@ pub record Reported (words : List (List ℕ)) (files : FilesSeen) (exact : Bool)
   pub is_data : IsData files data_ program memories
   pub report : IsReport program memories exact answers s text
 
--- one of the two files is too long
+-- the program of the job is lowered: the text is that of a net that plays the program from all fitting
+-- memories, and of no other net
+pub record Lowered (words : List (List ℕ)) (files : FilesSeen) (text : List ℕ) : Type 0 where
+  pub file : List ℕ
+  pub names : NamesLower words file
+  pub program : Program
+  pub is_program : IsProgram files file program
+  pub net : Net
+  pub plays : PlaysProgram net program
+  pub text_is : text ≡ text_of net
+  pub alone : IsAlone text net
+
+-- a file is too long
 pub record ProgramTooLong (words : List (List ℕ)) (old new : FilesSeen) (text : List ℕ) : Type 0 where
   pub file : List ℕ
-  pub data_ : List ℕ
-  pub names : Names words file data_
+  pub names : NamesProgram words file
   pub too_long : IsTooLong old new file limit.Source
   pub text_is : text ≡ too_large_line limit.Source (greatest_of limit.Source + 1)
 
@@ -130,8 +155,7 @@ first_place = record { line = 1; column = 1 }
 
 pub record IsRefused (words : List (List ℕ)) (files : FilesSeen) (text : List ℕ) : Type 0 where
   pub file : List ℕ
-  pub data_ : List ℕ
-  pub names : Names words file data_
+  pub names : NamesProgram words file
   pub no_program : IsNoProgram files file
   pub text_is : text ≡ refused_line Unsupported first_place
 
@@ -146,7 +170,7 @@ pub record HasBadData (words : List (List ℕ)) (files : FilesSeen) (text : List
 
 -- this status and this text answer the words
 abbrev pub Answers : List (List ℕ) → (old new : FilesSeen) → (exact : Bool) → List Finish → Status → List ℕ → Type 0
-Answers words old new exact answers status.Done text = Reported words old exact answers status.Done text
+Answers words old new exact answers status.Done text = Reported words old exact answers status.Done text ⊎ Lowered words old text
 Answers words old new exact answers status.Refused text = IsRefused words old text
 Answers words old new exact answers status.Usage text = (job_of words ≡ None) × (text ≡ usage_line)
 Answers words old new exact answers status.Faulted text = Reported words old exact answers status.Faulted text
@@ -171,12 +195,23 @@ pub record WritesPart (words : List (List ℕ)) (old new : FilesSeen) (before af
   pub answer : Answers words old new exact answers status_meant text
   pub grew : GrewByPart before after text
 
--- the file of the program could not be read, or after a thin program that of the data
-pub record ReadFails (words : List (List ℕ)) (old new : FilesSeen) : Type 0 where
+-- the file of the program could not be read
+pub record ProgramUnread (words : List (List ℕ)) (old new : FilesSeen) : Type 0 where
+  pub file : List ℕ
+  pub names : NamesProgram words file
+  pub fails : FailsToRead old new file
+
+-- the program is one, and the file of the data could not be read
+pub record DataUnread (words : List (List ℕ)) (old new : FilesSeen) : Type 0 where
   pub file : List ℕ
   pub data_ : List ℕ
   pub names : Names words file data_
-  pub fails : FailsToRead old new file ⊎ ((p : Program) × (IsProgram old file p × FailsToRead old new data_))
+  pub program : Program
+  pub is_program : IsProgram old file program
+  pub fails : FailsToRead old new data_
+
+abbrev pub ReadFails : List (List ℕ) → (old new : FilesSeen) → Type 0
+ReadFails words old new = ProgramUnread words old new ⊎ DataUnread words old new
 
 -- how the call ends
 abbrev pub Ends : List (List ℕ) → (old new : FilesSeen) → (before after : SinkSeen) → (exact : Bool) → List Finish → Status → Type 0
@@ -219,7 +254,26 @@ pub record ReportsRun (p : Program) (memories : List (List ℕ)) (before after :
   pub grew : Grew before after (report_text p.table ((run_of p memories).memories steps)
       (record { outcome = outcome.Ended; steps = steps; clocks = Some (clocks_of (run_of p memories) steps) }))
 
+-- the same of a call that lowers
+pub record NothingFailsLower (words : List (List ℕ)) (old new : FilesSeen) (before after : SinkSeen) (p : Program) : Type 0 where
+  pub file : List ℕ
+  pub names : NamesLower words file
+  pub text : List ℕ
+  pub text_told : old.told file ≡ outside.Holds text
+  pub text_within : length text ≤ greatest_of limit.Source
+  pub thin : IsThinText text p
+  pub reads : Rose old.faults new.faults → ⊥
+  pub writes : Rose before.faults after.faults → ⊥
+
+-- the whole text of a net that plays the program was written
+pub record WritesNet (p : Program) (before after : SinkSeen) (s : Status) : Type 0 where
+  pub done : s ≡ status.Done
+  pub net : Net
+  pub plays : PlaysProgram net p
+  pub alone : IsAlone (text_of net) net
+  pub grew : Grew before after (text_of net)
+
 -- so the call succeeds, or memory was refused
-abbrev pub Succeeds : List (List ℕ) → (old new : FilesSeen) → (before after : SinkSeen) → (exact : Bool) → Status → Type 0
-Succeeds words old new before after exact s =
-    (p : Program) (memories : List (List ℕ)) → NothingFails words old new before after exact p memories → ReportsRun p memories before after s ⊎ (s ≡ status.NoMemory)
+pub record Succeeds (words : List (List ℕ)) (old new : FilesSeen) (before after : SinkSeen) (exact : Bool) (s : Status) : Type 0 where
+  pub reports : (p : Program) (memories : List (List ℕ)) → NothingFails words old new before after exact p memories → ReportsRun p memories before after s ⊎ (s ≡ status.NoMemory)
+  pub lowers : (p : Program) → NothingFailsLower words old new before after p → WritesNet p before after s ⊎ (s ≡ status.NoMemory)

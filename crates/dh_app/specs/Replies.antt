@@ -12,6 +12,10 @@ use Rattle.dh_base.specs.declared.statuses.Status.TheVariants as status
 use Rattle.dh_tree.specs.Tables.{Fits}
 use Rattle.dh_tree.specs.Thin.{IsThinText}
 use Rattle.dh_tree.specs.declared.thin.Program.{Program}
+use Rattle.dh_net.specs.declared.nets.Net.{Net}
+use Rattle.dh_compile.specs.Compiled.{PlaysProgram}
+use Rattle.dh_verilog.specs.Ranges.{IsAlone}
+use Rattle.dh_verilog.specs.Text.{text_of}
 use Rattle.dh_data.specs.ThinData.{Holds}
 use Rattle.dh_data.specs.Reports.{report_text}
 use Rattle.dh_app.specs.Ends.{IsTooLong, FailsToRead, IsProgram, IsNoProgram, IsData, IsNoData, IsReport, ReadFails, Answers, first_place, status_of, ending_of}
@@ -118,3 +122,16 @@ abbrev pub ReportsFirst : Program → List Finish → Reply → Type 0
 ReportsFirst p answers (reply.Answer a) = ReportOf p answers a
 ReportsFirst p answers reply.ReadFault = ⊥
 ReportsFirst p answers reply.NoMemory = Unit {0}
+
+-- the net of a program is written
+pub record NetText (p : Program) (a : Answer) : Type 0 where
+  pub net : Net
+  pub plays : PlaysProgram net p
+  pub status_is : a.status ≡ status.Done
+  pub text_is : a.text.items ≡ text_of net
+  pub alone : IsAlone a.text.items net
+
+abbrev pub LowerReplies : Program → Reply → Type 0
+LowerReplies p (reply.Answer a) = NetText p a
+LowerReplies p reply.ReadFault = ⊥
+LowerReplies p reply.NoMemory = Unit {0}

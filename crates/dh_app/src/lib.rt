@@ -5,6 +5,8 @@
 mod engine;
 mod lines;
 mod running;
+#[cfg(test)]
+mod tests;
 mod words;
 
 pub use engine::{Engine, Finish, NetEngine};

@@ -1,12 +1,12 @@
 //! The top call: from the words to the status.
 
-ghost use Rattle.std.specs.Prelude.{◌≡◌, ◌+◌, [], ◌∷◌, map, string_bytes, List, ℕ, IfOk};
+ghost use Rattle.std.specs.Prelude.{◌≡◌, ◌+◌, [], ◌∷◌, map, string_bytes, Bool, List, ℕ, IfOk};
 ghost use Rattle.dh_base.specs.Outside.{KeepsFiles, KeepsSink};
 ghost use Rattle.dh_tree.specs.Tables.{Fits, IsTable};
 ghost use Rattle.dh_tree.specs.Thin.{IsThin};
-ghost use Rattle.dh_app.specs.Ends.{Names, Ends, status_of as status_of_lem};
+ghost use Rattle.dh_app.specs.Ends.{Names, NamesLower, Ends, Succeeds, status_of as status_of_lem};
 ghost use Rattle.dh_app.specs.declared.engine.Finish.{Finish};
-ghost use Rattle.dh_app.specs.Replies.{AnswersLine, AnswersWith, Written, Replies, ProgramRead, ProgramOf, DataRead, DataOf, RunReplies, ReportsFirst};
+ghost use Rattle.dh_app.specs.Replies.{AnswersLine, AnswersWith, Written, Replies, ProgramRead, ProgramOf, DataRead, DataOf, RunReplies, ReportsFirst, LowerReplies};
 ghost use Rattle.dh_app.specs.Lines as lines;
 ghost use Rattle.dh_base.specs.Limits.{greatest_of};
 ghost use Rattle.dh_base.specs.declared.statuses.Status.TheVariants as status;
@@ -43,10 +43,28 @@ pub enum Reply {
     NoMemory,
 }
 
-/// Does all that the program does: `simulate FILE DATA` compiles the program of a file to a net, has
-/// the engine run the net from the memories of the other, and writes the report of the engine's
-/// answer. `Ends` says for each status what is the case and what was written.
+/// Does all that the program does. `lower FILE` compiles the program of a file and writes the Verilog
+/// text of its net: the text of a net that plays the program from all fitting memories, and of no
+/// other net. `simulate FILE DATA` compiles the program of the one file, has the engine run the net
+/// from the memories of the other, and writes the report of the engine's answer. `Ends` says for each
+/// status what is the case and what was written, and `Succeeds` when a call must succeed.
 pub fn run<F: Files, S: Sink, E: Engine>(
+    alloc: Global,
+    words: &[String],
+    files: &mut F,
+    out: &mut S,
+    engine: &mut E,
+) -> Status
+    ensures files { KeepsFiles (F.seen files.old) (F.seen files.new) }
+    ensures out { KeepsSink (S.seen out.old) (S.seen out.new) }
+    ensures engine { E.exact engine.new ≡ E.exact engine.old }
+    ensures ends { Ends (map string_bytes words.now) (F.seen files.old) (F.seen files.new) (S.seen out.old) (S.seen out.new) (E.exact engine.old) (E.given engine.new) result }
+    ensures succeeds { Succeeds (map string_bytes words.now) (F.seen files.old) (F.seen files.new) (S.seen out.old) (S.seen out.new) (E.exact engine.old) result }
+{
+    call(alloc, words, files, out, engine)
+}
+
+fn call<F: Files, S: Sink, E: Engine>(
     alloc: Global,
     words: &[String],
     files: &mut F,
@@ -89,6 +107,7 @@ fn reply_to<F: Files, E: Engine>(
 {
     match Job::of(words) {
         None => answer_with(Status::Usage, usage_line(alloc)),
+        Some(Job::Lower { file }) => lower(alloc, words[file as usize].as_str(), files),
         Some(Job::Simulate { file, data_ }) => {
             let file = words[file as usize].as_str();
             let data_ = words[data_ as usize].as_str();
@@ -103,6 +122,34 @@ fn answer_with(status: Status, line: Result<Vec<u8>, NoMemory>) -> Reply
 {
     match line {
         Ok(text) => Reply::Answer(Answer { status, text }),
+        Err(NoMemory) => Reply::NoMemory,
+    }
+}
+
+/// Compiles the program of a file and writes the text of its net.
+fn lower<F: Files>(alloc: Global, file: &str, files: &mut F) -> Reply
+    ensures files { KeepsFiles (F.seen files.old) (F.seen files.new) }
+    ensures replies { (words : List (List ℕ)) (exact : Bool) (answers : List Finish) → NamesLower words file.now → Replies words (F.seen files.old) (F.seen files.new) exact answers result }
+{
+    match read_program(alloc, file, files) {
+        Ok(program) => net_text(alloc, &program),
+        Err(reply) => reply,
+    }
+}
+
+/// The text of the net of a program.
+fn net_text(alloc: Global, program: &Program) -> Reply
+    requires { IsThin program.now }
+    ensures { LowerReplies program.now result }
+{
+    let Ok(net) = compile(alloc, program) else {
+        return Reply::NoMemory;
+    };
+    match dh_verilog::write(alloc, &net) {
+        Ok(text) => Reply::Answer(Answer {
+            status: Status::Done,
+            text,
+        }),
         Err(NoMemory) => Reply::NoMemory,
     }
 }

@@ -3,6 +3,7 @@
 //! Stands on nothing of this repository. docs/ARCHITECTURE.md has the map.
 #![tactic(auto)]
 
+mod faults;
 mod limits;
 mod lists;
 mod mem_files;
@@ -13,6 +14,7 @@ mod places;
 mod rules;
 mod statuses;
 
+pub use faults::PassFault;
 pub use limits::{Excess, Limit};
 pub use lists::{Items, NoMemory};
 pub use mem_files::MemFiles;

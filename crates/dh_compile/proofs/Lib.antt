@@ -16,4 +16,5 @@ pub mod GroupEvents
 pub mod Spending
 pub mod GroupWrites
 pub mod ThinRuns
+pub mod ZeroReads
 pub mod PlayingPrograms

@@ -11,12 +11,14 @@ use Rattle.dh_compile.specs.Compiled.{PlaysProgram, EndsSoon}
 use Rattle.dh_compile.specs.ThinRun.{run_of}
 use Rattle.dh_compile.proofs.Endings.{ends_after, ends_within}
 use Rattle.dh_compile.proofs.Playing.{plays}
+use Rattle.dh_compile.proofs.ZeroReads.{reads_zero}
 use Rattle.dh_compile.proofs.ThinRuns.{does_groups}
 
 pub plays_program : (p : Program) (net : Net) → IsThin p → IsValid net → IsBuilt net p → PlaysProgram net p
 plays_program p net thin valid built = record {
   valid = valid;
   table = built.table;
+  zero_reads = reads_zero p net valid built;
   plays = λ memories fits. plays p thin net valid built (run_of p memories) (does_groups p thin memories fits) memories refl;
 }
 

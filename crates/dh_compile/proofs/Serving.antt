@@ -60,12 +60,12 @@ does_rows held wires d (Writes row source number) rows h =
 
 pub does_held : (held wires : List ℕ) (d : Driver) (u : Use) (rows : List ℕ) (had : ℕ) → Does held wires d u → held_by wires (Some d) rows had ≡ held_do (Some u) rows had
 does_held held wires d (Reads row) rows had h =
-    ap (λ b. if b then had else slice_index rows (slice_index wires d.row)) h.0 ∙ ap (λ r. slice_index rows r) h.1
+    ap (λ b. if b then had else slice_index rows (slice_index wires d.row)) h.0 ∙ ap (λ r. slice_index rows r) h.1.0
 does_held held wires d (Writes row source number) rows had h =
     ap (λ b. if b then had else slice_index rows (slice_index wires d.row)) h.0
 
 pub does_row : (held wires : List ℕ) (d : Driver) (u : Use) → Does held wires d u → slice_index wires d.row ≡ row_in u
-does_row held wires d (Reads row) h = h.1
+does_row held wires d (Reads row) h = h.1.0
 does_row held wires d (Writes row source number) h = h.1.0
 
 -- both sides choose by one test

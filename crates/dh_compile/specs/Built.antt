@@ -16,7 +16,7 @@ EnabledAt now wires d clock = slice_index wires d.enable ≡ (if now == clock th
 
 -- the driver has the port do this
 abbrev pub Does : (held wires : List ℕ) → Driver → Use → Type 0
-Does held wires d (Reads row) = (d.write ≡ false) × (slice_index wires d.row ≡ row)
+Does held wires d (Reads row) = (d.write ≡ false) × ((slice_index wires d.row ≡ row) × (d.data_ ≡ 0))
 Does held wires d (Writes row source number) =
     (d.write ≡ true) × ((slice_index wires d.row ≡ row) × (slice_index wires d.data_ ≡ stored_from held source number))
 

@@ -1,10 +1,10 @@
--- What the compiler promises of a net: it is valid, its table is the program's, and from all fitting
--- memories it plays the checked run of the program.
+-- What the compiler promises of a net: it is valid, its table is the program's, its reads have data 0,
+-- and from all fitting memories it plays the checked run of the program.
 use Rattle.std.specs.Prelude.{◌≡◌, ℕ, ◌≤◌, List, length}
 use Rattle.dh_tree.specs.declared.thin.Program.{Program}
 use Rattle.dh_tree.specs.Tables.{Fits}
 use Rattle.dh_net.specs.declared.nets.Net.{Net}
-use Rattle.dh_net.specs.Valid.{IsValid}
+use Rattle.dh_net.specs.Valid.{IsValid, HasReadsZero}
 use Rattle.dh_net.specs.Plays.{EndsAfter, Plays, clocks_of}
 use Rattle.dh_compile.specs.ThinRun.{run_of}
 
@@ -12,6 +12,7 @@ use Rattle.dh_compile.specs.ThinRun.{run_of}
 pub record PlaysProgram (net : Net) (p : Program) : Type 0 where
   pub valid : IsValid net
   pub table : net.table ≡ p.table
+  pub zero_reads : HasReadsZero net
   pub plays : (memories : List (List ℕ)) → Fits p.table memories → Plays net (run_of p memories) memories
 
 -- the run of a thin program ends after its last group, within 128 clocks

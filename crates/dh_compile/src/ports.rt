@@ -50,7 +50,7 @@ fn push_read(draft: &mut Draft, enable: u64, row_width: u8, row: u64) -> Result<
         enable,
         write: false,
         row: wire,
-        data_: wire,
+        data_: 0,
     })
 }
 

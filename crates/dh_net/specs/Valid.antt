@@ -1,5 +1,6 @@
 -- When a net is valid: widths agree, and whatever is named is there and earlier (this profile).
-use Rattle.std.specs.Prelude.{◌≡◌, ℕ, ◌<◌, ◌≤◌, ◌^◌, true, List, length, slice_get, Some, option_map}
+use Rattle.std.specs.Prelude.{◌≡◌, ℕ, ◌<◌, ◌≤◌, ◌^◌, true, false, List, length, slice_get, Some, option_map}
+use Rattle.std.specs.List.{AllByRecursion}
 use Rattle.dh_tree.specs.Tables.{IsTable, width_of, elements_of}
 use Rattle.dh_tree.specs.declared.tables.MemEntry.{MemEntry}
 use Rattle.dh_net.specs.declared.nets.Register.{Register}
@@ -78,3 +79,11 @@ pub record IsValid (net : Net) : Type 0 where
   pub tick : HasWidth net.cells net.tick 1
   pub done : HasWidth net.cells net.done 1
   pub fault : HasWidth net.cells net.fault 32
+
+-- a read has data 0
+abbrev pub ReadsZero : Driver → Type 0
+ReadsZero d = d.write ≡ false → d.data_ ≡ 0
+
+-- each read of the net has data 0: the data of a read means nothing, and no text of a net shows it
+abbrev pub HasReadsZero : Net → Type 0
+HasReadsZero net = AllByRecursion (λ ds. AllByRecursion ReadsZero ds) net.drivers

@@ -11,4 +11,4 @@ mod validity;
 pub use laws::valuation_is_unique;
 pub use nets::{Cell, CellForm, Driver, Net, Register};
 pub use playing::playing_tells_the_report;
-pub use validity::{row_width, valid};
+pub use validity::{kind_width, row_width, valid};

@@ -66,8 +66,8 @@ fn fits(bits: u64, width: u8) -> bool
     width == 64 || bits < 1 << width
 }
 
-// The bits of a value of the kind.
-fn kind_width(kind: Kind) -> u8
+/// The bits of a value of the kind.
+pub fn kind_width(kind: Kind) -> u8
     ensures { result ≡ width_of kind }
 {
     match kind {

@@ -11,4 +11,4 @@ read-requires c = table_of_thin c.args.program.now c.requires
 pub returns-in-Err-NotJson : goal.returns-in-Err-NotJson
 returns-in-Err-NotJson c =
     bad_bytes c.args.bytes.now c.args.program.now c.answer_with.result (rw c.in-Err-NotJson.field-0-is at c.in-Err-NotJson.ensures.reads)
-      (with_line status.BadData not_json_line c.not_json_line.result c.answer_with.result c.not_json_line.ensures c.answer_with.ensures)
+    (with_line status.BadData not_json_line c.not_json_line.result c.answer_with.result c.not_json_line.ensures c.answer_with.ensures)

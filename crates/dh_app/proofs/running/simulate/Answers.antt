@@ -1,4 +1,5 @@
 -- The reply is that of the step that stopped, or of the run.
+use Rattle.std.proofs.Common.{inr}
 use Rattle.dh_app.proofs.Replying.{no_program, no_memories, run_replied}
 use Rattle.dh_app.proofs.running.simulate.Goals as goal
 
@@ -16,5 +17,6 @@ returns-in-Ok-clause-replies g c =
 
 pub returns-clause-replies : goal.returns-clause-replies
 returns-clause-replies g c =
-    no_program (g.F.Files.seen c.args.files.now) (g.F.Files.seen c.read_program.new.files) c.args.file.now c.args.data_.now
-    (g.E.Engine.exact c.args.engine.now) (g.E.Engine.given c.args.engine.now) c.in-Err.reply c.in-Err.ensures.read
+    λ words names.
+      no_program (g.F.Files.seen c.args.files.now) (g.F.Files.seen c.read_program.new.files) c.args.file.now
+        (g.E.Engine.exact c.args.engine.now) (g.E.Engine.given c.args.engine.now) c.in-Err.reply c.in-Err.ensures.read words (inr (c.args.data_.now, names))

@@ -1,0 +1,184 @@
+//! The top call over files and an output in memory: what is written for whole calls, where reading or
+//! writing fails, and that the report is the engine's answer.
+
+ghost use Rattle.std.specs.Prelude.{◌≡◌, ◌≤◌, [], IfOk, vec_len};
+ghost use Rattle.std.specs.List.{AllByRecursion};
+ghost use Rattle.dh_tree.specs.Tables.{Fits};
+ghost use Rattle.dh_net.specs.Valid.{IsValid};
+ghost use Rattle.dh_app.specs.Engines.{IsAnswer, AnswersTo};
+
+use crate::engine::{Engine, Finish, NetEngine};
+use crate::running::run;
+use dh_base::{MemFiles, MemSink, NoMemory, Status};
+use dh_net::Net;
+use dh_sim::run_net;
+use dh_tree::Memories;
+use std::alloc::{AllocError, Global};
+use std::marker::Model;
+use std::test::Fail;
+
+const PROGRAM: &str = "decl A: ubit<32>[1]; decl B: ubit<32>[1]; A[0] := 7 --- B[0] := A[0] + 1;";
+
+const DATA: &str = "{\"A\":{\"data\":[0]},\"B\":{\"data\":[0]}}";
+
+const REPORT: &str =
+    "{\"clocks\":3,\"memories\":{\"A\":{\"data\":[7],\"format\":{\"is_signed\":false,\"numeric_type\":\"bitnum\",\"width\":32}},\"B\":{\"data\":[8],\"format\":{\"is_signed\":false,\"numeric_type\":\"bitnum\",\"width\":32}}},\"outcome\":\"done\",\"steps\":2}\n";
+
+const LONGER: &str =
+    "{\"clocks\":3,\"memories\":{\"A\":{\"data\":[7],\"format\":{\"is_signed\":false,\"numeric_type\":\"bitnum\",\"width\":32}},\"B\":{\"data\":[8],\"format\":{\"is_signed\":false,\"numeric_type\":\"bitnum\",\"width\":32}}},\"outcome\":\"done\",\"steps\":3}\n";
+
+/// An engine that is not exact: it tells one step more than the net took.
+#[derive(Debug, Drop)]
+struct OneStepMore {
+    alloc: Global,
+    answers: Vec<Finish>,
+}
+
+impl Model for OneStepMore {
+    ghost use Rattle.std.specs.Prelude.{List};
+    ghost use Rattle.dh_app.specs.declared.engine.Finish.{Finish};
+
+    ghost Value = { List Finish };
+
+    ghost view = { λ e. e.answers.items };
+}
+
+impl Engine for OneStepMore {
+    ghost use Rattle.std.specs.Prelude.{false};
+
+    ghost exact = { λ _. false };
+
+    ghost given = { λ answers. answers };
+
+    fn finish(&mut self, net: &Net, sets: Vec<Memories>, limit: u64) -> Result<(), NoMemory> {
+        let answers = answers_of(self.alloc, net, sets, limit)?;
+        self.answers = answers;
+        Ok(())
+    }
+
+    fn answers(&self) -> &[Finish] {
+        self.answers.as_slice()
+    }
+}
+
+fn answers_of(
+    alloc: Global,
+    net: &Net,
+    sets: Vec<Memories>,
+    limit: u64,
+) -> Result<Vec<Finish>, NoMemory>
+    requires valid { IsValid net.now }
+    requires fit { AllByRecursion (Fits net.now.table) sets.items }
+    ensures { IfOk result (λ v. AnswersTo net.now sets.items v.items) }
+{
+    let mut answers = Vec::with_capacity(alloc, sets.len())?;
+    for memories in sets {
+        let answer = answer_of(alloc, net, memories, limit)?;
+        answers.push(answer)?;
+    }
+    Ok(answers)
+}
+
+fn answer_of(alloc: Global, net: &Net, memories: Memories, limit: u64) -> Result<Finish, NoMemory>
+    requires valid { IsValid net.now }
+    requires fits { Fits net.now.table memories }
+    ensures { IfOk result (λ f. IsAnswer net.now f) }
+{
+    let (end, memories) = run_net(alloc, net, memories, limit)?;
+    Ok(Finish {
+        outcome: end.outcome,
+        steps: end.steps.saturating_add(1),
+        clocks: end.clocks,
+        memories,
+    })
+}
+
+fn words(alloc: Global) -> Result<Vec<String>, AllocError> {
+    let mut words = Vec::new(alloc);
+    for word in ["simulate", "a", "b"] {
+        words.push(String::from_str(alloc, word)?)?;
+    }
+    Ok(words)
+}
+
+fn files(alloc: Global, text: &str, data: &str, failing: &[u64]) -> Result<MemFiles, AllocError> {
+    let mut entries = Vec::new(alloc);
+    entries.push((
+        String::from_str(alloc, "a")?,
+        Vec::from_slice(alloc, text.as_bytes())?,
+    ))?;
+    entries.push((
+        String::from_str(alloc, "b")?,
+        Vec::from_slice(alloc, data.as_bytes())?,
+    ))?;
+    Ok(MemFiles::new(entries, Vec::from_slice(alloc, failing)?))
+}
+
+#[test]
+fn each_text_gets_its_line(rt: HostRuntime) -> Result<(), Fail> {
+    let alloc = rt.alloc();
+    let words = words(alloc)?;
+    let table = [
+        (PROGRAM, DATA, Status::Done, REPORT),
+        (
+            "decl A: ubit<32>[1]; A[0] := A[0] + 1;",
+            DATA,
+            Status::Refused,
+            "refused K3 Unsupported 1:1\n",
+        ),
+        (PROGRAM, "{}", Status::BadData, "bad data NotJson\n"),
+    ];
+    for (text, data, status, written) in table {
+        let mut files = files(alloc, text, data, &[])?;
+        let mut out = MemSink::new(alloc, Vec::new(alloc), 0);
+        let mut engine = NetEngine::new(alloc);
+        let ended = run(alloc, words.as_slice(), &mut files, &mut out, &mut engine);
+        assert_eq!(rt; ended, status, "{text}");
+        assert_eq!(rt; out.bytes(), written.as_bytes(), "{text}");
+    }
+    Ok(())
+}
+
+#[test]
+fn a_second_read_that_fails_writes_nothing(rt: HostRuntime) -> Result<(), Fail> {
+    let alloc = rt.alloc();
+    let words = words(alloc)?;
+    let mut files = files(alloc, PROGRAM, DATA, &[2])?;
+    let mut out = MemSink::new(alloc, Vec::new(alloc), 0);
+    let mut engine = NetEngine::new(alloc);
+    let ended = run(alloc, words.as_slice(), &mut files, &mut out, &mut engine);
+    assert_eq!(rt; ended, Status::ReadFault);
+    assert_eq!(rt; ended.code(), 7);
+    assert_eq!(rt; out.bytes().len(), 0);
+    Ok(())
+}
+
+#[test]
+fn a_write_that_fails_leaves_a_prefix(rt: HostRuntime) -> Result<(), Fail> {
+    let alloc = rt.alloc();
+    let words = words(alloc)?;
+    let mut files = files(alloc, PROGRAM, DATA, &[])?;
+    let mut out = MemSink::new(alloc, Vec::from_slice(alloc, &[1])?, 10);
+    let mut engine = NetEngine::new(alloc);
+    let ended = run(alloc, words.as_slice(), &mut files, &mut out, &mut engine);
+    assert_eq!(rt; ended, Status::WriteFault);
+    assert_eq!(rt; ended.code(), 8);
+    assert_eq!(rt; out.bytes(), b"{\"clocks\":".as_slice());
+    Ok(())
+}
+
+#[test]
+fn the_report_is_the_engines_answer(rt: HostRuntime) -> Result<(), Fail> {
+    let alloc = rt.alloc();
+    let words = words(alloc)?;
+    let mut files = files(alloc, PROGRAM, DATA, &[])?;
+    let mut out = MemSink::new(alloc, Vec::new(alloc), 0);
+    let mut engine = OneStepMore {
+        alloc,
+        answers: Vec::new(alloc),
+    };
+    let ended = run(alloc, words.as_slice(), &mut files, &mut out, &mut engine);
+    assert_eq!(rt; ended, Status::Done);
+    assert_eq!(rt; out.bytes(), LONGER.as_bytes());
+    Ok(())
+}

@@ -1,0 +1,12 @@
+pub mod Runs
+pub mod Numerals
+pub mod TableLooks
+pub mod WordsSpelled
+pub mod SignsSpelled
+pub mod TokensFound
+pub mod GapsFound
+pub mod FrontFound
+pub mod CutOnce
+pub mod LexedSoFar
+pub mod MostSeen
+pub mod TokensReady

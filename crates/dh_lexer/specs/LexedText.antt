@@ -1,0 +1,90 @@
+-- The tokens of a text with their places, and where a text is refused.
+use Rattle.std.specs.Prelude.{◌≡◌, ℕ, ◌+◌, ◌^◌, ◌<◌, ◌≤◌, ◌==◌, if◌then◌else◌, List, [], ◌∷◌, ◌++◌, length, Result, Ok, Err, Vec}
+use Rattle.std.specs.declared.alloc.Global.{Global}
+use Rattle.dh_base.specs.declared.faults.PassFault.{PassFault}
+use Rattle.dh_base.specs.declared.faults.PassFault.TheVariants as fault
+use Rattle.dh_base.specs.declared.places.Place.{Place}
+use Rattle.dh_base.specs.declared.rules.Rule.TheVariants as rule
+use Rattle.dh_tree.specs.Names.{IsName}
+use Rattle.dh_lexer.specs.declared.fronts.Front.{Front}
+use Rattle.dh_lexer.specs.declared.fronts.Front.TheVariants as front
+use Rattle.dh_lexer.specs.declared.tokens.Token.{Token}
+use Rattle.dh_lexer.specs.declared.tokens.TokenKind.{TokenKind}
+use Rattle.dh_lexer.specs.declared.tokens.TokenKind.TheVariants as kind
+use Rattle.dh_lexer.specs.Pieces.{Piece, gap, token, bytes, Stands, Cuts}
+
+-- a place
+abbrev pub place_at : ℕ → ℕ → Place
+place_at line column = record { line = line; column = column }
+
+-- the place after a byte that stands here: a line ends with a line feed
+abbrev pub next_place : Place → ℕ → Place
+next_place place b = if b == 10 then place_at (place.line + 1) 1 else place_at place.line (place.column + 1)
+
+-- the place after bytes that begin here
+abbrev pub place_from : Place → List ℕ → Place
+place_from place [] = place
+place_from place (b ∷ bs) = place_from (next_place place b) bs
+
+-- where a text goes on after these bytes
+abbrev pub place_after : List ℕ → Place
+place_after before = place_from (place_at 1 1) before
+
+-- a token at its place
+abbrev pub placed : TokenKind → Place → Token
+placed k place = record { kind = k; place = place }
+
+-- what is kept of a piece that begins at a place
+abbrev pub kept : Front → Place → List Token
+kept front.Gap place = []
+kept (front.Token k) place = placed k place ∷ []
+
+-- the bytes of all pieces
+abbrev pub all_bytes : List Piece → List ℕ
+all_bytes [] = []
+all_bytes (p ∷ ps) = bytes p ++ all_bytes ps
+
+-- the tokens among the pieces, after the bytes before
+abbrev pub tokens_among : List ℕ → List Piece → List Token
+tokens_among before [] = []
+tokens_among before (gap w ∷ ps) = tokens_among (before ++ w) ps
+tokens_among before (token k w ∷ ps) = placed k (place_after before) ∷ tokens_among (before ++ w) ps
+
+-- the text has these tokens, of which the last is the end
+pub record HasTokens (text : List ℕ) (tokens : List Token) : Type 0 where
+  pub pieces : List Piece
+  pub cut : Cuts text pieces []
+  pub are : tokens ≡ tokens_among [] pieces ++ placed kind.End (place_after text) ∷ []
+
+-- the text is cut into pieces up to this place, and no piece stands there
+pub record IsBreach (text : List ℕ) (place : Place) : Type 0 where
+  pub pieces : List Piece
+  pub rest : List ℕ
+  pub cut : Cuts text pieces rest
+  pub filled : 0 < length rest
+  pub none : (p : Piece) (more : List ℕ) → rest ≡ bytes p ++ more → Stands p more → ⊥
+  pub is : place ≡ place_after (all_bytes pieces)
+
+-- a text is answered by its tokens, or by where it breaks the rule on tokens
+abbrev pub Lexed : List ℕ → Result (Vec Token Global) PassFault → Type 0
+Lexed text (Ok v) = HasTokens text v.items × ((ts : List Token) → HasTokens text ts → ts ≡ v.items)
+Lexed text (Err (fault.Refused r place)) =
+    (r ≡ rule.Lex) × (IsBreach text place × (((p : Place) → IsBreach text p → p ≡ place) × ((ts : List Token) → HasTokens text ts → ⊥)))
+Lexed text (Err fault.NoMemory) = Unit {0}
+
+-- what a token holds: names are names, and numbers are below 2^64
+abbrev pub IsSound : TokenKind → Type 0
+IsSound (kind.Name n) = IsName n
+IsSound (kind.Number n) = n < 2 ^ 64
+IsSound _ = Unit {0}
+
+-- the last token is the end, and no other is
+abbrev pub AreEnded : List Token → Type 0
+AreEnded [] = ⊥
+AreEnded (t ∷ []) = t.kind ≡ kind.End
+AreEnded (t ∷ (u ∷ ts)) = (t.kind ≡ kind.End → ⊥) × (IsSound t.kind × AreEnded (u ∷ ts))
+
+-- what readers of tokens ask for
+pub record AreReady (text : List ℕ) (tokens : List Token) : Type 0 where
+  pub few : length tokens ≤ length text + 1
+  pub ended : AreEnded tokens

@@ -1,0 +1,5 @@
+pub mod Spellings
+pub mod Pieces
+pub mod LexedText
+pub mod FrontPiece
+pub mod Counted

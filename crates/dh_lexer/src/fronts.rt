@@ -1,0 +1,162 @@
+//! The piece that a text begins with: a space, a comment, or the longest token.
+
+ghost use Rattle.std.specs.Prelude.{◌≡◌, ◌+◌, ◌<◌, ◌≤◌, length, drop, slice_index, IfOk, option_map};
+ghost use Rattle.std.specs.List.{AllByRecursion};
+ghost use Rattle.dh_tree.specs.Names.{IsNameByte};
+ghost use Rattle.dh_lexer.specs.FrontPiece as first;
+ghost use Rattle.dh_lexer.specs.FrontPiece.{run_len, line_len, block_len, run_of, token_of, front_of};
+
+use crate::numbers::number;
+use crate::signs::sign;
+use crate::tokens::TokenKind;
+use crate::words::word;
+use dh_base::NoMemory;
+use std::alloc::Global;
+
+/// What a text begins with.
+#[derive(Debug, Drop)]
+pub enum Front {
+    /// A space or a comment.
+    Gap,
+    /// A token.
+    Token(TokenKind),
+}
+
+/// What begins at `at` and its length, or None where nothing does that a text may have.
+#[tactic(auto, unfolding(crate::specs::FrontPiece::front_of))]
+pub(crate) fn front_at(
+    alloc: Global,
+    text: &[u8],
+    at: usize,
+) -> Result<Option<(Front, usize)>, NoMemory>
+    requires { at < length text.now }
+    ensures { IfOk result (λ o. o ≡ front_of (drop at text.now)) }
+{
+    if is_space(text[at]) {
+        return Ok(Some((Front::Gap, 1)));
+    }
+    let next = byte_at(text, at, 1);
+    if text[at] == b'/' && next == b'/' {
+        return Ok(Some((Front::Gap, line_end(text, at + 2) - at)));
+    }
+    if text[at] == b'/' && next == b'*' {
+        return Ok(block_comment(text, at));
+    }
+    match token_at(alloc, text, at)? {
+        Some((kind, length)) => Ok(Some((Front::Token(kind), length))),
+        None => Ok(None),
+    }
+}
+
+/// Whether the byte may stand between tokens.
+fn is_space(b: u8) -> bool
+    ensures { result ≡ first.is_space b }
+{
+    b == b' ' || b == b'\t' || b == b'\n' || b == b'\r'
+}
+
+/// Whether the byte may stand in a name or a number.
+fn is_name_byte(b: u8) -> bool
+    ensures { result ≡ first.is_name_byte b }
+{
+    b.is_ascii_alphanumeric() || b == b'_'
+}
+
+/// The byte `ahead` bytes after `at`, or 0 (which no token has) where the text ends before.
+fn byte_at(text: &[u8], at: usize, ahead: usize) -> u8
+    requires { (at < length text.now) × (ahead ≤ 2) }
+    ensures { result ≡ slice_index (drop at text.now) ahead }
+{
+    if ahead < text.len() - at {
+        text[at + ahead]
+    } else {
+        0
+    }
+}
+
+/// Where the line ends that `at` stands in: at its line feed, or with the text.
+fn line_end(text: &[u8], at: usize) -> usize
+    requires { at ≤ length text.now }
+    ensures end { result ≡ at + line_len (drop at text.now) }
+    ensures within { result ≤ length text.now }
+{
+    for i in at..text.len() {
+        if text[i] == b'\n' {
+            return i;
+        }
+    }
+    text.len()
+}
+
+/// The comment that begins with the two bytes at `at`, and its length, or None where it has no end.
+fn block_comment(text: &[u8], at: usize) -> Option<(Front, usize)>
+    requires { at + 2 ≤ length text.now }
+    ensures { result ≡ option_map (λ n. first.gap_of (2 + n)) (block_len (drop 2 (drop at text.now))) }
+{
+    match block_end(text, at + 2) {
+        Some(end) => Some((Front::Gap, end - at)),
+        None => None,
+    }
+}
+
+/// Where the first `*/` from `at` on ends, or None where there is none.
+fn block_end(text: &[u8], at: usize) -> Option<usize>
+    requires { at ≤ length text.now }
+    ensures { result ≡ option_map (λ n. at + n) (block_len (drop at text.now)) }
+{
+    for i in at..text.len() {
+        if text[i] == b'*' && byte_at(text, i, 1) == b'/' {
+            return Some(i + 2);
+        }
+    }
+    None
+}
+
+/// The token that begins at `at` and its length, or None where there is none. No longer one begins
+/// there.
+#[tactic(auto, unfolding(crate::specs::FrontPiece::token_of))]
+fn token_at(alloc: Global, text: &[u8], at: usize) -> Result<Option<(TokenKind, usize)>, NoMemory>
+    requires { at < length text.now }
+    ensures { IfOk result (λ o. o ≡ token_of (drop at text.now)) }
+{
+    if !is_name_byte(text[at]) {
+        return Ok(sign(text[at], byte_at(text, at, 1), byte_at(text, at, 2)));
+    }
+    let end = run_end(text, at);
+    match run(alloc, &text[at..end])? {
+        Some(kind) => Ok(Some((kind, end - at))),
+        None => Ok(None),
+    }
+}
+
+/// Where the letters, digits and `_` end that begin at `at`.
+fn run_end(text: &[u8], at: usize) -> usize
+    requires { at ≤ length text.now }
+    ensures end { result ≡ at + run_len (drop at text.now) }
+    ensures within { result ≤ length text.now }
+{
+    for i in at..text.len() {
+        if !is_name_byte(text[i]) {
+            return i;
+        }
+    }
+    text.len()
+}
+
+/// The word, name or number that these letters, digits and `_` make up, or None.
+#[tactic(auto, unfolding(crate::specs::FrontPiece::run_of))]
+fn run(alloc: Global, bytes: &[u8]) -> Result<Option<TokenKind>, NoMemory>
+    requires { (0 < length bytes.now) × AllByRecursion IsNameByte bytes.now }
+    ensures { IfOk result (λ o. o ≡ run_of bytes.now) }
+{
+    if bytes[0].is_ascii_digit() {
+        return match number(bytes) {
+            Some(number) => Ok(Some(TokenKind::Number(number))),
+            None => Ok(None),
+        };
+    }
+    let Ok(text) = str::from_utf8(bytes) else {
+        return Ok(None);
+    };
+    word(alloc, text)
+}

@@ -1,0 +1,4 @@
+pub mod Residues
+pub mod Masks
+pub mod Values
+pub mod WordLaws

@@ -1,0 +1,12 @@
+pub mod Widths
+pub mod Appended
+pub mod Walks
+pub mod Reading
+pub mod Shapes
+pub mod Lines
+pub mod Forms
+pub mod Declared
+pub mod Commented
+pub mod Driven
+pub mod Small
+pub mod Tells

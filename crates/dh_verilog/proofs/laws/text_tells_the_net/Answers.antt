@@ -1,0 +1,5 @@
+use Rattle.dh_verilog.proofs.Tells.{text_tells}
+use Rattle.dh_verilog.proofs.laws.text_tells_the_net.Goals as goal
+
+pub returns : goal.returns
+returns c = text_tells

@@ -1,0 +1,79 @@
+-- The head of a net's text: its comments, and the list of the module's ports.
+use Rattle.std.specs.Prelude.{ℕ, ◌+◌, ◌-◌, Bool, true, false, List, [], ◌∷◌, ◌++◌, codes}
+use Rattle.std.specs.Fmt.{decimal}
+use Rattle.dh_base.specs.declared.outcomes.FaultKind.{FaultKind}
+use Rattle.dh_base.specs.declared.outcomes.FaultKind.TheVariants as fault
+use Rattle.dh_base.specs.declared.places.Place.{Place}
+use Rattle.dh_tree.specs.Tables.{width_of, elements_of}
+use Rattle.dh_tree.specs.declared.kinds.Kind.{Kind}
+use Rattle.dh_tree.specs.declared.kinds.Kind.TheVariants as kind
+use Rattle.dh_tree.specs.declared.tables.Dim.{Dim}
+use Rattle.dh_tree.specs.declared.tables.MemEntry.{MemEntry}
+use Rattle.dh_verilog.specs.Listed.{each}
+use Rattle.dh_verilog.specs.Rows.{row_width_of}
+use Rattle.dh_verilog.specs.declared.ports.Port.{Port}
+
+-- `ubit 8`
+abbrev pub kind_text : Kind → List ℕ
+kind_text kind.Bool = codes "bool"
+kind_text (kind.Unsigned width) = codes "ubit " ++ decimal width
+kind_text (kind.Signed width) = codes "bit " ++ decimal width
+
+-- `4:2`
+abbrev pub dim_text : Dim → List ℕ
+dim_text d = decimal d.size ++ (codes ":" ++ decimal d.banks)
+
+-- `4:2x6:1`
+abbrev pub dims_text : List Dim → List ℕ
+dims_text [] = []
+dims_text (d ∷ ds) = dim_text d ++ each (λ e. codes "x" ++ dim_text e) ds
+
+abbrev pub side_text : Bool → List ℕ
+side_text true = codes "outside"
+side_text false = codes "local"
+
+-- `// memory 0 A ubit 8 ports 1 dims 4:2x6:1 outside`
+abbrev pub memory_line : ℕ → MemEntry → List ℕ
+memory_line i e =
+    codes "// memory " ++ (decimal i ++ (codes " " ++ (e.name ++ (codes " " ++ (kind_text e.shape.kind ++ (codes " ports " ++ (decimal e.shape.ports ++ (codes " dims " ++ (dims_text e.shape.dims ++ (codes " " ++ (side_text e.outside ++ codes "\n")))))))))))
+
+abbrev pub fault_name : FaultKind → List ℕ
+fault_name fault.OutOfRange = codes "OutOfRange"
+
+-- `// fault 1 OutOfRange 5:12`
+abbrev pub fault_line : ℕ → FaultKind × Place → List ℕ
+fault_line i f =
+    codes "// fault " ++ (decimal i ++ (codes " " ++ (fault_name f.0 ++ (codes " " ++ (decimal f.1.line ++ (codes ":" ++ (decimal f.1.column ++ codes "\n")))))))
+
+-- the port of the memory with this number
+abbrev pub port_of : ℕ → MemEntry → Port
+port_of i e =
+    record { memory = i; bank = 0; port = 0; row_width = row_width_of (elements_of e.shape.dims); width = width_of e.shape.kind }
+
+-- the ports of memories, in order of memory, bank and port; the first memory has this number. Each
+-- memory has one bank with one port.
+abbrev pub ports_of : ℕ → List MemEntry → List Port
+ports_of i [] = []
+ports_of i (e ∷ es) = port_of i e ∷ ports_of (i + 1) es
+
+-- a pin of a port, `m0_b0_p0_en`, by the ending of its name
+abbrev pub pin : Port → List ℕ → List ℕ
+pin p ending = codes "m" ++ (decimal p.memory ++ (codes "_b" ++ (decimal p.bank ++ (codes "_p" ++ (decimal p.port ++ ending)))))
+
+-- a comma after the line before, then `  output m0_b0_p0_en`
+abbrev pub bit_pin : Port → List ℕ → List ℕ
+bit_pin p ending = codes ",\n  output " ++ pin p ending
+
+-- a comma after the line before, then `  output [7:0] m0_b0_p0_out`
+abbrev pub wide_pin : (direction : List ℕ) → (width : ℕ) → Port → (ending : List ℕ) → List ℕ
+wide_pin direction width p ending = codes ",\n  " ++ (direction ++ (codes " [" ++ (decimal (width - 1) ++ (codes ":0] " ++ pin p ending))))
+
+-- the five pins of a port
+abbrev pub pin_lines : Port → List ℕ
+pin_lines p =
+    bit_pin p (codes "_en") ++ (bit_pin p (codes "_we") ++ (wide_pin (codes "output") p.row_width p (codes "_row") ++ (wide_pin (codes "output") p.width p (codes "_out") ++ wide_pin (codes "input") p.width p (codes "_in"))))
+
+-- from `module kernel(` to `);`
+abbrev pub module_text : List Port → List ℕ
+module_text ports =
+    codes "module kernel(\n  input clk,\n  output tick,\n  output done,\n  output [31:0] fault" ++ (each pin_lines ports ++ codes "\n);\n")

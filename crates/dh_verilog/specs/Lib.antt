@@ -1,0 +1,6 @@
+pub mod Listed
+pub mod Rows
+pub mod Head
+pub mod Driving
+pub mod Text
+pub mod Ranges
