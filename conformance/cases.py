@@ -1,4 +1,4 @@
-"""The cases of conformance/cases: what a case holds is told in CONTRIBUTING.md, "A case"."""
+"""The cases of conformance/cases. CONTRIBUTING.md, "A case", tells what a case holds."""
 import glob
 import json
 import os
@@ -21,6 +21,9 @@ def content(value):
         return value.encode()
     if 'hex' in value:
         return bytes.fromhex(value['hex'])
+    if 'path' in value:
+        with open(os.path.join(TOP, value['path']), 'rb') as file:
+            return file.read()
     unit, count = value['repeat']
     return (value.get('prefix', '') + unit * count + value.get('suffix', '')).encode()
 
@@ -55,6 +58,13 @@ def all_cases():
             seen.add(case['name'])
             cases.append((table[:-5], case))
     return cases
+
+
+def unread_examples():
+    """The programs of examples/ that no case runs."""
+    read = {value['path'] for _, case in all_cases() for value in case['files'].values() if 'path' in value}
+    here = {os.path.relpath(path, TOP) for path in glob.glob(os.path.join(TOP, 'examples', '*.fuse'))}
+    return sorted(here - read)
 
 
 def chosen(names):
