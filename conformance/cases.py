@@ -8,7 +8,7 @@ import sys
 HERE = os.path.dirname(os.path.abspath(__file__))
 TOP = os.path.dirname(HERE)
 BUILT = os.path.join(TOP, 'crates', 'dahlia', 'out', 'dahlia')
-FIELDS = {'name', 'why', 'words', 'files', 'status', 'stdout', 'output', 'memory'}
+FIELDS = {'name', 'why', 'words', 'files', 'status', 'stdout', 'first_line', 'output', 'memory'}
 
 
 class BadTable(Exception):
@@ -38,8 +38,8 @@ def check(case, table):
     name = case.get('name', '?')
     if set(case) - FIELDS or not {'name', 'words', 'files', 'status'} <= set(case):
         raise BadTable(f'{table}: {name}: fields {sorted(case)}')
-    if ('stdout' in case) == ('output' in case):
-        raise BadTable(f'{table}: {name}: one of `stdout` and `output` is wanted')
+    if sum(field in case for field in ('stdout', 'first_line', 'output')) != 1:
+        raise BadTable(f'{table}: {name}: one of `stdout`, `first_line` and `output` is wanted')
 
 
 def all_cases():
