@@ -1,13 +1,12 @@
 -- A ledger keeps its numbers in a longer list that ends in zeros. So the number of a bank is found at
 -- its place, past the last bank too: there both lists give 0. A number that is set below the cut is
--- set in the cut list, and the larger of two numbers at each place is the larger for each bank.
--- What has the larger of two numbers everywhere is the least state above both.
+-- set in the cut list.
 use Rattle.std.proofs.Common.{arith, ap, sym, subst, ◌∙◌, ℕ, ◌+◌, ◌-◌, ◌<◌, ◌≤◌, ◌≡◌, length, take, slice_index, slice_set, inl, inr}
 use Rattle.std.proofs.lemmas.Bool.{cases_lt}
 use Rattle.std.proofs.lemmas.List.{get_or-take, get_or_past, get_or-replicate, length-replicate, length-take-le}
 use Rattle.std.proofs.Math.Seq.{take-set-lt}
 use Rattle.dh_ledger.specs.declared.count_ledger.CountLedger.TheInside.{Inside}
-use Rattle.dh_ledger.specs.Spending.{Spending, banks, spent_on, raised, IsWithin, AreAlike, IsLarger, IsLeastAbove}
+use Rattle.dh_ledger.specs.Spending.{Spending, banks, spent_on, raised}
 use Rattle.dh_ledger.specs.Calls.{Fits}
 use Rattle.dh_ledger.specs.Counts.{zeros, state_of, IsKept}
 
@@ -21,10 +20,6 @@ number l h bank = elim (cases_lt bank l.banks) [
   | inl below ↦ get_or-take l.banks l.counts bank 0 below
   | inr past ↦ let cut = banks_of l h in get_or_past (take l.banks l.counts) bank 0 (omega arith) ∙ sym (h.none_past bank past)
 ]
-
--- no bank has more than its ports
-pub kept_within : (l : Inside) → IsKept l → IsWithin (state_of l)
-kept_within l h bank = let same = number l h bank in let most = h.within bank in omega arith
 
 -- a number that rises within the ports
 pub spend_fits : (l : Inside) (s : Spending) → state_of l ≡ s → IsKept l → (bank count number_then : ℕ) → bank < banks s → count ≤ l.ports - slice_index l.counts bank → number_then ≡ slice_index l.counts bank + count → Fits s (state_of (record { counts = slice_set l.counts bank number_then; banks = l.banks; ports = l.ports })) bank count
@@ -52,16 +47,3 @@ zero_everywhere n place = elim (cases_lt place n) [
   | inl below ↦ get_or-replicate n place 0 0 below
   | inr past ↦ let many : length (zeros n) ≡ n = length-replicate _ _ in get_or_past (zeros n) place 0 (omega arith)
 ]
-
--- the larger of two numbers everywhere makes the least state above both
-pub least_above : (a b m : Spending) → AreAlike a b → IsLarger a b m → IsLeastAbove a b m
-least_above a b m alike h =
-    let same_banks = alike.banks in
-    let same_ports = alike.ports in
-    let new_banks = h.alike.banks in
-    let new_ports = h.alike.ports in
-    record {
-      first = record { alike = h.alike; each = λ bank. let larger = h.each bank in grind arith };
-      second = record { alike = record { banks = sym same_banks ∙ new_banks; ports = sym same_ports ∙ new_ports }; each = λ bank. let larger = h.each bank in grind arith };
-      least = λ s above_a above_b. record { alike = record { banks = sym new_banks ∙ above_a.alike.banks; ports = sym new_ports ∙ above_a.alike.ports }; each = λ bank. let larger = h.each bank in let first = above_a.each bank in let second = above_b.each bank in grind arith };
-    }
