@@ -6,9 +6,9 @@ use Rattle.std.proofs.lemmas.Bool.{cases_lt}
 use Rattle.std.proofs.lemmas.List.{get_or-take, get_or_past, get_or-replicate, length-replicate, length-take-le}
 use Rattle.std.proofs.Math.Seq.{take-set-lt}
 use Rattle.dh_ledger.specs.declared.count_ledger.CountLedger.TheInside.{Inside}
-use Rattle.dh_ledger.specs.Spending.{Spending, banks, spent_on, raised}
+use Rattle.dh_ledger.specs.Spending.{Spending, zeros, banks, spent_on, raised}
 use Rattle.dh_ledger.specs.Calls.{Fits}
-use Rattle.dh_ledger.specs.Counts.{zeros, state_of, IsKept}
+use Rattle.dh_ledger.specs.Counts.{state_of, IsKept}
 
 -- there are as many banks as the field says
 pub banks_of : (l : Inside) → IsKept l → banks (state_of l) ≡ l.banks

@@ -1,13 +1,9 @@
 -- The fields of a ledger that keeps one number for each bank.
-use Rattle.std.specs.Prelude.{ℕ, ◌+◌, ◌-◌, ◌≤◌, ◌≡◌, List, ◌++◌, length, take, drop, replicate, max, slice_index}
+use Rattle.std.specs.Prelude.{ℕ, ◌+◌, ◌-◌, ◌≤◌, ◌≡◌, List, ◌++◌, length, take, drop, max, slice_index}
 use Rattle.std.proofs.Common.{arith, ap, sym, ◌∙◌}
 use Rattle.std.proofs.lemmas.List.{ext_get_or, get_or-replicate, get_or-drop, take-append-drop, length-take-le, length-replicate, length-drop}
 use Rattle.dh_ledger.specs.declared.count_ledger.CountLedger.TheInside.{Inside}
-use Rattle.dh_ledger.specs.Spending.{Spending, banks}
-
--- so many zeros
-abbrev pub zeros : ℕ → List ℕ
-zeros n = replicate n 0
+use Rattle.dh_ledger.specs.Spending.{Spending, zeros, banks}
 
 -- the state that the fields hold
 abbrev pub state_of : Inside → Spending

@@ -1,5 +1,5 @@
 -- What a ledger of ports holds, and how such states compare.
-use Rattle.std.specs.Prelude.{ℕ, ◌+◌, ◌≤◌, ◌≡◌, List, length, max, slice_index, slice_set}
+use Rattle.std.specs.Prelude.{ℕ, ◌+◌, ◌≤◌, ◌≡◌, List, length, max, replicate, slice_index, slice_set}
 
 -- the ports of each bank, and how many of them are spent on each bank, from bank 0
 pub record Spending : Type 0 where
@@ -8,6 +8,10 @@ pub record Spending : Type 0 where
 
 abbrev pub banks : Spending → ℕ
 banks s = length s.spent
+
+-- so many zeros: the numbers of so many banks where nothing is spent
+abbrev pub zeros : ℕ → List ℕ
+zeros n = replicate n 0
 
 -- how many ports of a bank are spent; 0 past the last bank
 abbrev pub spent_on : Spending → ℕ → ℕ

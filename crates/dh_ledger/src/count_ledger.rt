@@ -1,7 +1,8 @@
 //! A ledger that keeps one number for each bank.
 
 ghost use Rattle.std.specs.Prelude.{◌≡◌, ◌≤◌};
-ghost use Rattle.dh_ledger.specs.Counts.{zeros, AreLarger};
+ghost use Rattle.dh_ledger.specs.Spending.{zeros};
+ghost use Rattle.dh_ledger.specs.Counts.{AreLarger};
 
 use crate::ledgers::{Full, Ledger};
 use std::marker::Model;
