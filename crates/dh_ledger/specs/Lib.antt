@@ -1,0 +1,4 @@
+pub mod Spending
+pub mod Granted
+pub mod Calls
+pub mod Counts
