@@ -7,7 +7,8 @@ use Rattle.std.specs.List.{AllByRecursion}
 use Rattle.std.proofs.lemmas.Option.{slice_get_within}
 use Rattle.dh_tree.specs.declared.tables.MemEntry.{MemEntry}
 use Rattle.dh_tree.specs.declared.thin.Program.{Program}
-use Rattle.dh_tree.specs.Tables.{elements_in, IsInteger, IsEntry, IsTable}
+use Rattle.dh_tree.specs.Tables.{elements_in, IsEntry, IsTable}
+use Rattle.dh_value.specs.Words.{IsInteger}
 use Rattle.dh_tree.specs.Thin.{IsThinEntry, IsThin}
 use Rattle.dh_net.specs.Valid.{HasWidth, FormFits, IsCell, IsRegister, IsValid}
 use Rattle.dh_net.specs.declared.nets.Cell.{Cell}

@@ -9,7 +9,8 @@ use Rattle.std.proofs.lemmas.Option.{slice_get_read}
 use Rattle.dh_tree.specs.declared.tables.MemEntry.{MemEntry}
 use Rattle.dh_tree.specs.declared.thin.Store.{Store}
 use Rattle.dh_tree.specs.declared.thin.Program.{Program}
-use Rattle.dh_tree.specs.Tables.{elements_of, width_of}
+use Rattle.dh_tree.specs.Tables.{elements_of}
+use Rattle.dh_value.specs.Words.{width_of}
 use Rattle.dh_tree.specs.Thin.{IsThinEntry, IsThin}
 use Rattle.dh_net.specs.Valid.{HasWidth, IsRowWidth, IsDriver}
 use Rattle.dh_net.specs.declared.nets.Cell.{Cell}

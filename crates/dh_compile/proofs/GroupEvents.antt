@@ -7,7 +7,7 @@ use Rattle.std.specs.List.{AllByRecursion}
 use Rattle.std.proofs.lemmas.Bool.Decides.{nat_tests}
 use Rattle.std.proofs.Math.Nat.{mod-eq_of_lt}
 use Rattle.dh_base.specs.declared.outcomes.FaultKind.TheVariants.{OutOfRange}
-use Rattle.dh_tree.specs.declared.kinds.Kind.TheVariants.{Signed}
+use Rattle.dh_value.specs.declared.kinds.Kind.TheVariants.{Signed}
 use Rattle.dh_tree.specs.declared.tables.Dim.{Dim}
 use Rattle.dh_tree.specs.declared.tables.MemEntry.{MemEntry}
 use Rattle.dh_tree.specs.declared.thin.Operand.{Operand}

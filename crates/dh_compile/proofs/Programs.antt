@@ -10,7 +10,8 @@ use Rattle.dh_tree.specs.declared.tables.MemEntry.{MemEntry}
 use Rattle.dh_tree.specs.declared.thin.Operand.{Operand}
 use Rattle.dh_tree.specs.declared.thin.Store.{Store}
 use Rattle.dh_tree.specs.declared.thin.Program.{Program}
-use Rattle.dh_tree.specs.Tables.{elements_of, width_of}
+use Rattle.dh_tree.specs.Tables.{elements_of}
+use Rattle.dh_value.specs.Words.{width_of}
 use Rattle.dh_tree.specs.Thin.{IsThinEntry, IsElement, IsSource, IsStore, IsGroup, IsThin, stores_of}
 use Rattle.dh_net.specs.Valid.{IsRowWidth}
 use Rattle.dh_compile.specs.declared.uses.Use.{Use}

@@ -7,7 +7,7 @@ use Rattle.serde_json.specs.Data.{Data, Members, no_members, member, put}
 use Rattle.serde_json.specs.Find.{of_integer, is_float}
 use Rattle.serde_json.specs.View.{items_of}
 use Rattle.serde_json.specs.Written.{has_float, items_have_float, members_have_float}
-use Rattle.dh_tree.specs.declared.kinds.Kind.{Kind}
+use Rattle.dh_value.specs.declared.kinds.Kind.{Kind}
 use Rattle.dh_tree.specs.declared.tables.MemEntry.{MemEntry}
 use Rattle.dh_data.specs.declared.reports.Ending.{Ending}
 use Rattle.dh_data.specs.Reports.{number_of, element_data, memory_data, outside_data, clocks_first, report_data}

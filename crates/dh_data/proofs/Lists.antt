@@ -13,7 +13,8 @@ use Rattle.std.proofs.lemmas.Map.Text.{is_eq-slice_cmp}
 use Rattle.serde_json.specs.Data.{unsigned, negative, float, Data, null, boolean, number, string, array, object, Items, no_items, item, Members, no_members, member}
 use Rattle.serde_json.specs.Events.{items_len, members_len}
 use Rattle.serde_json.specs.Find.{get_member, as_array, as_object}
-use Rattle.dh_tree.specs.Tables.{elements_of, width_of, FitsEntry, Fits, HasDistinctNames}
+use Rattle.dh_tree.specs.Tables.{elements_of, FitsEntry, Fits, HasDistinctNames}
+use Rattle.dh_value.specs.Words.{width_of}
 use Rattle.dh_tree.specs.declared.tables.MemEntry.{MemEntry}
 use Rattle.dh_data.specs.ThinData.{whole_items, data_object, IsMember, AreMembers, IsDataOf, ReadsAs, Holds, Reads, names_of, names_in}
 use Rattle.dh_data.specs.declared.thin_data.DataFault.{DataFault}

@@ -8,7 +8,8 @@ use Rattle.serde_json.specs.Find.{get, get_member, as_object, as_array}
 use Rattle.serde_json.specs.View.{items_view, members_view}
 use Rattle.serde_json.specs.declared.value.Value.{Value}
 use Rattle.serde_json.proofs.Views.{Entry, members_len-members_view, items_len-items_view}
-use Rattle.dh_tree.specs.Tables.{elements_of, width_of}
+use Rattle.dh_tree.specs.Tables.{elements_of}
+use Rattle.dh_value.specs.Words.{width_of}
 use Rattle.dh_tree.specs.declared.tables.MemEntry.{MemEntry}
 use Rattle.dh_data.specs.Reading.{sole_data, data_member, counted, list_in, numbers_in, Tells}
 use Rattle.dh_data.specs.declared.thin_data.DataFault.{DataFault}

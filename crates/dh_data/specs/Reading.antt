@@ -4,7 +4,8 @@ use Rattle.std.specs.declared.alloc.Global.{Global}
 use Rattle.serde_json.specs.Data.{Data, Items, no_items, item, Members}
 use Rattle.serde_json.specs.Events.{items_len, members_len}
 use Rattle.serde_json.specs.Find.{get, get_member, as_array, as_object, as_number, as_u64}
-use Rattle.dh_tree.specs.Tables.{elements_of, width_of}
+use Rattle.dh_tree.specs.Tables.{elements_of}
+use Rattle.dh_value.specs.Words.{width_of}
 use Rattle.dh_tree.specs.declared.tables.MemEntry.{MemEntry}
 use Rattle.dh_data.specs.ThinData.{IsDataOf}
 use Rattle.dh_data.specs.declared.thin_data.DataFault.{DataFault}

@@ -4,7 +4,8 @@ ghost use Rattle.std.specs.Prelude.{◌≡◌, ◌<◌, ◌≤◌, ◌^◌, ◌*
 ghost use Rattle.std.specs.List.{AllByRecursion};
 ghost use Rattle.serde_json.specs.Data.{object, no_members};
 ghost use Rattle.serde_json.specs.View.{view, members_view};
-ghost use Rattle.dh_tree.specs.Tables.{IsTable, IsEntry, IsInteger, FitsEntry, Fits, width_of};
+ghost use Rattle.dh_tree.specs.Tables.{IsTable, IsEntry, FitsEntry, Fits};
+ghost use Rattle.dh_value.specs.Words.{IsInteger, width_of};
 ghost use Rattle.dh_data.specs.Reports.{report_text, report_data, outside_data, with_outside, memory_data, element_data, is_signed, outcome_text as outcome_bytes, name_at, fault_name as fault_bytes};
 
 use crate::thin_data::width;

@@ -2,7 +2,8 @@
 
 ghost use Rattle.std.specs.Prelude.{◌≡◌, ◌↔◌, ◌<◌, ◌^◌, ◌-◌, min, option_map, List, ℕ, IfOk, IsTrue};
 ghost use Rattle.serde_json.specs.View.{view, items_view};
-ghost use Rattle.dh_tree.specs.Tables.{IsTable, elements_of, width_of};
+ghost use Rattle.dh_tree.specs.Tables.{IsTable, elements_of};
+ghost use Rattle.dh_value.specs.Words.{width_of};
 ghost use Rattle.dh_data.specs.ThinData.{Holds, Reads};
 ghost use Rattle.dh_data.specs.Reading.{Shows, Tells, TellsLists, lists_in, list_in, data_member, number_in, numbers_in};
 

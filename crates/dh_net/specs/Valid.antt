@@ -1,7 +1,8 @@
 -- When a net is valid: widths agree, and whatever is named is there and earlier (this profile).
 use Rattle.std.specs.Prelude.{◌≡◌, ℕ, ◌<◌, ◌≤◌, ◌^◌, true, false, List, length, slice_get, Some, option_map}
 use Rattle.std.specs.List.{AllByRecursion}
-use Rattle.dh_tree.specs.Tables.{IsTable, width_of, elements_of}
+use Rattle.dh_tree.specs.Tables.{IsTable, elements_of}
+use Rattle.dh_value.specs.Words.{width_of}
 use Rattle.dh_tree.specs.declared.tables.MemEntry.{MemEntry}
 use Rattle.dh_net.specs.declared.nets.Register.{Register}
 use Rattle.dh_net.specs.declared.nets.Cell.{Cell}

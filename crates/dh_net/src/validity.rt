@@ -3,7 +3,8 @@
 ghost use Rattle.std.specs.Prelude.{◌≡◌, ℕ, ◌<◌, ◌≤◌, ◌^◌, ◌↔◌, IsTrue, List, slice_get, Some, length, option_map};
 ghost use Rattle.dh_tree.specs.declared.tables.MemEntry.{MemEntry};
 ghost use Rattle.std.specs.List.{AllByRecursion};
-ghost use Rattle.dh_tree.specs.Tables.{IsTable, IsEntry, width_of};
+ghost use Rattle.dh_tree.specs.Tables.{IsTable, IsEntry};
+ghost use Rattle.dh_value.specs.Words.{width_of};
 ghost use Rattle.dh_net.specs.Valid.{HasWidth, IsOperand, AreOperands, IsPort, FormFits, IsCell, IsRegister, IsRowWidth, IsDriver, IsValid};
 ghost use Rattle.dh_net.specs.Parts.{AreDrivers};
 

@@ -9,9 +9,9 @@ use Rattle.dh_base.specs.declared.outcomes.FaultKind.TheVariants.{OutOfRange}
 use Rattle.dh_base.specs.declared.outcomes.Outcome.{Outcome}
 use Rattle.dh_base.specs.declared.outcomes.Outcome.TheVariants.{Faulted, Stuck}
 use Rattle.dh_base.specs.declared.places.Place.{Place}
-use Rattle.dh_tree.specs.declared.kinds.Kind.{Kind}
+use Rattle.dh_value.specs.declared.kinds.Kind.{Kind}
 use Rattle.dh_tree.specs.declared.tables.MemEntry.{MemEntry}
-use Rattle.dh_tree.specs.Tables.{width_of}
+use Rattle.dh_value.specs.Words.{width_of}
 use Rattle.dh_tree.specs.Tree.{Op, add, Term, number, access, binary, Terms, no_terms, term, Command, store}
 use Rattle.dh_tree.specs.Elements.{Spot, spot_of, dims_at, ports_at, position_of, is_within}
 

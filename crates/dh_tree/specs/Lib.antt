@@ -1,6 +1,7 @@
 pub mod Names
 pub mod Tables
 pub mod Tree
+pub mod PlainTrees
 pub mod Elements
 pub mod Effects
 pub mod Steps

@@ -2,22 +2,9 @@
 use Rattle.std.specs.Prelude.{◌≡◌, ℕ, ◌+◌, ◌*◌, ◌<◌, ◌≤◌, ◌^◌, true, List, [], ◌∷◌, length}
 use Rattle.std.specs.List.{AllByRecursion}
 use Rattle.dh_tree.specs.Names.{IsName}
-use Rattle.dh_tree.specs.declared.kinds.Kind.{Kind}
-use Rattle.dh_tree.specs.declared.kinds.Kind.TheVariants as kind
+use Rattle.dh_value.specs.Words.{width_of, IsInteger}
 use Rattle.dh_tree.specs.declared.tables.Dim.{Dim}
 use Rattle.dh_tree.specs.declared.tables.MemEntry.{MemEntry}
-
--- the bits of a value of a kind
-abbrev pub width_of : Kind → ℕ
-width_of kind.Bool = 1
-width_of (kind.Unsigned w) = w
-width_of (kind.Signed w) = w
-
--- a number kind of 1 to 64 bits
-abbrev pub IsInteger : Kind → Type 0
-IsInteger kind.Bool = ⊥
-IsInteger (kind.Unsigned w) = (1 ≤ w) × (w ≤ 64)
-IsInteger (kind.Signed w) = (1 ≤ w) × (w ≤ 64)
 
 -- one dimension of this size in one bank
 abbrev pub line_of : ℕ → List Dim

@@ -4,7 +4,7 @@ use Rattle.std.specs.List.{AllByRecursion}
 use Rattle.dh_tree.specs.Names.{IsName}
 use Rattle.dh_tree.specs.Tables.{line_of, HasDistinctNames}
 use Rattle.dh_tree.specs.ThinTokens.{HasTokens}
-use Rattle.dh_tree.specs.declared.kinds.Kind.TheVariants.{Unsigned}
+use Rattle.dh_value.specs.declared.kinds.Kind.TheVariants.{Unsigned}
 use Rattle.dh_tree.specs.declared.tables.MemEntry.{MemEntry}
 use Rattle.dh_tree.specs.declared.thin.Operand.{Operand}
 use Rattle.dh_tree.specs.declared.thin.Store.{Store}

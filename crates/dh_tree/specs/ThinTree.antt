@@ -2,7 +2,7 @@
 -- accesses, all given as 1:1, are never shown.
 use Rattle.std.specs.Prelude.{ℕ, false, map, Option, Some, None}
 use Rattle.dh_base.specs.declared.places.Place.{Place}
-use Rattle.dh_tree.specs.declared.kinds.Kind.TheVariants.{Unsigned, Signed}
+use Rattle.dh_value.specs.declared.kinds.Kind.TheVariants.{Unsigned, Signed}
 use Rattle.dh_tree.specs.declared.thin.Operand.{Operand}
 use Rattle.dh_tree.specs.declared.thin.Store.{Store}
 use Rattle.dh_tree.specs.declared.thin.Program.{Program}

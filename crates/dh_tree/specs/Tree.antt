@@ -2,7 +2,7 @@
 -- for one of these.
 use Rattle.std.specs.Prelude.{ℕ, Bool, List}
 use Rattle.dh_base.specs.declared.places.Place.{Place}
-use Rattle.dh_tree.specs.declared.kinds.Kind.{Kind}
+use Rattle.dh_value.specs.declared.kinds.Kind.{Kind}
 use Rattle.dh_tree.specs.declared.tables.MemEntry.{MemEntry}
 
 -- the operators that are built

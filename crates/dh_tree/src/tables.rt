@@ -4,8 +4,8 @@ ghost use Rattle.std.specs.Prelude.{◌≡◌, IfOk, string_bytes};
 
 mod validity;
 
-use crate::kinds::Kind;
 use dh_base::{Items, NoMemory};
+use dh_value::Kind;
 use std::alloc::Global;
 use std::marker::Model;
 pub use validity::{element_count, is_table};

@@ -8,9 +8,9 @@ use Rattle.dh_base.specs.declared.outcomes.FaultKind.{FaultKind}
 use Rattle.dh_base.specs.declared.outcomes.FaultKind.TheVariants as fault
 use Rattle.dh_base.specs.declared.places.Place.{Place}
 use Rattle.dh_tree.specs.Names.{IsLetter, IsNameByte, IsWord}
-use Rattle.dh_tree.specs.Tables.{IsInteger}
-use Rattle.dh_tree.specs.declared.kinds.Kind.{Kind}
-use Rattle.dh_tree.specs.declared.kinds.Kind.TheVariants as kind
+use Rattle.dh_value.specs.Words.{IsInteger}
+use Rattle.dh_value.specs.declared.kinds.Kind.{Kind}
+use Rattle.dh_value.specs.declared.kinds.Kind.TheVariants as kind
 use Rattle.dh_tree.specs.declared.tables.Dim.{Dim}
 use Rattle.dh_tree.specs.declared.tables.MemEntry.{MemEntry}
 use Rattle.dh_tree.specs.declared.tables.Shape.{Shape}

@@ -5,9 +5,10 @@ use Rattle.std.specs.Prelude.{slice_get, Option, Some, None, option_map}
 use Rattle.std.specs.List.{AllByRecursion}
 use Rattle.std.proofs.Math.Pow.{pow_mono}
 use Rattle.std.proofs.lemmas.Option.{slice_get_cases, slice_get_within}
-use Rattle.dh_tree.specs.Tables.{IsInteger, IsEntry, IsTable, width_of, elements_of, elements_in}
-use Rattle.dh_tree.specs.declared.kinds.Kind.{Kind}
-use Rattle.dh_tree.specs.declared.kinds.Kind.TheVariants as kind
+use Rattle.dh_tree.specs.Tables.{IsEntry, IsTable, elements_of, elements_in}
+use Rattle.dh_value.specs.Words.{IsInteger, width_of}
+use Rattle.dh_value.specs.declared.kinds.Kind.{Kind}
+use Rattle.dh_value.specs.declared.kinds.Kind.TheVariants as kind
 use Rattle.dh_tree.specs.declared.tables.Dim.{Dim}
 use Rattle.dh_tree.specs.declared.tables.MemEntry.{MemEntry}
 use Rattle.dh_net.specs.declared.nets.Cell.{Cell}

@@ -2,11 +2,12 @@
 
 ghost use Rattle.std.specs.Prelude.{◌≡◌, ℕ, ◌≤◌, ◌↔◌, IsTrue};
 ghost use Rattle.std.specs.List.{AllByRecursion};
-ghost use Rattle.dh_tree.specs.Tables.{IsInteger, IsEntry, IsTable, HasNoName, HasDistinctNames, line_of, elements_of, elements_in, most_elements};
+ghost use Rattle.dh_tree.specs.Tables.{IsEntry, IsTable, HasNoName, HasDistinctNames, line_of, elements_of, elements_in, most_elements};
+ghost use Rattle.dh_value.specs.Words.{IsInteger};
 
 use super::{Dim, MemEntry, MemTable};
-use crate::kinds::Kind;
 use dh_base::Limit;
+use dh_value::Kind;
 
 // Whether the kind is a number kind of 1 to 64 bits.
 fn is_integer(kind: Kind) -> bool

@@ -8,12 +8,12 @@ ghost use Rattle.dh_tree.specs.Tables.{HasDistinctNames};
 ghost use Rattle.dh_tree.specs.ThinTokens.{IsToken};
 ghost use Rattle.dh_tree.specs.ThinReading.{read, entry_at, IsTable, AreGroups};
 
-use crate::kinds::Kind;
 use crate::tables::{Dim, MemEntry, MemTable, Name, Shape};
 use crate::thin::checking::{has_thin_groups, is_thin_table};
 use crate::thin::reading::{Next, read_declaration, read_next, read_store};
 use crate::thin::{Program, Store, Token};
 use dh_base::{Items, NoMemory};
+use dh_value::Kind;
 use std::alloc::Global;
 
 /// The most elements of a memory of a thin program.

@@ -1,7 +1,7 @@
 use Rattle.std.proofs.Common.{◌≡◌, ◌<◌, ◌^◌, ◌++◌, drop, map}
 use Rattle.std.specs.List.{AllByRecursion}
 use Rattle.serde_json.specs.View.{view}
-use Rattle.dh_tree.specs.Tables.{width_of}
+use Rattle.dh_value.specs.Words.{width_of}
 use Rattle.dh_data.specs.Reports.{element_data}
 use Rattle.dh_data.proofs.reports.memory_value.Given as goal
 

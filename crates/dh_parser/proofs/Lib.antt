@@ -1,0 +1,13 @@
+pub mod MarksTold
+pub mod SoundBasics
+pub mod SoundTypes
+pub mod SoundOperands
+pub mod SoundOperators
+pub mod SoundSimple
+pub mod SoundPrograms
+pub mod StepsOfExpressions
+pub mod StepsOfPrograms
+pub mod AgainExpressions
+pub mod AgainSimple
+pub mod AgainCommands
+pub mod AgainPrograms

@@ -1,0 +1,635 @@
+-- The parser as a function over lists of tokens. It reads a text off the front and gives what is
+-- left; or stops, and gives what is left from the first token on that it has no use for. Where it
+-- calls itself it has a number of steps, at whose end it gives up; more steps than tokens suffice.
+use Rattle.std.specs.Prelude.{ℕ, zero, suc, ◌==◌, nat_le, Bool, true, false, if◌then◌else◌, List, [], ◌∷◌, length, Option, Some, None}
+use Rattle.dh_base.specs.declared.places.Place.{Place}
+use Rattle.dh_lexer.specs.declared.tokens.Token.{Token}
+use Rattle.dh_lexer.specs.declared.tokens.TokenKind.{TokenKind}
+use Rattle.dh_lexer.specs.declared.tokens.TokenKind.TheVariants as kind
+use Rattle.dh_value.specs.declared.operators.Op.{Op}
+use Rattle.dh_value.specs.declared.operators.Op.TheVariants as op
+use Rattle.dh_parser.specs.declared.parsing.reading.Mark.{Mark}
+use Rattle.dh_parser.specs.declared.parsing.reading.Mark.TheVariants as mark
+use Rattle.dh_parser.specs.Marks.{is_mark, comes}
+use Rattle.dh_parser.specs.Allowed.{level}
+use Rattle.dh_parser.specs.Grammar.{NameText, NumberText, KindText, bool_kind, bit_kind, ubit_kind, PortsText, no_ports, some_ports, BanksText, no_banks, some_banks, DimsText, no_dims, dim_then, TypeText, ExprText, literal, negative, truth, variable, access, bracket, cast, binary, AccessText, element, physical, IndexText, index, MoreIndicesText, no_indices, index_then, MoreArgumentsText, no_more_arguments, argument_then, ArgumentsText, no_arguments, some_arguments, FactorText, SuffixText, OffsetText, ViewText, shrink, split, suffix, shift, ValueText, no_value, some_value, ReducerText, adds, subtracts, multiplies, SimpleText, let_typed, let_value, view, assign, store, reduce, call, DeclaredText, no_declared, some_declared, UnrollText, no_unroll, some_unroll, HeadText, BlockText, block, PartsText, last_part, part_then, PartText, end_of_part, last_simple, simple_then, compound_then, semicolon_then, CompoundText, block_alone, if_alone, while_loop, for_loop, IfText, if_else, ElseText, no_else, else_block, else_if, CombineText, no_combine, some_combine, ParameterText, MoreParametersText, no_more_parameters, parameter_then, ParametersText, no_parameters, some_parameters, ItemsText, no_items, decl_then, def_then, ProgramText}
+
+-- what reading comes to
+pub data Outcome (A : Type 0) : Type 0 where
+  good : A → (rest : List Token) → Outcome A
+  bad : (rest : List Token) → Outcome A
+  deep : Outcome A
+
+-- reads on after what was read
+abbrev pub bind : {A B : Type 0} → Outcome A → (A → List Token → Outcome B) → Outcome B
+bind (good a rest) go = go a rest
+bind (bad rest) go = bad rest
+bind deep go = deep
+
+-- a mark, at its place
+abbrev pub the : Mark → List Token → Outcome Place
+the m [] = bad []
+the m (t ∷ ts) = if is_mark t.kind m then good t.place ts else bad (t ∷ ts)
+
+abbrev pub name_text : List ℕ → Place → NameText
+name_text name place = record { name = name; place = place }
+
+abbrev pub number_text : ℕ → Place → NumberText
+number_text value place = record { value = value; place = place }
+
+abbrev pub name_from : TokenKind → Token → List Token → Outcome NameText
+name_from (kind.Name n) t ts = good (name_text n t.place) ts
+name_from _ t ts = bad (t ∷ ts)
+
+abbrev pub the_name : List Token → Outcome NameText
+the_name [] = bad []
+the_name (t ∷ ts) = name_from t.kind t ts
+
+abbrev pub number_from : TokenKind → Token → List Token → Outcome NumberText
+number_from (kind.Number n) t ts = good (number_text n t.place) ts
+number_from _ t ts = bad (t ∷ ts)
+
+abbrev pub the_number : List Token → Outcome NumberText
+the_number [] = bad []
+the_number (t ∷ ts) = number_from t.kind t ts
+
+abbrev pub is_width : ℕ → Bool
+is_width n = if nat_le 1 n then nat_le n 64 else false
+
+abbrev pub width_from : TokenKind → Token → List Token → Outcome NumberText
+width_from (kind.Number n) t ts = if is_width n then good (number_text n t.place) ts else bad (t ∷ ts)
+width_from _ t ts = bad (t ∷ ts)
+
+-- the width of a kind
+abbrev pub the_width : List Token → Outcome NumberText
+the_width [] = bad []
+the_width (t ∷ ts) = width_from t.kind t ts
+
+-- `< width >`, of which `make` makes a kind
+abbrev pub width_then : (Place → NumberText → Place → KindText) → List Token → Outcome KindText
+width_then make ts =
+    bind (the mark.Less ts) λ less r.
+    bind (the_width r) λ width r.
+    bind (the mark.Greater r) λ greater r.
+    good (make less width greater) r
+
+abbrev pub kind_from : TokenKind → Token → List Token → Outcome KindText
+kind_from kind.Bool t ts = good (bool_kind t.place) ts
+kind_from kind.Bit t ts = width_then (bit_kind t.place) ts
+kind_from kind.Ubit t ts = width_then (ubit_kind t.place) ts
+kind_from _ t ts = bad (t ∷ ts)
+
+abbrev pub the_kind : List Token → Outcome KindText
+the_kind [] = bad []
+the_kind (t ∷ ts) = kind_from t.kind t ts
+
+abbrev pub the_ports : List Token → Outcome PortsText
+the_ports ts =
+    if comes mark.OpenBrace ts
+    then (bind (the mark.OpenBrace ts) λ opener r.
+    bind (the_number r) λ ports r.
+    bind (the mark.CloseBrace r) λ closer r.
+    good (some_ports opener ports closer) r)
+    else good no_ports ts
+
+abbrev pub the_banks : List Token → Outcome BanksText
+the_banks ts =
+    if comes mark.Bank ts
+    then (bind (the mark.Bank ts) λ word r.
+    bind (the_number r) λ banks r.
+    good (some_banks word banks) r)
+    else good no_banks ts
+
+abbrev pub the_dims : ℕ → List Token → Outcome DimsText
+the_dims zero ts = deep
+the_dims (suc n) ts =
+    if comes mark.OpenBracket ts
+    then (bind (the mark.OpenBracket ts) λ opener r.
+    bind (the_number r) λ size r.
+    bind (the_banks r) λ banks r.
+    bind (the mark.CloseBracket r) λ closer r.
+    bind (the_dims n r) λ more r.
+    good (dim_then opener size banks closer more) r)
+    else good no_dims ts
+
+abbrev pub type_text : KindText → PortsText → DimsText → TypeText
+type_text k ports dims = record { kind = k; ports = ports; dims = dims }
+
+abbrev pub the_type : List Token → Outcome TypeText
+the_type ts =
+    bind (the_kind ts) λ k r.
+    bind (the_ports r) λ ports r.
+    bind (the_dims (suc (length r)) r) λ dims r.
+    good (type_text k ports dims) r
+
+-- an operator and what follows it
+pub record Sign : Type 0 where
+  pub op : Op
+  pub place : Place
+  pub rest : List Token
+
+-- the operator that a token is
+abbrev pub op_from : TokenKind → Option Op
+op_from kind.Or = Some op.Either
+op_from kind.And = Some op.Both
+op_from kind.Equal = Some op.Eq
+op_from kind.NotEqual = Some op.Ne
+op_from kind.Less = Some op.Lt
+op_from kind.Greater = Some op.Gt
+op_from kind.LessEqual = Some op.Le
+op_from kind.GreaterEqual = Some op.Ge
+op_from kind.Bar = Some op.Or
+op_from kind.Caret = Some op.Xor
+op_from kind.Ampersand = Some op.And
+op_from kind.ShiftLeft = Some op.Shl
+op_from kind.ShiftRight = Some op.Shr
+op_from kind.Plus = Some op.Add
+op_from kind.Minus = Some op.Sub
+op_from kind.Star = Some op.Mul
+op_from _ = None
+
+abbrev pub sign_text : Op → Place → List Token → Sign
+sign_text o place rest = record { op = o; place = place; rest = rest }
+
+abbrev pub sign_from : ℕ → Option Op → Token → List Token → Option Sign
+sign_from k None t ts = None
+sign_from k (Some o) t ts = if nat_le k (level o) then Some (sign_text o t.place ts) else None
+
+-- an operator of at least this level
+abbrev pub sign_at : ℕ → List Token → Option Sign
+sign_at k [] = None
+sign_at k (t ∷ ts) = sign_from k (op_from t.kind) t ts
+
+-- a reader of expressions of at least a level
+abbrev pub Reads : Type 0
+Reads = ℕ → List Token → Outcome ExprText
+
+abbrev pub the_index : Reads → List Token → Outcome IndexText
+the_index read ts =
+    bind (the mark.OpenBracket ts) λ opener r.
+    bind (read 0 r) λ e r.
+    bind (the mark.CloseBracket r) λ closer r.
+    good (index opener e closer) r
+
+abbrev pub more_indices : Reads → ℕ → List Token → Outcome MoreIndicesText
+more_indices read zero ts = deep
+more_indices read (suc n) ts =
+    if comes mark.OpenBracket ts
+    then (bind (the_index read ts) λ i r.
+    bind (more_indices read n r) λ more r.
+    good (index_then i more) r)
+    else good no_indices ts
+
+-- what follows the name of an access
+abbrev pub access_from : Reads → NameText → List Token → Outcome AccessText
+access_from read n ts =
+    if comes mark.OpenBrace ts
+    then (bind (the mark.OpenBrace ts) λ opener r.
+    bind (the_number r) λ bank r.
+    bind (the mark.CloseBrace r) λ closer r.
+    bind (the_index read r) λ i r.
+    good (physical n opener bank closer i) r)
+    else (bind (the_index read ts) λ i r.
+    bind (more_indices read (suc (length r)) r) λ more r.
+    good (element n i more) r)
+
+-- whether an access goes on after its name
+abbrev pub goes_on : List Token → Bool
+goes_on ts = if comes mark.OpenBracket ts then true else comes mark.OpenBrace ts
+
+-- what follows the name of an operand
+abbrev pub named_from : Reads → NameText → List Token → Outcome ExprText
+named_from read n ts =
+    if goes_on ts
+    then (bind (access_from read n ts) λ a r. good (access a) r)
+    else good (variable n) ts
+
+-- what follows `(`
+abbrev pub bracket_from : Reads → Place → List Token → Outcome ExprText
+bracket_from read opener ts =
+    bind (read 0 ts) λ e r.
+    if comes mark.As r
+    then (bind (the mark.As r) λ word r.
+    bind (the_kind r) λ k r.
+    bind (the mark.CloseParen r) λ closer r.
+    good (cast opener e word k closer) r)
+    else (bind (the mark.CloseParen r) λ closer r.
+    good (bracket opener e closer) r)
+
+abbrev pub operand_from : Reads → TokenKind → Token → List Token → Outcome ExprText
+operand_from read (kind.Number n) t ts = good (literal (number_text n t.place)) ts
+operand_from read kind.Minus t ts = bind (the_number ts) λ n r. good (negative t.place n) r
+operand_from read kind.True t ts = good (truth true t.place) ts
+operand_from read kind.False t ts = good (truth false t.place) ts
+operand_from read (kind.Name n) t ts = named_from read (name_text n t.place) ts
+operand_from read kind.OpenParen t ts = bracket_from read t.place ts
+operand_from read _ t ts = bad (t ∷ ts)
+
+abbrev pub operand : Reads → List Token → Outcome ExprText
+operand read [] = bad []
+operand read (t ∷ ts) = operand_from read t.kind t ts
+
+-- goes on with the right operand of an operator
+abbrev pub chain_with : Reads → ExprText → List Token → (ExprText → List Token → Outcome ExprText) → Option Sign → Outcome ExprText
+chain_with read e ts go None = good e ts
+chain_with read e ts go (Some s) = bind (read (suc (level s.op)) s.rest) λ f r. go (binary s.op s.place e f) r
+
+-- what follows an operand: operators of at least this level with their right operands
+abbrev pub chain : Reads → ℕ → ℕ → ExprText → List Token → Outcome ExprText
+chain read zero k e ts = deep
+chain read (suc n) k e ts = chain_with read e ts (λ f r. chain read n k f r) (sign_at k ts)
+
+-- an expression of operators of at least this level
+abbrev pub read : ℕ → ℕ → List Token → Outcome ExprText
+read zero k ts = deep
+read (suc d) k ts = bind (operand (read d) ts) λ e r. chain (read d) (suc (length r)) k e r
+
+-- more steps than there are tokens
+abbrev pub steps : List Token → ℕ
+steps ts = suc (length ts)
+
+abbrev pub the_expression : List Token → Outcome ExprText
+the_expression ts = read (steps ts) 0 ts
+
+abbrev pub more_arguments : ℕ → List Token → Outcome MoreArgumentsText
+more_arguments zero ts = deep
+more_arguments (suc n) ts =
+    if comes mark.Comma ts
+    then (bind (the mark.Comma ts) λ comma r.
+    bind (the_expression r) λ e r.
+    bind (more_arguments n r) λ more r.
+    good (argument_then comma e more) r)
+    else (bind (the mark.CloseParen ts) λ closer r.
+    good (no_more_arguments closer) r)
+
+-- what follows `(`
+abbrev pub the_arguments : List Token → Outcome ArgumentsText
+the_arguments ts =
+    if comes mark.CloseParen ts
+    then (bind (the mark.CloseParen ts) λ closer r. good (no_arguments closer) r)
+    else (bind (the_expression ts) λ e r.
+    bind (more_arguments (steps r) r) λ more r.
+    good (some_arguments e more) r)
+
+abbrev pub factor_text : Place → Place → NumberText → Place → FactorText
+factor_text opener word factor closer = record { opener = opener; word = word; factor = factor; closer = closer }
+
+abbrev pub suffix_text : Place → Place → NumberText → Place → ExprText → Place → SuffixText
+suffix_text opener word factor star offset closer = record { opener = opener; word = word; factor = factor; star = star; offset = offset; closer = closer }
+
+abbrev pub offset_text : Place → Place → ExprText → Place → OffsetText
+offset_text opener word offset closer = record { opener = opener; word = word; offset = offset; closer = closer }
+
+abbrev pub the_factor : List Token → Outcome FactorText
+the_factor ts =
+    bind (the mark.OpenBracket ts) λ opener r.
+    bind (the mark.By r) λ word r.
+    bind (the_number r) λ factor r.
+    bind (the mark.CloseBracket r) λ closer r.
+    good (factor_text opener word factor closer) r
+
+abbrev pub the_suffix : List Token → Outcome SuffixText
+the_suffix ts =
+    bind (the mark.OpenBracket ts) λ opener r.
+    bind (the mark.By r) λ word r.
+    bind (the_number r) λ factor r.
+    bind (the mark.Star r) λ sign r.
+    bind (operand (read (steps r)) r) λ offset r.
+    bind (the mark.CloseBracket r) λ closer r.
+    good (suffix_text opener word factor sign offset closer) r
+
+abbrev pub the_offset : List Token → Outcome OffsetText
+the_offset ts =
+    bind (the mark.OpenBracket ts) λ opener r.
+    bind (the mark.By r) λ word r.
+    bind (the_expression r) λ offset r.
+    bind (the mark.CloseBracket r) λ closer r.
+    good (offset_text opener word offset closer) r
+
+-- more of what begins with `[`
+abbrev pub more_of : {A : Type 0} → (List Token → Outcome A) → ℕ → List Token → Outcome (List A)
+more_of one zero ts = deep
+more_of one (suc n) ts =
+    if comes mark.OpenBracket ts
+    then (bind (one ts) λ a r. bind (more_of one n r) λ more r. good (a ∷ more) r)
+    else good [] ts
+
+-- the parent of a view and its brackets
+abbrev pub brackets : {A : Type 0} → (List Token → Outcome A) → (NameText → A → List A → ViewText) → List Token → Outcome ViewText
+brackets one make ts =
+    bind (the_name ts) λ parent r.
+    bind (one r) λ a r.
+    bind (more_of one (steps r) r) λ more r.
+    good (make parent a more) r
+
+abbrev pub view_from : TokenKind → Token → List Token → Outcome ViewText
+view_from kind.Shrink t ts = brackets the_factor (shrink t.place) ts
+view_from kind.Split t ts = brackets the_factor (split t.place) ts
+view_from kind.Suffix t ts = brackets the_suffix (suffix t.place) ts
+view_from kind.Shift t ts = brackets the_offset (shift t.place) ts
+view_from _ t ts = bad (t ∷ ts)
+
+abbrev pub the_view : List Token → Outcome ViewText
+the_view [] = bad []
+the_view (t ∷ ts) = view_from t.kind t ts
+
+abbrev pub the_value : List Token → Outcome ValueText
+the_value ts =
+    if comes mark.Assign ts
+    then (bind (the mark.Assign ts) λ equal r.
+    bind (the_expression r) λ e r.
+    good (some_value equal e) r)
+    else good no_value ts
+
+-- what follows `let`
+abbrev pub let_from : Place → List Token → Outcome SimpleText
+let_from word ts =
+    bind (the_name ts) λ n r.
+    if comes mark.Colon r
+    then (bind (the mark.Colon r) λ colon r.
+    bind (the_type r) λ t r.
+    bind (the_value r) λ value r.
+    good (let_typed word n colon t value) r)
+    else (bind (the mark.Assign r) λ equal r.
+    bind (the_expression r) λ e r.
+    good (let_value word n equal e) r)
+
+-- what follows `view`
+abbrev pub view_command_from : Place → List Token → Outcome SimpleText
+view_command_from word ts =
+    bind (the_name ts) λ n r.
+    bind (the mark.Assign r) λ equal r.
+    bind (the_view r) λ v r.
+    good (view word n equal v) r
+
+abbrev pub reduce_from : NameText → ReducerText → Place → List Token → Outcome SimpleText
+reduce_from n sign place ts = bind (the_expression ts) λ e r. good (reduce n sign place e) r
+
+-- a store, after the name of its access
+abbrev pub store_from : NameText → List Token → Outcome SimpleText
+store_from n ts =
+    bind (access_from (read (steps ts)) n ts) λ a r.
+    bind (the mark.Becomes r) λ becomes r.
+    bind (the_expression r) λ e r.
+    good (store a becomes e) r
+
+-- a command after the name that begins it, by the token that follows
+abbrev pub after_name_from : NameText → TokenKind → Token → List Token → Outcome SimpleText
+after_name_from n kind.Becomes t ts = bind (the_expression ts) λ e r. good (assign n t.place e) r
+after_name_from n kind.OpenParen t ts = bind (the_arguments ts) λ arguments r. good (call n t.place arguments) r
+after_name_from n kind.OpenBracket t ts = store_from n (t ∷ ts)
+after_name_from n kind.OpenBrace t ts = store_from n (t ∷ ts)
+after_name_from n kind.PlusAssign t ts = reduce_from n adds t.place ts
+after_name_from n kind.MinusAssign t ts = reduce_from n subtracts t.place ts
+after_name_from n kind.StarAssign t ts = reduce_from n multiplies t.place ts
+after_name_from n _ t ts = bad (t ∷ ts)
+
+abbrev pub after_name : NameText → List Token → Outcome SimpleText
+after_name n [] = bad []
+after_name n (t ∷ ts) = after_name_from n t.kind t ts
+
+abbrev pub simple_from : TokenKind → Token → List Token → Outcome SimpleText
+simple_from kind.Let t ts = let_from t.place ts
+simple_from kind.View t ts = view_command_from t.place ts
+simple_from (kind.Name n) t ts = after_name (name_text n t.place) ts
+simple_from _ t ts = bad (t ∷ ts)
+
+abbrev pub the_simple : List Token → Outcome SimpleText
+the_simple [] = bad []
+the_simple (t ∷ ts) = simple_from t.kind t ts
+
+abbrev pub the_declared : List Token → Outcome DeclaredText
+the_declared ts =
+    if comes mark.Colon ts
+    then (bind (the mark.Colon ts) λ colon r.
+    bind (the_kind r) λ k r.
+    good (some_declared colon k) r)
+    else good no_declared ts
+
+abbrev pub the_unroll : List Token → Outcome UnrollText
+the_unroll ts =
+    if comes mark.Unroll ts
+    then (bind (the mark.Unroll ts) λ word r.
+    bind (the_number r) λ factor r.
+    good (some_unroll word factor) r)
+    else good no_unroll ts
+
+abbrev pub head_text : Place → Place → Place → NameText → DeclaredText → Place → NumberText → Place → NumberText → Place → UnrollText → HeadText
+head_text word opener let_word iterator declared equal low range high closer unroll = record {
+  word = word;
+  opener = opener;
+  let_word = let_word;
+  iterator = iterator;
+  declared = declared;
+  equal = equal;
+  low = low;
+  range = range;
+  high = high;
+  closer = closer;
+  unroll = unroll;
+}
+
+abbrev pub the_head : List Token → Outcome HeadText
+the_head ts =
+    bind (the mark.For ts) λ word r.
+    bind (the mark.OpenParen r) λ opener r.
+    bind (the mark.Let r) λ let_word r.
+    bind (the_name r) λ iterator r.
+    bind (the_declared r) λ declared r.
+    bind (the mark.Assign r) λ equal r.
+    bind (the_number r) λ low r.
+    bind (the mark.Range r) λ range r.
+    bind (the_number r) λ high r.
+    bind (the mark.CloseParen r) λ closer r.
+    bind (the_unroll r) λ unroll r.
+    good (head_text word opener let_word iterator declared equal low range high closer unroll) r
+
+-- a reader of blocks
+abbrev pub Blocks : Type 0
+Blocks = List Token → Outcome BlockText
+
+-- an `if`, with a step for each `if` after `else`
+abbrev pub the_if : Blocks → ℕ → List Token → Outcome IfText
+the_if blocks zero ts = deep
+the_if blocks (suc n) ts =
+    bind (the mark.If ts) λ word r.
+    bind (the mark.OpenParen r) λ opener r.
+    bind (the_expression r) λ e r.
+    bind (the mark.CloseParen r) λ closer r.
+    bind (blocks r) λ b r.
+    bind (if comes mark.Else r
+    then (bind (the mark.Else r) λ else_word q.
+    if comes mark.If q
+    then (bind (the_if blocks n q) λ i q. good (else_if else_word i) q)
+    else (bind (blocks q) λ c q. good (else_block else_word c) q))
+    else good no_else r) λ other r.
+    good (if_else word opener e closer b other) r
+
+abbrev pub the_while : Blocks → List Token → Outcome CompoundText
+the_while blocks ts =
+    bind (the mark.While ts) λ word r.
+    bind (the mark.OpenParen r) λ opener r.
+    bind (the_expression r) λ e r.
+    bind (the mark.CloseParen r) λ closer r.
+    bind (blocks r) λ b r.
+    good (while_loop word opener e closer b) r
+
+abbrev pub the_combine : Blocks → List Token → Outcome CombineText
+the_combine blocks ts =
+    if comes mark.Combine ts
+    then (bind (the mark.Combine ts) λ word r.
+    bind (blocks r) λ b r.
+    good (some_combine word b) r)
+    else good no_combine ts
+
+abbrev pub the_for : Blocks → List Token → Outcome CompoundText
+the_for blocks ts =
+    bind (the_head ts) λ h r.
+    bind (blocks r) λ b r.
+    bind (the_combine blocks r) λ combine r.
+    good (for_loop h b combine) r
+
+abbrev pub the_compound : Blocks → List Token → Outcome CompoundText
+the_compound blocks ts =
+    if comes mark.If ts
+    then (bind (the_if blocks (steps ts) ts) λ i r. good (if_alone i) r)
+    else (if comes mark.While ts
+    then the_while blocks ts
+    else (if comes mark.For ts
+    then the_for blocks ts
+    else (bind (blocks ts) λ b r. good (block_alone b) r)))
+
+-- what begins at a token, among the commands of a part
+pub data Beginning : Type 0 where
+  begins_simple begins_compound begins_semicolon begins_nothing : Beginning
+
+abbrev pub beginning_of : TokenKind → Beginning
+beginning_of kind.Let = begins_simple
+beginning_of kind.View = begins_simple
+beginning_of (kind.Name n) = begins_simple
+beginning_of kind.OpenBrace = begins_compound
+beginning_of kind.If = begins_compound
+beginning_of kind.While = begins_compound
+beginning_of kind.For = begins_compound
+beginning_of kind.Semicolon = begins_semicolon
+beginning_of _ = begins_nothing
+
+abbrev pub beginning : List Token → Beginning
+beginning [] = begins_nothing
+beginning (t ∷ ts) = beginning_of t.kind
+
+-- a part whose first command begins so; `go` reads the rest of it
+abbrev pub part_with : Blocks → (List Token → Outcome PartText) → List Token → Beginning → Outcome PartText
+part_with blocks go ts begins_simple =
+    bind (the_simple ts) λ s r.
+    if comes mark.Semicolon r
+    then (bind (the mark.Semicolon r) λ semicolon r.
+    bind (go r) λ more r.
+    good (simple_then s semicolon more) r)
+    else good (last_simple s) r
+part_with blocks go ts begins_compound =
+    bind (the_compound blocks ts) λ c r.
+    bind (go r) λ more r.
+    good (compound_then c more) r
+part_with blocks go ts begins_semicolon =
+    bind (the mark.Semicolon ts) λ semicolon r.
+    bind (go r) λ more r.
+    good (semicolon_then semicolon more) r
+part_with blocks go ts begins_nothing = good end_of_part ts
+
+abbrev pub the_part : Blocks → ℕ → List Token → Outcome PartText
+the_part blocks zero ts = deep
+the_part blocks (suc n) ts = part_with blocks (the_part blocks n) ts (beginning ts)
+
+abbrev pub the_parts : Blocks → ℕ → List Token → Outcome PartsText
+the_parts blocks zero ts = deep
+the_parts blocks (suc n) ts =
+    bind (the_part blocks (steps ts) ts) λ p r.
+    if comes mark.Dashes r
+    then (bind (the mark.Dashes r) λ dashes r.
+    bind (the_parts blocks n r) λ more r.
+    good (part_then p dashes more) r)
+    else good (last_part p) r
+
+abbrev pub read_block : ℕ → Blocks
+read_block zero ts = deep
+read_block (suc d) ts =
+    bind (the mark.OpenBrace ts) λ opener r.
+    bind (the_parts (read_block d) (steps r) r) λ parts r.
+    bind (the mark.CloseBrace r) λ closer r.
+    good (block opener parts closer) r
+
+abbrev pub the_block : Blocks
+the_block ts = read_block (steps ts) ts
+
+abbrev pub parameter_text : NameText → Place → TypeText → ParameterText
+parameter_text n colon t = record { name = n; colon = colon; written = t }
+
+abbrev pub the_parameter : List Token → Outcome ParameterText
+the_parameter ts =
+    bind (the_name ts) λ n r.
+    bind (the mark.Colon r) λ colon r.
+    bind (the_type r) λ t r.
+    good (parameter_text n colon t) r
+
+abbrev pub more_parameters : ℕ → List Token → Outcome MoreParametersText
+more_parameters zero ts = deep
+more_parameters (suc n) ts =
+    if comes mark.Comma ts
+    then (bind (the mark.Comma ts) λ comma r.
+    bind (the_parameter r) λ p r.
+    bind (more_parameters n r) λ more r.
+    good (parameter_then comma p more) r)
+    else (bind (the mark.CloseParen ts) λ closer r.
+    good (no_more_parameters closer) r)
+
+-- what follows `(`
+abbrev pub the_parameters : List Token → Outcome ParametersText
+the_parameters ts =
+    if comes mark.CloseParen ts
+    then (bind (the mark.CloseParen ts) λ closer r. good (no_parameters closer) r)
+    else (bind (the_parameter ts) λ p r.
+    bind (more_parameters (steps r) r) λ more r.
+    good (some_parameters p more) r)
+
+-- what follows `decl`, and further items
+abbrev pub decl_from : Place → (List Token → Outcome ItemsText) → List Token → Outcome ItemsText
+decl_from word go ts =
+    bind (the_name ts) λ n r.
+    bind (the mark.Colon r) λ colon r.
+    bind (the_type r) λ t r.
+    bind (the mark.Semicolon r) λ semicolon r.
+    bind (go r) λ more r.
+    good (decl_then word n colon t semicolon more) r
+
+-- what follows `def`, and further items
+abbrev pub def_from : Place → (List Token → Outcome ItemsText) → List Token → Outcome ItemsText
+def_from word go ts =
+    bind (the_name ts) λ n r.
+    bind (the mark.OpenParen r) λ opener r.
+    bind (the_parameters r) λ ps r.
+    bind (the mark.Assign r) λ equal r.
+    bind (the_block r) λ b r.
+    bind (go r) λ more r.
+    good (def_then word n opener ps equal b more) r
+
+abbrev pub items_from : (List Token → Outcome ItemsText) → TokenKind → Token → List Token → Outcome ItemsText
+items_from go kind.Decl t ts = decl_from t.place go ts
+items_from go kind.Def t ts = def_from t.place go ts
+items_from go _ t ts = good no_items (t ∷ ts)
+
+abbrev pub the_items : ℕ → List Token → Outcome ItemsText
+the_items zero ts = deep
+the_items (suc n) [] = good no_items []
+the_items (suc n) (t ∷ ts) = items_from (the_items n) t.kind t ts
+
+abbrev pub program_text : ItemsText → PartsText → Place → ProgramText
+program_text items parts end = record { items = items; parts = parts; end = end }
+
+-- a whole program
+abbrev pub the_program : List Token → Outcome ProgramText
+the_program ts =
+    bind (the_items (steps ts) ts) λ items r.
+    bind (the_parts (read_block (steps r)) (steps r) r) λ parts r.
+    bind (the mark.End r) λ end r.
+    good (program_text items parts end) r

@@ -1,0 +1,27 @@
+//! What holds of all lists of tokens, stated on functions that do nothing.
+
+ghost use Rattle.std.specs.Prelude.{◌≡◌, [], List};
+ghost use Rattle.dh_lexer.specs.declared.tokens.Token.{Token};
+ghost use Rattle.dh_tree.specs.PlainTrees.{Program};
+ghost use Rattle.dh_parser.specs.Programs.{IsSound, IsAnswered, Spells};
+ghost use Rattle.dh_parser.specs.Allowed.{ProgramFits};
+ghost use Rattle.dh_parser.specs.Grammar.{ProgramText};
+ghost use Rattle.dh_parser.specs.Reading.{good, the_program};
+ghost use Rattle.dh_parser.specs.Spelling.{spell_program};
+
+/// What the reader of programs reads is a text of the grammar that has the tokens which it took.
+pub fn reading_is_sound()
+    ensures { (tokens : List Token) → IsSound tokens (the_program tokens) }
+{}
+
+/// The reader of programs has an answer for all lists of tokens: it has steps enough.
+pub fn reading_is_answered()
+    ensures { (tokens : List Token) → IsAnswered (the_program tokens) }
+{}
+
+/// What a program of the grammar spells is read as that program, so that one tree spells a list of
+/// tokens at most.
+pub fn programs_are_read_again()
+    ensures again { (p : ProgramText) → ProgramFits p → the_program (spell_program p []) ≡ good p [] }
+    ensures one { (t u : Program) (tokens : List Token) → Spells t tokens → Spells u tokens → t ≡ u }
+{}

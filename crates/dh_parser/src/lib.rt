@@ -1,0 +1,10 @@
+//! The parser of the language: the tree that tokens spell, or the first token that no program
+//! allows where it stands. `NOTES.md` says what is proved of it so far.
+//! Stands on `dh_lexer`, `dh_tree`, `dh_value` and `dh_base`. docs/LANGUAGE.md has the grammar.
+#![tactic(auto)]
+
+mod laws;
+mod parsing;
+
+pub use laws::{programs_are_read_again, reading_is_answered, reading_is_sound};
+pub use parsing::parse;

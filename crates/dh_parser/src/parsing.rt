@@ -1,0 +1,41 @@
+//! The parser. It looks at one token at a time, never goes back, and stops at the first token that
+//! it has no use for: no program has that token after those before it.
+
+mod commands;
+mod expressions;
+mod loops;
+mod operators;
+mod programs;
+mod reading;
+mod refusals;
+mod types;
+mod views;
+
+use crate::parsing::programs::program;
+use crate::parsing::reading::{Reader, Stop};
+use crate::parsing::refusals::refusal;
+use dh_tree::Tree;
+use dh_base::PassFault;
+use dh_lexer::Token;
+use std::alloc::Global;
+
+/// The tree of the program that these tokens spell. They end with `End`, and are fewer than 2^32
+/// and within the limits on brackets, operators and `else if`, which bound how deep the parser
+/// calls itself. Where they spell none, the refusal is at the first token that no program has after
+/// those before it, by the rule `Unsupported` if that token is one that the language leaves out or
+/// the width of a kind, and else by `Syntax`.
+pub fn parse(alloc: Global, tokens: &[Token]) -> Result<Tree, PassFault> {
+    let mut reader = Reader {
+        alloc,
+        rest: tokens,
+        commands: 0,
+    };
+    match program(&mut reader) {
+        Ok(tree) => Ok(tree),
+        Err(Stop::NoMemory) => Err(PassFault::NoMemory),
+        Err(Stop::Here) => Err(refusal(tokens, tokens.len() - reader.rest.len())),
+    }
+}
+
+#[cfg(test)]
+mod tests;

@@ -1,0 +1,13 @@
+//! The trees of programs, as they are written.
+//!
+//! A number that a rule can name keeps its place in a field beside it, whose name is the number's
+//! and `_place`. The places of a shape's numbers stand beside the shape, so that two shapes are
+//! equal whatever their places are.
+
+mod commands;
+mod expressions;
+mod programs;
+
+pub use commands::{Command, CommandForm, ViewForm};
+pub use expressions::{Expr, ExprForm, Ref};
+pub use programs::{Decl, DimPlaces, Entity, Function, Parameter, ShapePlaces, Sort, Tree};

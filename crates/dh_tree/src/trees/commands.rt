@@ -1,0 +1,160 @@
+//! Commands.
+
+use crate::tables::Shape;
+use crate::trees::{Expr, Ref, ShapePlaces};
+use dh_base::Place;
+use dh_value::{Kind, Op};
+
+/// A command.
+#[cycle(commands)]
+#[derive(Debug, Drop)]
+pub struct Command {
+    /// Its number in the tree, from 0 in text order, a command before those inside it.
+    pub id: u32,
+    /// The place of its first token.
+    pub place: Place,
+    /// What it is.
+    pub form: CommandForm,
+}
+
+/// What a command is.
+#[cycle(commands)]
+#[derive(Debug, Drop)]
+pub enum CommandForm {
+    /// `let name: declared = value`, of which one may lack.
+    Let {
+        /// The variable.
+        name: Ref,
+        /// Its kind, where it is written.
+        declared: Option<Kind>,
+        /// Its first value, where it is written.
+        value: Option<Expr>,
+    },
+    /// `let name: shape`, of a type with ports or dimensions.
+    LetMemory {
+        /// The memory.
+        name: Ref,
+        /// Its shape.
+        shape: Shape,
+        /// The places of the shape's numbers.
+        shape_places: ShapePlaces,
+        /// A right side, where one is written. No rule allows one.
+        value: Option<Expr>,
+    },
+    /// `view name = form`, with the parent's name within the form.
+    View {
+        /// The view.
+        name: Ref,
+        /// The memory or view that it shows.
+        parent: Ref,
+        /// How it shows that.
+        form: ViewForm,
+    },
+    /// `target := value`, to a variable.
+    Assign {
+        /// The variable.
+        target: Ref,
+        /// The value.
+        value: Expr,
+    },
+    /// `target := value`, to an element.
+    Store {
+        /// An access.
+        target: Expr,
+        /// The value.
+        value: Expr,
+    },
+    /// `target op= value`
+    Reduce {
+        /// The variable.
+        target: Ref,
+        /// One of `Add`, `Sub` and `Mul`.
+        op: Op,
+        /// The right side.
+        value: Expr,
+    },
+    /// `function(arguments)`
+    Call {
+        /// The function.
+        function: Ref,
+        /// The arguments, in order.
+        arguments: Vec<Expr>,
+    },
+    /// `{ body }`, or the body of the program, or an `if` that stands for a block after `else`.
+    Block {
+        /// The parts between `---`, at least one, each the commands between `;`.
+        body: Vec<Vec<Command>>,
+    },
+    /// `if (test) then else other`
+    If {
+        /// The condition.
+        test: Expr,
+        /// The block that runs where it holds.
+        then: Box<Command>,
+        /// The block that runs where it does not; that of a further `if` after `else`.
+        other: Option<Box<Command>>,
+    },
+    /// `while (test) body`
+    While {
+        /// The condition.
+        test: Expr,
+        /// The block that runs while it holds.
+        body: Box<Command>,
+    },
+    /// `for (let iterator: declared = low..high) unroll factor body combine combine`
+    For {
+        /// The iterator.
+        iterator: Ref,
+        /// Its kind, where it is written.
+        declared: Option<Kind>,
+        /// Its first value.
+        low: u64,
+        /// Where that number stands.
+        low_place: Place,
+        /// The number after its last value.
+        high: u64,
+        /// Where that number stands.
+        high_place: Place,
+        /// The copies of the body; 1 where none are written.
+        factor: u64,
+        /// Where that number stands; the place of the command where it is not written.
+        factor_place: Place,
+        /// The block of each turn.
+        body: Box<Command>,
+        /// The block that joins the copies, where it is written.
+        combine: Option<Box<Command>>,
+        /// Where the word `combine` stands; the place of the command where it does not.
+        combine_place: Place,
+    },
+}
+
+/// How a view shows its parent: a bracket for each dimension.
+#[derive(Debug, Drop)]
+pub enum ViewForm {
+    /// `shrink parent[by number]..`
+    Shrink {
+        /// The factors, at least one.
+        by: Vec<u64>,
+        /// Where each stands.
+        by_place: Vec<Place>,
+    },
+    /// `split parent[by number]..`
+    Split {
+        /// The factors, at least one.
+        by: Vec<u64>,
+        /// Where each stands.
+        by_place: Vec<Place>,
+    },
+    /// `suffix parent[by number * offset]..`
+    Suffix {
+        /// The factors and offsets, at least one pair.
+        by: Vec<(u64, Expr)>,
+        /// Where each factor stands.
+        by_place: Vec<Place>,
+    },
+    /// `shift parent[by offset]..`
+    Shift {
+        /// The offsets, at least one.
+        by: Vec<Expr>,
+    },
+}

@@ -1,0 +1,98 @@
+//! Whole programs: declarations, functions and what names stand for.
+
+use crate::tables::{Name, Shape};
+use crate::trees::{Command, Ref};
+use dh_base::{Items, Place};
+use dh_value::Kind;
+
+/// The places of a shape's numbers.
+#[derive(Debug, Drop)]
+pub struct ShapePlaces {
+    /// Where the number of ports stands; the place of the type where it is not written.
+    pub ports_place: Place,
+    /// Those of the dimensions, in order.
+    pub dims: Items<DimPlaces>,
+}
+
+/// The places of a dimension's numbers.
+#[derive(Clone, Copy, Debug, PartialEq, Eq)]
+pub struct DimPlaces {
+    /// Where the size stands.
+    pub size_place: Place,
+    /// Where the number of banks stands; the place of the size where it is not written.
+    pub banks_place: Place,
+}
+
+/// `decl name: shape;`, a memory from outside.
+#[derive(Debug, Drop)]
+pub struct Decl {
+    /// The memory.
+    pub name: Ref,
+    /// Its shape; rules refuse one without dimensions.
+    pub shape: Shape,
+    /// The places of the shape's numbers.
+    pub shape_places: ShapePlaces,
+}
+
+/// A parameter of a function.
+#[derive(Debug, Drop)]
+pub struct Parameter {
+    /// The parameter.
+    pub name: Ref,
+    /// The shape of a memory, for a type with ports or dimensions.
+    pub shape: Option<Shape>,
+    /// The places of the type's numbers.
+    pub shape_places: ShapePlaces,
+    /// The kind of the scalar, or of the memory's elements.
+    pub kind: Kind,
+}
+
+/// `def name(parameters) = body`
+#[derive(Debug, Drop)]
+pub struct Function {
+    /// The function.
+    pub name: Ref,
+    /// The parameters, in order.
+    pub parameters: Vec<Parameter>,
+    /// A block.
+    pub body: Command,
+}
+
+/// The sorts of what a name can stand for.
+#[derive(Clone, Copy, Debug, PartialEq, Eq)]
+pub enum Sort {
+    /// A variable or a scalar parameter.
+    Variable,
+    /// The iterator of a `for`.
+    Iterator,
+    /// A memory or a memory parameter.
+    Memory,
+    /// A view.
+    View,
+    /// A function.
+    Function,
+}
+
+/// What a name stands for.
+#[derive(Debug, Drop)]
+pub struct Entity {
+    /// The name.
+    pub name: Name,
+    /// Where it is declared.
+    pub place: Place,
+    /// What it is.
+    pub sort: Sort,
+}
+
+/// A program.
+#[derive(Debug, Drop)]
+pub struct Tree {
+    /// The memories from outside, in text order.
+    pub decls: Vec<Decl>,
+    /// The functions, in text order.
+    pub functions: Vec<Function>,
+    /// The block that the program runs; its place is that of its first token.
+    pub body: Command,
+    /// What names stand for; empty until names are resolved.
+    pub entities: Vec<Entity>,
+}
