@@ -6,10 +6,10 @@ use Rattle.std.specs.Prelude.{slice_get, slice_index, option_map, if◌then◌el
 use Rattle.std.specs.List.{AllByRecursion}
 use Rattle.std.proofs.lemmas.Option.{slice_get_within}
 use Rattle.dh_tree.specs.declared.tables.MemEntry.{MemEntry}
-use Rattle.dh_tree.specs.declared.thin.Program.{Program}
+use Rattle.dh_compile.specs.declared.stores.Program.{Program}
 use Rattle.dh_tree.specs.Tables.{elements_in, IsEntry, IsTable}
 use Rattle.dh_value.specs.Words.{IsInteger}
-use Rattle.dh_tree.specs.Thin.{IsThinEntry, IsThin}
+use Rattle.dh_compile.specs.Grouped.{IsLineEntry, IsGrouped}
 use Rattle.dh_net.specs.Valid.{HasWidth, FormFits, IsCell, IsRegister, IsValid}
 use Rattle.dh_net.specs.declared.nets.Cell.{Cell}
 use Rattle.dh_net.specs.declared.nets.CellForm.{CellForm}
@@ -24,7 +24,7 @@ use Rattle.dh_compile.specs.Drafts.{Drafted, plain_registers, AreCells, Solves, 
 use Rattle.dh_compile.specs.Drivers.{HasPorts, AddsPorts}
 use Rattle.dh_compile.specs.Heads.{AddsHead}
 use Rattle.dh_compile.proofs.Cells.{later, width_later, grows_then}
-use Rattle.dh_compile.proofs.Programs.{thin_size}
+use Rattle.dh_compile.proofs.Programs.{grouped_size}
 
 -- the parts of a net
 pub record HasParts (net : Net) (p : Program) (next_clock next_tick : ℕ) : Type 0 where
@@ -62,9 +62,9 @@ built net p next_clock next_tick h = record {
       };
 }
 
--- a thin memory is one that a net can have
-entry_of_thin : (e : MemEntry) → IsThinEntry e → IsEntry e
-entry_of_thin e h = record {
+-- a grouped memory is one that a net can have
+entry_of_grouped : (e : MemEntry) → IsLineEntry e → IsEntry e
+entry_of_grouped e h = record {
   name = h.name;
   integer = subst (λ (x : MemEntry). IsInteger x.shape.kind) (sym h.is) (omega arith, omega arith);
   ports = ap (λ (x : MemEntry). x.shape.ports) h.is;
@@ -74,19 +74,15 @@ entry_of_thin e h = record {
   outside = ap (λ (x : MemEntry). x.outside) h.is;
 }
 
-entries_of_thin : (es : List MemEntry) → AllByRecursion IsThinEntry es → AllByRecursion IsEntry es
-entries_of_thin [] h = tt
-entries_of_thin (e ∷ es) h = (entry_of_thin e h.0, entries_of_thin es h.1)
+entries_of_grouped : (es : List MemEntry) → AllByRecursion IsLineEntry es → AllByRecursion IsEntry es
+entries_of_grouped [] h = tt
+entries_of_grouped (e ∷ es) h = (entry_of_grouped e h.0, entries_of_grouped es h.1)
 
-few_elements : (es : List MemEntry) → AllByRecursion IsThinEntry es → elements_in es ≤ 1024 * length es
-few_elements [] h = omega arith
-few_elements (e ∷ es) h = omega (arith, thin_size e h.0, h.0.greatest, few_elements es h.1)
-
-pub table_of_thin : (p : Program) → IsThin p → IsTable p.table
-table_of_thin p thin = record {
-  entries = entries_of_thin p.table thin.entries;
-  names = thin.names;
-  elements = omega (arith, few_elements p.table thin.entries, thin.memories);
+pub table_of_grouped : (p : Program) → IsGrouped p → IsTable p.table
+table_of_grouped p grouped = record {
+  entries = entries_of_grouped p.table grouped.entries;
+  names = grouped.names;
+  elements = grouped.elements;
 }
 
 -- a cell that is valid beside registers is so beside others of the same widths
@@ -123,9 +119,9 @@ register_is cells n m h k (suc zero) r at =
     subst (λ (x : Register). IsRegister cells x) same (record { least = omega arith; greatest = omega arith; initial = omega arith; next = k })
 register_is cells n m h k (suc (suc i)) r at = absurd (omega (arith, slice_get_within (clock_register n ∷ (tick_register m ∷ [])) (suc (suc i)) r at))
 
-pub valid : (net : Net) (p : Program) → IsThin p → (next_clock next_tick : ℕ) → HasParts net p next_clock next_tick → IsValid net
-valid net p thin n m h = record {
-  table = subst IsTable (sym h.table) (table_of_thin p thin);
+pub valid : (net : Net) (p : Program) → IsGrouped p → (next_clock next_tick : ℕ) → HasParts net p next_clock next_tick → IsValid net
+valid net p grouped n m h = record {
+  table = subst IsTable (sym h.table) (table_of_grouped p grouped);
   registers = λ i r at. register_is net.cells n m h.next.wide h.ends.wide i r (ap (λ l. slice_get l i) (sym h.registers) ∙ at);
   cells = λ i c at.
       subst (λ (x : List Register). IsCell net.table x net.cells i c) (sym h.registers) (cell_alike net.table n m net.cells i c (h.cells i c at));

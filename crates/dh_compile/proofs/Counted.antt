@@ -5,7 +5,7 @@ use Rattle.std.proofs.Common.{◌≡◌, ℕ, ◌+◌, ◌-◌, ◌%◌, ◌^◌
 use Rattle.std.specs.Prelude.{Bool, true, false, bit_or, slice_index, if◌then◌else◌, ◌==◌, ◌||◌}
 use Rattle.std.proofs.Math.Bool.{or_assoc}
 use Rattle.std.proofs.Math.ListN.{drop_of_length-le}
-use Rattle.dh_tree.specs.declared.thin.Store.{Store}
+use Rattle.dh_compile.specs.declared.stores.Store.{Store}
 use Rattle.dh_net.specs.declared.nets.Cell.{Cell}
 use Rattle.dh_compile.specs.Timetable.{group_length, ends_at}
 use Rattle.dh_compile.specs.Drafts.{Drafted, Always, Grows, Adds, Shows, IsClock}

@@ -1,5 +1,5 @@
--- When the run of a thin program ends: it goes on through its groups, never faults and is never
--- stuck, and has ended after the last one, within 128 clocks, since it has at most 64 stores.
+-- When the run of a grouped program ends: it goes on through its groups, never faults and is never
+-- stuck, and has ended after the last one.
 use Rattle.std.proofs.Common.{◌≡◌, ℕ, ◌<◌, ◌≤◌, List, [], ◌∷◌, length, refl, sym, ◌∙◌, zero, suc, arith, subst, inl, inr}
 use Rattle.std.specs.Prelude.{slice_index_or}
 use Rattle.std.specs.List.{AllByRecursion}
@@ -10,27 +10,15 @@ use Rattle.dh_base.specs.declared.outcomes.Outcome.{Outcome}
 use Rattle.dh_base.specs.declared.outcomes.Outcome.TheVariants.{Going, Ended, Faulted}
 use Rattle.dh_base.specs.declared.places.Place.{Place}
 use Rattle.dh_tree.specs.declared.tables.MemEntry.{MemEntry}
-use Rattle.dh_tree.specs.declared.thin.Store.{Store}
-use Rattle.dh_tree.specs.declared.thin.Program.{Program}
-use Rattle.dh_tree.specs.Thin.{IsThin, IsGroup, stores_of}
+use Rattle.dh_compile.specs.declared.stores.Store.{Store}
+use Rattle.dh_compile.specs.declared.stores.Program.{Program}
+use Rattle.dh_compile.specs.Grouped.{IsGrouped}
 use Rattle.dh_net.specs.Plays.{Run, clocks_of, IsGoing, IsFine, IsStuck, EndsAfter}
 use Rattle.dh_compile.specs.Timetable.{total_length}
-use Rattle.dh_compile.specs.ThinRun.{DoesGroups}
-use Rattle.dh_compile.proofs.Times.{clocks_before, clocks_before_all, clocks_before_more, total_length_most}
+use Rattle.dh_compile.specs.GroupRun.{DoesGroups}
+use Rattle.dh_compile.proofs.Times.{clocks_before, clocks_before_more}
 
--- a thin program has at most 64 groups
-pub groups_most : (gs : List (List Store)) (table : List MemEntry) → AllByRecursion (IsGroup table) gs → length gs ≤ stores_of gs
-groups_most [] table h = omega arith
-groups_most (g ∷ gs) table h = let some = h.0.least in let more = groups_most gs table h.1 in omega arith
-
-pub total_most : (p : Program) → IsThin p → total_length p.groups ≤ 128
-total_most p thin =
-    let a = total_length_most p.groups in
-    let b = groups_most p.groups p.table thin.groups in
-    let c = thin.commands in
-    omega arith
-
-module _ (p : Program) (thin : IsThin p) (r : Run) (does : DoesGroups p r) where
+module _ (p : Program) (grouped : IsGrouped p) (r : Run) (does : DoesGroups p r) where
   -- the clocks of the first n steps are those of the first n groups
   pub clocks_is : (n : ℕ) → n ≤ length p.groups → clocks_of r n ≡ clocks_before n p.groups
   clocks_is zero l = refl
@@ -71,10 +59,7 @@ module _ (p : Program) (thin : IsThin p) (r : Run) (does : DoesGroups p r) where
         | inr k ↦ subst P (does.ended n k) e
       ]
 
-  pub some_group : 0 < length p.groups
-  some_group = let g = thin.some_group in omega arith
-
-  -- the run ends after its last group, within 128 clocks
+  -- the run ends after its last group
   pub ends_after : EndsAfter r (length p.groups)
   ends_after = record {
     steps = λ k l. (
@@ -87,10 +72,3 @@ module _ (p : Program) (thin : IsThin p) (r : Run) (does : DoesGroups p r) where
     );
     ended = does.ended (length p.groups) (omega arith);
   }
-
-  pub ends_within : clocks_of r (length p.groups) ≤ 128
-  ends_within =
-      let most = total_most p thin in
-      let all = clocks_is (length p.groups) (omega arith) in
-      let before = clocks_before_all p.groups in
-      omega arith

@@ -7,11 +7,11 @@ use Rattle.std.proofs.Math.ListN.{get_or-append}
 use Rattle.std.proofs.Math.Seq.{get_or-append_seam}
 use Rattle.std.proofs.lemmas.Option.{slice_get_read}
 use Rattle.dh_tree.specs.declared.tables.MemEntry.{MemEntry}
-use Rattle.dh_tree.specs.declared.thin.Store.{Store}
-use Rattle.dh_tree.specs.declared.thin.Program.{Program}
+use Rattle.dh_compile.specs.declared.stores.Store.{Store}
+use Rattle.dh_compile.specs.declared.stores.Program.{Program}
 use Rattle.dh_tree.specs.Tables.{elements_of}
 use Rattle.dh_value.specs.Words.{width_of}
-use Rattle.dh_tree.specs.Thin.{IsThinEntry, IsThin}
+use Rattle.dh_compile.specs.Grouped.{IsLineEntry, IsGrouped}
 use Rattle.dh_net.specs.Valid.{HasWidth, IsRowWidth, IsDriver}
 use Rattle.dh_net.specs.declared.nets.Cell.{Cell}
 use Rattle.dh_net.specs.declared.nets.Driver.{Driver}
@@ -21,7 +21,7 @@ use Rattle.dh_compile.specs.Drafts.{Drafted, Always, Extends}
 use Rattle.dh_compile.specs.Drivers.{FitsGroups, FitsDriver, AddsPort, HasPorts}
 use Rattle.dh_compile.proofs.Cells.{get_either, later, width_later}
 use Rattle.dh_compile.proofs.Groups.{at_place}
-use Rattle.dh_compile.proofs.Programs.{thin_width, groups_fit}
+use Rattle.dh_compile.proofs.Programs.{grouped_width, groups_fit}
 
 -- a driver with wires of the right widths is one of its memory's
 driver_is : (cells : List Cell) (e : MemEntry) (wide : ℕ) (d : Driver) → width_of e.shape.kind ≡ 32 → IsRowWidth (elements_of e.shape.dims) wide
@@ -81,27 +81,27 @@ has_more p a b ports ds i wide e at kind room h had = record {
 }
 
 -- the same where memories, groups and the new list go by other names
-pub ports_on : (p : Program) → IsThin p → (a b : Drafted) (ports more : List (List Driver)) (ds : List Driver) (items : List MemEntry)
+pub ports_on : (p : Program) → IsGrouped p → (a b : Drafted) (ports more : List (List Driver)) (ds : List Driver) (items : List MemEntry)
     (groups : List (List Store)) (i rows wide : ℕ) (e : MemEntry) → items ≡ p.table → groups ≡ p.groups → i < length items → e ≡ get_or items i e
     → rows ≡ elements_of e.shape.dims → IsRowWidth rows wide → AddsPort a b ds i wide groups → more ≡ ports ++ ds ∷ [] → HasPorts a.cells ports p i
     → HasPorts b.cells more p (i + 1)
-ports_on p thin a b ports more ds items groups i rows wide e same gs lt is count room h grown had =
+ports_on p grouped a b ports more ds items groups i rows wide e same gs lt is count room h grown had =
     let at : slice_get p.table i ≡ Some e = ap (λ l. slice_get l i) (sym same) ∙ slice_get_read items (length items) i e refl lt is in
     subst (λ (x : List (List Driver)). HasPorts b.cells x p (i + 1)) (sym grown)
-    (has_more p a b ports ds i wide e at (thin_width e (at_place IsThinEntry p.table i e thin.entries at))
+    (has_more p a b ports ds i wide e at (grouped_width e (at_place IsLineEntry p.table i e grouped.entries at))
     (subst (λ (n : ℕ). IsRowWidth n wide) count room)
     (subst (λ (x : List (List Store)). AddsPort a b ds i wide x) gs h) had)
 
 -- what the next port has to do, it can do
-pub port_fits : (p : Program) → IsThin p → (table items : List MemEntry) (groups : List (List Store)) (i rows wide : ℕ) (e : MemEntry) → table ≡ p.table
+pub port_fits : (p : Program) → IsGrouped p → (table items : List MemEntry) (groups : List (List Store)) (i rows wide : ℕ) (e : MemEntry) → table ≡ p.table
     → items ≡ p.table → groups ≡ p.groups → i < length items → e ≡ get_or items i e → rows ≡ elements_of e.shape.dims → IsRowWidth rows wide
     → FitsGroups table i wide groups
-port_fits p thin table items groups i rows wide e known same gs lt is count room =
+port_fits p grouped table items groups i rows wide e known same gs lt is count room =
     let at : slice_get p.table i ≡ Some e = ap (λ l. slice_get l i) (sym same) ∙ slice_get_read items (length items) i e refl lt is in
     subst (λ (x : List (List Store)). FitsGroups table i wide x) (sym gs)
-    (groups_fit p thin table known i wide e at (subst (λ (n : ℕ). IsRowWidth n wide) count room))
+    (groups_fit p grouped table known i wide e at (subst (λ (n : ℕ). IsRowWidth n wide) count room))
 
-pub entry_thin : (p : Program) → IsThin p → (items : List MemEntry) (i : ℕ) (e : MemEntry) → items ≡ p.table → i < length items → e ≡ get_or items i e
-    → IsThinEntry e
-entry_thin p thin items i e same lt is =
-    at_place IsThinEntry p.table i e thin.entries (ap (λ l. slice_get l i) (sym same) ∙ slice_get_read items (length items) i e refl lt is)
+pub entry_grouped : (p : Program) → IsGrouped p → (items : List MemEntry) (i : ℕ) (e : MemEntry) → items ≡ p.table → i < length items → e ≡ get_or items i e
+    → IsLineEntry e
+entry_grouped p grouped items i e same lt is =
+    at_place IsLineEntry p.table i e grouped.entries (ap (λ l. slice_get l i) (sym same) ∙ slice_get_read items (length items) i e refl lt is)

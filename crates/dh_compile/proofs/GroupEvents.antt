@@ -1,22 +1,23 @@
--- What the step of a thin group does, as plain events. Each index is below its memory's size, at most
--- 1024, so it is its own remainder modulo 2^32, and no access is out of range: a store makes its read,
+-- What the step of a group does, as plain events. Each index is below its memory's size, at most
+-- 2^20, so it is its own remainder modulo 2^32, and no access is out of range: a store makes its read,
 -- where it has a source, and then its write. All banks are one, so an index is its own row and place.
 use Rattle.std.proofs.Common.{◌≡◌, ℕ, ◌+◌, ◌*◌, ◌/◌, ◌%◌, ◌^◌, ◌<◌, ◌≤◌, ◌&&◌, nat_lt, true, false, if◌then◌else◌, List, [], ◌∷◌, ◌++◌, Option, Some, None, refl, ap, ◌∙◌, arith}
 use Rattle.std.specs.Prelude.{map, slice_index, slice_index_or}
 use Rattle.std.specs.List.{AllByRecursion}
 use Rattle.std.proofs.lemmas.Bool.Decides.{nat_tests}
 use Rattle.std.proofs.Math.Nat.{mod-eq_of_lt}
+use Rattle.dh_base.specs.declared.places.Place.{Place}
 use Rattle.dh_base.specs.declared.outcomes.FaultKind.TheVariants.{OutOfRange}
 use Rattle.dh_value.specs.declared.kinds.Kind.TheVariants.{Signed}
 use Rattle.dh_tree.specs.declared.tables.Dim.{Dim}
 use Rattle.dh_tree.specs.declared.tables.MemEntry.{MemEntry}
-use Rattle.dh_tree.specs.declared.thin.Operand.{Operand}
-use Rattle.dh_tree.specs.declared.thin.Store.{Store}
+use Rattle.dh_compile.specs.declared.stores.Operand.{Operand}
+use Rattle.dh_compile.specs.declared.stores.Store.{Store}
 use Rattle.dh_tree.specs.Tables.{elements_of, line_of}
 use Rattle.dh_tree.specs.Elements.{bank_of, row_of, position_of, is_within, entry_dims, dims_at, entry_ports, ports_at, Spot}
 use Rattle.dh_tree.specs.Effects.{Event, reads, writes, faults, bits_of, value_of, access_made, events_at, outer_paths, commands_events}
-use Rattle.dh_tree.specs.ThinTree.{first_place, value_term, command_of}
-use Rattle.dh_tree.specs.Thin.{IsThinEntry, IsElement, IsSource, IsStore}
+use Rattle.dh_compile.specs.Grouped.{value_term, command_of}
+use Rattle.dh_compile.specs.Grouped.{IsLineEntry, IsElement, IsSource, IsStore}
 use Rattle.dh_compile.specs.Timetable.{stored_of}
 use Rattle.dh_compile.proofs.Groups.{at_place}
 
@@ -28,25 +29,25 @@ abbrev pub line_spot : (memory index : ℕ) → Spot
 line_spot memory index = spot memory 0 index index
 
 -- the read of a source, where there is one, and then these events
-abbrev pub source_events : Option Operand → List Event → List Event
-source_events None rest = rest
-source_events (Some o) rest = reads first_place (line_spot o.memory o.index) ∷ rest
+abbrev pub source_events : Place → Option Operand → List Event → List Event
+source_events place None rest = rest
+source_events place (Some o) rest = reads place (line_spot o.memory o.index) ∷ rest
 
-abbrev pub write_event : (memories : List (List ℕ)) → (memory index : ℕ) → Option Operand → (number : ℕ) → Event
-write_event memories memory index source number = writes first_place (line_spot memory index) (stored_of memories source number)
+abbrev pub write_event : Place → (memories : List (List ℕ)) → (memory index : ℕ) → Option Operand → (number : ℕ) → Event
+write_event place memories memory index source number = writes place (line_spot memory index) (stored_of memories source number)
 
 -- what the stores of a group do, in order, all of them on the memories as the step began
 abbrev pub group_events : (memories : List (List ℕ)) → List Store → List Event
 group_events memories [] = []
-group_events memories (s ∷ ss) = source_events s.source (write_event memories s.memory s.index s.source s.number ∷ group_events memories ss)
+group_events memories (s ∷ ss) = source_events s.source_place s.source (write_event s.place memories s.memory s.index s.source s.number ∷ group_events memories ss)
 
--- an element of a thin memory
+-- an element of a grouped memory
 pub record IsOnLine (table : List MemEntry) (memory index : ℕ) : Type 0 where
   pub size : ℕ
   pub line : dims_at table memory ≡ line_of size
   pub ports : ports_at table memory ≡ 1
   pub within : index < size
-  pub small : index < 1024
+  pub small : index < 1048576
 
 one_size : (dims : List Dim) (a b : ℕ) → dims ≡ line_of a → dims ≡ line_of b → a ≡ b
 one_size dims a b e f =
@@ -54,19 +55,19 @@ one_size dims a b e f =
     let y : elements_of dims ≡ b * 1 = ap elements_of f in
     omega arith
 
-pub on_line : (table : List MemEntry) (memory index : ℕ) → AllByRecursion IsThinEntry table → IsElement table memory index → IsOnLine table memory index
+pub on_line : (table : List MemEntry) (memory index : ℕ) → AllByRecursion IsLineEntry table → IsElement table memory index → IsOnLine table memory index
 on_line table memory index h e =
-    let thin : IsThinEntry e.entry = at_place IsThinEntry table memory e.entry h e.declared in
-    let dims : e.entry.shape.dims ≡ line_of thin.size = ap (λ x. x.shape.dims) thin.is in
-    let same : e.size ≡ thin.size = one_size e.entry.shape.dims e.size thin.size e.line dims in
+    let grouped : IsLineEntry e.entry = at_place IsLineEntry table memory e.entry h e.declared in
+    let dims : e.entry.shape.dims ≡ line_of grouped.size = ap (λ x. x.shape.dims) grouped.is in
+    let same : e.size ≡ grouped.size = one_size e.entry.shape.dims e.size grouped.size e.line dims in
     let below : index < e.size = e.within in
-    let most : thin.size ≤ 1024 = thin.greatest in
-    let within : index < thin.size = omega arith in
-    let small : index < 1024 = omega arith in
+    let most : grouped.size ≤ 1048576 = grouped.greatest in
+    let within : index < grouped.size = omega arith in
+    let small : index < 1048576 = omega arith in
     record {
-      size = thin.size;
+      size = grouped.size;
       line = ap entry_dims e.declared ∙ dims;
-      ports = ap entry_ports e.declared ∙ ap (λ x. x.shape.ports) thin.is;
+      ports = ap entry_ports e.declared ∙ ap (λ x. x.shape.ports) grouped.is;
       within = within;
       small = small;
     }
@@ -75,7 +76,7 @@ on_line table memory index h e =
 uncut : (n : ℕ) → n < 2 ^ 32 → n % 2 ^ 32 ≡ n
 uncut n l = mod-eq_of_lt l
 
-uncut_index : (n : ℕ) → n < 1024 → n % 2 ^ 32 ≡ n
+uncut_index : (n : ℕ) → n < 1048576 → n % 2 ^ 32 ≡ n
 uncut_index n l = uncut n (omega arith)
 
 one_bank : (index : ℕ) → (index % 1) * 1 + 0 ≡ 0
@@ -103,14 +104,14 @@ within_line dims size index e l =
     ap (λ ds. is_within ds (index ∷ [])) e ∙ ap (λ b. b && true) below
 
 -- an access of an element that is there is made
-access_is : (table : List MemEntry) (memory index : ℕ) (made : Spot → Event) → IsOnLine table memory index
-    → access_made table first_place memory (bits_of (Signed 32) false index ∷ []) made ≡ made (line_spot memory index)
-access_is table memory index made h =
-    ap (λ n. access_made table first_place memory (n ∷ []) made) (uncut_index index h.small)
-    ∙ (ap (λ b. if b then made (spot_in (dims_at table memory) memory index) else faults OutOfRange first_place) (within_line (dims_at table memory) h.size index h.line h.within)
+access_is : (table : List MemEntry) (place : Place) (memory index : ℕ) (made : Spot → Event) → IsOnLine table memory index
+    → access_made table place memory (bits_of (Signed 32) false index ∷ []) made ≡ made (line_spot memory index)
+access_is table place memory index made h =
+    ap (λ n. access_made table place memory (n ∷ []) made) (uncut_index index h.small)
+    ∙ (ap (λ b. if b then made (spot_in (dims_at table memory) memory index) else faults OutOfRange place) (within_line (dims_at table memory) h.size index h.line h.within)
     ∙ ap made (spot_is (dims_at table memory) h.size memory index h.line))
 
-position_is : (dims : List Dim) (size index : ℕ) → dims ≡ line_of size → index < 1024 → position_of dims (bits_of (Signed 32) false index ∷ []) ≡ index
+position_is : (dims : List Dim) (size index : ℕ) → dims ≡ line_of size → index < 1048576 → position_of dims (bits_of (Signed 32) false index ∷ []) ≡ index
 position_is dims size index e l =
     ap (λ n. position_of dims (n ∷ [])) (uncut_index index l)
     ∙ (ap (λ ds. position_of ds (index ∷ [])) e ∙ own_position index)
@@ -120,40 +121,40 @@ abbrev pub IsSourceOnLine : List MemEntry → Option Operand → Type 0
 IsSourceOnLine table None = Unit {0}
 IsSourceOnLine table (Some o) = IsOnLine table o.memory o.index
 
-source_on_line : (table : List MemEntry) (source : Option Operand) → AllByRecursion IsThinEntry table → IsSource table source → IsSourceOnLine table source
+source_on_line : (table : List MemEntry) (source : Option Operand) → AllByRecursion IsLineEntry table → IsSource table source → IsSourceOnLine table source
 source_on_line table None h s = tt
 source_on_line table (Some o) h s = on_line table o.memory o.index h s
 
-value_is : (table : List MemEntry) (memories : List (List ℕ)) (source : Option Operand) (number : ℕ) → IsSourceOnLine table source → number < 2 ^ 32
-    → value_of table memories [] (value_term source number) ≡ stored_of memories source number
-value_is table memories None number h l = uncut number l
-value_is table memories (Some o) number h l =
+value_is : (table : List MemEntry) (memories : List (List ℕ)) (place : Place) (source : Option Operand) (number : ℕ) → IsSourceOnLine table source → number < 2 ^ 32
+    → value_of table memories [] (value_term place source number) ≡ stored_of memories source number
+value_is table memories place None number h l = uncut number l
+value_is table memories place (Some o) number h l =
     ap (λ i. (slice_index (slice_index_or memories o.memory []) i + number % 2 ^ 32) % 2 ^ 32) (position_is (dims_at table o.memory) h.size o.index h.line h.small)
     ∙ ap (λ n. (slice_index (slice_index_or memories o.memory []) o.index + n) % 2 ^ 32) (uncut number l)
 
-write_is : (table : List MemEntry) (memories : List (List ℕ)) (memory index : ℕ) (source : Option Operand) (number : ℕ)
+write_is : (table : List MemEntry) (memories : List (List ℕ)) (place from : Place) (memory index : ℕ) (source : Option Operand) (number : ℕ)
     → IsOnLine table memory index → IsSourceOnLine table source → number < 2 ^ 32
-    → access_made table first_place memory (bits_of (Signed 32) false index ∷ []) (λ s. writes first_place s (value_of table memories [] (value_term source number)))
-    ≡ write_event memories memory index source number
-write_is table memories memory index source number t h l =
-    access_is table memory index (λ s. writes first_place s (value_of table memories [] (value_term source number))) t
-    ∙ ap (λ v. writes first_place (line_spot memory index) v) (value_is table memories source number h l)
+    → access_made table place memory (bits_of (Signed 32) false index ∷ []) (λ s. writes place s (value_of table memories [] (value_term from source number)))
+    ≡ write_event place memories memory index source number
+write_is table memories place from memory index source number t h l =
+    access_is table place memory index (λ s. writes place s (value_of table memories [] (value_term from source number))) t
+    ∙ ap (λ v. writes place (line_spot memory index) v) (value_is table memories from source number h l)
 
-store_is : (table : List MemEntry) (memories : List (List ℕ)) (memory index : ℕ) (source : Option Operand) (number : ℕ) (rest : List Event)
+store_is : (table : List MemEntry) (memories : List (List ℕ)) (place from : Place) (memory index : ℕ) (source : Option Operand) (number : ℕ) (rest : List Event)
     → IsOnLine table memory index → IsSourceOnLine table source → number < 2 ^ 32
-    → events_at table memories outer_paths (command_of (record { memory = memory; index = index; source = source; number = number })) ++ rest
-    ≡ source_events source (write_event memories memory index source number ∷ rest)
-store_is table memories memory index None number rest t h l = ap (λ e. e ∷ rest) (write_is table memories memory index None number t h l)
-store_is table memories memory index (Some o) number rest t h l =
-    ap (λ e. e ∷ (access_made table first_place memory (bits_of (Signed 32) false index ∷ []) (λ s. writes first_place s (value_of table memories [] (value_term (Some o) number))) ∷ rest))
-    (access_is table o.memory o.index (reads first_place) h)
-    ∙ ap (λ e. reads first_place (line_spot o.memory o.index) ∷ (e ∷ rest)) (write_is table memories memory index (Some o) number t h l)
+    → events_at table memories outer_paths (command_of (record { place = place; memory = memory; index = index; source_place = from; source = source; number = number })) ++ rest
+    ≡ source_events from source (write_event place memories memory index source number ∷ rest)
+store_is table memories place from memory index None number rest t h l = ap (λ e. e ∷ rest) (write_is table memories place from memory index None number t h l)
+store_is table memories place from memory index (Some o) number rest t h l =
+    ap (λ e. e ∷ (access_made table place memory (bits_of (Signed 32) false index ∷ []) (λ s. writes place s (value_of table memories [] (value_term from (Some o) number))) ∷ rest))
+    (access_is table from o.memory o.index (reads from) h)
+    ∙ ap (λ e. reads from (line_spot o.memory o.index) ∷ (e ∷ rest)) (write_is table memories place from memory index (Some o) number t h l)
 
 -- the events of a group's commands
-pub events_are : (table : List MemEntry) (memories : List (List ℕ)) (g : List Store) → AllByRecursion IsThinEntry table → AllByRecursion (IsStore table) g
+pub events_are : (table : List MemEntry) (memories : List (List ℕ)) (g : List Store) → AllByRecursion IsLineEntry table → AllByRecursion (IsStore table) g
     → commands_events table memories (map command_of g) ≡ group_events memories g
 events_are table memories [] h s = refl
 events_are table memories (f ∷ fs) h s =
     ap (λ es. events_at table memories outer_paths (command_of f) ++ es) (events_are table memories fs h s.1)
-    ∙ store_is table memories f.memory f.index f.source f.number (group_events memories fs)
+    ∙ store_is table memories f.place f.source_place f.memory f.index f.source f.number (group_events memories fs)
     (on_line table f.memory f.index h s.0.target) (source_on_line table f.source h s.0.source) s.0.number

@@ -1,4 +1,4 @@
--- What the writes of a thin group come to, memory by memory: the one write of the group to a memory,
+-- What the writes of a grouped group come to, memory by memory: the one write of the group to a memory,
 -- where there is one, and nothing else. By induction on the stores: none after a store writes the
 -- memory that it writes or reads, so the first use of a memory says what becomes of it.
 use Rattle.std.proofs.Common.{◌≡◌, ℕ, ◌==◌, Bool, true, false, if◌then◌else◌, List, [], ◌∷◌, length, Option, Some, None, refl, sym, ap, ◌∙◌, zero, suc, arith, subst}
@@ -6,14 +6,15 @@ use Rattle.std.specs.Prelude.{slice_index_or, slice_set}
 use Rattle.std.specs.List.{AllByRecursion}
 use Rattle.std.proofs.lemmas.Bool.Decides.{nat_tests}
 use Rattle.std.proofs.lemmas.List.{length-set, get_or-set_other}
-use Rattle.dh_tree.specs.declared.thin.Operand.{Operand}
-use Rattle.dh_tree.specs.declared.thin.Store.{Store}
+use Rattle.dh_compile.specs.declared.stores.Operand.{Operand}
+use Rattle.dh_compile.specs.declared.stores.Store.{Store}
+use Rattle.dh_base.specs.declared.places.Place.{Place}
 use Rattle.dh_tree.specs.Effects.{Event, reads, writes, faults, put_element, written}
-use Rattle.dh_tree.specs.Thin.{ReadsOther, AreApart, KeepsPorts}
+use Rattle.dh_compile.specs.Grouped.{ReadsOther, AreApart, KeepsPorts}
 use Rattle.dh_compile.specs.declared.uses.Use.{Use}
 use Rattle.dh_compile.specs.declared.uses.Use.TheVariants.{Reads, Writes}
 use Rattle.dh_compile.specs.Timetable.{use_of_source, use_in, stored_of, rows_after}
-use Rattle.dh_compile.specs.ThinRun.{GroupDone}
+use Rattle.dh_compile.specs.GroupRun.{GroupDone}
 use Rattle.dh_compile.proofs.GroupEvents.{line_spot, source_events, write_event, group_events}
 
 -- writes leave the number of memories
@@ -117,15 +118,15 @@ first_store old now s ss i h =
     by true h k = h refl
     by false h k = k refl
 
-written_source : (source : Option Operand) (es : List Event) (now : List (List ℕ)) → written (source_events source es) now ≡ written es now
-written_source None es now = refl
-written_source (Some o) es now = refl
+written_source : (place : Place) (source : Option Operand) (es : List Event) (now : List (List ℕ)) → written (source_events place source es) now ≡ written es now
+written_source place None es now = refl
+written_source place (Some o) es now = refl
 
 written_at : (old now : List (List ℕ)) (g : List Store) (i : ℕ) → KeepsPorts g
     → slice_index_or (written (group_events old g) now) i [] ≡ rows_after old (use_in g i) (slice_index_or now i [])
 written_at old now [] i h = refl
 written_at old now (s ∷ ss) i h =
-    ap (λ ms. slice_index_or ms i []) (written_source s.source (write_event old s.memory s.index s.source s.number ∷ group_events old ss) now)
+    ap (λ ms. slice_index_or ms i []) (written_source s.source_place s.source (write_event s.place old s.memory s.index s.source s.number ∷ group_events old ss) now)
     ∙ (written_at old (put_element now (line_spot s.memory s.index) (stored_of old s.source s.number)) ss i h.1.1
     ∙ first_store old now s ss i h.1.0)
 

@@ -1,4 +1,4 @@
--- What a thin group does with a memory, as the timetable has it: the row is one of the memory's, and
+-- What a grouped group does with a memory, as the timetable has it: the row is one of the memory's, and
 -- where it stores a sum, the group reads that sum's element. By induction on the stores: two stores of
 -- one group have no memory in common but for reads of one element.
 use Rattle.std.proofs.Common.{◌≡◌, ℕ, ◌+◌, ◌*◌, ◌<◌, ◌==◌, ◌||◌, Bool, true, false, if◌then◌else◌, List, [], ◌∷◌, length, Option, Some, None, refl, sym, ap, ◌∙◌, zero, suc, arith, subst}
@@ -6,10 +6,10 @@ use Rattle.std.specs.Prelude.{slice_get}
 use Rattle.std.specs.List.{AllByRecursion}
 use Rattle.std.proofs.lemmas.Bool.Decides.{nat_tests}
 use Rattle.dh_tree.specs.declared.tables.MemEntry.{MemEntry}
-use Rattle.dh_tree.specs.declared.thin.Operand.{Operand}
-use Rattle.dh_tree.specs.declared.thin.Store.{Store}
+use Rattle.dh_compile.specs.declared.stores.Operand.{Operand}
+use Rattle.dh_compile.specs.declared.stores.Store.{Store}
 use Rattle.dh_tree.specs.Tables.{elements_of}
-use Rattle.dh_tree.specs.Thin.{IsElement, IsSource, IsStore, ReadsOther, ReadsAlike, AreApart, KeepsPorts, IsGroup}
+use Rattle.dh_compile.specs.Grouped.{IsElement, IsSource, IsStore, ReadsOther, ReadsAlike, AreApart, KeepsPorts, IsGroup}
 use Rattle.dh_compile.specs.declared.uses.Use.{Use}
 use Rattle.dh_compile.specs.declared.uses.Use.TheVariants.{Reads, Writes}
 use Rattle.dh_compile.specs.Timetable.{use_of_source, use_in, is_read, any_read, group_length, put_use, uses_of}

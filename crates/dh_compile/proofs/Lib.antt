@@ -15,6 +15,6 @@ pub mod Playing
 pub mod GroupEvents
 pub mod Spending
 pub mod GroupWrites
-pub mod ThinRuns
+pub mod GroupRuns
 pub mod ZeroReads
 pub mod PlayingPrograms

@@ -1,19 +1,20 @@
--- The net of a thin program plays its run. Inside a step its clock register is the clocks of the steps
+-- The net of a grouped program plays its run. Inside a step its clock register is the clocks of the steps
 -- before and the clock within this one, the banks are the memories as the step began, and what the
 -- group reads is held from its second clock on. With the last clock each bank takes what the group
 -- does to its memory: a sum is of held data, which is the element as the step began.
-use Rattle.std.proofs.Common.{◌≡◌, ℕ, ◌+◌, ◌%◌, ◌^◌, ◌<◌, ◌==◌, ◌↔◌, Bool, true, false, if◌then◌else◌, List, [], ◌∷◌, length, map, Option, Some, None, refl, sym, ap, ◌∙◌, suc, arith, subst}
+use Rattle.std.proofs.Common.{◌≡◌, ℕ, ◌+◌, ◌%◌, ◌^◌, ◌<◌, ◌==◌, ◌↔◌, Bool, true, false, if◌then◌else◌, List, [], ◌∷◌, length, map, Option, Some, None, refl, sym, ap, ◌∙◌, suc, arith, subst, inl, inr}
 use Rattle.std.specs.Prelude.{slice_get, slice_index, slice_index_or, slice_set}
 use Rattle.std.proofs.lemmas.List.{ext_get_or, length-replicate}
 use Rattle.std.proofs.lemmas.Option.{slice_get_within}
 use Rattle.std.proofs.Math.Nat.{mod-eq_of_lt, zero-add}
 use Rattle.std.proofs.lemmas.Bool.Decides.{nat_tests}
+use Rattle.std.proofs.lemmas.Bool.{cases_lt}
 use Rattle.dh_base.specs.declared.outcomes.Outcome.{Outcome}
 use Rattle.dh_base.specs.declared.outcomes.Outcome.TheVariants.{Going, Ended}
-use Rattle.dh_tree.specs.declared.thin.Operand.{Operand}
-use Rattle.dh_tree.specs.declared.thin.Store.{Store}
-use Rattle.dh_tree.specs.declared.thin.Program.{Program}
-use Rattle.dh_tree.specs.Thin.{IsThin, IsGroup, IsStore, IsSource, IsElement}
+use Rattle.dh_compile.specs.declared.stores.Operand.{Operand}
+use Rattle.dh_compile.specs.declared.stores.Store.{Store}
+use Rattle.dh_compile.specs.declared.stores.Program.{Program}
+use Rattle.dh_compile.specs.Grouped.{IsGrouped, IsGroup, IsStore, IsSource, IsElement}
 use Rattle.dh_net.specs.declared.nets.Register.{Register}
 use Rattle.dh_net.specs.declared.nets.Net.{Net}
 use Rattle.dh_net.specs.Valid.{IsValid}
@@ -27,10 +28,10 @@ use Rattle.dh_compile.specs.declared.uses.Use.{Use}
 use Rattle.dh_compile.specs.declared.uses.Use.TheVariants.{Reads, Writes}
 use Rattle.dh_compile.specs.Timetable.{use_in, group_length, total_length, uses_of, ends_at, stored_from, stored_of, rows_after}
 use Rattle.dh_compile.specs.Built.{IsShown, IsBuilt}
-use Rattle.dh_compile.specs.ThinRun.{AreLong, DoesGroups}
+use Rattle.dh_compile.specs.GroupRun.{AreLong, DoesGroups}
 use Rattle.dh_compile.proofs.Serving.{use_now, rows_do, held_do, RowsBelow, serves_rows, serves_held, no_clash, no_stray}
 use Rattle.dh_compile.proofs.Times.{group_length_least, group_length_most, use_at, uses_rise, uses_now, uses_over, ends_now, ends_over, clocks_before, within_total, clocks_before_all, clocks_before_more}
-use Rattle.dh_compile.proofs.Endings.{total_most, is_before, is_end, never_faults, stuck_never, some_group}
+use Rattle.dh_compile.proofs.Endings.{is_before, is_end, never_faults, stuck_never}
 use Rattle.dh_compile.proofs.Pointwise.{length-banks_after, length-held_after, bank_after, one_held_after, no_clashes, no_strays}
 use Rattle.dh_compile.proofs.Groups.{at_place, some_at, uses_below, writer_of, reads_source, sum_length}
 
@@ -73,7 +74,7 @@ first_held j long row u rows had z e =
     let at : (j == 0) ≡ true = grind (arith, nat_tests) in
     ap (λ v. held_do (use_at j long v) rows had) e ∙ ap (λ b. held_do (if b then Some (Reads row) else None) rows had) at
 
-module _ (p : Program) (thin : IsThin p) (net : Net) (valid : IsValid net) (built : IsBuilt net p) (r : Run) (does : DoesGroups p r) where
+module _ (p : Program) (grouped : IsGrouped p) (net : Net) (valid : IsValid net) (built : IsBuilt net p) (r : Run) (does : DoesGroups p r) where
   ports_table : length net.drivers ≡ length p.table
   ports_table = built.ports
 
@@ -120,7 +121,7 @@ module _ (p : Program) (thin : IsThin p) (net : Net) (valid : IsValid net) (buil
   clear_stray wires held now tick banks a h i l =
       let within : i < length p.table = omega (arith, ports_table) in
       let e = some_at p.table i within in
-      let below = uses_below p.table i 0 p.groups e.0 thin.groups e.1 in
+      let below = uses_below p.table i 0 p.groups e.0 grouped.groups e.1 in
       let P : ℕ → Type 0 = λ n. RowsBelow n (uses_of i 0 p.groups) in
       no_stray now held wires (slice_index_or net.drivers i []) (uses_of i 0 p.groups) (slice_index_or banks i []) (h.drives i within) (subst P (sym (a.each i e.0 e.1)) below)
 
@@ -165,7 +166,7 @@ module _ (p : Program) (thin : IsThin p) (net : Net) (valid : IsValid net) (buil
   -- the clock register goes on by one within the steps
   counts_on : (now : ℕ) → now < total_length p.groups → (if now == total_length p.groups then now else (now + 1) % 2 ^ 32) ≡ now + 1
   counts_on now l =
-      let most = total_most p thin in
+      let most = grouped.short in
       let no : (now == total_length p.groups) ≡ false = grind (arith, nat_tests) in
       let small : now + 1 < 2 ^ 32 = omega arith in
       ap (λ b. if b then now else (now + 1) % 2 ^ 32) no ∙ mod-eq_of_lt small
@@ -225,7 +226,7 @@ module _ (p : Program) (thin : IsThin p) (net : Net) (valid : IsValid net) (buil
       let a = banks_long n s inside.banks in
       let now = clocks_before n p.groups + j in
       let done = does.steps n g e in
-      let good : IsGroup p.table g = at_place (IsGroup p.table) p.groups n g thin.groups e in
+      let good : IsGroup p.table g = at_place (IsGroup p.table) p.groups n g grouped.groups e in
       let next : length s'.banks ≡ length (r.memories (suc n)) = banks_length s s' c a ∙ sym (does.long (suc n)).all in
       ext_get_or [] s'.banks (r.memories (suc n)) next
       (λ i k. let within : i < length p.table = omega (arith, banks_length s s' c a) in
@@ -331,7 +332,7 @@ module _ (p : Program) (thin : IsThin p) (net : Net) (valid : IsValid net) (buil
   -- the group of a step of the run
   group_at : (n : ℕ) → IsGoing (r.outcome n) → (g : List Store) × ((slice_get p.groups n ≡ Some g) × (r.length n ≡ group_length g))
   group_at n going =
-      let g = some_at p.groups n (is_before p thin r does n going) in
+      let g = some_at p.groups n (is_before p grouped r does n going) in
       (g.0, (g.1, does.lengths n g.0 g.1))
 
   first_inside : (m : List (List ℕ)) → r.memories 0 ≡ m → Inside 0 0 (start_of net m)
@@ -344,22 +345,47 @@ module _ (p : Program) (thin : IsThin p) (net : Net) (valid : IsValid net) (buil
     held = λ z. absurd (let y : 0 < 0 = z in omega arith);
   }
 
+  -- a program without groups has ended before it begins
+  over_at_once : (m : List (List ℕ)) → r.memories 0 ≡ m → (gs : List (List Store)) → gs ≡ p.groups → length gs ≡ 0 → Over 0 0 (start_of net m)
+  over_at_once m e [] same none = record {
+    tick = 0;
+    tick_is = ((λ z. cc), (λ z. absurd (let y : 0 < 0 = z.0 in omega arith)));
+    registers = ap (λ rs. map (λ (x : Register). x.initial) rs) built.registers ∙ ap (λ gs. total_length gs ∷ (0 ∷ [])) same;
+    banks = sym e;
+  }
+  over_at_once m e (g ∷ gs) same none = absurd (let z : suc (length gs) ≡ 0 = none in omega arith)
+
+  begins_fine : IsFine (r.outcome 0)
+  begins_fine =
+      let P : Outcome → Type 0 = IsFine in
+      elim (cases_lt 0 (length p.groups)) [
+        | inl l ↦ subst P (sym (does.going 0 l)) tt
+        | inr k ↦ subst P (sym (does.ended 0 k)) tt
+      ]
+
+  starts_ended : (m : List (List ℕ)) → r.memories 0 ≡ m → r.outcome 0 ≡ Ended → Over 0 0 (start_of net m)
+  starts_ended m e ended =
+      elim (cases_lt 0 (length p.groups)) [
+        | inl l ↦ (let both : Going ≡ Ended = sym (does.going 0 l) ∙ ended in cc)
+        | inr k ↦ over_at_once m e p.groups refl (omega arith)
+      ]
+
   simulates : (m : List (List ℕ)) → r.memories 0 ≡ m → Simulates net r m Inside Over
   simulates m e = record {
     takes_clocks = λ n steps going. (let g = group_at n going in let least = group_length_least g.0 in let long = g.1.1 in omega arith);
-    never_stuck = stuck_never p thin r does;
-    begins = (let P : Outcome → Type 0 = IsFine in subst P (sym (does.going 0 (some_group p thin r does))) tt);
+    never_stuck = stuck_never p grouped r does;
+    begins = begins_fine;
     settles = λ s. some_valuation net valid s;
     starts = λ going. first_inside m e;
-    starts_over = λ ended. (let both : Going ≡ Ended = sym (does.going 0 (some_group p thin r does)) ∙ ended in cc);
+    starts_over = λ ended. starts_ended m e ended;
     waits = λ n j s s' steps going l inside c. (let g = group_at n going in waits n j s s' g.0 g.1.0 (let long = g.1.1 in omega arith) inside c);
     goes_on = λ n j s s' steps going l inside c. (let g = group_at n (last_going r n steps) in goes_on n j s s' g.0 g.1.0 (l ∙ g.1.1) inside c);
-    ends = λ n j s s' over l inside c. (let g = group_at n (last_going r n over.steps) in ends n j s s' g.0 g.1.0 (is_end p thin r does (suc n) over) (l ∙ g.1.1) inside c);
-    faults = λ n j kind place s s' f l inside c. absurd (never_faults p thin r does (suc n) kind place f.faulted);
+    ends = λ n j s s' over l inside c. (let g = group_at n (last_going r n over.steps) in ends n j s s' g.0 g.1.0 (is_end p grouped r does (suc n) over) (l ∙ g.1.1) inside c);
+    faults = λ n j kind place s s' f l inside c. absurd (never_faults p grouped r does (suc n) kind place f.faulted);
     stays = stays;
     shows = λ n j s wires steps going l inside v. (let g = group_at n going in shows_step n j s wires g.0 g.1.0 (let long = g.1.1 in omega arith) inside v);
     shows_ended = λ n j s wires over at v. shows_over n j s wires at v;
-    shows_faulted = λ n j kind place s wires f at v. absurd (never_faults p thin r does (suc n) kind place f.faulted);
+    shows_faulted = λ n j kind place s wires f at v. absurd (never_faults p grouped r does (suc n) kind place f.faulted);
   }
 
   -- the net plays the run from the memories that the run begins with

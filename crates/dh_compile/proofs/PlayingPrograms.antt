@@ -1,34 +1,33 @@
--- A net that is built for a thin program, and is valid, plays it: the checked run does the groups one
+-- A net that is built for a grouped program, and is valid, plays it: the checked run does the groups one
 -- after the other (`does_groups`), and the net plays any run that does so (`plays`).
 use Rattle.std.proofs.Common.{refl, Result, Ok, Err, IfOk}
 use Rattle.dh_base.specs.declared.lists.NoMemory.{NoMemory}
-use Rattle.dh_tree.specs.declared.thin.Program.{Program}
-use Rattle.dh_tree.specs.Thin.{IsThin}
+use Rattle.dh_compile.specs.declared.stores.Program.{Program}
+use Rattle.dh_compile.specs.Grouped.{IsGrouped}
 use Rattle.dh_net.specs.declared.nets.Net.{Net}
 use Rattle.dh_net.specs.Valid.{IsValid}
 use Rattle.dh_compile.specs.Built.{IsBuilt}
 use Rattle.dh_compile.specs.Compiled.{PlaysProgram, EndsSoon}
-use Rattle.dh_compile.specs.ThinRun.{run_of}
-use Rattle.dh_compile.proofs.Endings.{ends_after, ends_within}
+use Rattle.dh_compile.specs.GroupRun.{run_of}
+use Rattle.dh_compile.proofs.Endings.{ends_after}
 use Rattle.dh_compile.proofs.Playing.{plays}
 use Rattle.dh_compile.proofs.ZeroReads.{reads_zero}
-use Rattle.dh_compile.proofs.ThinRuns.{does_groups}
+use Rattle.dh_compile.proofs.GroupRuns.{does_groups}
 
-pub plays_program : (p : Program) (net : Net) → IsThin p → IsValid net → IsBuilt net p → PlaysProgram net p
-plays_program p net thin valid built = record {
+pub plays_program : (p : Program) (net : Net) → IsGrouped p → IsValid net → IsBuilt net p → PlaysProgram net p
+plays_program p net grouped valid built = record {
   valid = valid;
   table = built.table;
   zero_reads = reads_zero p net valid built;
-  plays = λ memories fits. plays p thin net valid built (run_of p memories) (does_groups p thin memories fits) memories refl;
+  plays = λ memories fits. plays p grouped net valid built (run_of p memories) (does_groups p grouped memories fits) memories refl;
 }
 
-pub ends_soon : (p : Program) → IsThin p → EndsSoon p
-ends_soon p thin = record {
-  ends = λ memories fits. ends_after p thin (run_of p memories) (does_groups p thin memories fits);
-  within = λ memories fits. ends_within p thin (run_of p memories) (does_groups p thin memories fits);
+pub ends_soon : (p : Program) → IsGrouped p → EndsSoon p
+ends_soon p grouped = record {
+  ends = λ memories fits. ends_after p grouped (run_of p memories) (does_groups p grouped memories fits);
 }
 
 -- of the net that was built, where one was
-pub built_plays : (p : Program) (r : Result Net NoMemory) → IsThin p → IfOk r (λ net. IsBuilt net p) → IfOk r (λ net. IsValid net) → IfOk r (λ net. PlaysProgram net p)
-built_plays p (Ok net) thin built valid = plays_program p net thin valid built
-built_plays p (Err e) thin built valid = tt
+pub built_plays : (p : Program) (r : Result Net NoMemory) → IsGrouped p → IfOk r (λ net. IsBuilt net p) → IfOk r (λ net. IsValid net) → IfOk r (λ net. PlaysProgram net p)
+built_plays p (Ok net) grouped built valid = plays_program p net grouped valid built
+built_plays p (Err e) grouped built valid = tt

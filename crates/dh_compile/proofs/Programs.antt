@@ -1,18 +1,17 @@
--- What a thin program's conditions give its net: short clocks, rows that fit, data that can be had.
--- A group has a store for each two clocks at most, so 64 stores take no more than 128 clocks. A use of
--- a memory is made by a store or its source, whose index is below the memory's size, and so is below
+-- What a grouped program's conditions give its net: short clocks, rows that fit, data that can be had.
+-- A use of a memory is made by a store or its source, whose index is below the memory's size, and so is below
 -- any power of two that has all its rows.
-use Rattle.std.proofs.Common.{◌≡◌, ℕ, ◌*◌, ◌^◌, ◌<◌, ◌≤◌, Some, None, Option, List, [], ◌∷◌, refl, sym, ap, subst, ◌∙◌, arith}
+use Rattle.std.proofs.Common.{◌≡◌, ℕ, ◌*◌, ◌^◌, ◌<◌, ◌≤◌, Some, None, Option, List, [], ◌∷◌, length, refl, sym, ap, subst, ◌∙◌, arith}
 use Rattle.std.specs.Prelude.{Bool, true, false, slice_get, if◌then◌else◌, ◌==◌}
 use Rattle.std.specs.List.{AllByRecursion}
 use Rattle.std.proofs.lemmas.Bool.Decides.{nat_tests}
 use Rattle.dh_tree.specs.declared.tables.MemEntry.{MemEntry}
-use Rattle.dh_tree.specs.declared.thin.Operand.{Operand}
-use Rattle.dh_tree.specs.declared.thin.Store.{Store}
-use Rattle.dh_tree.specs.declared.thin.Program.{Program}
-use Rattle.dh_tree.specs.Tables.{elements_of}
+use Rattle.dh_compile.specs.declared.stores.Operand.{Operand}
+use Rattle.dh_compile.specs.declared.stores.Store.{Store}
+use Rattle.dh_compile.specs.declared.stores.Program.{Program}
+use Rattle.dh_tree.specs.Tables.{elements_of, elements_in}
 use Rattle.dh_value.specs.Words.{width_of}
-use Rattle.dh_tree.specs.Thin.{IsThinEntry, IsElement, IsSource, IsStore, IsGroup, IsThin, stores_of}
+use Rattle.dh_compile.specs.Grouped.{IsLineEntry, IsElement, IsSource, IsStore, IsGroup, IsGrouped}
 use Rattle.dh_net.specs.Valid.{IsRowWidth}
 use Rattle.dh_compile.specs.declared.uses.Use.{Use}
 use Rattle.dh_compile.specs.declared.uses.Use.TheVariants.{Reads, Writes}
@@ -21,14 +20,14 @@ use Rattle.dh_compile.specs.Drafts.{IsHeld}
 use Rattle.dh_compile.specs.Drivers.{FitsUse, FitsGroup, FitsGroups}
 use Rattle.dh_compile.proofs.Groups.{at_place}
 
--- a thin program's memory has as many elements as it says, of 32 bits
-pub thin_size : (e : MemEntry) (h : IsThinEntry e) → elements_of e.shape.dims ≡ h.size
-thin_size e h =
+-- a grouped program's memory has as many elements as it says, of 32 bits
+pub grouped_size : (e : MemEntry) (h : IsLineEntry e) → elements_of e.shape.dims ≡ h.size
+grouped_size e h =
     let same : elements_of e.shape.dims ≡ h.size * 1 = ap (λ (e : MemEntry). elements_of e.shape.dims) h.is in
     omega (arith, same)
 
-pub thin_width : (e : MemEntry) → IsThinEntry e → width_of e.shape.kind ≡ 32
-thin_width e h = ap (λ (e : MemEntry). width_of e.shape.kind) h.is
+pub grouped_width : (e : MemEntry) → IsLineEntry e → width_of e.shape.kind ≡ 32
+grouped_width e h = ap (λ (e : MemEntry). width_of e.shape.kind) h.is
 
 -- an index is below a power of two that has all rows
 index_fits : (table : List MemEntry) (memory index wide : ℕ) (e : MemEntry) → IsElement table memory index → slice_get table memory ≡ Some e
@@ -38,14 +37,14 @@ index_fits table memory index wide e h at room =
     let rows : elements_of e.shape.dims ≡ h.size * 1 = ap (λ (e : MemEntry). elements_of e.shape.dims) (sym same) ∙ ap elements_of h.line in
     omega (arith, rows, room, h.within)
 
-source_held : (table : List MemEntry) → AllByRecursion IsThinEntry table → (source : Option Operand) → IsSource table source → IsHeld table source
-source_held table thin None h = tt
-source_held table thin (Some o) h = record {
+source_held : (table : List MemEntry) → AllByRecursion IsLineEntry table → (source : Option Operand) → IsSource table source → IsHeld table source
+source_held table grouped None h = tt
+source_held table grouped (Some o) h = record {
   entry = h.entry;
   there = h.declared;
   first_bank = refl;
   first_port = refl;
-  wide = thin_width h.entry (at_place IsThinEntry table o.memory h.entry thin h.declared);
+  wide = grouped_width h.entry (at_place IsLineEntry table o.memory h.entry grouped h.declared);
 }
 
 -- numbers that are tested to be equal are equal
@@ -69,41 +68,46 @@ any_source_fits table memory wide e None rest at room h others u use_ = others u
 any_source_fits table memory wide e (Some o) rest at room h others u use_ = source_fits table memory wide e o rest (o.memory == memory) at room h refl others u use_
 
 -- a use by a store, or by its source, or by what comes after it
-store_fits : (table : List MemEntry) → AllByRecursion IsThinEntry table → (memory wide : ℕ) (e : MemEntry) (s : Store) (rest : Option Use) (b : Bool)
+store_fits : (table : List MemEntry) → AllByRecursion IsLineEntry table → (memory wide : ℕ) (e : MemEntry) (s : Store) (rest : Option Use) (b : Bool)
     → slice_get table memory ≡ Some e → elements_of e.shape.dims ≤ 2 ^ wide → IsStore table s → (s.memory == memory) ≡ b
     → ((u : Use) → rest ≡ Some u → FitsUse table wide u) → (u : Use)
     → (if b then Some (Writes s.index s.source s.number) else use_of_source s.source memory rest) ≡ Some u → FitsUse table wide u
-store_fits table thin memory wide e s rest true at room h test others u use_ =
+store_fits table grouped memory wide e s rest true at room h test others u use_ =
     let same : ◌≡◌ {A = Use} (Writes s.index s.source s.number) u = cc in
     subst (λ (x : Use). FitsUse table wide x) same
-    (index_fits table s.memory s.index wide e h.target (subst (λ (m : ℕ). slice_get table m ≡ Some e) (sym (tested s.memory memory test)) at) room, (source_held table thin s.source h.source, h.number))
-store_fits table thin memory wide e s rest false at room h test others u use_ = any_source_fits table memory wide e s.source rest at room h.source others u use_
+    (index_fits table s.memory s.index wide e h.target (subst (λ (m : ℕ). slice_get table m ≡ Some e) (sym (tested s.memory memory test)) at) room, (source_held table grouped s.source h.source, h.number))
+store_fits table grouped memory wide e s rest false at room h test others u use_ = any_source_fits table memory wide e s.source rest at room h.source others u use_
 
-pub stores_fit : (table : List MemEntry) → AllByRecursion IsThinEntry table → (memory wide : ℕ) (e : MemEntry) → slice_get table memory ≡ Some e
+pub stores_fit : (table : List MemEntry) → AllByRecursion IsLineEntry table → (memory wide : ℕ) (e : MemEntry) → slice_get table memory ≡ Some e
     → elements_of e.shape.dims ≤ 2 ^ wide → (g : List Store) → AllByRecursion (IsStore table) g → FitsGroup table memory wide g
-stores_fit table thin memory wide e at room [] h u use_ = absurd (cc)
-stores_fit table thin memory wide e at room (s ∷ ss) h u use_ =
-    store_fits table thin memory wide e s (use_in ss memory) (s.memory == memory) at room h.0 refl (stores_fit table thin memory wide e at room ss h.1) u use_
+stores_fit table grouped memory wide e at room [] h u use_ = absurd (cc)
+stores_fit table grouped memory wide e at room (s ∷ ss) h u use_ =
+    store_fits table grouped memory wide e s (use_in ss memory) (s.memory == memory) at room h.0 refl (stores_fit table grouped memory wide e at room ss h.1) u use_
 
--- all groups of a thin program can be done by a port of such a width
-pub groups_fit : (p : Program) → IsThin p → (table : List MemEntry) → table ≡ p.table → (memory wide : ℕ) (e : MemEntry) → slice_get p.table memory ≡ Some e
+-- all groups of a grouped program can be done by a port of such a width
+pub groups_fit : (p : Program) → IsGrouped p → (table : List MemEntry) → table ≡ p.table → (memory wide : ℕ) (e : MemEntry) → slice_get p.table memory ≡ Some e
     → IsRowWidth (elements_of e.shape.dims) wide → FitsGroups table memory wide p.groups
-groups_fit p thin table same memory wide e at room k g there =
+groups_fit p grouped table same memory wide e at room k g there =
     subst (λ (t : List MemEntry). FitsGroup t memory wide g) (sym same)
-    (stores_fit p.table thin.entries memory wide e at room.all g (at_place (IsGroup p.table) p.groups k g thin.groups there).stores)
+    (stores_fit p.table grouped.entries memory wide e at room.all g (at_place (IsGroup p.table) p.groups k g grouped.groups there).stores)
 
--- the numbers of a thin memory's rows take 1 to 10 bits
-pub narrow : (e : MemEntry) → IsThinEntry e → (rows wide : ℕ) → rows ≡ elements_of e.shape.dims → IsRowWidth rows wide → wide ≤ 10
-narrow e h rows wide is room = room.none_less 10 (omega arith) (omega (arith, is, thin_size e h, h.greatest))
+-- the numbers of a memory's rows take 1 to 20 bits
+pub narrow : (e : MemEntry) → IsLineEntry e → (rows wide : ℕ) → rows ≡ elements_of e.shape.dims → IsRowWidth rows wide → wide ≤ 20
+narrow e h rows wide is room = room.none_less 20 (omega arith) (omega (arith, is, grouped_size e h, h.greatest))
 
--- at most two clocks for each store
-one_or_two : (b : Bool) → (if b then 2 else 1) ≤ 2
-one_or_two true = omega arith
-one_or_two false = omega arith
+-- the number of the clock fits its register
+pub grouped_total : (p : Program) → IsGrouped p → total_length p.groups < 2 ^ 32
+grouped_total p grouped = grouped.short
 
-total_most : (table : List MemEntry) (gs : List (List Store)) → AllByRecursion (IsGroup table) gs → total_length gs ≤ 2 * stores_of gs
-total_most table [] h = omega arith
-total_most table (g ∷ gs) h = omega (arith, one_or_two (any_read g), total_most table gs h.1, h.0.least)
+-- each memory has an element at least
+few_memories : (es : List MemEntry) → AllByRecursion IsLineEntry es → length es ≤ elements_in es
+few_memories [] h = omega arith
+few_memories (e ∷ es) h = omega (arith, grouped_size e h.0, h.0.least, few_memories es h.1)
 
-pub thin_total : (p : Program) → IsThin p → total_length p.groups ≤ 128
-thin_total p thin = omega (arith, total_most p.table p.groups thin.groups, thin.commands)
+-- the number of a memory fits 32 bits
+pub memory_fits : (p : Program) → IsGrouped p → (items : List MemEntry) (i : ℕ) → items ≡ p.table → i < length items → i < 2 ^ 32
+memory_fits p grouped items i same l =
+    let all : length items ≡ length p.table = ap length same in
+    let few = few_memories p.table grouped.entries in
+    let most : elements_in p.table ≤ 1048576 = grouped.elements in
+    omega (arith, all, few, most, l)

@@ -1,17 +1,17 @@
--- No bank spends more than its port in the step of a thin group. Any two events of a group on one
+-- No bank spends more than its port in the step of a grouped group. Any two events of a group on one
 -- memory are reads of one row, which holds of every front of its events too; and where that holds, a
 -- bank has spent at most one row or one write, by induction on the events.
 use Rattle.std.proofs.Common.{◌≡◌, ℕ, ◌+◌, ◌≤◌, ◌==◌, ◌&&◌, ◌⊎◌, not, inl, inr, nat_lt, Bool, true, false, if◌then◌else◌, List, [], ◌∷◌, ◌++◌, length, Option, Some, None, refl, sym, ap, ◌∙◌, suc, arith, subst, append_assoc}
 use Rattle.std.specs.List.{AllByRecursion, list_any}
 use Rattle.std.proofs.lemmas.Bool.Decides.{nat_tests}
 use Rattle.dh_base.specs.declared.outcomes.Outcome.TheVariants.{Stuck}
+use Rattle.dh_base.specs.declared.places.Place.{Place}
 use Rattle.dh_tree.specs.declared.tables.MemEntry.{MemEntry}
-use Rattle.dh_tree.specs.declared.thin.Operand.{Operand}
-use Rattle.dh_tree.specs.declared.thin.Store.{Store}
+use Rattle.dh_compile.specs.declared.stores.Operand.{Operand}
+use Rattle.dh_compile.specs.declared.stores.Store.{Store}
 use Rattle.dh_tree.specs.Elements.{Spot, ports_at}
 use Rattle.dh_tree.specs.Effects.{Event, reads, writes, faults, is_at, rows_read, writes_made, spent, is_beyond, stop_after}
-use Rattle.dh_tree.specs.ThinTree.{first_place}
-use Rattle.dh_tree.specs.Thin.{IsThinEntry, IsSource, IsStore, ReadsOther, ReadsAlike, AreApart, KeepsPorts}
+use Rattle.dh_compile.specs.Grouped.{IsLineEntry, IsSource, IsStore, ReadsOther, ReadsAlike, AreApart, KeepsPorts}
 use Rattle.dh_compile.specs.Timetable.{stored_of}
 use Rattle.dh_compile.proofs.GroupEvents.{line_spot, source_events, write_event, group_events, on_line}
 
@@ -167,14 +167,14 @@ no_stop table before (writes q s v ∷ es) h p =
 no_stop table before (faults k q ∷ es) h p = absurd p.0
 
 -- an event agrees with a store's read, where it has one
-abbrev pub AgreesWithSource : Event → Option Operand → Type 0
-AgreesWithSource e None = Unit {0}
-AgreesWithSource e (Some o) = Agree e (reads first_place (line_spot o.memory o.index))
+abbrev pub AgreesWithSource : Place → Event → Option Operand → Type 0
+AgreesWithSource place e None = Unit {0}
+AgreesWithSource place e (Some o) = Agree e (reads place (line_spot o.memory o.index))
 
-all_with_source : (P : Event → Type 0) (source : Option Operand) (rest : List Event)
-    → ((o : Operand) → source ≡ Some o → P (reads first_place (line_spot o.memory o.index))) → AllByRecursion P rest → AllByRecursion P (source_events source rest)
-all_with_source P None rest h k = k
-all_with_source P (Some o) rest h k = (h o refl, k)
+all_with_source : (P : Event → Type 0) (place : Place) (source : Option Operand) (rest : List Event)
+    → ((o : Operand) → source ≡ Some o → P (reads place (line_spot o.memory o.index))) → AllByRecursion P rest → AllByRecursion P (source_events place source rest)
+all_with_source P place None rest h k = k
+all_with_source P place (Some o) rest h k = (h o refl, k)
 
 reads_other : (memory : ℕ) (source : Option Operand) (o : Operand) → ReadsOther memory source → source ≡ Some o → o.memory ≡ memory → ⊥
 reads_other memory source o h e = let P : Option Operand → Type 0 = λ x. ReadsOther memory x in subst P e h
@@ -183,14 +183,14 @@ reads_alike : (source : Option Operand) (o q : Operand) → ReadsAlike (Some o) 
 reads_alike source o q h e = let P : Option Operand → Type 0 = λ x. ReadsAlike (Some o) x in subst P e h
 
 -- the write of a store agrees with all that stores apart from it do
-write_agrees : (memories : List (List ℕ)) (s : Store) (v : ℕ) (ss : List Store) → AllByRecursion (AreApart s) ss
-    → AllByRecursion (Agree (writes first_place (line_spot s.memory s.index) v)) (group_events memories ss)
-write_agrees memories s v [] h = tt
-write_agrees memories s v (t ∷ ts) h =
-    all_with_source (Agree (writes first_place (line_spot s.memory s.index) v)) t.source
-    (write_event memories t.memory t.index t.source t.number ∷ group_events memories ts)
+write_agrees : (memories : List (List ℕ)) (place : Place) (s : Store) (v : ℕ) (ss : List Store) → AllByRecursion (AreApart s) ss
+    → AllByRecursion (Agree (writes place (line_spot s.memory s.index) v)) (group_events memories ss)
+write_agrees memories place s v [] h = tt
+write_agrees memories place s v (t ∷ ts) h =
+    all_with_source (Agree (writes place (line_spot s.memory s.index) v)) t.source_place t.source
+    (write_event t.place memories t.memory t.index t.source t.number ∷ group_events memories ts)
     (λ o d e. reads_other s.memory t.source o h.0.second_read d (sym e))
-    (h.0.writes, write_agrees memories s v ts h.1)
+    (h.0.writes, write_agrees memories place s v ts h.1)
 
 -- a source's read beside another store
 pub record CanRead (o : Operand) (t : Store) : Type 0 where
@@ -203,40 +203,40 @@ can_read s o (t ∷ ts) e h =
     let P : Option Operand → Type 0 = λ x. ReadsAlike x t.source in
     (record { other = reads_other t.memory s.source o h.0.first_read e; alike = subst P e h.0.reads }, can_read s o ts e h.1)
 
-read_agrees : (memories : List (List ℕ)) (o : Operand) (ss : List Store) → AllByRecursion (CanRead o) ss
-    → AllByRecursion (Agree (reads first_place (line_spot o.memory o.index))) (group_events memories ss)
-read_agrees memories o [] h = tt
-read_agrees memories o (t ∷ ts) h =
-    all_with_source (Agree (reads first_place (line_spot o.memory o.index))) t.source
-    (write_event memories t.memory t.index t.source t.number ∷ group_events memories ts)
+read_agrees : (memories : List (List ℕ)) (place : Place) (o : Operand) (ss : List Store) → AllByRecursion (CanRead o) ss
+    → AllByRecursion (Agree (reads place (line_spot o.memory o.index))) (group_events memories ss)
+read_agrees memories place o [] h = tt
+read_agrees memories place o (t ∷ ts) h =
+    all_with_source (Agree (reads place (line_spot o.memory o.index))) t.source_place t.source
+    (write_event t.place memories t.memory t.index t.source t.number ∷ group_events memories ts)
     (λ q d e. reads_alike t.source o q h.0.alike d e)
-    (h.0.other, read_agrees memories o ts h.1)
+    (h.0.other, read_agrees memories place o ts h.1)
 
-with_source_agrees : (source : Option Operand) (rest : List Event)
-    → ((o : Operand) → source ≡ Some o → AllByRecursion (Agree (reads first_place (line_spot o.memory o.index))) rest) → AllAgree rest
-    → AllAgree (source_events source rest)
-with_source_agrees None rest h k = k
-with_source_agrees (Some o) rest h k = (h o refl, k)
+with_source_agrees : (place : Place) (source : Option Operand) (rest : List Event)
+    → ((o : Operand) → source ≡ Some o → AllByRecursion (Agree (reads place (line_spot o.memory o.index))) rest) → AllAgree rest
+    → AllAgree (source_events place source rest)
+with_source_agrees place None rest h k = k
+with_source_agrees place (Some o) rest h k = (h o refl, k)
 
 -- the events of a group agree
 pub group_agrees : (memories : List (List ℕ)) (g : List Store) → KeepsPorts g → AllAgree (group_events memories g)
 group_agrees memories [] h = tt
 group_agrees memories (s ∷ ss) h =
-    with_source_agrees s.source (write_event memories s.memory s.index s.source s.number ∷ group_events memories ss)
-    (λ o e. (reads_other s.memory s.source o h.0 e, read_agrees memories o ss (can_read s o ss e h.1.0)))
-    (write_agrees memories s (stored_of memories s.source s.number) ss h.1.0, group_agrees memories ss h.1.1)
+    with_source_agrees s.source_place s.source (write_event s.place memories s.memory s.index s.source s.number ∷ group_events memories ss)
+    (λ o e. (reads_other s.memory s.source o h.0 e, read_agrees memories s.source_place o ss (can_read s o ss e h.1.0)))
+    (write_agrees memories s.place s (stored_of memories s.source s.number) ss h.1.0, group_agrees memories ss h.1.1)
 
-source_port : (table : List MemEntry) (source : Option Operand) (o : Operand) → AllByRecursion IsThinEntry table → IsSource table source → source ≡ Some o
+source_port : (table : List MemEntry) (source : Option Operand) (o : Operand) → AllByRecursion IsLineEntry table → IsSource table source → source ≡ Some o
     → ports_at table o.memory ≡ 1
 source_port table source o h s e =
     let P : Option Operand → Type 0 = λ x. IsSource table x in
     (on_line table o.memory o.index h (subst P e s)).ports
 
 -- each of them is an access of a memory with a port
-pub group_ports : (table : List MemEntry) (memories : List (List ℕ)) (g : List Store) → AllByRecursion IsThinEntry table → AllByRecursion (IsStore table) g
+pub group_ports : (table : List MemEntry) (memories : List (List ℕ)) (g : List Store) → AllByRecursion IsLineEntry table → AllByRecursion (IsStore table) g
     → AllByRecursion (HasPort table) (group_events memories g)
 group_ports table memories [] h s = tt
 group_ports table memories (f ∷ fs) h s =
-    all_with_source (HasPort table) f.source (write_event memories f.memory f.index f.source f.number ∷ group_events memories fs)
+    all_with_source (HasPort table) f.source_place f.source (write_event f.place memories f.memory f.index f.source f.number ∷ group_events memories fs)
     (λ o e. source_port table f.source o h s.0.source e)
     ((on_line table f.memory f.index h s.0.target).ports, group_ports table memories fs h s.1)

@@ -1,7 +1,7 @@
--- What the net of a thin program is made of: what its wires show, by its two registers, the number of
+-- What the net of a grouped program is made of: what its wires show, by its two registers, the number of
 -- clocks so far and whether the last one ended a step.
 use Rattle.std.specs.Prelude.{◌≡◌, ℕ, ◌+◌, ◌%◌, ◌^◌, ◌<◌, ◌==◌, true, false, if◌then◌else◌, List, [], ◌∷◌, length, slice_index, slice_index_or}
-use Rattle.dh_tree.specs.declared.thin.Program.{Program}
+use Rattle.dh_compile.specs.declared.stores.Program.{Program}
 use Rattle.dh_net.specs.Clock.{IsValuation}
 use Rattle.dh_net.specs.declared.nets.Driver.{Driver}
 use Rattle.dh_net.specs.declared.nets.Register.{Register}

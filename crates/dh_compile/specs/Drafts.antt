@@ -2,7 +2,7 @@
 -- fact is stated for every solution of the cells' equations: what solves more cells solves fewer.
 use Rattle.std.specs.Prelude.{◌≡◌, ℕ, ◌≤◌, List, [], ◌∷◌, length, slice_get, slice_index, Option, Some, None}
 use Rattle.dh_tree.specs.declared.tables.MemEntry.{MemEntry}
-use Rattle.dh_tree.specs.declared.thin.Operand.{Operand}
+use Rattle.dh_compile.specs.declared.stores.Operand.{Operand}
 use Rattle.dh_net.specs.Valid.{HasWidth, FormFits, IsCell, IsPort}
 use Rattle.dh_net.specs.Clock.{form_value}
 use Rattle.dh_net.specs.declared.nets.Cell.{Cell}

@@ -1,8 +1,8 @@
 -- What the drivers of a port say while a net is being built.
 use Rattle.std.specs.Prelude.{◌≡◌, ℕ, ◌+◌, ◌-◌, ◌<◌, ◌^◌, true, List, [], ◌++◌, length, slice_get, slice_index, slice_index_or, Some}
 use Rattle.dh_tree.specs.declared.tables.MemEntry.{MemEntry}
-use Rattle.dh_tree.specs.declared.thin.Store.{Store}
-use Rattle.dh_tree.specs.declared.thin.Program.{Program}
+use Rattle.dh_compile.specs.declared.stores.Store.{Store}
+use Rattle.dh_compile.specs.declared.stores.Program.{Program}
 use Rattle.dh_net.specs.Valid.{HasWidth, IsDriver}
 use Rattle.dh_net.specs.declared.nets.Cell.{Cell}
 use Rattle.dh_net.specs.declared.nets.Driver.{Driver}

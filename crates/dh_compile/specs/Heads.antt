@@ -1,4 +1,4 @@
--- What the wires that each net of a thin program has show.
+-- What the wires that each net of a grouped program has show.
 use Rattle.std.specs.Prelude.{ℕ, ◌+◌, ◌%◌, ◌^◌, ◌==◌, if◌then◌else◌, slice_index}
 use Rattle.dh_compile.specs.declared.clocks.Head.{Head}
 use Rattle.dh_compile.specs.Drafts.{Drafted, Grows, Shows, IsClock}

@@ -1,6 +1,7 @@
 pub mod Timetable
+pub mod Grouped
 pub mod Built
-pub mod ThinRun
+pub mod GroupRun
 pub mod Compiled
 pub mod Drafts
 pub mod Drivers

@@ -1,7 +1,7 @@
--- When the net of a thin program does what: by clocks, from 0.
+-- When the net of a grouped program does what: by clocks, from 0.
 use Rattle.std.specs.Prelude.{ℕ, ◌+◌, ◌-◌, ◌%◌, ◌^◌, ◌==◌, ◌||◌, Bool, true, false, if◌then◌else◌, List, [], ◌∷◌, slice_index, slice_set, slice_index_or, Option, Some, None}
-use Rattle.dh_tree.specs.declared.thin.Operand.{Operand}
-use Rattle.dh_tree.specs.declared.thin.Store.{Store}
+use Rattle.dh_compile.specs.declared.stores.Operand.{Operand}
+use Rattle.dh_compile.specs.declared.stores.Store.{Store}
 use Rattle.dh_compile.specs.declared.uses.Use.{Use}
 use Rattle.dh_compile.specs.declared.uses.Use.TheVariants.{Reads, Writes}
 

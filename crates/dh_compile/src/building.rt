@@ -1,17 +1,18 @@
-//! The net of a thin program.
+//! The net of a grouped program.
 
 ghost use Rattle.std.specs.Prelude.{◌≡◌, [], ◌∷◌, IfOk};
-ghost use Rattle.dh_tree.specs.Thin.{IsThin, entry_of};
+ghost use Rattle.dh_compile.specs.Grouped.{IsGrouped, entry_of};
 ghost use Rattle.dh_net.specs.Valid.{IsValid};
 ghost use Rattle.dh_compile.specs.Built.{IsBuilt, clock_register, tick_register};
 
 use crate::clocks::{push_ends, push_head};
 use crate::drafts::Draft;
 use crate::ports::push_ports;
+use crate::stores::Program;
 use crate::uses::total_length;
 use dh_base::{Items, NoMemory};
 use dh_net::{Net, Register};
-use dh_tree::{Program, copy_table};
+use dh_tree::copy_table;
 use std::alloc::Global;
 
 /// The two registers: the number of the clock, and whether the last clock ended a group.
@@ -36,9 +37,9 @@ fn two_registers(
     Ok(registers)
 }
 
-/// The net of a thin program.
+/// The net of a grouped program.
 pub(crate) fn build(alloc: Global, program: &Program) -> Result<Net, NoMemory>
-    requires { IsThin program.now }
+    requires { IsGrouped program.now }
     ensures built { IfOk result (λ net. IsBuilt net program.now) }
     ensures valid { IfOk result (λ net. IsValid net) }
 {
@@ -65,8 +66,12 @@ pub(crate) fn build(alloc: Global, program: &Program) -> Result<Net, NoMemory>
 #[cfg(test)]
 mod tests {
     use super::*;
-    use dh_tree::{Dim, Kind, MemEntry, Name, Operand, Shape, Store};
+    use crate::stores::{Operand, Store};
+    use dh_tree::{Dim, Kind, MemEntry, Name, Shape};
+    use dh_base::Place;
     use std::test::Fail;
+
+    const FIRST: Place = Place { line: 1, column: 1 };
 
     /// An outside memory of one element.
     fn memory(alloc: Global, name: &str) -> Result<MemEntry, NoMemory>
@@ -97,7 +102,7 @@ mod tests {
 
     /// `decl A: ubit<32>[1]; decl B: ubit<32>[1]; A[0] := 7 --- B[0] := A[0] + 1;`
     fn first_program(alloc: Global) -> Result<Program, NoMemory>
-        ensures { IfOk result (λ program. IsThin program) }
+        ensures { IfOk result (λ program. IsGrouped program) }
     {
         let mut table = Items::new(alloc);
         table.push(memory(alloc, "A")?)?;
@@ -106,8 +111,10 @@ mod tests {
         groups.push(group(
             alloc,
             Store {
+                place: FIRST,
                 memory: 0,
                 index: 0,
+                source_place: FIRST,
                 source: None,
                 number: 7,
             },
@@ -115,8 +122,10 @@ mod tests {
         groups.push(group(
             alloc,
             Store {
+                place: FIRST,
                 memory: 1,
                 index: 0,
+                source_place: FIRST,
                 source: Some(Operand {
                     memory: 0,
                     index: 0,

@@ -7,13 +7,13 @@ ghost use Rattle.dh_compile.specs.Drafts.{Adds, IsClock};
 ghost use Rattle.dh_compile.specs.Heads.{AddsHead};
 
 use crate::drafts::Draft;
+use crate::stores::Store;
 use crate::uses::group_length;
 use crate::wires::{push_at, push_constant};
 use dh_base::{Items, NoMemory};
 use dh_net::CellForm;
-use dh_tree::Store;
 
-/// The wires that each net of a thin program has.
+/// The wires that each net of a grouped program has.
 #[derive(Clone, Copy, Debug, PartialEq, Eq)]
 pub(crate) struct Head {
     /// Shows the number of the clock, which stays at the number of all clocks.
@@ -24,7 +24,7 @@ pub(crate) struct Head {
     pub(crate) tick: u64,
     /// 1 once all clocks are over.
     pub(crate) done: u64,
-    /// 0, since no thin program has a fault.
+    /// 0, since no grouped program has a fault.
     pub(crate) fault: u64,
 }
 

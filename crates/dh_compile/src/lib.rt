@@ -1,4 +1,4 @@
-//! Compiles thin programs to nets that play them.
+//! Compiles grouped programs to nets that play them.
 //! A group of stores is a step: of one clock, or of two where it reads. The net counts its clocks in
 //! one register; each memory's port has a driver for each group that uses the memory, enabled at the
 //! one clock at which that group reads or writes it.
@@ -10,8 +10,9 @@ mod clocks;
 mod compiling;
 mod drafts;
 mod ports;
+mod stores;
 mod uses;
 mod wires;
 
-pub use compiling::{compile, thin_programs_end};
+pub use compiling::{compile, grouped_programs_end};
 pub use uses::Use;

@@ -1,18 +1,19 @@
 //! The drivers of the ports: for each memory one for each group that uses it.
 
 ghost use Rattle.std.specs.Prelude.{◌≡◌, ◌+◌, ◌^◌, ◌<◌, ◌≤◌, IfOk};
-ghost use Rattle.dh_tree.specs.Thin.{IsThin};
+ghost use Rattle.dh_compile.specs.Grouped.{IsGrouped};
 ghost use Rattle.dh_compile.specs.declared.uses.Use.TheVariants.{Reads, Writes};
 ghost use Rattle.dh_compile.specs.Timetable.{group_length, total_length};
 ghost use Rattle.dh_compile.specs.Drafts.{IsClock, IsHeld};
 ghost use Rattle.dh_compile.specs.Drivers.{use_clock, FitsUse, FitsGroup, FitsGroups, AddsUse, AddsDriver, AddsGroup, AddsPort, AddsPorts};
 
 use crate::drafts::Draft;
+use crate::stores::{Operand, Program, Store};
 use crate::uses::{Use, group_length, use_in};
 use crate::wires::{push_at, push_constant, push_stored};
 use dh_base::{Items, NoMemory};
 use dh_net::{Driver, row_width};
-use dh_tree::{Operand, Program, Store, element_count};
+use dh_tree::element_count;
 use std::alloc::Global;
 
 /// What the drivers of a port have in common.
@@ -159,7 +160,7 @@ pub(crate) fn push_ports(
     clock: u64,
     program: &Program,
 ) -> Result<Items<Items<Driver>>, NoMemory>
-    requires thin { IsThin program.now }
+    requires grouped { IsGrouped program.now }
     requires table { draft.old.table ≡ program.now.table }
     requires clock { IsClock draft.old clock }
     ensures { IfOk result (λ ports. AddsPorts draft.old draft.new ports program.now) }

@@ -3,8 +3,8 @@
 ghost use Rattle.std.specs.Prelude.{◌≡◌, ◌<◌, ◌^◌};
 ghost use Rattle.dh_compile.specs.Timetable.{use_in, any_read, group_length, total_length};
 
+use crate::stores::{Operand, Store};
 use dh_base::Items;
-use dh_tree::{Operand, Store};
 
 /// What a group of stores does with a memory that it uses. A memory has one port, so it is one thing.
 #[derive(Clone, Copy, Debug, PartialEq, Eq)]

@@ -6,9 +6,9 @@ ghost use Rattle.dh_compile.specs.Timetable.{stored_from};
 ghost use Rattle.dh_compile.specs.Drafts.{Adds, IsClock, IsHeld};
 
 use crate::drafts::Draft;
+use crate::stores::Operand;
 use dh_base::NoMemory;
 use dh_net::CellForm;
-use dh_tree::Operand;
 
 /// Adds a wire that shows these bits.
 pub(crate) fn push_constant(draft: &mut Draft, width: u8, bits: u64) -> Result<u64, NoMemory>

@@ -1,12 +1,2 @@
-pub mod Runs
-pub mod Spelled
-pub mod WordsRead
-pub mod LexedSoFar
-pub mod NamedPlaces
-pub mod StoreReading
-pub mod GroupReading
-pub mod TableReading
-pub mod Parsed
-pub mod ThinTexts
 pub mod SeenTerms
 pub mod SeenActions

@@ -6,8 +6,3 @@ pub mod Seen
 pub mod Elements
 pub mod Effects
 pub mod Steps
-pub mod ThinTokens
-pub mod LongestToken
-pub mod Thin
-pub mod ThinTree
-pub mod ThinReading

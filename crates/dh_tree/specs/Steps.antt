@@ -4,18 +4,8 @@ use Rattle.std.specs.Prelude.{ℕ, max, zero, suc, Bool, true, false, if◌then�
 use Rattle.dh_base.specs.declared.outcomes.Outcome.{Outcome}
 use Rattle.dh_base.specs.declared.outcomes.Outcome.TheVariants.{Going, Ended, Faulted, Stuck}
 use Rattle.dh_tree.specs.declared.tables.MemEntry.{MemEntry}
-use Rattle.dh_tree.specs.Tree.{Term, number, access, binary, Terms, no_terms, term, Command, store, Tree}
+use Rattle.dh_tree.specs.Tree.{Term, number, access, binary, Terms, no_terms, term, Command, store, Phase, straight, Tree}
 use Rattle.dh_tree.specs.Effects.{Event, commands_events, written, stop_after}
-
--- a phase, which takes at least one logical step
-pub data Phase : Type 0 where
-  straight : List Command → Phase
-
--- the phases of a body, in order: a part between two `---` without commands has none
-abbrev pub phases_of : List (List Command) → List Phase
-phases_of [] = []
-phases_of ([] ∷ parts) = phases_of parts
-phases_of ((c ∷ cs) ∷ parts) = straight (c ∷ cs) ∷ phases_of parts
 
 -- the level of an expression: the most reads of which each needs the one before
 abbrev mutual
@@ -97,5 +87,5 @@ step_from table s (Stuck memory bank place) = s
 
 -- how the run of a program from these memories stands after n logical steps
 abbrev pub standing : Tree → List (List ℕ) → ℕ → Standing
-standing tree memories zero = stands_at memories (phases_of tree.body ∷ [])
+standing tree memories zero = stands_at memories (tree.phases ∷ [])
 standing tree memories (suc n) = step_from tree.table (standing tree memories n) (standing tree memories n).outcome

@@ -24,7 +24,11 @@ mutual
 pub data Command : Type 0 where
   store : (place : Place) → (memory : ℕ) → (indices : Terms) → (value : Term) → Command
 
--- a program: its memories, and its body, the parts between `---`, each the list of what `;` separates
+-- a phase, which takes at least one logical step
+pub data Phase : Type 0 where
+  straight : List Command → Phase
+
+-- a program: its memories, and the phases of its body in order
 pub record Tree : Type 0 where
   pub table : List MemEntry
-  pub body : List (List Command)
+  pub phases : List Phase

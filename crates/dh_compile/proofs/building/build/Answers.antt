@@ -1,22 +1,22 @@
 use Rattle.std.proofs.Common.{List, refl, ap, subst, ◌∙◌, arith}
 use Rattle.std.specs.Prelude.{slice_index, if◌then◌else◌}
-use Rattle.dh_tree.specs.declared.thin.Store.{Store}
+use Rattle.dh_compile.specs.declared.stores.Store.{Store}
 use Rattle.dh_net.specs.declared.nets.Net.{Net}
 use Rattle.dh_compile.specs.Timetable.{total_length, ends_at}
 use Rattle.dh_compile.specs.Drafts.{Adds}
 use Rattle.dh_compile.proofs.Cells.{clock_later}
-use Rattle.dh_compile.proofs.Programs.{thin_total}
+use Rattle.dh_compile.proofs.Programs.{grouped_total}
 use Rattle.dh_compile.proofs.Assembled.{HasParts, built, valid, parts}
 use Rattle.dh_compile.proofs.building.build.Goals as goal
 
 pub total_length-requires : goal.total_length-requires
-total_length-requires c = omega (arith, thin_total c.args.program.now c.requires, ap total_length c.as_slice-groups.ensures)
+total_length-requires c = omega (arith, grouped_total c.args.program.now c.requires, ap total_length c.as_slice-groups.ensures)
 
 pub push_head-requires : goal.push_head-requires
-push_head-requires c = omega (arith, thin_total c.args.program.now c.requires, ap total_length c.as_slice-groups.ensures, c.total_length.ensures)
+push_head-requires c = omega (arith, grouped_total c.args.program.now c.requires, ap total_length c.as_slice-groups.ensures, c.total_length.ensures)
 
 pub push_ends-requires-clause-total : goal.push_ends-requires-clause-total
-push_ends-requires-clause-total c = omega (arith, thin_total c.args.program.now c.requires, ap total_length c.as_slice-groups.ensures)
+push_ends-requires-clause-total c = omega (arith, grouped_total c.args.program.now c.requires, ap total_length c.as_slice-groups.ensures)
 
 pub push_ports-requires-clause-clock : goal.push_ports-requires-clause-clock
 push_ports-requires-clause-clock c =

@@ -1,5 +1,5 @@
 use Rattle.std.proofs.Common.{◌≡◌, ◌+◌, List, ap, subst, ◌∙◌, arith}
-use Rattle.dh_tree.specs.declared.thin.Store.{Store}
+use Rattle.dh_compile.specs.declared.stores.Store.{Store}
 use Rattle.dh_compile.specs.Drivers.{AddsGroup}
 use Rattle.dh_compile.specs.Timetable.{group_length, uses_of}
 use Rattle.dh_compile.proofs.Cells.{grows_then, clock_later}

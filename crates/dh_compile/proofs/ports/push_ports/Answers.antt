@@ -1,8 +1,8 @@
 use Rattle.std.proofs.Common.{ap, ◌∙◌, arith}
 use Rattle.dh_compile.specs.Timetable.{total_length}
 use Rattle.dh_compile.proofs.Cells.{grows_then, clock_later}
-use Rattle.dh_compile.proofs.Programs.{thin_total, narrow}
-use Rattle.dh_compile.proofs.Gathered.{ports_on, port_fits, entry_thin}
+use Rattle.dh_compile.proofs.Programs.{grouped_total, narrow, memory_fits}
+use Rattle.dh_compile.proofs.Gathered.{ports_on, port_fits, entry_grouped}
 use Rattle.dh_compile.proofs.ports.push_ports.Goals as goal
 
 pub push_port-requires-clause-clock : goal.push_port-requires-clause-clock
@@ -10,22 +10,27 @@ push_port-requires-clause-clock c = clock_later c.args.draft.now c.loop-memory.d
 
 pub push_port-requires-clause-greatest : goal.push_port-requires-clause-greatest
 push_port-requires-clause-greatest c =
-    let thin = entry_thin c.args.program.now c.requires.thin c.as_slice-entry-items.result.now c.loop-memory.memory c.entry-item.result c.as_slice-entry-items.ensures c.loop-memory-test.true c.entry-item.is in
-    omega (arith, narrow c.entry-item.result thin c.element_count.result c.row_width.result c.element_count.ensures c.row_width.ensures)
+    let grouped = entry_grouped c.args.program.now c.requires.grouped c.as_slice-entry-items.result.now c.loop-memory.memory c.entry-item.result c.as_slice-entry-items.ensures c.loop-memory-test.true c.entry-item.is in
+    omega (arith, narrow c.entry-item.result grouped c.element_count.result c.row_width.result c.element_count.ensures c.row_width.ensures)
 
 pub push_port-requires-clause-total : goal.push_port-requires-clause-total
 push_port-requires-clause-total c =
-    omega (arith, thin_total c.args.program.now c.requires.thin, ap total_length c.as_slice-groups.ensures)
+    omega (arith, grouped_total c.args.program.now c.requires.grouped, ap total_length c.as_slice-groups.ensures)
 
 pub push_port-requires-clause-fits : goal.push_port-requires-clause-fits
 push_port-requires-clause-fits c =
-    port_fits c.args.program.now c.requires.thin c.loop-memory.draft.table c.as_slice-entry-items.result.now c.as_slice-groups.result.now c.loop-memory.memory c.element_count.result c.row_width.result c.entry-item.result
+    port_fits c.args.program.now c.requires.grouped c.loop-memory.draft.table c.as_slice-entry-items.result.now c.as_slice-groups.result.now c.loop-memory.memory c.element_count.result c.row_width.result c.entry-item.result
     (c.loop-memory.invariant.grows.table ∙ c.requires.table) c.as_slice-entry-items.ensures c.as_slice-groups.ensures c.loop-memory-test.true c.entry-item.is c.element_count.ensures c.row_width.ensures
 
 pub loop-memory-preserved : goal.loop-memory-preserved
 loop-memory-preserved c = record {
   grows = grows_then c.args.draft.now c.loop-memory.draft c.push_port.new.draft c.loop-memory.invariant.grows c.in_ok-drivers.ensures.grows;
   has =
-      ports_on c.args.program.now c.requires.thin c.loop-memory.draft c.push_port.new.draft c.loop-memory.ports c.push.new.self c.in_ok-drivers.drivers c.as_slice-entry-items.result.now c.as_slice-groups.result.now c.loop-memory.memory c.element_count.result c.row_width.result c.entry-item.result
+      ports_on c.args.program.now c.requires.grouped c.loop-memory.draft c.push_port.new.draft c.loop-memory.ports c.push.new.self c.in_ok-drivers.drivers c.as_slice-entry-items.result.now c.as_slice-groups.result.now c.loop-memory.memory c.element_count.result c.row_width.result c.entry-item.result
       c.as_slice-entry-items.ensures c.as_slice-groups.ensures c.loop-memory-test.true c.entry-item.is c.element_count.ensures c.row_width.ensures c.in_ok-drivers.ensures c.in_ok-push.ensures c.loop-memory.invariant.has;
 }
+
+pub overflow_cast-port : goal.overflow_cast-port
+overflow_cast-port c =
+    let few = memory_fits c.args.program.now c.requires.grouped c.as_slice-entry-items.result.now c.loop-memory.memory c.as_slice-entry-items.ensures c.loop-memory-test.true in
+    omega (arith, few)

@@ -1,4 +1,4 @@
--- The checked run of a thin program does its groups one after the other. By induction on the steps:
+-- The checked run of a grouped program does its groups one after the other. By induction on the steps:
 -- what is still to come is the groups that are not yet done, one phase for each, since no group is
 -- empty; and a step does the first of them, with no fault and no bank beyond its port.
 use Rattle.std.proofs.Common.{◌≡◌, ℕ, max, ◌<◌, ◌≤◌, ◌||◌, Bool, true, false, if◌then◌else◌, List, [], ◌∷◌, length, drop, Option, Some, None, refl, sym, ap, ◌∙◌, zero, suc, arith, subst}
@@ -7,45 +7,32 @@ use Rattle.std.specs.List.{AllByRecursion}
 use Rattle.std.proofs.lemmas.List.{append-nil, length-set}
 use Rattle.dh_base.specs.declared.outcomes.Outcome.TheVariants.{Going, Ended}
 use Rattle.dh_tree.specs.declared.tables.MemEntry.{MemEntry}
-use Rattle.dh_tree.specs.declared.thin.Operand.{Operand}
-use Rattle.dh_tree.specs.declared.thin.Store.{Store}
-use Rattle.dh_tree.specs.declared.thin.Program.{Program}
+use Rattle.dh_compile.specs.declared.stores.Operand.{Operand}
+use Rattle.dh_compile.specs.declared.stores.Store.{Store}
+use Rattle.dh_compile.specs.declared.stores.Program.{Program}
 use Rattle.dh_tree.specs.Tables.{elements_of, Fits}
 use Rattle.dh_tree.specs.Effects.{commands_events, written, stop_after}
-use Rattle.dh_tree.specs.Steps.{Phase, straight, phases_of, level_of, command_level, commands_level, Threads, step_events, step_length, after_step, Standing, outcome_of, stands_at, next_standing, step_from, standing}
-use Rattle.dh_tree.specs.ThinTree.{value_term, command_of, tree_of}
-use Rattle.dh_tree.specs.Thin.{IsThinEntry, IsGroup, IsThin}
+use Rattle.dh_tree.specs.Steps.{level_of, command_level, commands_level, Threads, step_events, step_length, after_step, Standing, outcome_of, stands_at, next_standing, step_from, standing}
+use Rattle.dh_compile.specs.Grouped.{value_term, command_of, phases_from, tree_of}
+use Rattle.dh_compile.specs.Grouped.{IsLineEntry, IsGroup, IsGrouped}
 use Rattle.dh_compile.specs.declared.uses.Use.{Use}
 use Rattle.dh_compile.specs.declared.uses.Use.TheVariants.{Reads, Writes}
 use Rattle.dh_compile.specs.Timetable.{use_in, is_read, any_read, group_length, stored_of, rows_after}
-use Rattle.dh_compile.specs.ThinRun.{run_of, AreLong, GroupDone, DoesGroups}
+use Rattle.dh_compile.specs.GroupRun.{run_of, AreLong, GroupDone, DoesGroups}
 use Rattle.dh_compile.proofs.Groups.{at_place, some_at}
 use Rattle.dh_compile.proofs.GroupEvents.{group_events, events_are}
 use Rattle.dh_compile.proofs.Spending.{no_stop, group_agrees, group_ports}
 use Rattle.dh_compile.proofs.GroupWrites.{group_done}
 
--- the phase of each group
-abbrev pub phases_from : List (List Store) → List Phase
-phases_from [] = []
-phases_from (g ∷ gs) = straight (map command_of g) ∷ phases_from gs
-
+-- one thread does the phases of the groups
 abbrev pub threads_from : List (List Store) → Threads
 threads_from gs = phases_from gs ∷ []
-
-one_phase : (g : List Store) (rest : List (List _)) → 1 ≤ length g → phases_of (map command_of g ∷ rest) ≡ straight (map command_of g) ∷ phases_of rest
-one_phase [] rest l = absurd (let z : 1 ≤ 0 = l in omega arith)
-one_phase (s ∷ ss) rest l = refl
-
-phases_are : (table : List MemEntry) (gs : List (List Store)) → AllByRecursion (IsGroup table) gs → phases_of (map (map command_of) gs) ≡ phases_from gs
-phases_are table [] h = refl
-phases_are table (g ∷ gs) h =
-    one_phase g (map (map command_of) gs) h.0.least ∙ ap (λ ps. straight (map command_of g) ∷ ps) (phases_are table gs h.1)
 
 -- the levels: one where some store has a source
 store_level : (s : Store) → command_level (command_of s) ≡ (if is_read s.source then 1 else 0)
 store_level s = by s.source
   where
-    by : (source : Option Operand) → max (level_of (value_term source s.number)) (max 0 0) ≡ (if is_read source then 1 else 0)
+    by : (source : Option Operand) → max (level_of (value_term s.source_place source s.number)) (max 0 0) ≡ (if is_read source then 1 else 0)
     by None = refl
     by (Some o) = refl
 
@@ -87,12 +74,12 @@ still_long table g old new h d = record {
   each = λ i e at. ap length (d.each i) ∙ (length-rows_after old (use_in g i) (slice_index_or old i []) ∙ h.each i e at);
 }
 
-events_of_step : (table : List MemEntry) (memories : List (List ℕ)) (g : List Store) (gs : List (List Store)) → AllByRecursion IsThinEntry table → IsGroup table g
+events_of_step : (table : List MemEntry) (memories : List (List ℕ)) (g : List Store) (gs : List (List Store)) → AllByRecursion IsLineEntry table → IsGroup table g
     → step_events table memories (threads_from (g ∷ gs)) ≡ group_events memories g
 events_of_step table memories g gs h k = append-nil (commands_events table memories (map command_of g)) ∙ events_are table memories g h k.stores
 
 -- where the next group's step leads
-step_is : (table : List MemEntry) (s : Standing) (g : List Store) (gs : List (List Store)) → AllByRecursion IsThinEntry table → IsGroup table g → IsAt table s (g ∷ gs)
+step_is : (table : List MemEntry) (s : Standing) (g : List Store) (gs : List (List Store)) → AllByRecursion IsLineEntry table → IsGroup table g → IsAt table s (g ∷ gs)
     → step_from table s s.outcome ≡ stands_at (written (group_events s.memories g) s.memories) (threads_from gs)
 step_is table s g gs h k a =
     let events : step_events table s.memories s.threads ≡ group_events s.memories g =
@@ -109,7 +96,7 @@ abbrev pub rest_of : List (List Store) → List (List Store)
 rest_of [] = []
 rest_of (g ∷ gs) = gs
 
-next_at : (table : List MemEntry) (s : Standing) (gs : List (List Store)) → AllByRecursion IsThinEntry table → AllByRecursion (IsGroup table) gs → IsAt table s gs
+next_at : (table : List MemEntry) (s : Standing) (gs : List (List Store)) → AllByRecursion IsLineEntry table → AllByRecursion (IsGroup table) gs → IsAt table s gs
     → IsAt table (step_from table s s.outcome) (rest_of gs)
 next_at table s [] h k a =
     let P : Standing → Type 0 = λ x. IsAt table x [] in
@@ -153,20 +140,15 @@ fits_long table memories h = record { all = lengths table memories h; each = eac
     each (f ∷ fs) (m ∷ ms) h (suc i) e d = each fs ms h.1 i e d
 
 -- after n steps the first n groups are done
-is_at : (p : Program) (memories : List (List ℕ)) → IsThin p → Fits p.table memories → (n : ℕ) → IsAt p.table (standing (tree_of p) memories n) (drop n p.groups)
-is_at p memories h f zero =
-    let ts : threads_of ≡ threads_from p.groups = ap (λ ps. ps ∷ []) (phases_are p.table p.groups h.groups) in
-    record { threads = ts; outcome = ap outcome_of ts; long = fits_long p.table memories f }
-  where
-    threads_of : Threads
-    threads_of = phases_of (map (map command_of) p.groups) ∷ []
+is_at : (p : Program) (memories : List (List ℕ)) → IsGrouped p → Fits p.table memories → (n : ℕ) → IsAt p.table (standing (tree_of p) memories n) (drop n p.groups)
+is_at p memories h f zero = record { threads = refl; outcome = refl; long = fits_long p.table memories f }
 is_at p memories h f (suc n) =
     let P : List (List Store) → Type 0 = λ gs. IsAt p.table (standing (tree_of p) memories (suc n)) gs in
     subst P (drop_next p.groups n)
     (next_at p.table (standing (tree_of p) memories n) (drop n p.groups) h.entries (all_dropped (IsGroup p.table) p.groups n h.groups) (is_at p memories h f n))
 
 -- the next group, where there is one
-is_next : (p : Program) (memories : List (List ℕ)) → IsThin p → Fits p.table memories → (n : ℕ) (g : List Store) → slice_get p.groups n ≡ Some g
+is_next : (p : Program) (memories : List (List ℕ)) → IsGrouped p → Fits p.table memories → (n : ℕ) (g : List Store) → slice_get p.groups n ≡ Some g
     → IsAt p.table (standing (tree_of p) memories n) (g ∷ drop (suc n) p.groups)
 is_next p memories h f n g e =
     let P : List (List Store) → Type 0 = λ gs. IsAt p.table (standing (tree_of p) memories n) gs in
@@ -178,15 +160,15 @@ no_more [] (suc n) l = refl
 no_more (g ∷ gs) zero l = absurd (let z : suc (length gs) ≤ 0 = l in omega arith)
 no_more (g ∷ gs) (suc n) l = no_more gs n (let z : suc (length gs) ≤ suc n = l in omega arith)
 
-has_ended : (p : Program) (memories : List (List ℕ)) → IsThin p → Fits p.table memories → (n : ℕ) → length p.groups ≤ n
+has_ended : (p : Program) (memories : List (List ℕ)) → IsGrouped p → Fits p.table memories → (n : ℕ) → length p.groups ≤ n
     → (standing (tree_of p) memories n).outcome ≡ Ended
 has_ended p memories h f n l = (is_at p memories h f n).outcome ∙ ap (λ gs. outcome_of (threads_from gs)) (no_more p.groups n l)
 
-is_going : (p : Program) (memories : List (List ℕ)) → IsThin p → Fits p.table memories → (n : ℕ) → n < length p.groups
+is_going : (p : Program) (memories : List (List ℕ)) → IsGrouped p → Fits p.table memories → (n : ℕ) → n < length p.groups
     → (standing (tree_of p) memories n).outcome ≡ Going
 is_going p memories h f n l = let next = some_at p.groups n l in (is_next p memories h f n next.0 next.1).outcome
 
-does_group : (p : Program) (memories : List (List ℕ)) → IsThin p → Fits p.table memories → (n : ℕ) (g : List Store) → slice_get p.groups n ≡ Some g
+does_group : (p : Program) (memories : List (List ℕ)) → IsGrouped p → Fits p.table memories → (n : ℕ) (g : List Store) → slice_get p.groups n ≡ Some g
     → GroupDone g (standing (tree_of p) memories n).memories (standing (tree_of p) memories (suc n)).memories
 does_group p memories h f n g e =
     let s : Standing = standing (tree_of p) memories n in
@@ -195,8 +177,8 @@ does_group p memories h f n g e =
     subst P (sym (step_is p.table s g (drop (suc n) p.groups) h.entries group (is_next p memories h f n g e)))
     (group_done s.memories g group.ports)
 
--- a thin program's run does its groups
-pub does_groups : (p : Program) → IsThin p → (m : List (List ℕ)) → Fits p.table m → DoesGroups p (run_of p m)
+-- a grouped program's run does its groups
+pub does_groups : (p : Program) → IsGrouped p → (m : List (List ℕ)) → Fits p.table m → DoesGroups p (run_of p m)
 does_groups p h m f = record {
   long = λ n. (is_at p m h f n).long;
   going = λ n l. is_going p m h f n l;

@@ -1,16 +1,16 @@
--- The checked run of a thin program, as its groups have it.
+-- The checked run of a grouped program, as its groups have it.
 use Rattle.std.specs.Prelude.{◌≡◌, ℕ, ◌<◌, ◌≤◌, suc, List, [], length, slice_get, slice_index_or, Some}
 use Rattle.dh_base.specs.declared.outcomes.Outcome.TheVariants.{Going, Ended}
 use Rattle.dh_tree.specs.declared.tables.MemEntry.{MemEntry}
-use Rattle.dh_tree.specs.declared.thin.Store.{Store}
-use Rattle.dh_tree.specs.declared.thin.Program.{Program}
+use Rattle.dh_compile.specs.declared.stores.Store.{Store}
+use Rattle.dh_compile.specs.declared.stores.Program.{Program}
 use Rattle.dh_tree.specs.Tables.{elements_of}
 use Rattle.dh_tree.specs.Steps.{standing, step_length}
-use Rattle.dh_tree.specs.ThinTree.{tree_of}
+use Rattle.dh_compile.specs.Grouped.{tree_of}
 use Rattle.dh_net.specs.Plays.{Run}
 use Rattle.dh_compile.specs.Timetable.{use_in, group_length, rows_after}
 
--- the checked run of a thin program from these memories
+-- the checked run of a grouped program from these memories
 abbrev pub run_of : Program → List (List ℕ) → Run
 run_of p memories = record {
   outcome = λ n. (standing (tree_of p) memories n).outcome;
