@@ -1,6 +1,8 @@
 pub mod Names
 pub mod Tables
 pub mod Tree
+pub mod Phases
+pub mod Meaning
 pub mod PlainTrees
 pub mod Seen
 pub mod Elements

@@ -87,6 +87,7 @@ pub record Formal : Type 0 where
   pub kind : Kind
 
 pub record Defined : Type 0 where
+  pub place : Place
   pub name : Ref
   pub parameters : List Formal
   pub body : Action

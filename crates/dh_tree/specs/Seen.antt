@@ -109,7 +109,7 @@ abbrev pub formal_seen : Parameter → Formal
 formal_seen p = record { name = p.name; shape = p.shape; shape_places = p.shape_places; kind = p.kind }
 
 abbrev pub defined_seen : Function → Defined
-defined_seen f = record { name = f.name; parameters = map formal_seen f.parameters.items; body = action_seen f.body }
+defined_seen f = record { place = f.place; name = f.name; parameters = map formal_seen f.parameters.items; body = action_seen f.body }
 
 abbrev pub program_seen : Tree → Program
 program_seen t = record { decls = map declared_seen t.decls.items; functions = map defined_seen t.functions.items; body = action_seen t.body; entities = t.entities.items }

@@ -1,7 +1,7 @@
 //! The trees of programs, as they are written.
 //!
 //! A number that a rule can name keeps its place in a field beside it, whose name is the number's
-//! and `_place`. The places of a shape's numbers stand beside the shape, so that two shapes are
+//! and `_place`. The places of a type's parts stand beside its shape, so that two shapes are
 //! equal whatever their places are.
 
 mod commands;

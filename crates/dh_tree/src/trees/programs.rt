@@ -5,20 +5,28 @@ use crate::trees::{Command, Ref};
 use dh_base::{Items, Place};
 use dh_value::Kind;
 
-/// The places of a shape's numbers.
+/// Where the parts of a type stand.
 #[derive(Debug, Drop)]
 pub struct ShapePlaces {
+    /// Where its kind begins.
+    pub kind_place: Place,
+    /// Where the `{` of its ports stands, where they are written.
+    pub braces_place: Option<Place>,
     /// Where the number of ports stands; the place of the type where it is not written.
     pub ports_place: Place,
     /// Those of the dimensions, in order.
     pub dims: Items<DimPlaces>,
 }
 
-/// The places of a dimension's numbers.
+/// Where the parts of a dimension stand.
 #[derive(Clone, Copy, Debug, PartialEq, Eq)]
 pub struct DimPlaces {
+    /// Where its `[` stands.
+    pub open_place: Place,
     /// Where the size stands.
     pub size_place: Place,
+    /// Where its word `bank` stands, where it is written.
+    pub word_place: Option<Place>,
     /// Where the number of banks stands; the place of the size where it is not written.
     pub banks_place: Place,
 }
@@ -50,6 +58,8 @@ pub struct Parameter {
 /// `def name(parameters) = body`
 #[derive(Debug, Drop)]
 pub struct Function {
+    /// Where its word `def` stands.
+    pub place: Place,
     /// The function.
     pub name: Ref,
     /// The parameters, in order.
