@@ -11,3 +11,8 @@ pub mod LongestToken
 pub mod Thin
 pub mod ThinTree
 pub mod ThinReading
+pub mod LeastBreach
+pub mod Scopes
+pub mod Breaches
+pub mod Resolved
+pub mod NameCounts
