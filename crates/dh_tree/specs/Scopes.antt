@@ -27,7 +27,7 @@ binding name entity = record { name = name; entity = entity }
 -- the number of what a name stands for, where it is visible
 abbrev pub entity_of : List Binding → List ℕ → Option ℕ
 entity_of [] name = None
-entity_of (b ∷ bs) name = if bytes_eq b.name name then Some b.entity else entity_of bs name
+entity_of (b ∷ bs) name = if bytes_eq name b.name then Some b.entity else entity_of bs name
 
 -- whether a name is visible
 abbrev pub is_visible : List Binding → List ℕ → Bool
