@@ -8,3 +8,8 @@ pub mod Seen
 pub mod Elements
 pub mod Effects
 pub mod Steps
+pub mod LeastBreach
+pub mod Scopes
+pub mod Breaches
+pub mod Resolved
+pub mod NameCounts

@@ -3,12 +3,14 @@
 //! Stands on `dh_value` and `dh_base`. docs/LANGUAGE.md tells the language.
 #![tactic(auto)]
 
+mod breaches;
 mod contents;
 mod laws;
 mod names;
 mod tables;
 mod trees;
 
+pub use breaches::{Breach, is_before, keep_least};
 pub use contents::Memories;
 pub use dh_value::Kind;
 pub use laws::lists_are_seen_in_order;

@@ -1,0 +1,4 @@
+pub mod Entered
+pub mod Keeping
+pub mod InPlace
+pub mod TermForms

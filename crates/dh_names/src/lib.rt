@@ -1,0 +1,7 @@
+//! The pass over names: it gives each name the number of what it stands for, and refuses a program
+//! that uses a name which is not visible, or declares one twice.
+//! Stands on `dh_tree`. docs/LANGUAGE.md tells which names are visible where.
+#![tactic(auto)]
+
+mod bindings;
+mod expressions;
