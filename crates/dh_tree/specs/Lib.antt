@@ -13,3 +13,4 @@ pub mod Scopes
 pub mod Breaches
 pub mod Resolved
 pub mod NameCounts
+pub mod Ranges

@@ -1,0 +1,7 @@
+//! Whether a text is an accepted program: the passes in order, and the first of them that refuses.
+//! Stands on the passes' crates.
+#![tactic(auto)]
+
+mod forms;
+
+pub use forms::first_unbuilt;
