@@ -10,3 +10,4 @@ pub mod Parsed
 pub mod ThinTexts
 pub mod SeenTerms
 pub mod SeenActions
+pub mod LargestSums

@@ -3,6 +3,8 @@ pub mod Tables
 pub mod Tree
 pub mod PlainTrees
 pub mod Seen
+pub mod Phases
+pub mod Meets
 pub mod Elements
 pub mod Effects
 pub mod Steps

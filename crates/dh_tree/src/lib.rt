@@ -5,6 +5,7 @@
 
 mod contents;
 mod laws;
+mod loads;
 mod names;
 mod tables;
 mod thin;
@@ -13,6 +14,7 @@ mod trees;
 pub use contents::Memories;
 pub use dh_value::Kind;
 pub use laws::lists_are_seen_in_order;
+pub use loads::loads_are_largest_sums;
 pub use tables::{Dim, MemEntry, MemTable, Name, Shape, copy_table, element_count, is_table};
 pub use thin::{Operand, Program, Store, Token, read_thin};
 pub use trees::{
