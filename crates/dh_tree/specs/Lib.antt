@@ -5,6 +5,7 @@ pub mod PlainTrees
 pub mod Seen
 pub mod Phases
 pub mod Meets
+pub mod Accesses
 pub mod Elements
 pub mod Effects
 pub mod Steps

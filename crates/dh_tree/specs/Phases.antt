@@ -2,6 +2,8 @@
 -- phases alone, of stores, and a list has at most one stepped part; commands of forms that are not
 -- built have no phase.
 use Rattle.std.specs.Prelude.{ℕ, ◌==◌, ◌&&◌, ◌||◌, Bool, true, false, List, [], ◌∷◌, ◌++◌}
+use Rattle.std.specs.List.{list_any}
+use Rattle.dh_base.specs.declared.places.Place.{Place}
 use Rattle.dh_tree.specs.PlainTrees.{Action, action, ActionForm, stores, blocks, Actions, no_actions, action_then, Groups, no_groups, group_then}
 
 -- straight commands that are done in one logical step
@@ -27,7 +29,7 @@ abbrev mutual
   pub phases : Action → List Phase
   phases (action id place form) = form_phases id place form
 
-  pub form_phases : ℕ → _ → ActionForm → List Phase
+  pub form_phases : ℕ → Place → ActionForm → List Phase
   form_phases id place (stores target value) = straight (action id place (stores target value) ∷ []) ∷ []
   form_phases id place (blocks body) = groups_phases body
   form_phases id place form = []
@@ -47,10 +49,11 @@ id_of (action id place form) = id
 
 -- whether a command of this number is in the list
 abbrev pub holds_id : ℕ → List Action → Bool
-holds_id id [] = false
-holds_id id (c ∷ cs) = (id_of c == id) || holds_id id cs
+holds_id id cs = list_any (λ c. id_of c == id) cs
 
--- whether the commands of two numbers stand in one Straight phase
+-- whether the commands of two numbers stand in one of these Straight phases
+abbrev pub holds_both : ℕ → ℕ → Phase → Bool
+holds_both a b (straight cs) = holds_id a cs && holds_id b cs
+
 abbrev pub in_one_straight : List Phase → ℕ → ℕ → Bool
-in_one_straight [] a b = false
-in_one_straight (straight cs ∷ rest) a b = (holds_id a cs && holds_id b cs) || in_one_straight rest a b
+in_one_straight steps a b = list_any (holds_both a b) steps
