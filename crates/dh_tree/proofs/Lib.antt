@@ -1,2 +1,3 @@
 pub mod SeenTerms
 pub mod SeenActions
+pub mod LargestSums

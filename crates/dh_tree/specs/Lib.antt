@@ -5,6 +5,9 @@ pub mod Phases
 pub mod Meaning
 pub mod PlainTrees
 pub mod Seen
+pub mod Phases
+pub mod Meets
+pub mod Accesses
 pub mod Elements
 pub mod Effects
 pub mod Steps

@@ -6,6 +6,7 @@
 mod breaches;
 mod contents;
 mod laws;
+mod loads;
 mod names;
 mod tables;
 mod trees;
@@ -14,6 +15,7 @@ pub use breaches::{Breach, is_before, keep_least};
 pub use contents::Memories;
 pub use dh_value::Kind;
 pub use laws::lists_are_seen_in_order;
+pub use loads::loads_are_largest_sums;
 pub use tables::{Dim, MemEntry, MemTable, Name, Shape, copy_table, element_count, is_table};
 pub use trees::{
     Command, CommandForm, Decl, DimPlaces, Entity, Expr, ExprForm, Function, Parameter, Ref,
