@@ -2,6 +2,8 @@
 //! Stands on the passes' crates.
 #![tactic(auto)]
 
+mod accepted;
 mod forms;
 
+pub use accepted::Accepted;
 pub use forms::first_unbuilt;

@@ -1,13 +1,12 @@
 pub mod Names
 pub mod Tables
 pub mod Tree
-pub mod Phases
-pub mod Meaning
 pub mod PlainTrees
 pub mod Seen
 pub mod Phases
 pub mod Meets
 pub mod Accesses
+pub mod Meaning
 pub mod Elements
 pub mod Effects
 pub mod Steps
@@ -17,3 +16,5 @@ pub mod Breaches
 pub mod Resolved
 pub mod NameCounts
 pub mod Ranges
+pub mod FirstForms
+pub mod Written

@@ -1,0 +1,37 @@
+-- What holds of the tree of any text, whatever rules it breaks: names are names, what a type does not
+-- write is 1, commands are numbered in text order, and there are not more names and accesses than a
+-- number of 32 bits counts.
+use Rattle.std.specs.Prelude.{◌≡◌, ℕ, ◌≤◌, ◌<◌, List, [], ◌∷◌, length, Option, Some, None}
+use Rattle.std.specs.List.{AllByRecursion}
+use Rattle.dh_base.specs.declared.places.Place.{Place}
+use Rattle.dh_tree.specs.declared.tables.Dim.{Dim}
+use Rattle.dh_tree.specs.declared.trees.programs.DimPlaces.{DimPlaces}
+use Rattle.dh_tree.specs.Names.{IsName}
+use Rattle.dh_tree.specs.PlainTrees.{Declared, Program}
+use Rattle.dh_tree.specs.FirstForms.{IsCounted}
+use Rattle.dh_tree.specs.NameCounts.{names_declared}
+use Rattle.dh_tree.specs.Accesses.{accesses}
+
+-- a number that is not written is 1
+abbrev pub IsOneUnless : Option Place → ℕ → Type 0
+IsOneUnless None n = n ≡ 1
+IsOneUnless (Some place) n = Unit {0}
+
+-- the places of dimensions stand beside them
+abbrev pub AreDims : List Dim → List DimPlaces → Type 0
+AreDims [] [] = Unit {0}
+AreDims (d ∷ ds) (p ∷ ps) = IsOneUnless p.word_place d.banks × AreDims ds ps
+AreDims _ _ = ⊥
+
+pub record IsDeclared (d : Declared) : Type 0 where
+  pub named : IsName d.name.name
+  pub ports : IsOneUnless d.shape_places.braces_place d.shape.ports
+  pub dims : AreDims d.shape.dims d.shape_places.dims
+
+-- the tree of a text of at most so many tokens
+pub record IsWritten (tokens : ℕ) (p : Program) : Type 0 where
+  pub decls : AllByRecursion IsDeclared p.decls
+  pub first_number : ℕ
+  pub counted : IsCounted first_number p.body
+  pub names : names_declared p ≤ tokens
+  pub accesses : length (accesses p.body) ≤ tokens
