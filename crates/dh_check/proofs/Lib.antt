@@ -1,1 +1,3 @@
 pub mod Leasts
+pub mod StepsHeld
+pub mod KeptForms

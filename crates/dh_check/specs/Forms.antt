@@ -179,8 +179,8 @@ abbrev mutual
   pub unbuilt_part : Bool → Actions → List Breach
   unbuilt_part stepped no_actions = []
   unbuilt_part stepped (action_then (action id place form) rest) =
-      (if stepped && form_holds form then unbuilt place else [])
-      ++ (unbuilt_form place form ++ unbuilt_part (stepped || form_holds form) rest)
+      unbuilt_form place form
+      ++ ((if stepped && form_holds form then unbuilt place else []) ++ unbuilt_part (stepped || form_holds form) rest)
 
 -- the forms of a program that are not built
 abbrev pub unbuilt_forms : Program → List Breach

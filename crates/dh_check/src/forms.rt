@@ -1,6 +1,6 @@
 //! Forms that are not built yet.
 
-ghost use Rattle.std.specs.Prelude.{◌≡◌, map, None, false};
+ghost use Rattle.std.specs.Prelude.{◌≡◌, map, None, false, if◌then◌else◌, []};
 ghost use Rattle.dh_tree.specs.LeastBreach.{least_of};
 ghost use Rattle.dh_tree.specs.Seen.{term_seen, form_seen, terms, action_seen, action_form_seen, declared_seen, defined_seen, program_seen, actions, groups, part_seen};
 ghost use Rattle.dh_check.specs.Forms as forms;
@@ -264,36 +264,34 @@ fn keep_whole(kept: &mut Option<Breach>, place: Place, form: &CommandForm) -> bo
     takes_steps(form)
 }
 
-/// The parts between `---`; whether one of them takes several steps.
+/// The parts between `---`; whether one of them takes several steps. In a list, a second command
+/// that does is not built.
 #[cycle(unbuilt)]
 #[tactic(auto, using(dh_tree::proofs::SeenActions::actions_are, crate::proofs::Leasts::least_append))]
 fn keep_groups(kept: &mut Option<Breach>, parts: &[Vec<Command>]) -> bool
     ensures kept { kept.new ≡ least_of kept.old (unbuilt_groups (groups (map part_seen parts.now))) }
     ensures steps { result ≡ groups_hold (groups (map part_seen parts.now)) }
 {
-    let mut stepped = false;
+    let mut holds = false;
     for part in parts {
-        stepped |= keep_part(kept, part.as_slice());
+        let mut stepped = false;
+        for command in part {
+            let steps = keep_command(kept, command);
+            keep_second(kept, stepped & steps, command.place);
+            stepped |= steps;
+        }
+        holds = holds || stepped;
     }
-    stepped
+    holds
 }
 
-/// A list of commands; whether one of them takes several steps. A second one of these is not built.
-#[cycle(unbuilt)]
-#[tactic(auto, using(dh_tree::proofs::SeenActions::actions_are, crate::proofs::Leasts::least_append))]
-fn keep_part(kept: &mut Option<Breach>, part: &[Command]) -> bool
-    ensures kept { kept.new ≡ least_of kept.old (unbuilt_part false (actions (map action_seen part.now))) }
-    ensures steps { result ≡ part_holds (actions (map action_seen part.now)) }
+/// That a command is a second one of its list which takes several steps.
+fn keep_second(kept: &mut Option<Breach>, is_second: bool, place: Place)
+    ensures { kept.new ≡ least_of kept.old (if is_second then unbuilt place else []) }
 {
-    let mut stepped = false;
-    for command in part {
-        let steps = keep_command(kept, command);
-        if stepped && steps {
-            keep_unbuilt(kept, command.place);
-        }
-        stepped |= steps;
+    if is_second {
+        keep_unbuilt(kept, place);
     }
-    stepped
 }
 
 /// The first form of a program that is not built, if there is one.
@@ -338,26 +336,15 @@ fn takes_steps(form: &CommandForm) -> bool
 }
 
 #[cycle(steps)]
-#[tactic(auto, using(dh_tree::proofs::SeenActions::actions_are, crate::proofs::Leasts::least_append))]
+#[tactic(auto, using(dh_tree::proofs::SeenActions::actions_are))]
 fn parts_take_steps(parts: &[Vec<Command>]) -> bool
     ensures { result ≡ groups_hold (groups (map part_seen parts.now)) }
 {
     for part in parts {
-        if part_takes_steps(part) {
-            return true;
-        }
-    }
-    false
-}
-
-#[cycle(steps)]
-#[tactic(auto, using(dh_tree::proofs::SeenActions::actions_are, crate::proofs::Leasts::least_append))]
-fn part_takes_steps(part: &Vec<Command>) -> bool
-    ensures { result ≡ part_holds (part_seen part.now) }
-{
-    for command in part {
-        if takes_steps(&command.form) {
-            return true;
+        for command in part {
+            if takes_steps(&command.form) {
+                return true;
+            }
         }
     }
     false
