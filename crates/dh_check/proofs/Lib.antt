@@ -1,3 +1,4 @@
 pub mod Leasts
 pub mod StepsHeld
 pub mod KeptForms
+pub mod KeptIndices

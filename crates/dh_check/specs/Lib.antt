@@ -1,2 +1,4 @@
 pub mod Forms
+pub mod Judges
+pub mod Elements
 pub mod Acceptance

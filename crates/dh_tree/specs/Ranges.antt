@@ -34,10 +34,6 @@ abbrev pub first_dim : List Dim → Option Dim
 first_dim [] = None
 first_dim (d ∷ ds) = Some d
 
-abbrev pub other_dims : List Dim → List Dim
-other_dims [] = []
-other_dims (d ∷ ds) = ds
-
 abbrev pub declared_dims : Option Declared → List Dim
 declared_dims None = []
 declared_dims (Some d) = d.shape.dims
@@ -47,23 +43,24 @@ abbrev pub dims_of : List Declared → Option ℕ → List Dim
 dims_of ds None = []
 dims_of ds (Some n) = declared_dims (slice_get ds n)
 
+abbrev pub index_judged : Judge → Option Dim → Place → TermForm → List Breach
+index_judged judge dim place (number negative n) = if negative then [] else judge place n dim
+index_judged judge dim place form = []
+
+-- the first index, since a memory has one dimension
+abbrev pub indices_judged : Judge → List Dim → Terms → List Breach
+indices_judged judge dims no_terms = []
+indices_judged judge dims (term_then (term place kind form) rest) = index_judged judge (first_dim dims) place form
+
 abbrev mutual
   -- the breaches of the indices in an expression
   pub term_judged : Judge → List Declared → Term → List Breach
   term_judged judge ds (term place kind form) = form_judged judge ds form
 
   pub form_judged : Judge → List Declared → TermForm → List Breach
-  form_judged judge ds (accessed r indices) = indices_judged judge ds (dims_of ds r.entity) indices
+  form_judged judge ds (accessed r indices) = indices_judged judge (dims_of ds r.entity) indices
   form_judged judge ds (applied op left right) = term_judged judge ds left ++ term_judged judge ds right
   form_judged judge ds form = []
-
-  pub indices_judged : Judge → List Declared → List Dim → Terms → List Breach
-  indices_judged judge ds dims no_terms = []
-  indices_judged judge ds dims (term_then t rest) = index_judged judge (first_dim dims) t ++ indices_judged judge ds (other_dims dims) rest
-
-  pub index_judged : Judge → Option Dim → Term → List Breach
-  index_judged judge dim (term place kind (number false n)) = judge place n dim
-  index_judged judge dim (term place kind form) = []
 
 abbrev mutual
   -- the breaches of the indices in a command
@@ -83,14 +80,14 @@ abbrev mutual
   part_judged judge ds no_actions = []
   part_judged judge ds (action_then a rest) = action_judged judge ds a ++ part_judged judge ds rest
 
--- a size is not 0
-abbrev pub sizes_judged : List Dim → List DimPlaces → List Breach
-sizes_judged (d ∷ ds) (p ∷ ps) = (if d.size == 0 then breach ConstantRange p.size_place ∷ [] else []) ++ sizes_judged ds ps
-sizes_judged _ _ = []
+-- the size is not 0
+abbrev pub size_judged : List Dim → List DimPlaces → List Breach
+size_judged (d ∷ ds) (p ∷ ps) = if d.size == 0 then breach ConstantRange p.size_place ∷ [] else []
+size_judged _ _ = []
 
 abbrev pub decls_judged : List Declared → List Breach
 decls_judged [] = []
-decls_judged (d ∷ ds) = sizes_judged d.shape.dims d.shape_places.dims ++ decls_judged ds
+decls_judged (d ∷ ds) = size_judged d.shape.dims d.shape_places.dims ++ decls_judged ds
 
 -- the numbers that are no values of their kinds
 abbrev pub kind_breaches : Program → List Breach
