@@ -1,3 +1,4 @@
 pub mod SeenTerms
 pub mod SeenActions
 pub mod LargestSums
+pub mod FirstBreaches
