@@ -11,3 +11,13 @@ pub mod AgainExpressions
 pub mod AgainSimple
 pub mod AgainCommands
 pub mod AgainPrograms
+pub mod Fronts
+pub mod GoesBasics
+pub mod GoesTypes
+pub mod GoesExpressions
+pub mod GoesSimple
+pub mod GoesPrograms
+pub mod AlikeBasics
+pub mod AlikeExpressions
+pub mod AlikePrograms
+pub mod PlacedTokens

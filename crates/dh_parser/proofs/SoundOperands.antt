@@ -22,14 +22,14 @@ use Rattle.dh_parser.proofs.SoundTypes.{kind_took}
 abbrev pub Sound : Reads → Type 0
 Sound rd = (k : ℕ) (ts : List Token) → Took (Fits k) spell ts (rd k ts)
 
-index_took : (rd : Reads) → Sound rd → (ts : List Token) → Took IndexFits spell_index ts (the_index rd ts)
+pub index_took : (rd : Reads) → Sound rd → (ts : List Token) → Took IndexFits spell_index ts (the_index rd ts)
 index_took rd h ts =
     next any (put_mark mark.OpenBracket) ts _ (the mark.OpenBracket ts) _ (mark_took mark.OpenBracket ts) λ opener r0 _ e0.
     next (Fits 0) spell r0 _ (rd 0 r0) _ (h 0 r0) λ x r1 f1 e1.
     next any (put_mark mark.CloseBracket) r1 _ (the mark.CloseBracket r1) _ (mark_took mark.CloseBracket r1) λ closer r2 _ e2.
     (f1, cc)
 
-indices_took : (rd : Reads) → Sound rd → (n : ℕ) (ts : List Token) → Took IndicesFit spell_indices ts (more_indices rd n ts)
+pub indices_took : (rd : Reads) → Sound rd → (n : ℕ) (ts : List Token) → Took IndicesFit spell_indices ts (more_indices rd n ts)
 indices_took rd h zero ts = tt
 indices_took rd h (suc n) ts =
     either _ (comes mark.OpenBracket ts) _ _

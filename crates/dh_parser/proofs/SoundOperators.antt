@@ -46,7 +46,7 @@ op_told kind.Minus o e = ap sign_of (op_inj op.Sub o e)
 op_told kind.Star o e = ap sign_of (op_inj op.Mul o e)
 op_told k o e = none_op k o e
 
-level_small : (o : Op) → level o ≤ 10
+pub level_small : (o : Op) → level o ≤ 10
 level_small op.Either = omega arith
 level_small op.Both = omega arith
 level_small op.Eq = omega arith
@@ -147,7 +147,7 @@ next_good P Q deep go p k = tt
 pub sound_of : (rd : Reads) → Tight rd → Sound rd
 sound_of rd h k ts = good_weak (Read k ts) (λ x rest. Fits k x × (ts ≡ spell x rest)) (rd k ts) (h k ts) (λ a r p. p.0)
 
-le-refl : (n : ℕ) → n ≤ n
+pub le-refl : (n : ℕ) → n ≤ n
 le-refl n = omega arith
 
 low : (k : ℕ) → k ≤ k + 10

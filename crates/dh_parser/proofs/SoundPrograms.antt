@@ -21,7 +21,7 @@ use Rattle.dh_parser.specs.Programs.{IsSound}
 use Rattle.dh_parser.proofs.SoundTypes.{TypeFits, kind_took, type_took}
 use Rattle.dh_parser.proofs.SoundSimple.{expression_took, simple_took}
 
-declared_took : (ts : List Token) → Took DeclaredFits spell_declared ts (the_declared ts)
+pub declared_took : (ts : List Token) → Took DeclaredFits spell_declared ts (the_declared ts)
 declared_took ts =
     either _ (comes mark.Colon ts) _ _
     (λ _.
@@ -30,7 +30,7 @@ declared_took ts =
     (f1, cc))
     (λ _. (tt, refl))
 
-unroll_took : (ts : List Token) → Took any spell_unroll ts (the_unroll ts)
+pub unroll_took : (ts : List Token) → Took any spell_unroll ts (the_unroll ts)
 unroll_took ts =
     either _ (comes mark.Unroll ts) _ _
     (λ _.
@@ -39,10 +39,10 @@ unroll_took ts =
     (tt, cc))
     (λ _. (tt, refl))
 
-abbrev HeadFits : HeadText → Type 0
+abbrev pub HeadFits : HeadText → Type 0
 HeadFits head = DeclaredFits head.declared
 
-head_took : (ts : List Token) → Took HeadFits spell_head ts (the_head ts)
+pub head_took : (ts : List Token) → Took HeadFits spell_head ts (the_head ts)
 head_took ts =
     next any (put_mark mark.For) ts _ (the mark.For ts) _ (mark_took mark.For ts) λ word r0 _ e0.
     next any (put_mark mark.OpenParen) r0 _ (the mark.OpenParen r0) _ (mark_took mark.OpenParen r0) λ opener r1 _ e1.
@@ -60,7 +60,7 @@ head_took ts =
 abbrev SoundBlocks : Blocks → Type 0
 SoundBlocks blocks = (ts : List Token) → Took BlockFits spell_block ts (blocks ts)
 
-if_took : (blocks : Blocks) → SoundBlocks blocks → (n : ℕ) (ts : List Token) → Took IfFits spell_if ts (the_if blocks n ts)
+pub if_took : (blocks : Blocks) → SoundBlocks blocks → (n : ℕ) (ts : List Token) → Took IfFits spell_if ts (the_if blocks n ts)
 if_took blocks h zero ts = tt
 if_took blocks h (suc n) ts =
     next any (put_mark mark.If) ts _ (the mark.If ts) _ (mark_took mark.If ts) λ word r0 _ e0.
@@ -85,7 +85,7 @@ while_took blocks h ts =
     next BlockFits spell_block r3 _ (blocks r3) _ (h r3) λ b r4 f4 e4.
     ((f2, f4), cc)
 
-combine_took : (blocks : Blocks) → SoundBlocks blocks → (ts : List Token) → Took CombineFits spell_combine ts (the_combine blocks ts)
+pub combine_took : (blocks : Blocks) → SoundBlocks blocks → (ts : List Token) → Took CombineFits spell_combine ts (the_combine blocks ts)
 combine_took blocks h ts =
     either _ (comes mark.Combine ts) _ _
     (λ _.
@@ -101,7 +101,7 @@ for_took blocks h ts =
     next CombineFits spell_combine r1 _ (the_combine blocks r1) _ (combine_took blocks h r1) λ combined r2 f2 e2.
     ((f0, (f1, f2)), cc)
 
-compound_took : (blocks : Blocks) → SoundBlocks blocks → (ts : List Token) → Took CompoundFits spell_compound ts (the_compound blocks ts)
+pub compound_took : (blocks : Blocks) → SoundBlocks blocks → (ts : List Token) → Took CompoundFits spell_compound ts (the_compound blocks ts)
 compound_took blocks h ts =
     either _ (comes mark.If ts) _ _
     (λ _. next IfFits spell_if ts _ (the_if blocks (steps ts) ts) _ (if_took blocks h (steps ts) ts) λ i r f e. (f, e))
@@ -131,11 +131,11 @@ part_with_took blocks h go g ts begins_semicolon =
     (f1, cc)
 part_with_took blocks h go g ts begins_nothing = (tt, refl)
 
-part_took : (blocks : Blocks) → SoundBlocks blocks → (n : ℕ) (ts : List Token) → Took PartFits spell_part ts (the_part blocks n ts)
+pub part_took : (blocks : Blocks) → SoundBlocks blocks → (n : ℕ) (ts : List Token) → Took PartFits spell_part ts (the_part blocks n ts)
 part_took blocks h zero ts = tt
 part_took blocks h (suc n) ts = part_with_took blocks h (the_part blocks n) (part_took blocks h n) ts (beginning ts)
 
-parts_took : (blocks : Blocks) → SoundBlocks blocks → (n : ℕ) (ts : List Token) → Took PartsFit spell_parts ts (the_parts blocks n ts)
+pub parts_took : (blocks : Blocks) → SoundBlocks blocks → (n : ℕ) (ts : List Token) → Took PartsFit spell_parts ts (the_parts blocks n ts)
 parts_took blocks h zero ts = tt
 parts_took blocks h (suc n) ts =
     next PartFits spell_part ts _ (the_part blocks (steps ts) ts) _ (part_took blocks h (steps ts) ts) λ p r f e.
@@ -146,7 +146,7 @@ parts_took blocks h (suc n) ts =
     ((f, f1), cc))
     (λ _. (f, e))
 
-blocks_took : (d : ℕ) → SoundBlocks (read_block d)
+pub blocks_took : (d : ℕ) → SoundBlocks (read_block d)
 blocks_took zero ts = tt
 blocks_took (suc d) ts =
     next any (put_mark mark.OpenBrace) ts _ (the mark.OpenBrace ts) _ (mark_took mark.OpenBrace ts) λ opener r0 _ e0.
@@ -154,20 +154,20 @@ blocks_took (suc d) ts =
     next any (put_mark mark.CloseBrace) r1 _ (the mark.CloseBrace r1) _ (mark_took mark.CloseBrace r1) λ closer r2 _ e2.
     (f1, cc)
 
-block_took : SoundBlocks the_block
+pub block_took : SoundBlocks the_block
 block_took ts = blocks_took (steps ts) ts
 
-abbrev ParameterFits : ParameterText → Type 0
+abbrev pub ParameterFits : ParameterText → Type 0
 ParameterFits p = KindFits p.written.kind
 
-parameter_took : (ts : List Token) → Took ParameterFits spell_parameter ts (the_parameter ts)
+pub parameter_took : (ts : List Token) → Took ParameterFits spell_parameter ts (the_parameter ts)
 parameter_took ts =
     next any put_name ts _ (the_name ts) _ (name_took ts) λ n r0 _ e0.
     next any (put_mark mark.Colon) r0 _ (the mark.Colon r0) _ (mark_took mark.Colon r0) λ colon r1 _ e1.
     next TypeFits spell_type r1 _ (the_type r1) _ (type_took r1) λ t r2 f2 e2.
     (f2, cc)
 
-more_parameters_took : (n : ℕ) (ts : List Token) → Took MoreParametersFit spell_more_parameters ts (more_parameters n ts)
+pub more_parameters_took : (n : ℕ) (ts : List Token) → Took MoreParametersFit spell_more_parameters ts (more_parameters n ts)
 more_parameters_took zero ts = tt
 more_parameters_took (suc n) ts =
     either _ (comes mark.Comma ts) _ _
@@ -180,7 +180,7 @@ more_parameters_took (suc n) ts =
     next any (put_mark mark.CloseParen) ts _ (the mark.CloseParen ts) _ (mark_took mark.CloseParen ts) λ closer r0 _ e0.
     (tt, cc))
 
-parameters_took : (ts : List Token) → Took ParametersFit spell_parameters ts (the_parameters ts)
+pub parameters_took : (ts : List Token) → Took ParametersFit spell_parameters ts (the_parameters ts)
 parameters_took ts =
     either _ (comes mark.CloseParen ts) _ _
     (λ _.
@@ -218,7 +218,7 @@ items_took_from go g kind.Decl t ts e = decl_took t.place go g ts
 items_took_from go g kind.Def t ts e = def_took t.place go g ts
 items_took_from go g k t ts e = (tt, ap (λ x. placed x t.place ∷ ts) (sym e))
 
-items_took : (n : ℕ) (ts : List Token) → Took ItemsFit spell_items ts (the_items n ts)
+pub items_took : (n : ℕ) (ts : List Token) → Took ItemsFit spell_items ts (the_items n ts)
 items_took zero ts = tt
 items_took (suc n) [] = (tt, refl)
 items_took (suc n) (t ∷ ts) = items_took_from (the_items n) (items_took n) t.kind t ts refl

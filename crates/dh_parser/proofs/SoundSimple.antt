@@ -26,7 +26,7 @@ read_took d = sound_of (read d) (read_tight d)
 pub expression_took : (ts : List Token) → Took (Fits 0) spell ts (the_expression ts)
 expression_took ts = read_took (steps ts) 0 ts
 
-more_arguments_took : (n : ℕ) (ts : List Token) → Took MoreArgumentsFit spell_more_arguments ts (more_arguments n ts)
+pub more_arguments_took : (n : ℕ) (ts : List Token) → Took MoreArgumentsFit spell_more_arguments ts (more_arguments n ts)
 more_arguments_took zero ts = tt
 more_arguments_took (suc n) ts =
     either _ (comes mark.Comma ts) _ _
@@ -39,7 +39,7 @@ more_arguments_took (suc n) ts =
     next any (put_mark mark.CloseParen) ts _ (the mark.CloseParen ts) _ (mark_took mark.CloseParen ts) λ closer r0 _ e0.
     (tt, cc))
 
-arguments_took : (ts : List Token) → Took ArgumentsFit spell_arguments ts (the_arguments ts)
+pub arguments_took : (ts : List Token) → Took ArgumentsFit spell_arguments ts (the_arguments ts)
 arguments_took ts =
     either _ (comes mark.CloseParen ts) _ _
     (λ _.
@@ -50,7 +50,7 @@ arguments_took ts =
     next MoreArgumentsFit spell_more_arguments r0 _ (more_arguments (steps r0) r0) _ (more_arguments_took (steps r0) r0) λ more r1 f1 e1.
     ((f0, f1), cc))
 
-factor_took : (ts : List Token) → Took any spell_factor ts (the_factor ts)
+pub factor_took : (ts : List Token) → Took any spell_factor ts (the_factor ts)
 factor_took ts =
     next any (put_mark mark.OpenBracket) ts _ (the mark.OpenBracket ts) _ (mark_took mark.OpenBracket ts) λ opener r0 _ e0.
     next any (put_mark mark.By) r0 _ (the mark.By r0) _ (mark_took mark.By r0) λ word r1 _ e1.
@@ -58,7 +58,7 @@ factor_took ts =
     next any (put_mark mark.CloseBracket) r2 _ (the mark.CloseBracket r2) _ (mark_took mark.CloseBracket r2) λ closer r3 _ e3.
     (tt, cc)
 
-suffix_took : (ts : List Token) → Took SuffixFits spell_suffix ts (the_suffix ts)
+pub suffix_took : (ts : List Token) → Took SuffixFits spell_suffix ts (the_suffix ts)
 suffix_took ts =
     next any (put_mark mark.OpenBracket) ts _ (the mark.OpenBracket ts) _ (mark_took mark.OpenBracket ts) λ opener r0 _ e0.
     next any (put_mark mark.By) r0 _ (the mark.By r0) _ (mark_took mark.By r0) λ word r1 _ e1.
@@ -68,7 +68,7 @@ suffix_took ts =
     next any (put_mark mark.CloseBracket) r4 _ (the mark.CloseBracket r4) _ (mark_took mark.CloseBracket r4) λ closer r5 _ e5.
     (f4, cc)
 
-offset_took : (ts : List Token) → Took OffsetFits spell_offset ts (the_offset ts)
+pub offset_took : (ts : List Token) → Took OffsetFits spell_offset ts (the_offset ts)
 offset_took ts =
     next any (put_mark mark.OpenBracket) ts _ (the mark.OpenBracket ts) _ (mark_took mark.OpenBracket ts) λ opener r0 _ e0.
     next any (put_mark mark.By) r0 _ (the mark.By r0) _ (mark_took mark.By r0) λ word r1 _ e1.
@@ -76,7 +76,7 @@ offset_took ts =
     next any (put_mark mark.CloseBracket) r2 _ (the mark.CloseBracket r2) _ (mark_took mark.CloseBracket r2) λ closer r3 _ e3.
     (f2, cc)
 
-more_took : {A : Type 0} (F : A → Type 0) (s : A → List Token → List Token) (one : List Token → Outcome A) → ((ts : List Token) → Took F s ts (one ts))
+pub more_took : {A : Type 0} (F : A → Type 0) (s : A → List Token → List Token) (one : List Token → Outcome A) → ((ts : List Token) → Took F s ts (one ts))
     → (n : ℕ) (ts : List Token) → Took (AllFit F) (spell_all s) ts (more_of one n ts)
 more_took F s one h zero ts = tt
 more_took F s one h (suc n) ts =
@@ -109,11 +109,11 @@ view_took_from kind.Suffix t ts = brackets_took SuffixFits spell_suffix the_suff
 view_took_from kind.Shift t ts = brackets_took OffsetFits spell_offset the_offset offset_took (shift t.place) ViewFits (λ l. put kind.Shift t.place l) spell_view (λ n a l f g. (f, g)) (λ n a l x. refl) ts
 view_took_from _ t ts = tt
 
-view_took : (ts : List Token) → Took ViewFits spell_view ts (the_view ts)
+pub view_took : (ts : List Token) → Took ViewFits spell_view ts (the_view ts)
 view_took [] = tt
 view_took (t ∷ ts) = view_took_from t.kind t ts
 
-value_took : (ts : List Token) → Took ValueFits spell_value ts (the_value ts)
+pub value_took : (ts : List Token) → Took ValueFits spell_value ts (the_value ts)
 value_took ts =
     either _ (comes mark.Assign ts) _ _
     (λ _.

@@ -32,7 +32,7 @@ width_took_from (kind.Number n) t ts e =
     (λ w. (within n w, ap (λ k. placed k t.place ∷ ts) e)) (λ _. tt)
 width_took_from _ t ts e = tt
 
-width_took : (ts : List Token) → Took IsWidth put_number ts (the_width ts)
+pub width_took : (ts : List Token) → Took IsWidth put_number ts (the_width ts)
 width_took [] = tt
 width_took (t ∷ ts) = width_took_from t.kind t ts refl
 
@@ -54,7 +54,7 @@ pub kind_took : (ts : List Token) → Took KindFits spell_kind ts (the_kind ts)
 kind_took [] = tt
 kind_took (t ∷ ts) = kind_took_from t.kind t ts refl
 
-ports_took : (ts : List Token) → Took any spell_ports ts (the_ports ts)
+pub ports_took : (ts : List Token) → Took any spell_ports ts (the_ports ts)
 ports_took ts =
     either _ (comes mark.OpenBrace ts) _ _
     (λ _.
@@ -64,7 +64,7 @@ ports_took ts =
     (tt, cc))
     (λ _. (tt, refl))
 
-banks_took : (ts : List Token) → Took any spell_banks ts (the_banks ts)
+pub banks_took : (ts : List Token) → Took any spell_banks ts (the_banks ts)
 banks_took ts =
     either _ (comes mark.Bank ts) _ _
     (λ _.
@@ -73,7 +73,7 @@ banks_took ts =
     (tt, cc))
     (λ _. (tt, refl))
 
-dims_took : (n : ℕ) (ts : List Token) → Took any spell_dims ts (the_dims n ts)
+pub dims_took : (n : ℕ) (ts : List Token) → Took any spell_dims ts (the_dims n ts)
 dims_took zero ts = tt
 dims_took (suc n) ts =
     either _ (comes mark.OpenBracket ts) _ _

@@ -40,3 +40,10 @@ abbrev pub IsSound : List Token → Outcome ProgramText → Type 0
 IsSound tokens (good p rest) = ProgramFits p × (tokens ≡ spell_program p rest)
 IsSound tokens (bad rest) = Unit {0}
 IsSound tokens deep = Unit {0}
+
+-- what reading a list of tokens that ends with `End` comes to: all of it, or a token that is out of place
+abbrev pub IsPlaced : List Token → Outcome ProgramText → Type 0
+IsPlaced tokens (good p rest) = rest ≡ []
+IsPlaced tokens (bad []) = ⊥
+IsPlaced tokens (bad (t ∷ after)) = (before : List Token) × OutOfPlace tokens before t after
+IsPlaced tokens deep = ⊥

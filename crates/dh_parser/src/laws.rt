@@ -1,9 +1,10 @@
 //! What holds of all lists of tokens, stated on functions that do nothing.
 
 ghost use Rattle.std.specs.Prelude.{◌≡◌, [], List};
+ghost use Rattle.dh_lexer.specs.LexedText.{AreEnded};
 ghost use Rattle.dh_lexer.specs.declared.tokens.Token.{Token};
 ghost use Rattle.dh_tree.specs.PlainTrees.{Program};
-ghost use Rattle.dh_parser.specs.Programs.{IsSound, IsAnswered, Spells};
+ghost use Rattle.dh_parser.specs.Programs.{IsSound, IsAnswered, IsPlaced, Spells};
 ghost use Rattle.dh_parser.specs.Allowed.{ProgramFits};
 ghost use Rattle.dh_parser.specs.Grammar.{ProgramText};
 ghost use Rattle.dh_parser.specs.Reading.{good, the_program};
@@ -24,4 +25,10 @@ pub fn reading_is_answered()
 pub fn programs_are_read_again()
     ensures again { (p : ProgramText) → ProgramFits p → the_program (spell_program p []) ≡ good p [] }
     ensures one { (t u : Program) (tokens : List Token) → Spells t tokens → Spells u tokens → t ≡ u }
+{}
+
+/// Where the reader of programs stops, no program goes on: some program begins with the tokens
+/// before, and none with them and the token at which it stops. If it does not stop, it reads all.
+pub fn refused_tokens_are_out_of_place()
+    ensures { (tokens : List Token) → AreEnded tokens → IsPlaced tokens (the_program tokens) }
 {}
