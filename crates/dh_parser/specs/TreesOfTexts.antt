@@ -47,8 +47,13 @@ banks_of size (some_banks word banks) = placed_of banks
 abbrev pub dim_at : ℕ → Placed → Dim
 dim_at size banks = record { size = size; banks = banks.value }
 
-abbrev pub dim_places : Place → Placed → DimPlaces
-dim_places size banks = record { size_place = size; banks_place = banks.place }
+-- where the word stands
+abbrev pub word_of : BanksText → Option Place
+word_of no_banks = None
+word_of (some_banks word banks) = Some word
+
+abbrev pub dim_places : Place → Place → BanksText → DimPlaces
+dim_places opener size banks = record { open_place = opener; size_place = size; word_place = word_of banks; banks_place = (banks_of size banks).place }
 
 abbrev pub dims_of : DimsText → List Dim
 dims_of no_dims = []
@@ -56,13 +61,18 @@ dims_of (dim_then opener size banks closer more) = dim_at size.value (banks_of s
 
 abbrev pub places_of : DimsText → List DimPlaces
 places_of no_dims = []
-places_of (dim_then opener size banks closer more) = dim_places size.place (banks_of size.place banks) ∷ places_of more
+places_of (dim_then opener size banks closer more) = dim_places opener size.place banks ∷ places_of more
 
 abbrev pub shape_of : TypeText → Shape
 shape_of t = record { kind = kind_of t.kind; ports = (ports_of (kind_place t.kind) t.ports).value; dims = dims_of t.dims }
 
+-- where the braces begin
+abbrev pub braces_of : PortsText → Option Place
+braces_of no_ports = None
+braces_of (some_ports opener ports closer) = Some opener
+
 abbrev pub shape_places_of : TypeText → ShapePlaces
-shape_places_of t = record { ports_place = (ports_of (kind_place t.kind) t.ports).place; dims = places_of t.dims }
+shape_places_of t = record { kind_place = kind_place t.kind; braces_place = braces_of t.ports; ports_place = (ports_of (kind_place t.kind) t.ports).place; dims = places_of t.dims }
 
 -- whether a type is that of a memory: it has ports or dimensions
 abbrev pub is_memory_type : PortsText → DimsText → Bool
@@ -269,8 +279,8 @@ formals_of (some_parameters p more) = formal_of p ∷ more_formals more
 abbrev pub declared_at : NameText → TypeText → Declared
 declared_at n t = record { name = ref_of n; shape = shape_of t; shape_places = shape_places_of t }
 
-abbrev pub defined_at : ℕ → NameText → ParametersText → BlockText → Defined
-defined_at id n ps b = record { name = ref_of n; parameters = formals_of ps; body = block_of id b }
+abbrev pub defined_at : ℕ → Place → NameText → ParametersText → BlockText → Defined
+defined_at id word n ps b = record { place = word; name = ref_of n; parameters = formals_of ps; body = block_of id b }
 
 abbrev pub decls_of : ItemsText → List Declared
 decls_of no_items = []
@@ -280,7 +290,7 @@ decls_of (def_then word n opener ps equal b more) = decls_of more
 abbrev pub functions_of : ℕ → ItemsText → List Defined
 functions_of id no_items = []
 functions_of id (decl_then word n colon t semicolon more) = functions_of id more
-functions_of id (def_then word n opener ps equal b more) = defined_at id n ps b ∷ functions_of (id + count_block b) more
+functions_of id (def_then word n opener ps equal b more) = defined_at id word n ps b ∷ functions_of (id + count_block b) more
 
 abbrev pub count_items : ItemsText → ℕ
 count_items no_items = 0
