@@ -10,7 +10,7 @@ use Rattle.dh_tree.specs.declared.trees.commands.Command.{Command}
 use Rattle.dh_tree.specs.LeastBreach.{least_of}
 use Rattle.dh_tree.specs.PlainTrees.{Actions}
 use Rattle.dh_tree.specs.Seen.{action_seen, action_form_seen, actions, groups, part_seen}
-use Rattle.dh_check.specs.Forms.{unbuilt, unbuilt_form, unbuilt_part, unbuilt_groups, form_holds, part_holds, groups_hold}
+use Rattle.dh_tree.specs.Forms.{unbuilt, unbuilt_form, unbuilt_part, unbuilt_groups, form_holds, part_holds, groups_hold}
 use Rattle.dh_check.proofs.Leasts.{least_append, at_item}
 use Rattle.dh_check.proofs.StepsHeld.{all_hold}
 

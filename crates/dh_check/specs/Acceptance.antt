@@ -8,7 +8,7 @@ use Rattle.dh_tree.specs.Tables.{elements_in, most_elements}
 use Rattle.dh_tree.specs.Accesses.{KeepsPorts}
 use Rattle.dh_tree.specs.Meaning.{table_of}
 use Rattle.dh_tree.specs.Written.{IsWritten}
-use Rattle.dh_check.specs.Forms.{unbuilt_forms}
+use Rattle.dh_tree.specs.Forms.{unbuilt_forms}
 
 -- the most tokens of a text within the limit on its bytes
 abbrev pub most_tokens : ℕ

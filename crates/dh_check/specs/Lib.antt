@@ -1,4 +1,3 @@
-pub mod Forms
 pub mod Judges
 pub mod Elements
 pub mod Acceptance

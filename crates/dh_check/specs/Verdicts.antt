@@ -22,7 +22,7 @@ use Rattle.dh_tree.specs.Accesses.{KeepsPorts}
 use Rattle.dh_tree.specs.Meaning.{table_of}
 use Rattle.dh_tree.specs.Seen.{program_seen}
 use Rattle.dh_check.specs.Elements.{excess_at, excess_of}
-use Rattle.dh_check.specs.Forms.{unbuilt_forms}
+use Rattle.dh_tree.specs.Forms.{unbuilt_forms}
 use Rattle.dh_check.specs.declared.accepted.Accepted.{Accepted}
 use Rattle.dh_check.specs.declared.checking.CheckFault.{CheckFault}
 use Rattle.dh_check.specs.declared.checking.CheckFault.TheVariants as fault

@@ -3,8 +3,8 @@
 ghost use Rattle.std.specs.Prelude.{◌≡◌, map, None, false, if◌then◌else◌, []};
 ghost use Rattle.dh_tree.specs.LeastBreach.{least_of};
 ghost use Rattle.dh_tree.specs.Seen.{term_seen, form_seen, terms, action_seen, action_form_seen, declared_seen, defined_seen, program_seen, actions, groups, part_seen};
-ghost use Rattle.dh_check.specs.Forms as forms;
-ghost use Rattle.dh_check.specs.Forms.{unbuilt, unbuilt_where, further_dims, unbuilt_dims, unbuilt_decl, unbuilt_decls, unbuilt_functions, further_indices, unbuilt_index, unbuilt_indices, unbuilt_access, unbuilt_sum, unbuilt_value, unbuilt_action, unbuilt_part, unbuilt_groups, unbuilt_forms, holds_steps, form_holds, part_holds, groups_hold};
+ghost use Rattle.dh_tree.specs.Forms as forms;
+ghost use Rattle.dh_tree.specs.Forms.{unbuilt, unbuilt_where, further_dims, unbuilt_dims, unbuilt_decl, unbuilt_decls, unbuilt_functions, further_indices, unbuilt_index, unbuilt_indices, unbuilt_access, unbuilt_sum, unbuilt_value, unbuilt_action, unbuilt_part, unbuilt_groups, unbuilt_forms, holds_steps, form_holds, part_holds, groups_hold};
 
 use dh_base::{Place, Rule};
 use dh_tree::{

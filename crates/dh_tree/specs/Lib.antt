@@ -16,5 +16,6 @@ pub mod Breaches
 pub mod Resolved
 pub mod NameCounts
 pub mod Ranges
+pub mod Forms
 pub mod FirstForms
 pub mod Written

@@ -1,6 +1,6 @@
 use Rattle.std.proofs.Common.{refl, ◌∙◌}
 use Rattle.dh_tree.specs.Seen.{declared_seen}
-use Rattle.dh_check.specs.Forms.{unbuilt_decl, unbuilt_decls}
+use Rattle.dh_tree.specs.Forms.{unbuilt_decl, unbuilt_decls}
 use Rattle.dh_check.proofs.Leasts.{keep_turn}
 use Rattle.dh_check.proofs.forms.keep_decls.Goals as goal
 
