@@ -21,3 +21,4 @@ pub mod AlikeBasics
 pub mod AlikeExpressions
 pub mod AlikePrograms
 pub mod PlacedTokens
+pub mod WrittenTexts

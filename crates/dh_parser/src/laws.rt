@@ -1,10 +1,12 @@
 //! What holds of all lists of tokens, stated on functions that do nothing.
 
-ghost use Rattle.std.specs.Prelude.{◌≡◌, [], List};
+ghost use Rattle.std.specs.Prelude.{◌≡◌, [], List, length};
 ghost use Rattle.dh_lexer.specs.LexedText.{AreEnded};
 ghost use Rattle.dh_lexer.specs.declared.tokens.Token.{Token};
 ghost use Rattle.dh_tree.specs.PlainTrees.{Program};
 ghost use Rattle.dh_parser.specs.Programs.{IsSound, IsAnswered, IsPlaced, Spells};
+ghost use Rattle.dh_tree.specs.Forms.{unbuilt_forms};
+ghost use Rattle.dh_tree.specs.Written.{IsWritten};
 ghost use Rattle.dh_parser.specs.Allowed.{ProgramFits};
 ghost use Rattle.dh_parser.specs.Grammar.{ProgramText};
 ghost use Rattle.dh_parser.specs.Reading.{good, the_program};
@@ -31,4 +33,10 @@ pub fn programs_are_read_again()
 /// before, and none with them and the token at which it stops. If it does not stop, it reads all.
 pub fn refused_tokens_are_out_of_place()
     ensures { (tokens : List Token) → AreEnded tokens → IsPlaced tokens (the_program tokens) }
+{}
+
+/// What holds of the tree of any text of the built forms: names are names, what a type does not write is
+/// 1, commands are numbered in text order, and there are no more names and accesses than tokens.
+pub fn built_trees_are_written()
+    ensures { (p : Program) (tokens : List Token) → Spells p tokens → AreEnded tokens → unbuilt_forms p ≡ [] → IsWritten (length tokens) p }
 {}

@@ -80,6 +80,7 @@ fn read_function(reader: &mut Reader<'_>) -> Result<Function, Stop> {
     reader.skip(Mark::Assign)?;
     let body = read_block(reader)?;
     Ok(Function {
+        place: name.place,
         name,
         parameters,
         body,

@@ -111,6 +111,8 @@ pub(crate) fn read_type(reader: &mut Reader<'_>) -> Result<WrittenType, Stop> {
     Ok(WrittenType {
         shape: Shape { kind, ports, dims },
         places: ShapePlaces {
+            kind_place: place,
+            braces_place: None,
             ports_place,
             dims: places,
         },
@@ -149,6 +151,8 @@ fn read_dim(reader: &mut Reader<'_>) -> Result<WrittenDim, Stop> {
             banks: banks.value,
         },
         places: DimPlaces {
+            open_place: size.place,
+            word_place: None,
             size_place: size.place,
             banks_place: banks.place,
         },
