@@ -2,3 +2,4 @@ pub mod SeenTerms
 pub mod SeenActions
 pub mod LargestSums
 pub mod FirstBreaches
+pub mod ResolvedForms

@@ -1,6 +1,6 @@
 //! What holds of all trees, stated on functions that do nothing.
 
-ghost use Rattle.std.specs.Prelude.{◌≡◌, List, [], map, Vec, Some, None};
+ghost use Rattle.std.specs.Prelude.{◌≡◌, ℕ, List, [], map, Vec, Some, None};
 ghost use Rattle.std.specs.Global.{Global};
 ghost use Rattle.dh_tree.specs.declared.trees.expressions.Ref.{Ref};
 ghost use Rattle.dh_tree.specs.declared.trees.expressions.Expr.{Expr};
@@ -9,7 +9,10 @@ ghost use Rattle.dh_tree.specs.declared.trees.commands.Command.{Command};
 ghost use Rattle.dh_tree.specs.declared.trees.commands.CommandForm.TheVariants.{Block};
 ghost use Rattle.dh_tree.specs.declared.breaches.Breach.{Breach};
 ghost use Rattle.dh_tree.specs.LeastBreach.{IsLeast, least_of};
-ghost use Rattle.dh_tree.specs.PlainTrees.{accessed, blocks};
+ghost use Rattle.dh_tree.specs.Forms.{unbuilt_forms};
+ghost use Rattle.dh_tree.specs.PlainTrees.{Program, accessed, blocks};
+ghost use Rattle.dh_tree.specs.Resolved.{resolved};
+ghost use Rattle.dh_tree.specs.Written.{IsWritten};
 ghost use Rattle.dh_tree.specs.Seen.{term_seen, form_seen, terms, action_seen, action_form_seen, part_seen, groups};
 
 /// The plain tree of an access has the plain trees of its indices in order, and that of a block those
@@ -24,4 +27,11 @@ pub fn lists_are_seen_in_order()
 pub fn kept_is_least()
     ensures none { (breaches : List Breach) → least_of None breaches ≡ None → breaches ≡ [] }
     ensures least { (breaches : List Breach) (one : Breach) → least_of None breaches ≡ Some one → IsLeast breaches one }
+{}
+
+/// Resolving names changes entities alone: the same forms are not built, and the tree is written as it
+/// was.
+pub fn resolving_keeps_forms()
+    ensures forms { (p : Program) → unbuilt_forms (resolved p) ≡ unbuilt_forms p }
+    ensures written { (tokens : ℕ) (p : Program) → IsWritten tokens p → IsWritten tokens (resolved p) }
 {}
