@@ -1,8 +1,11 @@
 -- The breach that is kept while breaches are gone through is the least of them. Breaches are ordered by
 -- line, then column, then rule; so what precedes one that does not follow another precedes that one.
-use Rattle.std.proofs.Common.{◌≡◌, ℕ, zero, suc, ◌<◌, ◌≤◌, ◌⊎◌, inl, inr, ◌||◌, ◌&&◌, ◌==◌, nat_lt, Bool, true, false, if◌then◌else◌, List, [], ◌∷◌, length, Option, Some, None, refl, sym, ap, ◌∙◌, subst, arith}
+use Rattle.std.proofs.Common.{◌≡◌, ℕ, zero, suc, ◌<◌, ◌≤◌, ◌⊎◌, inl, inr, ◌||◌, ◌&&◌, ◌==◌, nat_lt, Bool, true, false, if◌then◌else◌, List, [], ◌∷◌, length, get_or, Option, Some, None, refl, sym, ap, ◌∙◌, subst, arith}
 use Rattle.std.specs.Prelude.{Contains}
+use Rattle.std.proofs.lemmas.Bool.{cases_lt}
 use Rattle.std.proofs.lemmas.Bool.Decides.{nat_tests}
+use Rattle.dh_base.specs.declared.rules.Rule.{Rule}
+use Rattle.dh_base.specs.declared.rules.Rule.TheVariants.{Lex, Syntax, Unsupported, UnknownName, NameTwice, TypeMismatch, WidthLost, BankDivides, UnrollDivides, BankUnroll, DynamicBank, ConstantRange, ViewFactor, MemoryPlace, OuterWrite, DivergentSteps, Reducer, CallShape, PortsSpent, ReadAfterWrite}
 use Rattle.dh_base.specs.Rules.{number_of}
 use Rattle.dh_tree.specs.declared.breaches.Breach.{Breach}
 use Rattle.dh_tree.specs.LeastBreach.{Precedes, precedes, IsLeast, lesser, least_of}
@@ -118,3 +121,52 @@ least_is_kept (b ∷ bs) r e =
         | inr later ↦ f.least o later (comes_first o r h)
       ];
     }
+
+-- a rule is told by its number
+abbrev rule_at : ℕ → Rule
+rule_at n = get_or (Lex ∷ (Lex ∷ (Syntax ∷ (Unsupported ∷ (UnknownName ∷ (NameTwice ∷ (TypeMismatch ∷ (WidthLost ∷ (BankDivides ∷ (UnrollDivides ∷ (BankUnroll ∷ (DynamicBank ∷ (ConstantRange ∷ (ViewFactor ∷ (MemoryPlace ∷ (OuterWrite ∷ (DivergentSteps ∷ (Reducer ∷ (CallShape ∷ (PortsSpent ∷ (ReadAfterWrite ∷ []))))))))))))))))))))) n Lex
+
+told : (r : Rule) → rule_at (number_of r) ≡ r
+told Lex = refl
+told Syntax = refl
+told Unsupported = refl
+told UnknownName = refl
+told NameTwice = refl
+told TypeMismatch = refl
+told WidthLost = refl
+told BankDivides = refl
+told UnrollDivides = refl
+told BankUnroll = refl
+told DynamicBank = refl
+told ConstantRange = refl
+told ViewFactor = refl
+told MemoryPlace = refl
+told OuterWrite = refl
+told DivergentSteps = refl
+told Reducer = refl
+told CallShape = refl
+told PortsSpent = refl
+told ReadAfterWrite = refl
+
+one_rule : (r q : Rule) → number_of r ≡ number_of q → r ≡ q
+one_rule r q e = sym (told r) ∙ (ap rule_at e ∙ told q)
+
+not_less : (m n : ℕ) → (m < n → ⊥) → (n < m → ⊥) → m ≡ n
+not_less m n h k = elim (cases_lt m n) [ inl l ↦ absurd (h l) | inr g ↦ elim (cases_lt n m) [ inl l ↦ absurd (k l) | inr f ↦ omega arith ] ]
+
+abbrev breach_of : Rule → ℕ → ℕ → Breach
+breach_of r line column = record { rule = r; place = record { line = line; column = column } }
+
+-- two least breaches are one
+pub least_is_one : (bs : List Breach) (a b : Breach) → IsLeast bs a → IsLeast bs b → a ≡ b
+least_is_one bs a b h k =
+    let line = not_less a.place.line b.place.line (λ l. k.least a h.among (inl l)) (λ l. h.least b k.among (inl l)) in
+    let column = not_less a.place.column b.place.column (λ l. k.least a h.among (inr (line, inl l))) (λ l. h.least b k.among (inr (sym line, inl l))) in
+    let number = not_less (number_of a.rule) (number_of b.rule) (λ l. k.least a h.among (inr (line, inr (column, l)))) (λ l. h.least b k.among (inr (sym line, inr (sym column, l)))) in
+    ap (λ r. breach_of r a.place.line a.place.column) (one_rule a.rule b.rule number)
+    ∙ (ap (λ l. breach_of b.rule l a.place.column) line
+    ∙ ap (λ c. breach_of b.rule b.place.line c) column)
+
+pub least_not_none : (bs : List Breach) (a : Breach) → IsLeast bs a → bs ≡ [] → ⊥
+least_not_none [] a h e = let l : h.among.0 < 0 = h.among.1 in omega arith
+least_not_none (b ∷ bs) a h e = cc

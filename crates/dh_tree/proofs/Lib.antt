@@ -3,3 +3,4 @@ pub mod SeenActions
 pub mod LargestSums
 pub mod FirstBreaches
 pub mod ResolvedForms
+pub mod SpentOnce

@@ -23,10 +23,11 @@ pub fn lists_are_seen_in_order()
 {}
 
 /// Of breaches that are gone through, the one that is kept is the least; none is kept where there is
-/// none.
+/// none. One is the least.
 pub fn kept_is_least()
     ensures none { (breaches : List Breach) → least_of None breaches ≡ None → breaches ≡ [] }
     ensures least { (breaches : List Breach) (one : Breach) → least_of None breaches ≡ Some one → IsLeast breaches one }
+    ensures one { (breaches : List Breach) (one other : Breach) → IsLeast breaches one → IsLeast breaches other → one ≡ other }
 {}
 
 /// Resolving names changes entities alone: the same forms are not built, and the tree is written as it
