@@ -22,3 +22,4 @@ pub mod AlikeExpressions
 pub mod AlikePrograms
 pub mod PlacedTokens
 pub mod WrittenTexts
+pub mod OnePlace

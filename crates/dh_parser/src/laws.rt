@@ -4,7 +4,7 @@ ghost use Rattle.std.specs.Prelude.{◌≡◌, [], List, length};
 ghost use Rattle.dh_lexer.specs.LexedText.{AreEnded};
 ghost use Rattle.dh_lexer.specs.declared.tokens.Token.{Token};
 ghost use Rattle.dh_tree.specs.PlainTrees.{Program};
-ghost use Rattle.dh_parser.specs.Programs.{IsSound, IsAnswered, IsPlaced, Spells};
+ghost use Rattle.dh_parser.specs.Programs.{IsSound, IsAnswered, IsPlaced, OutOfPlace, Spells};
 ghost use Rattle.dh_tree.specs.Forms.{unbuilt_forms};
 ghost use Rattle.dh_tree.specs.Written.{IsWritten};
 ghost use Rattle.dh_parser.specs.Allowed.{ProgramFits};
@@ -39,4 +39,10 @@ pub fn refused_tokens_are_out_of_place()
 /// 1, commands are numbered in text order, and there are no more names and accesses than tokens.
 pub fn built_trees_are_written()
     ensures { (p : Program) (tokens : List Token) → Spells p tokens → AreEnded tokens → unbuilt_forms p ≡ [] → IsWritten (length tokens) p }
+{}
+
+/// A list of tokens has one token out of place at most, and none where a tree spells it.
+pub fn one_token_is_out_of_place()
+    ensures one { (tokens b c : List Token) (t u : Token) (a d : List Token) → OutOfPlace tokens b t a → OutOfPlace tokens c u d → (b ≡ c) × (t ≡ u) }
+    ensures spelled { (p : Program) (tokens b : List Token) (t : Token) (a : List Token) → Spells p tokens → OutOfPlace tokens b t a → ⊥ }
 {}
