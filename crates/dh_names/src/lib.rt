@@ -4,4 +4,8 @@
 #![tactic(auto)]
 
 mod bindings;
+mod commands;
 mod expressions;
+mod scopes;
+mod views;
+mod walks;
