@@ -1,10 +1,10 @@
 //! The names within commands.
 
-ghost use Rattle.std.specs.Prelude.{◌≡◌, ◌≤◌, OnOk, IfOk, option_map, map, take, length};
-ghost use Rattle.dh_tree.specs.PlainTrees.{lets, lets_memory, views, assigns, stores, reduces, calls};
-ghost use Rattle.dh_tree.specs.Seen.{term_seen, plan_seen, action_seen, action_form_seen, part_seen, groups};
-ghost use Rattle.dh_tree.specs.NameCounts.{declared_in, declared_in_form, declared_in_actions, declared_in_groups};
-ghost use Rattle.dh_names.specs.Walks.{Room, Resolves, ResolvesForm, ResolvesInner, ResolvesNext, ResolvesActions, ResolvesGroups};
+ghost use Rattle.std.specs.Prelude.{◌≡◌, OnOk, IfOk, option_map, map};
+ghost use Rattle.dh_tree.specs.PlainTrees.{lets, lets_memory, views};
+ghost use Rattle.dh_tree.specs.Seen.{term_seen, plan_seen, action_seen, action_form_seen, part_seen, groups, maybe_seen};
+ghost use Rattle.dh_tree.specs.NameCounts.{declared_in, declared_in_form, declared_in_other, declared_in_actions, declared_in_groups};
+ghost use Rattle.dh_names.specs.Walks.{is_blocks, Room, state_of, Resolves, ResolvesForm, ResolvesInner, ResolvesOther, ResolvesNext, ResolvesActions, ResolvesGroups};
 
 use crate::walks::Walk;
 use dh_base::NoMemory;
@@ -16,8 +16,7 @@ impl Walk {
     /// Gives the names of a command their numbers. Names that a block declares stay visible.
     #[cycle(commands)]
     pub fn command(&mut self, alloc: Global, command: &mut Command) -> Result<(), NoMemory>
-        requires room { Room self.old (declared_in (action_seen command.old)) }
-        ensures { OnOk result (Resolves self.old self.new (action_seen command.old) (action_seen command.new)) }
+        ensures { OnOk result (Room (state_of self.old) (declared_in (action_seen command.old)) → Resolves (state_of self.old) (state_of self.new) (action_seen command.old) (action_seen command.new)) }
     {
         let blank = CommandForm::Block {
             body: Vec::new(alloc),
@@ -29,10 +28,8 @@ impl Walk {
 
     // The form with the numbers of its names.
     #[cycle(commands)]
-    #[tactic(auto, using(dh_tree::proofs::SeenActions::actions_are))]
     fn form(&mut self, alloc: Global, form: CommandForm) -> Result<CommandForm, NoMemory>
-        requires room { Room self.old (declared_in_form (action_form_seen form)) }
-        ensures { IfOk result (λ done. ResolvesForm self.old self.new (action_form_seen form) (action_form_seen done)) }
+        ensures { IfOk result (λ done. Room (state_of self.old) (declared_in_form (action_form_seen form)) → ResolvesForm (state_of self.old) (state_of self.new) (action_form_seen form) (action_form_seen done)) }
     {
         match form {
             CommandForm::Let {
@@ -119,14 +116,10 @@ impl Walk {
                 other,
             } => {
                 self.expression(&mut test);
+                let start = self.own_names();
                 self.inner(alloc, &mut then)?;
-                let other = match other {
-                    Some(mut block) => {
-                        self.inner(alloc, &mut block)?;
-                        Some(block)
-                    }
-                    None => None,
-                };
+                let other = self.optional(alloc, other)?;
+                self.leave(start);
                 Ok(CommandForm::If { test, then, other })
             }
             CommandForm::While { mut test, mut body } => {
@@ -147,17 +140,11 @@ impl Walk {
                 combine,
                 combine_place,
             } => {
-                let start = self.names.own.len();
+                let start = self.own_names();
                 self.declare(alloc, &mut iterator, Sort::Iterator)?;
                 self.command(alloc, &mut body)?;
-                let combine = match combine {
-                    Some(mut block) => {
-                        self.command(alloc, &mut block)?;
-                        Some(block)
-                    }
-                    None => None,
-                };
-                self.names.own.truncate(start);
+                let combine = self.optional(alloc, combine)?;
+                self.leave(start);
                 Ok(CommandForm::For {
                     iterator,
                     declared,
@@ -175,25 +162,41 @@ impl Walk {
         }
     }
 
+    // A block that may lack. Names that it declares stay visible.
+    #[cycle(commands)]
+    fn optional(
+        &mut self,
+        alloc: Global,
+        block: Option<Box<Command>>,
+    ) -> Result<Option<Box<Command>>, NoMemory>
+        ensures { IfOk result (λ done. Room (state_of self.old) (declared_in_other (maybe_seen (option_map (λ b. action_seen b.value) block))) → ResolvesOther (state_of self.old) (state_of self.new) (maybe_seen (option_map (λ b. action_seen b.value) block)) (maybe_seen (option_map (λ b. action_seen b.value) done))) }
+    {
+        match block {
+            Some(mut command) => {
+                self.command(alloc, &mut command)?;
+                Ok(Some(command))
+            }
+            None => Ok(None),
+        }
+    }
+
     // A command whose names are visible in it alone.
     #[cycle(commands)]
     fn inner(&mut self, alloc: Global, command: &mut Command) -> Result<(), NoMemory>
-        requires room { Room self.old (declared_in (action_seen command.old)) }
-        ensures { OnOk result (ResolvesInner self.old self.new (action_seen command.old) (action_seen command.new)) }
+        ensures { OnOk result (Room (state_of self.old) (declared_in (action_seen command.old)) → ResolvesInner (state_of self.old) (state_of self.new) (action_seen command.old) (action_seen command.new)) }
     {
-        let start = self.names.own.len();
+        let start = self.own_names();
         self.command(alloc, command)?;
-        self.names.own.truncate(start);
+        self.leave(start);
         Ok(())
     }
 
     // A command of a list: what it declares is visible after it, unless it is a block.
     #[cycle(commands)]
     fn next(&mut self, alloc: Global, command: &mut Command) -> Result<(), NoMemory>
-        requires room { Room self.old (declared_in (action_seen command.old)) }
-        ensures { OnOk result (ResolvesNext self.old self.new (action_seen command.old) (action_seen command.new)) }
+        ensures { OnOk result (Room (state_of self.old) (declared_in (action_seen command.old)) → ResolvesNext (state_of self.old) (state_of self.new) (action_seen command.old) (action_seen command.new)) }
     {
-        if matches!(command.form, CommandForm::Block { .. }) {
+        if is_block(&command.form) {
             self.inner(alloc, command)
         } else {
             self.command(alloc, command)
@@ -203,8 +206,7 @@ impl Walk {
     // The commands between two `---`.
     #[cycle(commands)]
     fn part(&mut self, alloc: Global, part: &mut Vec<Command>) -> Result<(), NoMemory>
-        requires room { Room self.old (declared_in_actions (part_seen part.old)) }
-        ensures { OnOk result (ResolvesActions self.old self.new (part_seen part.old) (part_seen part.new)) }
+        ensures { OnOk result (Room (state_of self.old) (declared_in_actions (part_seen part.old)) → ResolvesActions (state_of self.old) (state_of self.new) (part_seen part.old) (part_seen part.new)) }
     {
         for command in part.iter_mut() {
             self.next(alloc, command)?;
@@ -215,12 +217,31 @@ impl Walk {
     // The parts of a block.
     #[cycle(commands)]
     fn parts(&mut self, alloc: Global, body: &mut Vec<Vec<Command>>) -> Result<(), NoMemory>
-        requires room { Room self.old (declared_in_groups (groups (map part_seen body.old.items))) }
-        ensures { OnOk result (ResolvesGroups self.old self.new (groups (map part_seen body.old.items)) (groups (map part_seen body.new.items))) }
+        ensures { OnOk result (Room (state_of self.old) (declared_in_groups (groups (map part_seen body.old.items))) → ResolvesGroups (state_of self.old) (state_of self.new) (groups (map part_seen body.old.items)) (groups (map part_seen body.new.items))) }
     {
         for part in body.iter_mut() {
             self.part(alloc, part)?;
         }
         Ok(())
+    }
+}
+
+// Whether the form is a block.
+#[tactic(auto, using(dh_tree::proofs::SeenActions::actions_are))]
+fn is_block(form: &CommandForm) -> bool
+    ensures { result ≡ is_blocks (action_form_seen form.now) }
+{
+    match form {
+        CommandForm::Block { .. } => true,
+        CommandForm::Let { .. }
+        | CommandForm::LetMemory { .. }
+        | CommandForm::View { .. }
+        | CommandForm::Assign { .. }
+        | CommandForm::Store { .. }
+        | CommandForm::Reduce { .. }
+        | CommandForm::Call { .. }
+        | CommandForm::If { .. }
+        | CommandForm::While { .. }
+        | CommandForm::For { .. } => false,
     }
 }

@@ -4,7 +4,7 @@ ghost use Rattle.std.specs.Prelude.{◌≡◌, map};
 ghost use Rattle.dh_tree.specs.Seen.{plan_seen, factor_seen};
 ghost use Rattle.dh_tree.specs.Breaches.{plan_breaches, offsets_breaches};
 ghost use Rattle.dh_tree.specs.Resolved.{resolved_plan, resolved_offset};
-ghost use Rattle.dh_names.specs.Walks.{scope_of, state_of, walked};
+ghost use Rattle.dh_names.specs.Walks.{state_of, walked};
 
 use crate::walks::Walk;
 use dh_tree::{Expr, ViewForm};
@@ -12,8 +12,8 @@ use dh_tree::{Expr, ViewForm};
 impl Walk {
     /// Gives the names of a view's offsets their numbers.
     pub fn plan(&mut self, form: ViewForm) -> ViewForm
-        ensures tree { plan_seen result ≡ resolved_plan (scope_of self.old).visible (plan_seen form) }
-        ensures state { state_of self.new ≡ walked (state_of self.old) (plan_breaches (scope_of self.old).visible (plan_seen form)) (scope_of self.old) }
+        ensures tree { plan_seen result ≡ resolved_plan (state_of self.old).scope.visible (plan_seen form) }
+        ensures state { state_of self.new ≡ walked (state_of self.old) (plan_breaches (state_of self.old).scope.visible (plan_seen form)) (state_of self.old).scope }
     {
         match form {
             ViewForm::Shrink { by, by_place } => ViewForm::Shrink { by, by_place },
@@ -31,8 +31,8 @@ impl Walk {
 
     // The offsets of factors in order.
     fn offsets(&mut self, by: &mut Vec<(u64, Expr)>)
-        ensures tree { map factor_seen by.new.items ≡ map (resolved_offset (scope_of self.old).visible) (map factor_seen by.old.items) }
-        ensures state { state_of self.new ≡ walked (state_of self.old) (offsets_breaches (scope_of self.old).visible (map factor_seen by.old.items)) (scope_of self.old) }
+        ensures tree { map factor_seen by.new.items ≡ map (resolved_offset (state_of self.old).scope.visible) (map factor_seen by.old.items) }
+        ensures state { state_of self.new ≡ walked (state_of self.old) (offsets_breaches (state_of self.old).scope.visible (map factor_seen by.old.items)) (state_of self.old).scope }
     {
         for pair in by.iter_mut() {
             self.expression(&mut pair.1);

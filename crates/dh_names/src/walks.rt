@@ -1,11 +1,11 @@
 //! A walk through the text of a program.
 
-ghost use Rattle.std.specs.Prelude.{◌≡◌, OnOk, option_map, map};
-ghost use Rattle.dh_tree.specs.Scopes.{declare, leave};
+ghost use Rattle.std.specs.Prelude.{◌≡◌, ◌+◌, ◌<◌, ◌^◌, OnOk, option_map, map, length};
+ghost use Rattle.dh_tree.specs.Scopes.{declare};
 ghost use Rattle.dh_tree.specs.Seen.{term_seen};
 ghost use Rattle.dh_tree.specs.Breaches.{unknown, twice, term_breaches, value_breaches, list_breaches};
 ghost use Rattle.dh_tree.specs.Resolved.{used, declares, resolved_term};
-ghost use Rattle.dh_names.specs.Walks.{Room, scope_of, state_of, walked};
+ghost use Rattle.dh_names.specs.Walks.{Room, state_of, walked, cut};
 
 use crate::expressions::{resolve_term, resolve_terms};
 use crate::scopes::{Names, bind_name, resolve_use};
@@ -27,24 +27,24 @@ pub struct Walk {
 impl Walk {
     /// Gives a name that is used its number.
     pub fn use_name(&mut self, name: &mut Ref)
-        ensures tree { name.new ≡ used (scope_of self.old).visible name.old }
-        ensures state { state_of self.new ≡ walked (state_of self.old) (unknown (scope_of self.old).visible name.old) (scope_of self.old) }
+        ensures tree { name.new ≡ used (state_of self.old).scope.visible name.old }
+        ensures state { state_of self.new ≡ walked (state_of self.old) (unknown (state_of self.old).scope.visible name.old) (state_of self.old).scope }
     {
         resolve_use(&self.names, &mut self.least, name);
     }
 
     /// Gives the names of an expression their numbers.
     pub fn expression(&mut self, term: &mut Expr)
-        ensures tree { term_seen term.new ≡ resolved_term (scope_of self.old).visible (term_seen term.old) }
-        ensures state { state_of self.new ≡ walked (state_of self.old) (term_breaches (scope_of self.old).visible (term_seen term.old)) (scope_of self.old) }
+        ensures tree { term_seen term.new ≡ resolved_term (state_of self.old).scope.visible (term_seen term.old) }
+        ensures state { state_of self.new ≡ walked (state_of self.old) (term_breaches (state_of self.old).scope.visible (term_seen term.old)) (state_of self.old).scope }
     {
         resolve_term(&self.names, &mut self.least, term);
     }
 
     /// Gives the names of an expression, which may lack, their numbers.
     pub fn value(&mut self, value: Option<Expr>) -> Option<Expr>
-        ensures tree { option_map term_seen result ≡ option_map (resolved_term (scope_of self.old).visible) (option_map term_seen value) }
-        ensures state { state_of self.new ≡ walked (state_of self.old) (value_breaches (scope_of self.old).visible (option_map term_seen value)) (scope_of self.old) }
+        ensures tree { option_map term_seen result ≡ option_map (resolved_term (state_of self.old).scope.visible) (option_map term_seen value) }
+        ensures state { state_of self.new ≡ walked (state_of self.old) (value_breaches (state_of self.old).scope.visible (option_map term_seen value)) (state_of self.old).scope }
     {
         match value {
             Some(mut term) => {
@@ -57,24 +57,18 @@ impl Walk {
 
     /// Gives the names of expressions in order their numbers.
     pub fn expressions(&mut self, terms: &mut Vec<Expr>)
-        ensures tree { map term_seen terms.new.items ≡ map (resolved_term (scope_of self.old).visible) (map term_seen terms.old.items) }
-        ensures state { state_of self.new ≡ walked (state_of self.old) (list_breaches (scope_of self.old).visible (map term_seen terms.old.items)) (scope_of self.old) }
+        ensures tree { map term_seen terms.new.items ≡ map (resolved_term (state_of self.old).scope.visible) (map term_seen terms.old.items) }
+        ensures state { state_of self.new ≡ walked (state_of self.old) (list_breaches (state_of self.old).scope.visible (map term_seen terms.old.items)) (state_of self.old).scope }
     {
         resolve_terms(&self.names, &mut self.least, terms);
     }
 
     /// Numbers a name that is declared, and makes it visible.
-    pub fn declare(
-        &mut self,
-        alloc: Global,
-        name: &mut Ref,
-        sort: Sort,
-    ) -> Result<(), NoMemory>
-        requires room { Room self.old 1 }
-        ensures tree { OnOk result (name.new ≡ declares (scope_of self.old) name.old) }
-        ensures state { OnOk result (state_of self.new ≡ walked (state_of self.old) (twice (scope_of self.old).visible name.old) (declare (scope_of self.old) name.old sort)) }
+    pub fn declare(&mut self, alloc: Global, name: &mut Ref, sort: Sort) -> Result<(), NoMemory>
+        ensures tree { OnOk result (Room (state_of self.old) 1 → name.new ≡ declares (state_of self.old).scope name.old) }
+        ensures state { OnOk result (Room (state_of self.old) 1 → state_of self.new ≡ walked (state_of self.old) (twice (state_of self.old).scope.visible name.old) (declare (state_of self.old).scope name.old sort)) }
     {
-        let number = self.entities.len() as u32;
+        let number = numbered(self.entities.len());
         bind_name(alloc, &mut self.names, &mut self.least, name, number)?;
         self.entities.push(Entity {
             name: name.name.try_clone(alloc)?,
@@ -83,5 +77,30 @@ impl Walk {
         })?;
         name.entity = Some(number);
         Ok(())
+    }
+
+    /// How many names of the function or the program's body are visible.
+    pub fn own_names(&self) -> usize
+        ensures { length (state_of self.now).outer + result ≡ length (state_of self.now).scope.visible }
+    {
+        self.names.own.len()
+    }
+
+    /// Keeps so many names of the function or the program's body visible, those declared first.
+    pub fn leave(&mut self, own: usize)
+        ensures { state_of self.new ≡ cut (state_of self.old) own }
+    {
+        self.names.own.truncate(own);
+    }
+}
+
+// A count as the number of the next entity; the last number where the count is beyond it, to which
+// no tree with few names comes.
+fn numbered(count: usize) -> u32
+    ensures { count < 2 ^ 32 → result ≡ count }
+{
+    match u32::try_from(count) {
+        Ok(number) => number,
+        Err(_) => u32::MAX,
     }
 }
