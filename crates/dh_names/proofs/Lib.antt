@@ -5,3 +5,4 @@ pub mod TermForms
 pub mod Extended
 pub mod FormsDone
 pub mod ListsDone
+pub mod OffsetsDone

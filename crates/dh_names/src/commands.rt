@@ -2,9 +2,9 @@
 
 ghost use Rattle.std.specs.Prelude.{◌≡◌, OnOk, IfOk, option_map, map};
 ghost use Rattle.dh_tree.specs.PlainTrees.{lets, lets_memory, views};
-ghost use Rattle.dh_tree.specs.Seen.{term_seen, plan_seen, action_seen, action_form_seen, part_seen, groups, maybe_seen};
-ghost use Rattle.dh_tree.specs.NameCounts.{declared_in, declared_in_form, declared_in_other, declared_in_actions, declared_in_groups};
-ghost use Rattle.dh_names.specs.Walks.{is_blocks, Room, state_of, Resolves, ResolvesForm, ResolvesInner, ResolvesOther, ResolvesNext, ResolvesActions, ResolvesGroups};
+ghost use Rattle.dh_tree.specs.Seen.{term_seen, plan_seen, action_seen, action_form_seen, part_seen, maybe_seen};
+ghost use Rattle.dh_tree.specs.NameCounts.{declared_in, declared_in_form, declared_in_other, declared_in_actions};
+ghost use Rattle.dh_names.specs.Walks.{is_blocks, Room, state_of, Resolves, ResolvesForm, ResolvesInner, ResolvesOther, ResolvesNext, ResolvesActions};
 
 use crate::walks::Walk;
 use dh_base::NoMemory;
@@ -107,7 +107,9 @@ impl Walk {
                 })
             }
             CommandForm::Block { mut body } => {
-                self.parts(alloc, &mut body)?;
+                for part in body.iter_mut() {
+                    self.part(alloc, part)?;
+                }
                 Ok(CommandForm::Block { body })
             }
             CommandForm::If {
@@ -210,17 +212,6 @@ impl Walk {
     {
         for command in part.iter_mut() {
             self.next(alloc, command)?;
-        }
-        Ok(())
-    }
-
-    // The parts of a block.
-    #[cycle(commands)]
-    fn parts(&mut self, alloc: Global, body: &mut Vec<Vec<Command>>) -> Result<(), NoMemory>
-        ensures { OnOk result (Room (state_of self.old) (declared_in_groups (groups (map part_seen body.old.items))) → ResolvesGroups (state_of self.old) (state_of self.new) (groups (map part_seen body.old.items)) (groups (map part_seen body.new.items))) }
-    {
-        for part in body.iter_mut() {
-            self.part(alloc, part)?;
         }
         Ok(())
     }

@@ -12,8 +12,8 @@ invariant-part-loop-command l =
     × (Fits action_seen action_step action_made entity_count declared_in action_grows (2 ^ 32) (state_of l.initial.self) (map action_seen l.initial.command-items)
     → FitsSoFar action_seen action_step action_made entity_count declared_in action_grows (2 ^ 32) l.initial.command-items l.command-items l.command-index (state_of l.initial.self) (state_of l.self))
 
-abbrev pub invariant-parts-loop-part : goal.invariant-parts-loop-part
-invariant-parts-loop-part l =
-    goal.unvisited-parts-loop-part l
+abbrev pub invariant-form-loop-part : goal.invariant-form-loop-part
+invariant-form-loop-part l =
+    goal.unvisited-form-loop-part l
     × (Fits part_seen part_step part_made entity_count declared_in_actions part_grows (2 ^ 32) (state_of l.initial.self) (map part_seen l.initial.part-items)
     → FitsSoFar part_seen part_step part_made entity_count declared_in_actions part_grows (2 ^ 32) l.initial.part-items l.part-items l.part-index (state_of l.initial.self) (state_of l.self))
