@@ -6,6 +6,10 @@
 mod bindings;
 mod commands;
 mod expressions;
+mod functions;
+mod programs;
 mod scopes;
 mod views;
 mod walks;
+
+pub use programs::resolve;

@@ -18,6 +18,6 @@ pub use laws::lists_are_seen_in_order;
 pub use tables::{Dim, MemEntry, MemTable, Name, Shape, copy_table, element_count, is_table};
 pub use thin::{Operand, Program, Store, Token, read_thin};
 pub use trees::{
-    Command, CommandForm, Decl, DimPlaces, Entity, Expr, ExprForm, Function, Parameter, Ref,
+    Command, CommandForm, Decl, DimPlaces, Entity, Expr, ExprForm, Function, Named, Parameter, Ref,
     ShapePlaces, Sort, Tree, ViewForm,
 };
