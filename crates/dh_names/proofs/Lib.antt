@@ -6,3 +6,6 @@ pub mod Extended
 pub mod FormsDone
 pub mod ListsDone
 pub mod OffsetsDone
+pub mod Again
+pub mod AgainPrograms
+pub mod LeastKept

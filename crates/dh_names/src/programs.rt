@@ -1,7 +1,7 @@
 //! The names of whole programs.
 
 ghost use Rattle.std.specs.Prelude.{◌≡◌, ◌+◌, ◌<◌, ◌^◌, [], ◌++◌, IfOk, OnOk, length, map};
-ghost use Rattle.dh_tree.specs.declared.trees.programs.Sort.TheVariants.{Memory, Function};
+ghost use Rattle.dh_tree.specs.declared.trees.programs.Sort.TheVariants as sort;
 ghost use Rattle.dh_tree.specs.LeastBreach.{least_of};
 ghost use Rattle.dh_tree.specs.Scopes.{entity, merged, memory_items, function_items, after_items};
 ghost use Rattle.dh_tree.specs.Breaches.{items_breaches};
@@ -24,7 +24,7 @@ fn outer_entities(
     decls: &[Decl],
     functions: &[Function],
 ) -> Result<Vec<Entity>, NoMemory>
-    ensures { IfOk result (λ all. all.items ≡ map (λ d. entity d.name Memory) (map declared_seen decls.now) ++ map (λ f. entity f.name Function) (map defined_seen functions.now)) }
+    ensures { IfOk result (λ all. all.items ≡ map (λ d. entity d.name sort.Memory) (map declared_seen decls.now) ++ map (λ f. entity f.name sort.Function) (map defined_seen functions.now)) }
 {
     let mut entities = Vec::new(alloc);
     for decl in decls {
