@@ -13,7 +13,7 @@ use Rattle.dh_tree.specs.NameCounts.{declared_in, declared_in_form, declared_in_
 abbrev pub Further : List Binding → List Binding → Type 0
 Further xs ys = (more : List Binding) × (ys ≡ xs ++ more)
 
-same : (xs : List Binding) → Further xs xs
+pub same : (xs : List Binding) → Further xs xs
 same xs = ([], sym (append-nil xs))
 
 pub onward : (xs ys zs : List Binding) → Further xs ys → Further ys zs → Further xs zs

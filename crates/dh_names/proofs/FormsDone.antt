@@ -29,7 +29,7 @@ next_step s0 s1 s2 xs p ys t one two =
     two ∙ ap (λ s. walked s (ys s) (t s)) one
     ∙ ap (λ l. record { outer = s0.outer; scope = t (walked s0 xs p); least = l }) (sym (least_then s0.least xs (ys (walked s0 xs p))))
 
-room_at : (s0 s1 : State) (xs : List Breach) (t : Scope) (n : ℕ) → s1 ≡ walked s0 xs t → length t.entities + n ≤ 2 ^ 32 → Room s1 n
+pub room_at : (s0 s1 : State) (xs : List Breach) (t : Scope) (n : ℕ) → s1 ≡ walked s0 xs t → length t.entities + n ≤ 2 ^ 32 → Room s1 n
 room_at s0 s1 xs t n is room = subst (λ s. Room s n) (sym is) room
 
 -- a scope's own names are taken out where it ends
@@ -124,10 +124,10 @@ repeats_done s0 s1 s2 t t' a a' test one inner room =
       tree = ap (λ x. repeats x a') test ∙ ap (λ x. repeats (resolved_term s0.scope.visible t) x) (done.tree ∙ ap (λ s. resolved_action s.scope a) one);
       state = next_step s0 s1 s2 (term_breaches s0.scope.visible t) s0.scope (λ s. breaches s.scope a) (λ s. leave s.scope (at_end s.scope a)) one done.state }
 
-first_room : (e m n : ℕ) → e + (m + n) ≤ 2 ^ 32 → e + m ≤ 2 ^ 32
+pub first_room : (e m n : ℕ) → e + (m + n) ≤ 2 ^ 32 → e + m ≤ 2 ^ 32
 first_room e m n h = omega (arith, h)
 
-next_room : (e e' m n : ℕ) → e' ≡ e + m → e + (m + n) ≤ 2 ^ 32 → e' + n ≤ 2 ^ 32
+pub next_room : (e e' m n : ℕ) → e' ≡ e + m → e + (m + n) ≤ 2 ^ 32 → e' + n ≤ 2 ^ 32
 next_room e e' m n is h = omega (arith, is, h)
 
 pub decides_done : (s0 s1 s2 s3 s4 : State) (own : ℕ) (t t' : Term) (a a' : Action) (o o' : MaybeAction)

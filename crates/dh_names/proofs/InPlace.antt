@@ -71,6 +71,13 @@ module _ {C B S : Type 0} (f : C → B) (step : S → B → S) (make : S → B �
     pub start_fits : (before : List C) (s : S) → Fits s (map f before) → FitsSoFar before before 0 s s
     start_fits before s fits = record { so = start before s; fits = fits }
 
+    -- the item at the index fits
+    pub item_fits : (before now : List C) (index : ℕ) (first state : S) (e : C) → index < length now → Unvisited before now index → FitsSoFar before now index first state → e ≡ get_or now index e → size state + cost (f e) ≤ bound
+    item_fits before now index first state e within u so at =
+        let rest = at_item before index e (omega (arith, within, u.0)) (at ∙ u.1 index e (omega arith)) in
+        let fits : size state + (cost (f e) + sum (map f (drop (index + 1) before))) ≤ bound = subst (λ l. Fits state (map f l)) rest so.fits in
+        omega (arith, fits)
+
     pub turn_fits : (before now : List C) (index : ℕ) (first state state' : S) (e e' : C) → index < length now → Unvisited before now index
         → (Fits first (map f before) → FitsSoFar before now index first state) → e ≡ get_or now index e
         → (size state + cost (f e) ≤ bound → (f e' ≡ make state (f e)) × (state' ≡ step state (f e)))

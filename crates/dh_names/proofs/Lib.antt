@@ -9,3 +9,4 @@ pub mod OffsetsDone
 pub mod Again
 pub mod AgainPrograms
 pub mod LeastKept
+pub mod FunctionsDone

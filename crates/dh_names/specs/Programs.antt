@@ -1,12 +1,12 @@
 -- What the walk over a program does before and behind its commands, and what it answers.
-use Rattle.std.specs.Prelude.{ℕ, ◌+◌, ◌≡◌, List, length, Option, Result, Ok, Err}
+use Rattle.std.specs.Prelude.{ℕ, Bool, true, false, ◌+◌, ◌≡◌, List, [], ◌∷◌, length, Option, Result, Ok, Err}
 use Rattle.dh_base.specs.declared.faults.PassFault.{PassFault}
 use Rattle.dh_base.specs.declared.faults.PassFault.TheVariants as fault
 use Rattle.dh_tree.specs.declared.breaches.Breach.{Breach}
 use Rattle.dh_tree.specs.declared.trees.named.Named.{Named}
-use Rattle.dh_tree.specs.PlainTrees.{Formal, Defined, Program}
+use Rattle.dh_tree.specs.PlainTrees.{Declared, Formal, Defined, Program}
 use Rattle.dh_tree.specs.Seen.{program_seen}
-use Rattle.dh_tree.specs.LeastBreach.{breach, least_of, IsLeast}
+use Rattle.dh_tree.specs.LeastBreach.{is_before, breach, least_of, IsLeast}
 use Rattle.dh_tree.specs.Scopes.{Scope, after_formals, after_function, after_functions}
 use Rattle.dh_tree.specs.Breaches.{breaches_of, KeepsNames, formals_breaches, function_breaches, functions_breaches}
 use Rattle.dh_tree.specs.Resolved.{resolved, resolved_formals, resolved_function, resolved_functions}
@@ -33,6 +33,12 @@ pub record ResolvesFunction (n : ℕ) (old new : State) (a b : Defined) : Type 0
 pub record ResolvesFunctions (n : ℕ) (old new : State) (a b : List Defined) : Type 0 where
   pub tree : b ≡ resolved_functions n old.scope a
   pub state : new ≡ between old (after_functions n old.scope a) (least_of old.least (functions_breaches n old.scope a))
+
+-- whether the next name in text order is that of a function, where these memories and functions are left
+abbrev pub is_function_next : List Declared → List Defined → Bool
+is_function_next memories [] = false
+is_function_next [] (f ∷ functions) = true
+is_function_next (m ∷ memories) (f ∷ functions) = is_before f.name.place m.name.place
 
 -- a program is answered by its tree with entities where no name breaks a rule, and else by the breach
 -- that stands first; for want of memory it may have no answer

@@ -52,7 +52,7 @@ impl Walk {
         function.name.entity = Some(number);
         self.parameters(alloc, &mut function.parameters)?;
         self.command(alloc, &mut function.body)?;
-        self.leave(0);
+        self.names.own.truncate(0);
         self.names.outer.bind(alloc, &function.name.name, number)
     }
 

@@ -1,6 +1,6 @@
 //! The names of whole programs.
 
-ghost use Rattle.std.specs.Prelude.{◌≡◌, ◌+◌, ◌<◌, ◌^◌, [], ◌++◌, IfOk, OnOk, length, map};
+ghost use Rattle.std.specs.Prelude.{◌≡◌, ◌+◌, ◌<◌, ◌^◌, [], ◌++◌, IfOk, OnOk, length, map, drop};
 ghost use Rattle.dh_tree.specs.declared.trees.programs.Sort.TheVariants as sort;
 ghost use Rattle.dh_tree.specs.LeastBreach.{least_of};
 ghost use Rattle.dh_tree.specs.Scopes.{entity, merged, memory_items, function_items, after_items};
@@ -9,7 +9,7 @@ ghost use Rattle.dh_tree.specs.Resolved.{resolved_decls};
 ghost use Rattle.dh_tree.specs.Seen.{declared_seen, defined_seen, program_seen};
 ghost use Rattle.dh_tree.specs.NameCounts.{HasFewNames};
 ghost use Rattle.dh_names.specs.Visible.{visible};
-ghost use Rattle.dh_names.specs.Programs.{Answers};
+ghost use Rattle.dh_names.specs.Programs.{Answers, is_function_next};
 
 use crate::bindings::Bindings;
 use crate::scopes::{Names, bind_name};
@@ -58,7 +58,9 @@ fn number_decls(decls: &mut Vec<Decl>)
 
 // Whether the function with this index is the next item in text order, before the memory with that
 // index.
-fn function_is_next(decls: &[Decl], functions: &[Function], memory: usize, function: usize) -> bool {
+fn function_is_next(decls: &[Decl], functions: &[Function], memory: usize, function: usize) -> bool
+    ensures { result ≡ is_function_next (map declared_seen (drop memory decls.now)) (map defined_seen (drop function functions.now)) }
+{
     match (functions.get(function), decls.get(memory)) {
         (Some(function), Some(decl)) => is_before(function.name.place, decl.name.place),
         (Some(_), None) => true,
