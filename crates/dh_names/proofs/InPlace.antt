@@ -55,6 +55,44 @@ module _ {C B S : Type 0} (f : C → B) (step : S → B → S) (make : S → B �
       (sym (so.done ∙ ap (λ r. map f (take index now) ++ made state (map f r)) gone ∙ append-nil (map f (take index now)) ∙ ap (λ l. map f l) all),
         sym (so.ends ∙ ap (λ r. run state (map f r)) gone))
 
+  -- the same, where each item costs so much of a room that is bounded
+  module _ (size : S → ℕ) (cost : B → ℕ) (grows : (s : S) (b : B) → size (step s b) ≡ size s + cost b) (bound : ℕ) where
+    abbrev pub sum : List B → ℕ
+    sum [] = 0
+    sum (b ∷ bs) = cost b + sum bs
+
+    abbrev pub Fits : S → List B → Type 0
+    Fits s bs = size s + sum bs ≤ bound
+
+    pub record FitsSoFar (before now : List C) (index : ℕ) (first state : S) : Type 0 where
+      pub so : SoFar before now index first state
+      pub fits : Fits state (map f (drop index before))
+
+    pub start_fits : (before : List C) (s : S) → Fits s (map f before) → FitsSoFar before before 0 s s
+    start_fits before s fits = record { so = start before s; fits = fits }
+
+    -- the item at the index fits
+    pub item_fits : (before now : List C) (index : ℕ) (first state : S) (e : C) → index < length now → Unvisited before now index → FitsSoFar before now index first state → e ≡ get_or now index e → size state + cost (f e) ≤ bound
+    item_fits before now index first state e within u so at =
+        let rest = at_item before index e (omega (arith, within, u.0)) (at ∙ u.1 index e (omega arith)) in
+        let fits : size state + (cost (f e) + sum (map f (drop (index + 1) before))) ≤ bound = subst (λ l. Fits state (map f l)) rest so.fits in
+        omega (arith, fits)
+
+    pub turn_fits : (before now : List C) (index : ℕ) (first state state' : S) (e e' : C) → index < length now → Unvisited before now index
+        → (Fits first (map f before) → FitsSoFar before now index first state) → e ≡ get_or now index e
+        → (size state + cost (f e) ≤ bound → (f e' ≡ make state (f e)) × (state' ≡ step state (f e)))
+        → Unvisited before (slice_set now index e') (index + 1) × (Fits first (map f before) → FitsSoFar before (slice_set now index e') (index + 1) first state')
+    turn_fits before now index first state state' e e' within u so at goes =
+        (unvisited before now index e' u, λ room.
+          let s = so room in
+          let rest = at_item before index e (omega (arith, within, u.0)) (at ∙ u.1 index e (omega arith)) in
+          let fits : size state + (cost (f e) + sum (map f (drop (index + 1) before))) ≤ bound = subst (λ l. Fits state (map f l)) rest s.fits in
+          let g = goes (omega (arith, fits)) in
+          let size_is : size state' ≡ size state + cost (f e) = ap (λ x. size x) g.1 ∙ grows state (f e) in
+          record {
+            so = (turn before now index first state state' e e' within u s.so at g.0 g.1).1;
+            fits = omega (arith, fits, size_is) })
+
 -- what is written back into a vector of this length
 pub written : {C : Type 0} (old now : List C) (len : ℕ) → length now ≡ length old → length old ≡ len → take len (now ++ drop (length now) old) ≡ now
 written old now len same is =

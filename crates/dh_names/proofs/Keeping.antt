@@ -1,5 +1,6 @@
 -- Lists of names one after the other, and the least of breaches one after the other.
 use Rattle.std.proofs.Common.{◌≡◌, ℕ, Bool, true, false, List, [], ◌∷◌, ◌++◌, map, Option, Some, None, refl, sym, ap, subst, ◌∙◌, if◌then◌else◌}
+use Rattle.std.specs.Option.{is_some}
 use Rattle.std.specs.Str.{bytes_eq}
 use Rattle.dh_tree.specs.declared.breaches.Breach.{Breach}
 use Rattle.dh_tree.specs.PlainTrees.{Term, Terms, term_then}
@@ -37,3 +38,16 @@ terms_listed bs (t ∷ ts) = ap (λ r. term_then (resolved_term bs t) r) (terms_
 pub breaches_listed : (bs : List Binding) (ts : List Term) → terms_breaches bs (terms ts) ≡ list_breaches bs ts
 breaches_listed bs [] = refl
 breaches_listed bs (t ∷ ts) = ap (λ r. term_breaches bs t ++ r) (breaches_listed bs ts)
+
+-- what is not visible at all is not in the second list
+pub absent_own : (xs ys : List Binding) (name : List ℕ) → entity_of (xs ++ ys) name ≡ None → entity_of ys name ≡ None
+absent_own [] ys name h = h
+absent_own (x ∷ xs) ys name h = by (bytes_eq name x.name) (absent_own xs ys name) h
+  where
+    by : (b : Bool) → (entity_of (xs ++ ys) name ≡ None → entity_of ys name ≡ None) → (if b then Some x.entity else entity_of (xs ++ ys) name) ≡ None → entity_of ys name ≡ None
+    by true rest e = cc
+    by false rest e = rest e
+
+pub absent : (o : Option ℕ) → is_some o ≡ false → o ≡ None
+absent None e = refl
+absent (Some n) e = cc

@@ -2,3 +2,11 @@ pub mod Entered
 pub mod Keeping
 pub mod InPlace
 pub mod TermForms
+pub mod Extended
+pub mod FormsDone
+pub mod ListsDone
+pub mod OffsetsDone
+pub mod Again
+pub mod AgainPrograms
+pub mod LeastKept
+pub mod FunctionsDone

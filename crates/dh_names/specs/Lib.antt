@@ -1,2 +1,4 @@
 pub mod Entries
+pub mod Visible
 pub mod Walks
+pub mod Programs

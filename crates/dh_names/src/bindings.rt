@@ -1,7 +1,7 @@
 //! The names that are visible at a point of the text.
 
 ghost use Rattle.std.specs.Prelude.{◌≡◌, ◌++◌, [], ◌∷◌, None, OnOk, length, take};
-ghost use Rattle.dh_tree.specs.Scopes.{entity_of, binding};
+ghost use Rattle.dh_tree.specs.Scopes.{entity_of, binding, bind};
 
 use dh_base::NoMemory;
 use dh_tree::Name;
@@ -50,6 +50,16 @@ impl Bindings {
         let text = String::from_str(alloc, name.as_str())?;
         self.numbers.insert(text, entity)?;
         Ok(())
+    }
+
+    /// Adds a name, unless it is there already.
+    pub fn bind(&mut self, alloc: Global, name: &Name, entity: u32) -> Result<(), NoMemory>
+        ensures { OnOk result (self.new ≡ bind self.old name.now entity) }
+    {
+        if self.find(name).is_some() {
+            return Ok(());
+        }
+        self.add(alloc, name, entity)
     }
 
     /// How many names there are.

@@ -1,56 +1,15 @@
 //! The names within expressions.
 
 ghost use Rattle.std.specs.Prelude.{◌≡◌, map};
-ghost use Rattle.dh_tree.specs.Scopes.{entity_of};
 ghost use Rattle.dh_tree.specs.Seen.{term_seen, form_seen};
 ghost use Rattle.dh_tree.specs.LeastBreach.{least_of};
-ghost use Rattle.dh_tree.specs.Breaches.{unknown, term_breaches, term_form_breaches, list_breaches};
-ghost use Rattle.dh_tree.specs.Resolved.{used, resolved_term, resolved_term_form};
-ghost use Rattle.dh_names.specs.Walks.{visible};
+ghost use Rattle.dh_tree.specs.Breaches.{term_breaches, term_form_breaches, list_breaches};
+ghost use Rattle.dh_tree.specs.Resolved.{resolved_term, resolved_term_form};
+ghost use Rattle.dh_names.specs.Visible.{visible};
 
-use crate::bindings::Bindings;
-use dh_base::Rule;
-use dh_tree::{Breach, Expr, ExprForm, Name, Ref, keep_least};
+use crate::scopes::{Names, resolve_use};
+use dh_tree::{Breach, Expr, ExprForm};
 use std::mem;
-
-/// The names that are visible: those that a function sees of the program, none in the program's body,
-/// and those of the function or the program's body.
-#[derive(Drop)]
-pub struct Names {
-    /// Those seen of the program.
-    pub outer: Bindings,
-    /// Those of the function or the program's body.
-    pub own: Bindings,
-}
-
-impl Names {
-    /// The number of what the name stands for, where it is visible.
-    pub fn find(&self, name: &Name) -> Option<u32>
-        ensures { result ≡ entity_of (visible self.now) name.now }
-    {
-        match self.outer.find(name) {
-            Some(entity) => Some(entity),
-            None => self.own.find(name),
-        }
-    }
-}
-
-/// Gives a name that is used its number, and keeps the breach where it is not visible.
-pub fn resolve_use(names: &Names, least: &mut Option<Breach>, name: &mut Ref)
-    ensures tree { name.new ≡ used (visible names.now) name.old }
-    ensures least { least.new ≡ least_of least.old (unknown (visible names.now) name.old) }
-{
-    name.entity = names.find(&name.name);
-    if name.entity.is_none() {
-        keep_least(
-            least,
-            Breach {
-                rule: Rule::UnknownName,
-                place: name.place,
-            },
-        );
-    }
-}
 
 /// Gives the names of an expression their numbers, and keeps the breaches.
 #[cycle(expressions)]

@@ -4,4 +4,12 @@
 #![tactic(auto)]
 
 mod bindings;
+mod commands;
 mod expressions;
+mod functions;
+mod programs;
+mod scopes;
+mod views;
+mod walks;
+
+pub use programs::resolve;

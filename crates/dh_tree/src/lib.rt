@@ -18,6 +18,6 @@ pub use laws::{kept_is_least, lists_are_seen_in_order, resolving_keeps_forms};
 pub use loads::{loads_are_largest_sums, ports_are_spent_once};
 pub use tables::{Dim, MemEntry, MemTable, Name, Shape, copy_table, element_count, is_table};
 pub use trees::{
-    Command, CommandForm, Decl, DimPlaces, Entity, Expr, ExprForm, Function, Parameter, Ref,
+    Command, CommandForm, Decl, DimPlaces, Entity, Expr, ExprForm, Function, Named, Parameter, Ref,
     ShapePlaces, Sort, Tree, ViewForm,
 };

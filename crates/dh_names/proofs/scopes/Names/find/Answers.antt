@@ -1,6 +1,6 @@
 use Rattle.std.proofs.Common.{◌≡◌, ◌∙◌, ap, sym}
 use Rattle.dh_names.proofs.Keeping.{found_first, found_next}
-use Rattle.dh_names.proofs.expressions.Names.find.Goals as goal
+use Rattle.dh_names.proofs.scopes.Names.find.Goals as goal
 
 pub returns-in-Some : goal.returns-in-Some
 returns-in-Some c = sym (found_first c.args.self.now.outer c.args.self.now.own c.args.name.now _ (sym c.find.ensures ∙ c.in-Some.is))

@@ -1,0 +1,48 @@
+-- What the walk over a program does before and behind its commands, and what it answers.
+use Rattle.std.specs.Prelude.{ℕ, Bool, true, false, ◌+◌, ◌≡◌, List, [], ◌∷◌, length, Option, Result, Ok, Err}
+use Rattle.dh_base.specs.declared.faults.PassFault.{PassFault}
+use Rattle.dh_base.specs.declared.faults.PassFault.TheVariants as fault
+use Rattle.dh_tree.specs.declared.breaches.Breach.{Breach}
+use Rattle.dh_tree.specs.declared.trees.named.Named.{Named}
+use Rattle.dh_tree.specs.PlainTrees.{Declared, Formal, Defined, Program}
+use Rattle.dh_tree.specs.Seen.{program_seen}
+use Rattle.dh_tree.specs.LeastBreach.{is_before, breach, least_of, IsLeast}
+use Rattle.dh_tree.specs.Scopes.{Scope, after_formals, after_function, after_functions}
+use Rattle.dh_tree.specs.Breaches.{breaches_of, KeepsNames, formals_breaches, function_breaches, functions_breaches}
+use Rattle.dh_tree.specs.Resolved.{resolved, resolved_formals, resolved_function, resolved_functions}
+use Rattle.dh_names.specs.Walks.{State, walked}
+
+-- a walk over the parameters of a function
+pub record ResolvesFormals (old new : State) (a b : List Formal) : Type 0 where
+  pub tree : b ≡ resolved_formals old.scope a
+  pub state : new ≡ walked old (formals_breaches old.scope a) (after_formals old.scope a)
+
+-- a point at which no name of a function is visible, but only what functions see of the program
+abbrev pub IsOutside : State → Type 0
+IsOutside s = s.scope.visible ≡ s.outer
+
+-- the state between two functions
+abbrev pub between : State → Scope → Option Breach → State
+between s to least = record { outer = to.visible; scope = to; least = least }
+
+-- a walk over a function that is entity number n
+pub record ResolvesFunction (n : ℕ) (old new : State) (a b : Defined) : Type 0 where
+  pub tree : b ≡ resolved_function n old.scope a
+  pub state : new ≡ between old (after_function n old.scope a) (least_of old.least (function_breaches old.scope a))
+
+pub record ResolvesFunctions (n : ℕ) (old new : State) (a b : List Defined) : Type 0 where
+  pub tree : b ≡ resolved_functions n old.scope a
+  pub state : new ≡ between old (after_functions n old.scope a) (least_of old.least (functions_breaches n old.scope a))
+
+-- whether the next name in text order is that of a function, where these memories and functions are left
+abbrev pub is_function_next : List Declared → List Defined → Bool
+is_function_next memories [] = false
+is_function_next [] (f ∷ functions) = true
+is_function_next (m ∷ memories) (f ∷ functions) = is_before f.name.place m.name.place
+
+-- a program is answered by its tree with entities where no name breaks a rule, and else by the breach
+-- that stands first; for want of memory it may have no answer
+abbrev pub Answers : Program → Result Named PassFault → Type 0
+Answers p (Ok named) = (program_seen named ≡ resolved p) × KeepsNames p
+Answers p (Err (fault.Refused rule place)) = IsLeast (breaches_of p) (breach rule place)
+Answers p (Err fault.NoMemory) = Unit {0}

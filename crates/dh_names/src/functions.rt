@@ -1,0 +1,78 @@
+//! The names within functions.
+
+ghost use Rattle.std.specs.Prelude.{◌≡◌, ◌+◌, ◌<◌, ◌^◌, OnOk, length, map};
+ghost use Rattle.dh_tree.specs.Scopes.{formal_sort};
+ghost use Rattle.dh_tree.specs.Seen.{action_seen, formal_seen, defined_seen};
+ghost use Rattle.dh_tree.specs.NameCounts.{declared_in, declared_in_functions};
+ghost use Rattle.dh_names.specs.Walks.{Room, state_of};
+ghost use Rattle.dh_names.specs.Programs.{IsOutside, ResolvesFormals, ResolvesFunction, ResolvesFunctions};
+
+use crate::walks::Walk;
+use dh_base::NoMemory;
+use dh_tree::{Function, Parameter, Sort};
+use std::alloc::Global;
+
+// A memory for a type with ports or dimensions, else a variable.
+fn sort_of(parameter: &Parameter) -> Sort
+    ensures { result ≡ formal_sort parameter.now.shape }
+{
+    match parameter.shape {
+        Some(_) => Sort::Memory,
+        None => Sort::Variable,
+    }
+}
+
+impl Walk {
+    // The parameters in order.
+    fn parameters(
+        &mut self,
+        alloc: Global,
+        parameters: &mut Vec<Parameter>,
+    ) -> Result<(), NoMemory>
+        ensures { OnOk result (Room (state_of self.old) (length parameters.old.items) → ResolvesFormals (state_of self.old) (state_of self.new) (map formal_seen parameters.old.items) (map formal_seen parameters.new.items)) }
+    {
+        for parameter in parameters.iter_mut() {
+            let sort = sort_of(parameter);
+            self.declare(alloc, &mut parameter.name, sort)?;
+        }
+        Ok(())
+    }
+
+    // A function, which is entity number `number`. Only earlier functions are visible before it.
+    fn function(
+        &mut self,
+        alloc: Global,
+        function: &mut Function,
+        number: u32,
+    ) -> Result<(), NoMemory>
+        requires outside { IsOutside (state_of self.old) }
+        requires room { Room (state_of self.old) (length function.old.parameters.items + declared_in (action_seen function.old.body)) }
+        ensures { OnOk result (ResolvesFunction number (state_of self.old) (state_of self.new) (defined_seen function.old) (defined_seen function.new)) }
+    {
+        function.name.entity = Some(number);
+        self.parameters(alloc, &mut function.parameters)?;
+        self.command(alloc, &mut function.body)?;
+        self.names.own.truncate(0);
+        self.names.outer.bind(alloc, &function.name.name, number)
+    }
+
+    /// Gives the names of functions in order their numbers. The first of them is entity number `first`.
+    pub fn functions(
+        &mut self,
+        alloc: Global,
+        functions: &mut Vec<Function>,
+        first: u32,
+    ) -> Result<(), NoMemory>
+        requires outside { IsOutside (state_of self.old) }
+        requires few { first + length functions.old.items < 2 ^ 32 }
+        requires room { Room (state_of self.old) (declared_in_functions (map defined_seen functions.old.items)) }
+        ensures { OnOk result (ResolvesFunctions first (state_of self.old) (state_of self.new) (map defined_seen functions.old.items) (map defined_seen functions.new.items)) }
+    {
+        let mut number = first;
+        for function in functions.iter_mut() {
+            self.function(alloc, function, number)?;
+            number += 1;
+        }
+        Ok(())
+    }
+}

@@ -1,0 +1,151 @@
+//! The names of whole programs.
+
+ghost use Rattle.std.specs.Prelude.{◌≡◌, ◌+◌, ◌<◌, ◌^◌, [], ◌++◌, IfOk, OnOk, length, map, drop};
+ghost use Rattle.dh_tree.specs.declared.trees.programs.Sort.TheVariants as sort;
+ghost use Rattle.dh_tree.specs.LeastBreach.{least_of};
+ghost use Rattle.dh_tree.specs.Scopes.{entity, merged, memory_items, function_items, after_items};
+ghost use Rattle.dh_tree.specs.Breaches.{items_breaches};
+ghost use Rattle.dh_tree.specs.Resolved.{resolved_decls};
+ghost use Rattle.dh_tree.specs.Seen.{declared_seen, defined_seen, program_seen};
+ghost use Rattle.dh_tree.specs.NameCounts.{HasFewNames};
+ghost use Rattle.dh_names.specs.Visible.{visible};
+ghost use Rattle.dh_names.specs.Programs.{Answers, is_function_next};
+
+use crate::bindings::Bindings;
+use crate::scopes::{Names, bind_name};
+use crate::walks::Walk;
+use dh_base::{NoMemory, PassFault};
+use dh_tree::{Breach, Decl, Entity, Function, Named, Sort, Tree, is_before};
+use std::alloc::Global;
+
+// The entities of memories from outside and of functions.
+fn outer_entities(
+    alloc: Global,
+    decls: &[Decl],
+    functions: &[Function],
+) -> Result<Vec<Entity>, NoMemory>
+    ensures { IfOk result (λ all. all.items ≡ map (λ d. entity d.name sort.Memory) (map declared_seen decls.now) ++ map (λ f. entity f.name sort.Function) (map defined_seen functions.now)) }
+{
+    let mut entities = Vec::new(alloc);
+    for decl in decls {
+        entities.push(Entity {
+            name: decl.name.name.try_clone(alloc)?,
+            place: decl.name.place,
+            sort: Sort::Memory,
+        })?;
+    }
+    for function in functions {
+        entities.push(Entity {
+            name: function.name.name.try_clone(alloc)?,
+            place: function.name.place,
+            sort: Sort::Function,
+        })?;
+    }
+    Ok(entities)
+}
+
+// Numbers memories from outside, from 0.
+fn number_decls(decls: &mut Vec<Decl>)
+    requires few { length decls.old.items < 2 ^ 32 }
+    ensures { map declared_seen decls.new.items ≡ resolved_decls 0 (map declared_seen decls.old.items) }
+{
+    let mut number = 0;
+    for decl in decls.iter_mut() {
+        decl.name.entity = Some(number);
+        number += 1;
+    }
+}
+
+// Whether the function with this index is the next item in text order, before the memory with that
+// index.
+fn function_is_next(decls: &[Decl], functions: &[Function], memory: usize, function: usize) -> bool
+    ensures { result ≡ is_function_next (map declared_seen (drop memory decls.now)) (map defined_seen (drop function functions.now)) }
+{
+    match (functions.get(function), decls.get(memory)) {
+        (Some(function), Some(decl)) => is_before(function.name.place, decl.name.place),
+        (Some(_), None) => true,
+        (None, _) => false,
+    }
+}
+
+// Makes memories from outside and functions visible, in text order.
+fn bind_items(
+    alloc: Global,
+    names: &mut Names,
+    least: &mut Option<Breach>,
+    decls: &[Decl],
+    functions: &[Function],
+) -> Result<(), NoMemory>
+    requires few { length decls.now + length functions.now < 2 ^ 32 }
+    ensures outer { names.new.outer ≡ names.old.outer }
+    ensures names { OnOk result (visible names.new ≡ after_items (visible names.old) (merged (memory_items 0 (map declared_seen decls.now)) (function_items (length decls.now) (map defined_seen functions.now)))) }
+    ensures least { OnOk result (least.new ≡ least_of least.old (items_breaches (visible names.old) (merged (memory_items 0 (map declared_seen decls.now)) (function_items (length decls.now) (map defined_seen functions.now))))) }
+{
+    let mut memory = 0;
+    let mut function = 0;
+    for _ in 0..decls.len() + functions.len() {
+        if function_is_next(decls, functions, memory, function) {
+            let number = (decls.len() + function) as u32;
+            bind_name(alloc, names, least, &functions[function].name, number)?;
+            function += 1;
+        } else {
+            bind_name(alloc, names, least, &decls[memory].name, memory as u32)?;
+            memory += 1;
+        }
+    }
+    Ok(())
+}
+
+fn no_names(alloc: Global) -> Names
+    ensures outer { result.outer ≡ [] }
+    ensures own { result.own ≡ [] }
+{
+    Names {
+        outer: Bindings::new(alloc),
+        own: Bindings::new(alloc),
+    }
+}
+
+/// Gives each name of the tree the number of what it stands for, and lists the entities. Refuses a
+/// tree with a name that is not visible where it is used, or that is visible already where it is
+/// declared, with the breach that stands first.
+///
+/// # Errors
+///
+/// `Refused` with `UnknownName` at a name that is not visible, or with `NameTwice` at the name of a
+/// declaration. `NoMemory` where an allocation was refused.
+pub fn resolve(alloc: Global, tree: Tree) -> Result<Named, PassFault>
+    requires few { HasFewNames (program_seen tree) }
+    ensures { Answers (program_seen tree) result }
+{
+    let Tree {
+        mut decls,
+        mut functions,
+        mut body,
+        entities: _,
+    } = tree;
+    let mut names = no_names(alloc);
+    let mut least = None;
+    bind_items(alloc, &mut names, &mut least, &decls, &functions)?;
+    let mut walk = Walk {
+        names: no_names(alloc),
+        entities: outer_entities(alloc, &decls, &functions)?,
+        least,
+    };
+    number_decls(&mut decls);
+    walk.functions(alloc, &mut functions, decls.len() as u32)?;
+    walk.names = names;
+    walk.command(alloc, &mut body)?;
+    if let Some(breach) = walk.least {
+        return Err(PassFault::Refused {
+            rule: breach.rule,
+            place: breach.place,
+        });
+    }
+    Ok(Named::of(Tree {
+        decls,
+        functions,
+        body,
+        entities: walk.entities,
+    }))
+}

@@ -1,0 +1,78 @@
+//! Names where they are used and declared.
+
+ghost use Rattle.std.specs.Prelude.{◌≡◌, OnOk};
+ghost use Rattle.dh_tree.specs.Scopes.{entity_of, bind};
+ghost use Rattle.dh_tree.specs.LeastBreach.{least_of};
+ghost use Rattle.dh_tree.specs.Breaches.{unknown, twice};
+ghost use Rattle.dh_tree.specs.Resolved.{used};
+ghost use Rattle.dh_names.specs.Visible.{visible};
+
+use crate::bindings::Bindings;
+use dh_base::{NoMemory, Rule};
+use dh_tree::{Breach, Name, Ref, keep_least};
+use std::alloc::Global;
+
+/// The names that are visible: those that a function sees of the program, none in the program's body,
+/// and those of the function or the program's body.
+#[derive(Drop)]
+pub struct Names {
+    /// Those seen of the program.
+    pub outer: Bindings,
+    /// Those of the function or the program's body.
+    pub own: Bindings,
+}
+
+impl Names {
+    /// The number of what the name stands for, where it is visible.
+    pub fn find(&self, name: &Name) -> Option<u32>
+        ensures { result ≡ entity_of (visible self.now) name.now }
+    {
+        match self.outer.find(name) {
+            Some(entity) => Some(entity),
+            None => self.own.find(name),
+        }
+    }
+}
+
+/// Gives a name that is used its number, and keeps the breach where it is not visible.
+pub fn resolve_use(names: &Names, least: &mut Option<Breach>, name: &mut Ref)
+    ensures tree { name.new ≡ used (visible names.now) name.old }
+    ensures least { least.new ≡ least_of least.old (unknown (visible names.now) name.old) }
+{
+    name.entity = names.find(&name.name);
+    if name.entity.is_none() {
+        keep_least(
+            least,
+            Breach {
+                rule: Rule::UnknownName,
+                place: name.place,
+            },
+        );
+    }
+}
+
+/// Makes a name visible that is declared as entity number `entity`, and keeps the breach where it is
+/// visible already.
+pub fn bind_name(
+    alloc: Global,
+    names: &mut Names,
+    least: &mut Option<Breach>,
+    name: &Ref,
+    entity: u32,
+) -> Result<(), NoMemory>
+    ensures outer { names.new.outer ≡ names.old.outer }
+    ensures names { OnOk result (visible names.new ≡ bind (visible names.old) name.now.name entity) }
+    ensures least { OnOk result (least.new ≡ least_of least.old (twice (visible names.old) name.now)) }
+{
+    if names.find(&name.name).is_some() {
+        keep_least(
+            least,
+            Breach {
+                rule: Rule::NameTwice,
+                place: name.place,
+            },
+        );
+        return Ok(());
+    }
+    names.own.add(alloc, &name.name, entity)
+}
