@@ -1,6 +1,6 @@
 -- The breach that is kept while breaches are gone through is the least of them. Breaches are ordered by
 -- line, then column, then rule; so what precedes one that does not follow another precedes that one.
-use Rattle.std.proofs.Common.{◌≡◌, ℕ, zero, suc, ◌<◌, ◌≤◌, ◌⊎◌, inl, inr, ◌||◌, ◌&&◌, ◌==◌, nat_lt, Bool, true, false, if◌then◌else◌, List, [], ◌∷◌, length, get_or, Option, Some, None, refl, sym, ap, ◌∙◌, subst, arith}
+use Rattle.std.proofs.Common.{◌≡◌, ℕ, zero, suc, ◌<◌, ◌⊎◌, inl, inr, ◌||◌, ◌&&◌, ◌==◌, nat_lt, Bool, true, false, if◌then◌else◌, List, [], ◌∷◌, length, get_or, Some, None, refl, sym, ap, ◌∙◌, subst, arith}
 use Rattle.std.specs.Prelude.{Contains}
 use Rattle.std.proofs.lemmas.Bool.{cases_lt}
 use Rattle.std.proofs.lemmas.Bool.Decides.{nat_tests}
@@ -8,7 +8,7 @@ use Rattle.dh_base.specs.declared.rules.Rule.{Rule}
 use Rattle.dh_base.specs.declared.rules.Rule.TheVariants.{Lex, Syntax, Unsupported, UnknownName, NameTwice, TypeMismatch, WidthLost, BankDivides, UnrollDivides, BankUnroll, DynamicBank, ConstantRange, ViewFactor, MemoryPlace, OuterWrite, DivergentSteps, Reducer, CallShape, PortsSpent, ReadAfterWrite}
 use Rattle.dh_base.specs.Rules.{number_of}
 use Rattle.dh_tree.specs.declared.breaches.Breach.{Breach}
-use Rattle.dh_tree.specs.LeastBreach.{Precedes, precedes, IsLeast, lesser, least_of}
+use Rattle.dh_tree.specs.LeastBreach.{Precedes, precedes, IsLeast, least_of}
 
 -- the order of three numbers
 abbrev Below : (l c n l' c' n' : ℕ) → Type 0

@@ -2,7 +2,7 @@
 -- and the load up to an access the largest such sum of the sets that this access completes.
 use Rattle.std.proofs.Common.{◌≡◌, ℕ, ◌+◌, ◌≤◌, ◌<◌, Bool, true, false, ◌==◌, ◌||◌, if◌then◌else◌, ◌⊎◌, inl, inr, max, refl, ap, sym, ◌∙◌, subst, arith}
 use Rattle.std.specs.Prelude.{IsTrue}
-use Rattle.std.proofs.lemmas.Bool.{eqb-true, eq-eqb, ne_eqb, or_cases, cases_Bool, cases_lt}
+use Rattle.std.proofs.lemmas.Bool.{eqb-true, eq-eqb, or_cases, cases_Bool, cases_lt}
 use Rattle.std.proofs.Math.Bool.{or-true}
 use Rattle.std.proofs.Math.Nat.{le_refl, max-eq_left, max-eq_right, le-max_left, le-max_right}
 use Rattle.dh_tree.specs.Meets.{Meets, nothing, access, all, one, In, has, Distinct, Apart, Before, Together, total, Completes, load, upto, IsLargest, IsLargestUpto}

@@ -1,19 +1,17 @@
 -- Resolving a program's names changes its entities alone: which forms are not built, how commands are
 -- numbered, and how many names and accesses there are stays as it was. By recursion over the tree.
-use Rattle.std.proofs.Common.{◌≡◌, ℕ, zero, suc, ◌+◌, ◌≤◌, ◌&&◌, ◌||◌, Bool, true, false, if◌then◌else◌, List, [], ◌∷◌, ◌++◌, length, map, Option, Some, None, refl, ap, sym, ◌∙◌, subst, arith, length-append}
+use Rattle.std.proofs.Common.{◌≡◌, ℕ, suc, ◌+◌, ◌&&◌, ◌||◌, Bool, false, if◌then◌else◌, List, [], ◌∷◌, ◌++◌, length, refl, ap, sym, ◌∙◌, subst, arith, length-append}
 use Rattle.std.specs.List.{AllByRecursion}
 use Rattle.std.specs.Option.{is_some}
 use Rattle.dh_base.specs.declared.places.Place.{Place}
-use Rattle.dh_value.specs.declared.operators.Op.{Op}
 use Rattle.dh_tree.specs.declared.breaches.Breach.{Breach}
-use Rattle.dh_tree.specs.declared.trees.expressions.Ref.{Ref}
 use Rattle.dh_tree.specs.declared.trees.programs.Sort.TheVariants.{Iterator}
-use Rattle.dh_tree.specs.Accesses.{Access, term_accesses, form_accesses, terms_accesses, target_accesses, store_accesses, accesses, command_accesses, groups_accesses, part_accesses}
+use Rattle.dh_tree.specs.Accesses.{term_accesses, form_accesses, terms_accesses, target_accesses, accesses, command_accesses, groups_accesses, part_accesses}
 use Rattle.dh_tree.specs.FirstForms.{number_after, form_after, groups_after, part_after, IsCounted, IsCountedForm, AreCountedGroups, AreCounted}
-use Rattle.dh_tree.specs.Forms.{unbuilt, plain_number, is_small, is_stored, is_element, is_access, further_indices, unbuilt_index, unbuilt_indices, unbuilt_element, unbuilt_access, is_sum_of, unbuilt_sum, unbuilt_stored, unbuilt_value, has_dashes, holds_steps, form_holds, other_holds, groups_hold, part_holds, unbuilt_action, unbuilt_form, unbuilt_groups, unbuilt_part, unbuilt_decl, unbuilt_decls, unbuilt_functions, unbuilt_forms}
-use Rattle.dh_tree.specs.NameCounts.{declared_in, declared_in_form, declared_in_other, declared_in_groups, declared_in_actions, declared_in_functions, names_declared}
+use Rattle.dh_tree.specs.Forms.{unbuilt, plain_number, is_small, is_stored, is_element, is_access, further_indices, unbuilt_indices, unbuilt_access, is_sum_of, unbuilt_value, has_dashes, holds_steps, form_holds, other_holds, groups_hold, part_holds, unbuilt_action, unbuilt_form, unbuilt_groups, unbuilt_part, unbuilt_decl, unbuilt_decls, unbuilt_functions, unbuilt_forms}
+use Rattle.dh_tree.specs.NameCounts.{declared_in, declared_in_form, declared_in_other, declared_in_groups, declared_in_actions, declared_in_functions}
 use Rattle.dh_tree.specs.PlainTrees.{Term, term, TermForm, number, truth_value, named, accessed, in_bank, applied, converted, Terms, no_terms, term_then, Action, action, ActionForm, lets, lets_memory, views, assigns, stores, reduces, calls, blocks, decides, repeats, counts, MaybeAction, no_action, one_action, Actions, no_actions, action_then, Groups, no_groups, group_then, Declared, Formal, Defined, Program}
-use Rattle.dh_tree.specs.Resolved.{used, resolved_term, resolved_term_form, resolved_terms, resolved_action, resolved_form, resolved_other, resolved_actions, resolved_groups, resolved_decls, resolved_formals, resolved_function, resolved_functions, resolved}
+use Rattle.dh_tree.specs.Resolved.{resolved_term, resolved_term_form, resolved_terms, resolved_action, resolved_form, resolved_other, resolved_actions, resolved_groups, resolved_decls, resolved_formals, resolved_functions, resolved}
 use Rattle.dh_tree.specs.Scopes.{Binding, Scope, declare, leave, past, at_end, actions_at_end, formal_sort, body_start, after_function, first_scope, body_scope}
 use Rattle.dh_tree.specs.Written.{IsDeclared, IsWritten}
 
@@ -277,15 +275,17 @@ mutual
 
   groups_counted_kept : (s : Scope) (n : ℕ) (g : Groups) → AreCountedGroups n g → AreCountedGroups n (resolved_groups s g)
   groups_counted_kept s n no_groups h = tt
-  groups_counted_kept s n (group_then part rest) h =
-      (part_counted_kept s n part h.0,
-      subst (λ (m : ℕ). AreCountedGroups m (resolved_groups (actions_at_end s part) rest)) (sym (part_after_kept s n part)) (groups_counted_kept (actions_at_end s part) (part_after n part) rest h.1))
+  groups_counted_kept s n (group_then part rest) h = (
+    part_counted_kept s n part h.0,
+    subst (λ (m : ℕ). AreCountedGroups m (resolved_groups (actions_at_end s part) rest)) (sym (part_after_kept s n part)) (groups_counted_kept (actions_at_end s part) (part_after n part) rest h.1),
+  )
 
   part_counted_kept : (s : Scope) (n : ℕ) (p : Actions) → AreCounted n p → AreCounted n (resolved_actions s p)
   part_counted_kept s n no_actions h = tt
-  part_counted_kept s n (action_then a rest) h =
-      (counted_kept s n a h.0,
-      subst (λ (m : ℕ). AreCounted m (resolved_actions (past s a (at_end s a)) rest)) (sym (after_kept s n a)) (part_counted_kept (past s a (at_end s a)) (number_after n a) rest h.1))
+  part_counted_kept s n (action_then a rest) h = (
+    counted_kept s n a h.0,
+    subst (λ (m : ℕ). AreCounted m (resolved_actions (past s a (at_end s a)) rest)) (sym (after_kept s n a)) (part_counted_kept (past s a (at_end s a)) (number_after n a) rest h.1),
+  )
 
 -- declared names
 mutual

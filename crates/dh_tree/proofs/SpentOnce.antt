@@ -1,13 +1,13 @@
 -- Ports are spent at one place: accesses are in order, and the first that completes such a set is one.
 -- Where ports are kept there is no such access.
-use Rattle.std.proofs.Common.{◌≡◌, ℕ, zero, suc, ◌+◌, ◌<◌, ◌≤◌, ◌⊎◌, inl, inr, List, [], ◌∷◌, ◌++◌, length, Option, Some, None, option_map, refl, ap, sym, ◌∙◌, subst, arith, length-append}
+use Rattle.std.proofs.Common.{◌≡◌, ℕ, suc, ◌+◌, ◌<◌, ◌≤◌, ◌⊎◌, inl, inr, List, [], ◌∷◌, length, Option, Some, None, option_map, refl, ap, sym, ◌∙◌, arith, length-append}
 use Rattle.std.specs.Prelude.{slice_get}
 use Rattle.std.proofs.lemmas.Bool.{cases_lt}
 use Rattle.std.proofs.lemmas.Option.{slice_get_within}
 use Rattle.dh_base.specs.declared.places.Place.{Place}
-use Rattle.dh_tree.specs.Accesses.{Access, row, term_accesses, store_accesses, accesses, command_accesses, groups_accesses, part_accesses, meets, command_meets, groups_meets, part_meets, KeepsPorts, Overspends, PortsSpent}
+use Rattle.dh_tree.specs.Accesses.{Access, row, store_accesses, accesses, command_accesses, groups_accesses, part_accesses, meets, command_meets, groups_meets, part_meets, KeepsPorts, PortsSpent}
 use Rattle.dh_tree.specs.Meets.{Meets, nothing, access, all, one, In, Before}
-use Rattle.dh_tree.specs.PlainTrees.{Term, Action, action, ActionForm, lets, lets_memory, views, assigns, stores, reduces, calls, blocks, decides, repeats, counts, Actions, no_actions, action_then, Groups, no_groups, group_then, Program}
+use Rattle.dh_tree.specs.PlainTrees.{Action, action, ActionForm, lets, lets_memory, views, assigns, stores, reduces, calls, blocks, decides, repeats, counts, Actions, no_actions, action_then, Groups, no_groups, group_then, Program}
 
 -- of two accesses of a tree one stands before the other
 ordered : (t : Meets) (a b : ℕ) → In a t → In b t → (a ≡ b → ⊥) → Before t a b ⊎ Before t b a
@@ -86,9 +86,9 @@ spent_once p a b s t =
       | inr not ↦ elim (cases_lt t.number s.number) [
         | inl less ↦ absurd (apart (λ e. omega (arith, less, e)))
         | inr not' ↦
-          let same : s.number ≡ t.number = omega arith in
-          one_option (option_map (λ x. x.place) (slice_get (accesses p.body) t.number)) a b
-          (ap (λ k. option_map (λ (x : Access). x.place) (slice_get (accesses p.body) k)) (sym same) ∙ s.stands) t.stands
+            let same : s.number ≡ t.number = omega arith in
+            one_option (option_map (λ x. x.place) (slice_get (accesses p.body) t.number)) a b
+            (ap (λ k. option_map (λ (x : Access). x.place) (slice_get (accesses p.body) k)) (sym same) ∙ s.stands) t.stands
       ]
     ]
   where

@@ -1,5 +1,5 @@
 -- Which of several breaches is reported: the one that stands first.
-use Rattle.std.specs.Prelude.{ℕ, ◌<◌, ◌≡◌, ◌⊎◌, Bool, List, [], ◌∷◌, Option, Some, None, if◌then◌else◌, ◌==◌, ◌&&◌, ◌||◌, nat_lt, Contains}
+use Rattle.std.specs.Prelude.{◌<◌, ◌≡◌, ◌⊎◌, Bool, List, [], ◌∷◌, Option, Some, None, if◌then◌else◌, ◌==◌, ◌&&◌, ◌||◌, nat_lt, Contains}
 use Rattle.dh_base.specs.declared.places.Place.{Place}
 use Rattle.dh_base.specs.declared.rules.Rule.{Rule}
 use Rattle.dh_base.specs.Rules.{number_of}

@@ -3,7 +3,7 @@
 -- number, to memories from outside, whose entities are their numbers in the table. (The rules on
 -- kinds of this profile: a number takes the kind of its place, or of the other operand; a number
 -- alone in brackets is of `bit<32>`.)
-use Rattle.std.specs.Prelude.{ℕ, false, true, List, [], ◌∷◌, map, slice_get, Option, Some, None}
+use Rattle.std.specs.Prelude.{ℕ, false, true, List, map, slice_get, Option, Some, None}
 use Rattle.dh_base.specs.declared.places.Place.{Place}
 use Rattle.dh_value.specs.declared.kinds.Kind.{Kind}
 use Rattle.dh_value.specs.declared.kinds.Kind.TheVariants.{Signed}

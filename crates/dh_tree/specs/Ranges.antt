@@ -2,15 +2,14 @@
 -- kind, `ConstantRange` (K12) at a size 0 and at a literal index that is too large. (Rules of this
 -- profile.) For now a memory is declared outside and accessed by literal indices; forms that are not
 -- built have no breach.
-use Rattle.std.specs.Prelude.{ℕ, ◌==◌, ◌≤◌, ◌+◌, nat_le, nat_lt, false, true, List, [], ◌∷◌, ◌++◌, slice_get, Option, Some, None, if◌then◌else◌}
+use Rattle.std.specs.Prelude.{ℕ, ◌==◌, nat_le, nat_lt, List, [], ◌∷◌, ◌++◌, slice_get, Option, Some, None, if◌then◌else◌}
 use Rattle.dh_base.specs.declared.places.Place.{Place}
 use Rattle.dh_base.specs.declared.rules.Rule.TheVariants.{WidthLost, ConstantRange}
 use Rattle.dh_tree.specs.declared.breaches.Breach.{Breach}
 use Rattle.dh_tree.specs.declared.tables.Dim.{Dim}
-use Rattle.dh_tree.specs.declared.trees.expressions.Ref.{Ref}
 use Rattle.dh_tree.specs.declared.trees.programs.DimPlaces.{DimPlaces}
 use Rattle.dh_tree.specs.LeastBreach.{breach}
-use Rattle.dh_tree.specs.PlainTrees.{Term, term, TermForm, number, accessed, in_bank, applied, converted, Terms, no_terms, term_then, Action, action, ActionForm, stores, blocks, Actions, no_actions, action_then, Groups, no_groups, group_then, Declared, Program}
+use Rattle.dh_tree.specs.PlainTrees.{Term, term, TermForm, number, accessed, applied, Terms, no_terms, term_then, Action, action, ActionForm, stores, blocks, Actions, no_actions, action_then, Groups, no_groups, group_then, Declared, Program}
 
 -- the greatest value of `bit<32>`, the kind of a number alone in brackets
 abbrev pub greatest_index : ℕ
