@@ -81,9 +81,14 @@ Judged text v =
     ((place : Place) × (IsBreach text place × (v ≡ refuses Lex place)))
     ⊎ ((tokens : List Token) × (HasTokens text tokens × JudgedTokens tokens (tokens_excess tokens) v))
 
+-- what a text comes to, and nothing else
+pub record IsVerdict (text : List ℕ) (v : Verdict) : Type 0 where
+  pub judged : Judged text v
+  pub only : (w : Verdict) → Judged text w → w ≡ v
+
 -- an answer tells what the text comes to, or memory was refused
 abbrev pub Checks : List ℕ → Result Accepted CheckFault → Type 0
-Checks text (Ok a) = Judged text (accepts (program_seen a))
-Checks text (Err (fault.Refused rule place)) = Judged text (refuses rule place)
-Checks text (Err (fault.TooLarge excess)) = Judged text (exceeds excess)
+Checks text (Ok a) = IsVerdict text (accepts (program_seen a))
+Checks text (Err (fault.Refused rule place)) = IsVerdict text (refuses rule place)
+Checks text (Err (fault.TooLarge excess)) = IsVerdict text (exceeds excess)
 Checks text (Err fault.NoMemory) = Unit {0}
