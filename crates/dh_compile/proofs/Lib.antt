@@ -1,3 +1,7 @@
+pub mod Plain
+pub mod Meeting
+pub mod Joining
+pub mod Quiet
 pub mod Cells
 pub mod Pushes
 pub mod Driven

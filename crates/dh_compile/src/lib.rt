@@ -10,6 +10,7 @@ mod clocks;
 mod compiling;
 mod drafts;
 mod ports;
+mod gathering;
 mod stores;
 mod uses;
 mod wires;
