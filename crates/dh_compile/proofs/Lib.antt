@@ -1,3 +1,7 @@
+pub mod Portions
+pub mod Ordering
+pub mod Meant
+pub mod Declarations
 pub mod Plain
 pub mod Meeting
 pub mod Joining

@@ -90,7 +90,7 @@ pub record LineFits (d : Declared) : Type 0 where
   pub line : d.shape.dims ≡ line_of size
   pub least : 1 ≤ size
 
-no_rest : {A : Type 0} (xs ys : List A) → xs ++ ys ≡ [] → (xs ≡ []) × (ys ≡ [])
+pub no_rest : {A : Type 0} (xs ys : List A) → xs ++ ys ≡ [] → (xs ≡ []) × (ys ≡ [])
 no_rest [] ys e = (refl, e)
 no_rest (x ∷ xs) ys e = absurd (cc)
 
@@ -116,7 +116,7 @@ small_number (applied o left right) e = absurd (cc)
 small_number (converted inner to) e = absurd (cc)
 
 -- a choice that gives nothing, where the other side would give something
-if_none : {A : Type 0} (b : Bool) (xs : List A) (y : A) (ys : List A) → (if b then xs else y ∷ ys) ≡ [] → (b ≡ true) × (xs ≡ [])
+pub if_none : {A : Type 0} (b : Bool) (xs : List A) (y : A) (ys : List A) → (if b then xs else y ∷ ys) ≡ [] → (b ≡ true) × (xs ≡ [])
 if_none true xs y ys e = (refl, e)
 if_none false xs y ys e = absurd (cc)
 
@@ -193,8 +193,8 @@ entity_fits : (ds : List Declared) (bs : List Binding) → Known ds bs → (plac
 entity_fits ds bs known place name None indices is some_one built judged = absurd (cc)
 entity_fits ds bs known place name (Some m) indices is some_one built judged =
     elim (slice_get_cases ds m).1 [
-      inl found ↦ index_fits ds m found.0 found.1.1.0 (at_place LineFits ds m found.0 known.lines found.1.1.0) place indices built judged
-    | inr past ↦ absurd (let below = known.declared name m is in omega (arith, below, past.0))
+      inl found ↦ index_fits ds m found.0 found.2 (at_place LineFits ds m found.0 known.lines found.2) place indices built judged
+    | inr over ↦ absurd (let below = known.declared name m is in omega (arith, below, over.0))
     ]
 
 element_fits : (ds : List Declared) (bs : List Binding) → Known ds bs → (place : Place) (form : TermForm) → unbuilt_element place form ≡ []
