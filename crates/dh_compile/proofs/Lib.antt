@@ -1,3 +1,4 @@
+pub mod Spent
 pub mod Portions
 pub mod Ordering
 pub mod Meant

@@ -12,7 +12,7 @@ use Rattle.dh_tree.specs.PlainTrees.{Term, term, TermForm, number, truth_value, 
 use Rattle.dh_tree.specs.Phases.{Phase, straight, phases, id_of, in_one_straight}
 use Rattle.dh_tree.specs.Meets.{Together, Apart, total}
 use Rattle.dh_tree.specs.Accesses.{Access, form_accesses, terms_accesses, target_accesses, term_accesses, accesses, meets, same_entity, equal_reads, shares, charge_behind, charge, ports_of, KeepsPorts}
-use Rattle.dh_tree.specs.Meaning.{entity_number}
+use Rattle.dh_tree.specs.Meaning.{entry_of, entity_number}
 use Rattle.dh_compile.specs.declared.stores.Operand.{Operand}
 use Rattle.dh_compile.specs.declared.stores.Store.{Store}
 use Rattle.dh_compile.specs.Grouped as grouped
@@ -63,7 +63,7 @@ no_accesses P id (term_then (term p k form) (term_then u rest)) h = absurd h
 
 indices_quiet : (ds : List Declared) (id : ℕ) (e : Option ℕ) (indices : Terms) → EntityFits ds e indices → (terms_accesses id indices ≡ []) × (e ≡ Some (entity_number e))
 indices_quiet ds id None indices h = absurd h
-indices_quiet ds id (Some m) indices h = (no_accesses (grouped.IsElement (map _ ds) m) id indices h, refl)
+indices_quiet ds id (Some m) indices h = (no_accesses (grouped.IsElement (map entry_of ds) m) id indices h, refl)
 
 number_quiet : (id : ℕ) (place : Place) (form : TermForm) → PlainNumber IsSmall form → form_accesses id place form ≡ []
 number_quiet id place (number negative n) h = refl
