@@ -1,3 +1,4 @@
+pub mod Accepting
 pub mod Spent
 pub mod Portions
 pub mod Ordering
