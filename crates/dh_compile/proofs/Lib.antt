@@ -1,3 +1,4 @@
+pub mod AcceptedRuns
 pub mod Accepting
 pub mod Spent
 pub mod Portions

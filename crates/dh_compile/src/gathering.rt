@@ -1,8 +1,10 @@
 //! The groups of a tree: one for each straight phase of its body, in order.
 
-ghost use Rattle.std.specs.Prelude.{◌≡◌, ℕ, ◌++◌, [], ◌∷◌, map, IfOk, OnOk};
+ghost use Rattle.std.specs.Prelude.{◌≡◌, ◌++◌, [], ◌∷◌, map, IfOk, OnOk};
 ghost use Rattle.dh_tree.specs.Seen.{term_seen, form_seen, terms, action_seen, declared_seen, program_seen, actions, groups, part_seen};
-ghost use Rattle.dh_tree.specs.Meaning.{memory_of, entry_of};
+ghost use Rattle.dh_tree.specs.Meaning.{memory_of, entry_of, meaning_of};
+ghost use Rattle.dh_check.specs.Acceptance.{IsAccepted};
+ghost use Rattle.dh_compile.specs.Grouped.{IsGrouped, tree_of};
 ghost use Rattle.dh_compile.specs.Reading as read;
 ghost use Rattle.dh_compile.specs.Reading.{number_read, index_read, element_read, stored_read, store_read, groups_read, one_group, done_by, current_after, parts_read, part_read, program_read};
 
@@ -250,7 +252,11 @@ fn program_in(alloc: Global, tree: &Tree) -> Result<Program, NoMemory>
     })
 }
 
-/// A law in passing.
-fn quiet_law()
-    ensures { (n : ℕ) → n ≡ n }
-{}
+/// The program of an accepted tree as its groups: one for each straight phase of its body, in order.
+pub(crate) fn groups_of(alloc: Global, tree: &Tree) -> Result<Program, NoMemory>
+    requires { IsAccepted (program_seen tree.now) }
+    ensures meaning { IfOk result (λ program. tree_of program ≡ meaning_of (program_seen tree.now)) }
+    ensures grouped { IfOk result (λ program. IsGrouped program) }
+{
+    program_in(alloc, tree)
+}
