@@ -260,3 +260,98 @@ pub(crate) fn groups_of(alloc: Global, tree: &Tree) -> Result<Program, NoMemory>
 {
     program_in(alloc, tree)
 }
+
+#[cfg(test)]
+mod tests {
+    use super::*;
+    use dh_tree::Name;
+    use std::test::Fail;
+
+    const FIRST: Place = Place { line: 1, column: 1 };
+
+    fn number(value: u64) -> Expr {
+        Expr {
+            place: FIRST,
+            kind: None,
+            form: ExprForm::Number {
+                negative: false,
+                value,
+            },
+        }
+    }
+
+    /// `M[0]`, of the memory of this number.
+    fn element(alloc: Global, memory: u32) -> Result<Expr, NoMemory> {
+        let name = Name::new(String::from_str(alloc, "M")?);
+        let mut indices = Vec::new(alloc);
+        indices.push(number(0))?;
+        let of = Ref {
+            name,
+            place: FIRST,
+            entity: Some(memory),
+        };
+        Ok(Expr {
+            place: FIRST,
+            kind: None,
+            form: ExprForm::Access { of, indices },
+        })
+    }
+
+    fn command(form: CommandForm) -> Command {
+        Command {
+            id: 0,
+            place: FIRST,
+            form,
+        }
+    }
+
+    /// `M[0] := 7`
+    fn store(alloc: Global, memory: u32) -> Result<Command, NoMemory> {
+        let target = element(alloc, memory)?;
+        Ok(command(CommandForm::Store {
+            target,
+            value: number(7),
+        }))
+    }
+
+    /// `{ first --- second }`
+    fn block(alloc: Global, first: Vec<Command>, second: Vec<Command>) -> Result<Command, NoMemory> {
+        let mut body = Vec::new(alloc);
+        body.push(first)?;
+        body.push(second)?;
+        Ok(command(CommandForm::Block { body }))
+    }
+
+    /// `M[0] := 7;`
+    fn one(alloc: Global, memory: u32) -> Result<Vec<Command>, NoMemory> {
+        let mut part = Vec::new(alloc);
+        part.push(store(alloc, memory)?)?;
+        Ok(part)
+    }
+
+    /// `{ A := 7; { B := 7 --- } C := 7 --- { D := 7 --- E := 7 } F := 7 }`, with the memories in order.
+    fn nested(alloc: Global) -> Result<Command, NoMemory> {
+        let mut first = one(alloc, 0)?;
+        first.push(block(alloc, one(alloc, 1)?, Vec::new(alloc))?)?;
+        first.push(store(alloc, 2)?)?;
+        let mut second = Vec::new(alloc);
+        second.push(block(alloc, one(alloc, 3)?, one(alloc, 4)?)?)?;
+        second.push(store(alloc, 5)?)?;
+        block(alloc, first, second)
+    }
+
+    #[test]
+    fn gathers_straight_neighbours(rt: HostRuntime) -> Result<(), Fail> {
+        let alloc = rt.alloc();
+        let groups = groups_in(alloc, &nested(alloc)?)?;
+        let mut text = String::new(alloc);
+        for group in &groups {
+            for store in group.as_slice() {
+                write!(text, "{} ", store.memory)?;
+            }
+            write!(text, "| ")?;
+        }
+        assert_eq!(rt; text.as_str(), "0 1 2 | 3 | 4 | 5 | ");
+        Ok(())
+    }
+}
