@@ -15,7 +15,7 @@ use Rattle.dh_compile.specs.declared.stores.Program.{Program}
 use Rattle.dh_compile.specs.Grouped.{IsGrouped, tree_of}
 use Rattle.dh_compile.specs.Built.{IsBuilt}
 use Rattle.dh_compile.specs.Compiled.{run_of_tree, PlaysProgram, EndsSoon}
-use Rattle.dh_compile.specs.GroupRun.{group_run, PlaysGroups, GroupsEnd}
+use Rattle.dh_compile.specs.GroupRun.{PlaysGroups}
 use Rattle.dh_compile.specs.Reading.{phase_read, program_read}
 use Rattle.dh_compile.proofs.PlayingPrograms.{plays_groups, groups_end}
 use Rattle.dh_compile.proofs.Accepting.{accepted_grouped, accepted_meant}
@@ -28,7 +28,7 @@ plays_meaning p g net same h =
       table = h.table ∙ tables;
       zero_reads = h.zero_reads;
       plays = λ memories fits.
-        subst (λ (t : Tree). Plays net (run_of_tree t memories) memories) same (h.plays memories (subst (λ t. Fits t memories) (sym tables) fits));
+          subst (λ (t : Tree). Plays net (run_of_tree t memories) memories) same (h.plays memories (subst (λ t. Fits t memories) (sym tables) fits));
     }
 
 -- of the net that was built for the groups, where one was
@@ -44,7 +44,7 @@ length_map f (x ∷ xs) = let e = length_map f xs in omega (arith, e)
 pub accepted_ends : (p : plain.Program) → IsAccepted p → EndsSoon p
 accepted_ends p accepted = record {
   ends = λ memories fits.
-    subst (λ (n : ℕ). EndsAfter (run_of_tree (meaning_of p) memories) n) (length_map phase_read (phases p.body))
+      subst (λ (n : ℕ). EndsAfter (run_of_tree (meaning_of p) memories) n) (length_map phase_read (phases p.body))
       (subst (λ (t : Tree). EndsAfter (run_of_tree t memories) (length (map phase_read (phases p.body)))) (accepted_meant p accepted)
-        ((groups_end (program_read p) (accepted_grouped p accepted)).ends memories fits));
+      ((groups_end (program_read p) (accepted_grouped p accepted)).ends memories fits));
 }

@@ -1,34 +1,31 @@
 -- An accepted program's groups are those of a program that the compiler takes, and mean what the program
 -- means.
-use Rattle.std.proofs.Common.{◌≡◌, ℕ, ◌+◌, ◌≤◌, ◌<◌, ◌^◌, Option, Some, None, List, [], ◌∷◌, ◌++◌, length, map, refl, ap, sym, subst, ◌∙◌, append_assoc, append-nil, arith, length-append, inl, inr}
-use Rattle.std.specs.Prelude.{◌⊎◌, Bool, true, false, ◌||◌, slice_get, if◌then◌else◌}
+use Rattle.std.proofs.Common.{◌≡◌, ℕ, ◌+◌, ◌≤◌, ◌<◌, Option, Some, None, List, [], ◌∷◌, ◌++◌, length, map, refl, ap, sym, subst, ◌∙◌, append_assoc, append-nil, arith, length-append, inl, inr}
+use Rattle.std.specs.Prelude.{Bool, true, false, ◌||◌, slice_get, if◌then◌else◌}
 use Rattle.std.specs.List.{AllByRecursion}
 use Rattle.std.proofs.lemmas.Option.{slice_get_cases}
 use Rattle.dh_value.specs.declared.kinds.Kind.TheVariants.{Unsigned}
 use Rattle.dh_tree.specs.PlainTrees.{Action, Declared, Defined, Program}
 use Rattle.dh_tree.specs.Phases.{Phase, straight, phases, id_of, in_one_straight}
-use Rattle.dh_tree.specs.Accesses.{Access, accesses, declared_ports, ports_of, KeepsPorts}
-use Rattle.dh_tree.specs.Scopes.{Item, memory_items, function_items, merged, items_of, after_items, body_scope, entity_of}
+use Rattle.dh_tree.specs.Accesses.{Access, accesses, declared_ports, KeepsPorts}
+use Rattle.dh_tree.specs.Scopes.{memory_items, function_items, merged, items_of, after_items, body_scope, entity_of}
 use Rattle.dh_tree.specs.Breaches.{items_breaches, functions_breaches, breaches}
 use Rattle.dh_tree.specs.Scopes.{first_scope}
 use Rattle.dh_tree.specs.Ranges.{index_range, decls_judged, action_judged}
-use Rattle.dh_tree.specs.Meaning.{entry_of, meaning_of, table_of}
+use Rattle.dh_tree.specs.Meaning.{meaning_of, table_of}
 use Rattle.dh_tree.specs.FirstForms.{number_after}
-use Rattle.dh_tree.specs.Tree.{Tree}
 use Rattle.dh_check.specs.Forms.{unbuilt_decls, unbuilt_functions, unbuilt_action}
 use Rattle.dh_check.specs.Acceptance.{IsAccepted}
 use Rattle.dh_compile.specs.declared.stores.Operand.{Operand}
-use Rattle.dh_compile.specs.declared.stores.Store.{Store}
-use Rattle.dh_compile.specs.Grouped as grouped
 use Rattle.dh_compile.specs.Grouped.{IsGroup, IsGrouped, tree_of}
-use Rattle.dh_compile.specs.Timetable.{any_read, is_read, group_length, total_length}
-use Rattle.dh_compile.specs.Reading.{action_read, phase_read, groups_read, program_read}
+use Rattle.dh_compile.specs.Timetable.{any_read, is_read, total_length}
+use Rattle.dh_compile.specs.Reading.{action_read, phase_read, program_read}
 use Rattle.dh_compile.proofs.Groups.{at_place}
-use Rattle.dh_compile.proofs.Plain.{no_rest, Known, CommandFits, PhaseFits, PhasesFit, body_fits}
+use Rattle.dh_compile.proofs.Plain.{no_rest, Known, CommandFits, PhasesFit, body_fits}
 use Rattle.dh_compile.proofs.Declarations.{IsLineDecl, merged_none, no_functions, visible_declared, distinct_names, decls_are, lines_are, entries_are}
 use Rattle.dh_compile.proofs.Meant.{AreWords, phases_are, stores_are}
 use Rattle.dh_compile.proofs.Meeting.{commands_accesses, phases_accesses, phases_append, accesses_are}
-use Rattle.dh_compile.proofs.Ordering.{Numbered, AllNumbered, Ordered, AllBelow, ordered, not_together, below_more}
+use Rattle.dh_compile.proofs.Ordering.{AllNumbered, Ordered, AllBelow, ordered, not_together, below_more}
 use Rattle.dh_compile.proofs.Portions.{AreReads, AreAccesses, store_has, charged_keep}
 use Rattle.dh_compile.proofs.Spent.{NeverWith, phase_spent}
 
@@ -51,7 +48,7 @@ reads_command id (Some o) (x ∷ y ∷ xs) h = absurd h
 its_accesses : (id m : ℕ) (source : Option Operand) (xs : List Access) → AreAccesses id source m xs → AllByRecursion (λ (a : Access). a.command ≡ id) xs
 its_accesses id m source xs h =
     subst (λ (l : List Access). AllByRecursion (λ (a : Access). a.command ≡ id) l) (sym h.are)
-      (all_append (λ (a : Access). a.command ≡ id) h.reads (h.write ∷ []) (reads_command id source h.reads h.has_reads) (h.has_write.command, tt))
+    (all_append (λ (a : Access). a.command ≡ id) h.reads (h.write ∷ []) (reads_command id source h.reads h.has_reads) (h.has_write.command, tt))
 
 -- its command's number lies between these
 abbrev Between : (low high : ℕ) → Access → Type 0
@@ -61,9 +58,9 @@ commands_between : (ds : List Declared) (low high : ℕ) (cs : List Action) → 
 commands_between ds low high [] h k = tt
 commands_between ds low high (c ∷ cs) h k =
     all_append (Between low high) (accesses c) (commands_accesses cs)
-      (all_map (λ (a : Access). a.command ≡ id_of c) (Between low high) (λ a e. (omega (arith, e, k.0.0), omega (arith, e, k.0.1))) (accesses c)
-        (its_accesses (id_of c) (action_read c).memory (action_read c).source (accesses c) (store_has ds c h.0)))
-      (commands_between ds low high cs h.1 k.1)
+    (all_map (λ (a : Access). a.command ≡ id_of c) (Between low high) (λ a e. (omega (arith, e, k.0.0), omega (arith, e, k.0.1))) (accesses c)
+    (its_accesses (id_of c) (action_read c).memory (action_read c).source (accesses c) (store_has ds c h.0)))
+    (commands_between ds low high cs h.1 k.1)
 
 length_map : {A B : Type 0} (f : A → B) (xs : List A) → length (map f xs) ≡ length xs
 length_map f [] = refl
@@ -81,8 +78,8 @@ words_are ds h = all_map IsLineDecl (λ (d : Declared). d.shape.kind ≡ Unsigne
 one_port : (ds : List Declared) (m : ℕ) → AllByRecursion IsLineDecl ds → declared_ports (slice_get ds m) ≤ 1
 one_port ds m h =
     elim (slice_get_cases ds m).1 [
-      inl found ↦ (let e = ap declared_ports found.2 in let f = (at_place IsLineDecl ds m found.0 h found.2).ports in omega (arith, e, f))
-    | inr over ↦ (let e = ap declared_ports over.1 in omega (arith, e))
+      | inl found ↦ (let e = ap declared_ports found.2 in let f = (at_place IsLineDecl ds m found.0 h found.2).ports in omega (arith, e, f))
+      | inr over ↦ (let e = ap declared_ports over.1 in omega (arith, e))
     ]
 
 -- the groups of phases that come behind others
@@ -93,25 +90,26 @@ groups_are p facts before [] low high split below early o fits = tt
 groups_are p facts before (straight cs ∷ behind) low high split below early o fits =
     let here = commands_between p.decls low o.0 cs fits.0.1 o.1.1.0 in
     let never_with : AllByRecursion (NeverWith (phases p.body) (phases_accesses before)) (commands_accesses cs) =
-          all_map (Between low o.0) (NeverWith (phases p.body) (phases_accesses before))
-            (λ a at. all_map (λ (e : Access). e.command < low) (λ (e : Access). in_one_straight (phases p.body) e.command a.command ≡ true → ⊥)
-              (λ e first together. not_together low o.0 high e.command a.command before behind cs below o.1.1.0 o.1.1.1 first at.0 at.1
-                (ap (λ ps. in_one_straight ps e.command a.command) (sym split) ∙ together))
-              (phases_accesses before) early)
-            (commands_accesses cs) here in
+    all_map (Between low o.0) (NeverWith (phases p.body) (phases_accesses before))
+    (λ a at. all_map (λ (e : Access). e.command < low) (λ (e : Access). in_one_straight (phases p.body) e.command a.command ≡ true → ⊥)
+    (λ e first together. not_together low o.0 high e.command a.command before behind cs below o.1.1.0 o.1.1.1 first at.0 at.1
+    (ap (λ ps. in_one_straight ps e.command a.command) (sym split) ∙ together))
+    (phases_accesses before) early)
+    (commands_accesses cs) here in
     let group : IsGroup (table_of p) (map action_read cs) = record {
-          least = let e = length_map action_read cs in omega (arith, e, fits.0.0);
-          stores = stores_are p.decls cs fits.0.1;
-          ports = charged_keep p.decls cs fits.0.1 (λ m. phase_spent p m before cs behind split facts.keeps (one_port p.decls m facts.decls) never_with);
-        } in
-    (group,
-     groups_are p facts (before ++ straight cs ∷ []) behind o.0 high (split ∙ sym (append_assoc before (straight cs ∷ []) behind))
-       (below_more low o.0 before cs o.1.0 below o.1.1.0)
-       (subst (λ (l : List Access). AllByRecursion (λ (e : Access). e.command < o.0) l) (sym (phases_append before (straight cs ∷ []) ∙ ap (λ l. phases_accesses before ++ l) (append-nil (commands_accesses cs))))
-         (all_append (λ (e : Access). e.command < o.0) (phases_accesses before) (commands_accesses cs)
-           (all_map (λ (e : Access). e.command < low) (λ (e : Access). e.command < o.0) (λ e l. omega (arith, l, o.1.0)) (phases_accesses before) early)
-           (all_map (Between low o.0) (λ (e : Access). e.command < o.0) (λ e b. b.1) (commands_accesses cs) here)))
-       o.1.1.1 fits.1)
+      least = let e = length_map action_read cs in omega (arith, e, fits.0.0);
+      stores = stores_are p.decls cs fits.0.1;
+      ports = charged_keep p.decls cs fits.0.1 (λ m. phase_spent p m before cs behind split facts.keeps (one_port p.decls m facts.decls) never_with);
+    } in (
+      group,
+      groups_are p facts (before ++ straight cs ∷ []) behind o.0 high (split ∙ sym (append_assoc before (straight cs ∷ []) behind))
+          (below_more low o.0 before cs o.1.0 below o.1.1.0)
+          (subst (λ (l : List Access). AllByRecursion (λ (e : Access). e.command < o.0) l) (sym (phases_append before (straight cs ∷ []) ∙ ap (λ l. phases_accesses before ++ l) (append-nil (commands_accesses cs))))
+          (all_append (λ (e : Access). e.command < o.0) (phases_accesses before) (commands_accesses cs)
+          (all_map (λ (e : Access). e.command < low) (λ (e : Access). e.command < o.0) (λ e l. omega (arith, l, o.1.0)) (phases_accesses before) early)
+          (all_map (Between low o.0) (λ (e : Access). e.command < o.0) (λ e b. b.1) (commands_accesses cs) here)))
+          o.1.1.1 fits.1,
+    )
 
 -- a store that reads has two accesses, any other one
 many : (id m : ℕ) (source : Option Operand) (xs : List Access) → AreAccesses id source m xs → (if is_read source then 2 else 1) ≤ length xs
@@ -183,9 +181,9 @@ facts_are p a =
     let body_names = no_rest (functions_breaches (length p.decls) (first_scope p) p.functions) (breaches (body_scope p) p.body) names.1 in
     let decls = decls_are p.decls a.written.decls built.0 ranges.0 in
     let known : Known p.decls (body_scope p).visible = record {
-          declared = λ name m e. visible_declared p.decls name m (ap (λ items. entity_of (after_items [] items) name) (sym (accepted_items p a)) ∙ e);
-          lines = lines_are p.decls decls;
-        } in
+      declared = λ name m e. visible_declared p.decls name m (ap (λ items. entity_of (after_items [] items) name) (sym (accepted_items p a)) ∙ e);
+      lines = lines_are p.decls decls;
+    } in
     record {
       decls = decls;
       fits = body_fits p.decls (body_scope p).visible known p.body (body_scope p) refl forms.1 ranges.1 body_names.1 (ap (λ q. q.body) a.entities);
@@ -202,8 +200,8 @@ accepted_grouped p a =
       elements = a.elements;
       groups = groups_are p facts [] (phases p.body) a.written.first_number (number_after a.written.first_number p.body) refl tt tt (ordered p.body a.written.first_number a.written.counted) facts.fits;
       short = let clocks = clocks_are p.decls (phases p.body) facts.fits in
-        let e : length (accesses p.body) ≡ length (phases_accesses (phases p.body)) = ap length (accesses_are p.body) in
-        omega (arith, clocks, e, a.written.accesses);
+          let e : length (accesses p.body) ≡ length (phases_accesses (phases p.body)) = ap length (accesses_are p.body) in
+          omega (arith, clocks, e, a.written.accesses);
     }
 
 -- they mean what it means

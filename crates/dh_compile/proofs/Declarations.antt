@@ -1,7 +1,7 @@
 -- What acceptance says of the declarations of a program: each is of a line of `ubit<32>`, their names
 -- differ, and a visible name is that of one of them.
-use Rattle.std.proofs.Common.{◌≡◌, ℕ, ◌+◌, ◌*◌, ◌≤◌, ◌<◌, Option, Some, None, List, [], ◌∷◌, ◌++◌, length, map, refl, ap, sym, subst, ◌∙◌, arith, inl, inr}
-use Rattle.std.specs.Prelude.{◌⊎◌, Bool, true, false, ◌==◌, slice_get, if◌then◌else◌}
+use Rattle.std.proofs.Common.{◌≡◌, ℕ, ◌+◌, ◌*◌, ◌≤◌, ◌<◌, Option, Some, None, List, [], ◌∷◌, ◌++◌, length, map, refl, ap, ◌∙◌, arith}
+use Rattle.std.specs.Prelude.{Bool, true, false, ◌==◌, if◌then◌else◌}
 use Rattle.std.specs.List.{AllByRecursion}
 use Rattle.std.specs.Option.{is_some}
 use Rattle.std.specs.Str.{bytes_eq}
@@ -23,7 +23,7 @@ use Rattle.dh_tree.specs.Written.{IsOneUnless, AreDims, IsDeclared}
 use Rattle.dh_tree.specs.Meaning.{entry_of}
 use Rattle.dh_check.specs.Forms.{is_word, unbuilt_where, further_dims, unbuilt_dims, unbuilt_decl, unbuilt_decls, unbuilt_functions}
 use Rattle.dh_compile.specs.Grouped as grouped
-use Rattle.dh_compile.proofs.Plain.{LineFits, Known, no_rest, if_none}
+use Rattle.dh_compile.proofs.Plain.{LineFits, no_rest, if_none}
 
 -- the numbers of all visible names are below a number
 abbrev Below : ℕ → List Binding → Type 0
@@ -49,8 +49,8 @@ after_below : (n : ℕ) (bs : List Binding) (items : List Item) → Below n bs �
 after_below n bs [] h k = h
 after_below n bs (i ∷ items) h k =
     after_below n (bind bs i.name.name i.entity) items
-      (chosen_below n (is_visible bs i.name.name) bs (bs ++ binding i.name.name i.entity ∷ []) h (all_append (λ b. b.entity < n) bs (binding i.name.name i.entity ∷ []) h (k.0, tt)))
-      k.1
+    (chosen_below n (is_visible bs i.name.name) bs (bs ++ binding i.name.name i.entity ∷ []) h (all_append (λ b. b.entity < n) bs (binding i.name.name i.entity ∷ []) h (k.0, tt)))
+    k.1
 
 items_below : (n first : ℕ) (ds : List Declared) → first + length ds ≤ n → AllByRecursion (λ i. i.entity < n) (memory_items first ds)
 items_below n first [] h = tt
@@ -102,21 +102,23 @@ no_name : (name : List ℕ) (bs : List Binding) (n : ℕ) (ds : List Declared) �
 no_name name bs n [] seen h = tt
 no_name name bs n (d ∷ ds) seen h =
     let split = no_rest (twice bs d.name) (items_breaches (bind bs d.name.name n) (memory_items (n + 1) ds)) h in
-    let fresh : is_visible bs d.name.name ≡ false = not_twice (is_visible bs d.name.name) _ split.0 in
-    ((λ same. absurd (let x : is_visible bs d.name.name ≡ is_visible bs name = ap (is_visible bs) same in cc)),
-     no_name name (bind bs d.name.name n) (n + 1) ds
-       (chosen_visible (is_visible bs d.name.name) bs (bs ++ binding d.name.name n ∷ []) name (λ t. seen) (visible_still bs name (binding d.name.name n ∷ []) seen))
-       split.1)
+    let fresh : is_visible bs d.name.name ≡ false = not_twice (is_visible bs d.name.name) _ split.0 in (
+      (λ same. absurd (let x : is_visible bs d.name.name ≡ is_visible bs name = ap (is_visible bs) same in cc)),
+      no_name name (bind bs d.name.name n) (n + 1) ds
+          (chosen_visible (is_visible bs d.name.name) bs (bs ++ binding d.name.name n ∷ []) name (λ t. seen) (visible_still bs name (binding d.name.name n ∷ []) seen))
+          split.1,
+    )
 
 -- the names of the memories differ
 pub distinct_names : (bs : List Binding) (n : ℕ) (ds : List Declared) → items_breaches bs (memory_items n ds) ≡ [] → HasDistinctNames (map entry_of ds)
 distinct_names bs n [] h = tt
 distinct_names bs n (d ∷ ds) h =
-    let split = no_rest (twice bs d.name) (items_breaches (bind bs d.name.name n) (memory_items (n + 1) ds)) h in
-    (no_name d.name.name (bind bs d.name.name n) (n + 1) ds
-       (chosen_visible (is_visible bs d.name.name) bs (bs ++ binding d.name.name n ∷ []) d.name.name (λ t. t) (visible_last bs d.name.name n))
-       split.1,
-     distinct_names (bind bs d.name.name n) (n + 1) ds split.1)
+    let split = no_rest (twice bs d.name) (items_breaches (bind bs d.name.name n) (memory_items (n + 1) ds)) h in (
+      no_name d.name.name (bind bs d.name.name n) (n + 1) ds
+          (chosen_visible (is_visible bs d.name.name) bs (bs ++ binding d.name.name n ∷ []) d.name.name (λ t. t) (visible_last bs d.name.name n))
+          split.1,
+      distinct_names (bind bs d.name.name n) (n + 1) ds split.1,
+    )
 
 word_is : (k : Kind) → is_word k ≡ true → k ≡ kind.Unsigned 32
 word_is kind.Bool e = absurd (cc)
@@ -203,12 +205,13 @@ pub entries_are : (ds : List Declared) → AllByRecursion IsDeclared ds → AllB
     → AllByRecursion grouped.IsLineEntry (map entry_of ds)
 entries_are [] named h most = tt
 entries_are (d ∷ ds) named h most =
-    let e : elements_of d.shape.dims ≡ h.0.line.size * 1 = ap elements_of h.0.line.line in
-    (record {
-       size = h.0.line.size;
-       is = ap (λ s. record { name = d.name.name; shape = s; outside = true }) (shape_is d.shape h.0.line.size h.0.kind h.0.ports h.0.line.line);
-       least = h.0.line.least;
-       greatest = omega (arith, e, most);
-       name = named.0.named;
-     },
-     entries_are ds named.1 h.1 (omega (arith, most)))
+    let e : elements_of d.shape.dims ≡ h.0.line.size * 1 = ap elements_of h.0.line.line in (
+      record {
+        size = h.0.line.size;
+        is = ap (λ s. record { name = d.name.name; shape = s; outside = true }) (shape_is d.shape h.0.line.size h.0.kind h.0.ports h.0.line.line);
+        least = h.0.line.least;
+        greatest = omega (arith, e, most);
+        name = named.0.named;
+      },
+      entries_are ds named.1 h.1 (omega (arith, most)),
+    )

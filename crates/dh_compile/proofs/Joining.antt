@@ -1,5 +1,5 @@
 -- The groups of a list, from those of its commands.
-use Rattle.std.proofs.Common.{◌≡◌, ℕ, suc, ◌+◌, ◌<◌, List, [], ◌∷◌, ◌++◌, length, ◌≤◌, get_or, drop, map, refl, ap, sym, ◌∙◌, add-one, append_assoc, append-nil}
+use Rattle.std.proofs.Common.{◌≡◌, ℕ, suc, ◌+◌, ◌<◌, List, [], ◌∷◌, ◌++◌, length, ◌≤◌, get_or, drop, map, refl, ap, sym, ◌∙◌, add-one, append_assoc}
 use Rattle.std.proofs.Math.Seq.{drop-cons}
 use Rattle.std.proofs.lemmas.List.{drop_all}
 use Rattle.dh_tree.proofs.SeenActions as seen
@@ -8,7 +8,7 @@ use Rattle.std.specs.Prelude.{Vec}
 use Rattle.std.specs.Global.{Global}
 use Rattle.dh_tree.specs.PlainTrees as plain
 use Rattle.dh_tree.specs.PlainTrees.{Action, Actions, no_actions, action_then}
-use Rattle.dh_tree.specs.Phases.{Phase, straight, phases, one_straight, joined, parts_phases, groups_phases, form_phases}
+use Rattle.dh_tree.specs.Phases.{Phase, straight, one_straight, joined, parts_phases, groups_phases, form_phases}
 use Rattle.dh_tree.specs.Seen.{actions, groups, action_seen, action_form_seen, part_seen}
 use Rattle.dh_tree.specs.declared.trees.commands.Command.{Command}
 use Rattle.dh_compile.specs.declared.stores.Store.{Store}

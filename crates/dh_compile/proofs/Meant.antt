@@ -1,6 +1,6 @@
 -- What is read off an accepted store is the store, and means what the store means.
-use Rattle.std.proofs.Common.{◌≡◌, ℕ, ◌+◌, ◌<◌, Option, Some, None, List, [], ◌∷◌, ◌++◌, length, map, refl, ap, sym, subst, ◌∙◌, arith, inl, inr}
-use Rattle.std.specs.Prelude.{◌⊎◌, Bool, true, false, slice_get, option_map}
+use Rattle.std.proofs.Common.{◌≡◌, ℕ, ◌<◌, Option, Some, None, List, [], ◌∷◌, map, refl, ap, sym, ◌∙◌, inl, inr}
+use Rattle.std.specs.Prelude.{true, false, option_map}
 use Rattle.std.specs.List.{AllByRecursion}
 use Rattle.std.proofs.lemmas.Option.{slice_get-map, slice_get_cases}
 use Rattle.dh_base.specs.declared.places.Place.{Place}
@@ -9,17 +9,15 @@ use Rattle.dh_value.specs.declared.kinds.Kind.TheVariants.{Unsigned, Signed}
 use Rattle.dh_value.specs.declared.operators.Op.{Op}
 use Rattle.dh_value.specs.declared.operators.Op.TheVariants as op
 use Rattle.dh_tree.specs.declared.tables.MemEntry.{MemEntry}
-use Rattle.dh_tree.specs.declared.trees.expressions.Ref.{Ref}
-use Rattle.dh_tree.specs.PlainTrees.{Term, term, TermForm, number, truth_value, named, accessed, in_bank, applied, converted, Terms, no_terms, term_then, Action, action, ActionForm, lets, lets_memory, views, assigns, stores, reduces, calls, blocks, decides, repeats, counts, Declared}
+use Rattle.dh_tree.specs.PlainTrees.{Term, term, TermForm, number, truth_value, named, accessed, in_bank, applied, converted, Terms, no_terms, term_then, Action, action, lets, lets_memory, views, assigns, stores, reduces, calls, blocks, decides, repeats, counts, Declared}
 use Rattle.dh_tree.specs.Phases as source
 use Rattle.dh_tree.specs.Tree as tree
-use Rattle.dh_tree.specs.Meaning.{entry_of, entity_number, memory_of, declared_kind, kind_at, kind_within, term_meant, form_meant, terms_meant, command_meant, phase_meant}
-use Rattle.dh_compile.specs.declared.stores.Store.{Store}
+use Rattle.dh_tree.specs.Meaning.{entry_of, entity_number, memory_of, declared_kind, kind_at, term_meant, form_meant, terms_meant, command_meant, phase_meant}
 use Rattle.dh_compile.specs.Grouped as grouped
 use Rattle.dh_compile.specs.Grouped.{index_term, value_term, command_of, phases_from}
-use Rattle.dh_compile.specs.Reading.{number_read, index_read, element_read, operand, stored_read, store_read, action_read, phase_read}
+use Rattle.dh_compile.specs.Reading.{number_read, index_read, element_read, stored_read, store_read, action_read, phase_read}
 use Rattle.dh_compile.proofs.Groups.{at_place}
-use Rattle.dh_compile.proofs.Plain.{PlainNumber, OneIndex, EntityFits, ElementFits, IsSmall, IsSum, ValueFits, StoreFits, CommandFits, PhaseFits, PhasesFit}
+use Rattle.dh_compile.proofs.Plain.{PlainNumber, OneIndex, EntityFits, ElementFits, IsSmall, IsSum, ValueFits, StoreFits, CommandFits, PhasesFit}
 
 -- the elements of all declared memories are of `ubit<32>`
 abbrev pub AreWords : List Declared → Type 0
@@ -68,8 +66,8 @@ entity_element ds (Some m) indices h = index_is (grouped.IsElement (map entry_of
 element_kind : (ds : List Declared) (m n : ℕ) → AreWords ds → grouped.IsElement (map entry_of ds) m n → kind_at ds m ≡ Unsigned 32
 element_kind ds m n words h =
     elim (slice_get_cases ds m).1 [
-      inl found ↦ ap declared_kind found.2 ∙ at_place (λ (d : Declared). d.shape.kind ≡ Unsigned 32) ds m found.0 words found.2
-    | inr over ↦ absurd (none_there (sym (slice_get-map entry_of ds m ∙ ap (λ o. option_map entry_of o) over.1) ∙ h.declared))
+      | inl found ↦ ap declared_kind found.2 ∙ at_place (λ (d : Declared). d.shape.kind ≡ Unsigned 32) ds m found.0 words found.2
+      | inr over ↦ absurd (none_there (sym (slice_get-map entry_of ds m ∙ ap (λ o. option_map entry_of o) over.1) ∙ h.declared))
     ]
   where
     none_there : {e : MemEntry} → ◌≡◌ {A = Option MemEntry} None (Some e) → ⊥

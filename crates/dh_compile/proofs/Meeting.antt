@@ -1,7 +1,7 @@
 -- The accesses of a command by its phases: they follow one another as its phases do, and those of one
 -- straight phase may meet.
 use Rattle.std.proofs.Common.{◌≡◌, ℕ, ◌+◌, ◌≤◌, ◌<◌, List, [], ◌∷◌, ◌++◌, length, refl, ap, sym, subst, ◌∙◌, append_assoc, append-nil, arith, length-append, inl, inr}
-use Rattle.std.specs.Prelude.{◌⊎◌, Bool, true, false, if◌then◌else◌}
+use Rattle.std.specs.Prelude.{◌⊎◌, Bool, if◌then◌else◌}
 use Rattle.dh_base.specs.declared.places.Place.{Place}
 use Rattle.dh_tree.specs.PlainTrees.{Action, action, ActionForm, lets, lets_memory, views, assigns, stores, reduces, calls, blocks, decides, repeats, counts, Actions, no_actions, action_then, Groups, no_groups, group_then}
 use Rattle.dh_tree.specs.Phases.{Phase, straight, phases, form_phases, one_straight, joined, parts_phases, groups_phases}
@@ -153,8 +153,8 @@ same_append s [] qs x y h = inr (subst (λ (n : ℕ). Same n qs x y) (omega arit
 same_append s (p ∷ ps) qs x y (inl h) = inl (inl h)
 same_append s (p ∷ ps) qs x y (inr h) =
     elim (same_append (s + length (phase_accesses p)) ps qs x y h) [
-      inl first ↦ inl (inr first)
-    | inr second ↦ inr (subst (λ (n : ℕ). Same n qs x y) (let e = length-append (phase_accesses p) (phases_accesses ps) in omega (arith, e)) second)
+      | inl first ↦ inl (inr first)
+      | inr second ↦ inr (subst (λ (n : ℕ). Same n qs x y) (let e = length-append (phase_accesses p) (phases_accesses ps) in omega (arith, e)) second)
     ]
 
 -- one more command of a part, before the rest of it
@@ -180,29 +180,29 @@ more_joined l r (straight ds ∷ []) parts cs s n len begin many in_l in_r never
 more_joined l r (p ∷ q ∷ ps) parts cs s n len begin many in_l in_r never_l never_r x y same h =
     let o : length (phases_accesses (one_straight cs)) ≡ length (commands_accesses cs) = ap length (one_accesses cs) in
     elim (same_append s (one_straight cs) ((p ∷ q ∷ ps) ++ joined [] parts) x y same) [
-      inl before ↦
-        (let b = same_range s (one_straight cs) x y before in
-        elim h [
-          inl k ↦ (let i = in_l x (apart_in l x y k).0 in omega (arith, b.1, i.0, o, begin))
-        | inr k ↦ (let i = in_r x (apart_in r x y k).0 in omega (arith, b.1, i, o, begin))
-        ])
-    | inr behind ↦
-        elim (same_append (s + length (phases_accesses (one_straight cs))) (p ∷ q ∷ ps) (joined [] parts) x y behind) [
-          inl here ↦
-            (let at : Same n (p ∷ q ∷ ps) x y = subst (λ (m : ℕ). Same m (p ∷ q ∷ ps) x y) (omega (arith, o, begin)) here in
-            let b = same_range n (p ∷ q ∷ ps) x y at in
-            elim h [
-              inl k ↦ never_l x y at k
-            | inr k ↦ (let i = in_r x (apart_in r x y k).0 in omega (arith, b.1, i, many))
-            ])
-        | inr after ↦
-            (let at : Same (n + len) (joined [] parts) x y = subst (λ (m : ℕ). Same m (joined [] parts) x y) (omega (arith, o, begin, many)) after in
-            let b = same_range (n + len) (joined [] parts) x y at in
-            elim h [
-              inl k ↦ (let i = in_l x (apart_in l x y k).0 in omega (arith, b.0, i.1))
-            | inr k ↦ never_r [] (n + len) x y (omega arith) at k
-            ])
-        ]
+      | inl before ↦
+          (let b = same_range s (one_straight cs) x y before in
+          elim h [
+            | inl k ↦ (let i = in_l x (apart_in l x y k).0 in omega (arith, b.1, i.0, o, begin))
+            | inr k ↦ (let i = in_r x (apart_in r x y k).0 in omega (arith, b.1, i, o, begin))
+          ])
+      | inr behind ↦
+          elim (same_append (s + length (phases_accesses (one_straight cs))) (p ∷ q ∷ ps) (joined [] parts) x y behind) [
+            | inl here ↦
+                (let at : Same n (p ∷ q ∷ ps) x y = subst (λ (m : ℕ). Same m (p ∷ q ∷ ps) x y) (omega (arith, o, begin)) here in
+                let b = same_range n (p ∷ q ∷ ps) x y at in
+                elim h [
+                  | inl k ↦ never_l x y at k
+                  | inr k ↦ (let i = in_r x (apart_in r x y k).0 in omega (arith, b.1, i, many))
+                ])
+            | inr after ↦
+                (let at : Same (n + len) (joined [] parts) x y = subst (λ (m : ℕ). Same m (joined [] parts) x y) (omega (arith, o, begin, many)) after in
+                let b = same_range (n + len) (joined [] parts) x y at in
+                elim h [
+                  | inl k ↦ (let i = in_l x (apart_in l x y k).0 in omega (arith, b.0, i.1))
+                  | inr k ↦ never_r [] (n + len) x y (omega arith) at k
+                ])
+          ]
     ]
 
 row_never : (n : ℕ) (xs : List Access) (x y : ℕ) → Apart (row n xs) x y → ⊥
@@ -264,8 +264,8 @@ mutual
   groups_never (group_then part rest) n x y same h =
       let e : length (part_accesses part) ≡ length (phases_accesses (joined [] (parts_phases part))) = ap length (part_joined part) in
       elim (same_append n (joined [] (parts_phases part)) (groups_phases rest) x y same) [
-        inl first ↦ first_never part rest n x y (λ same apart. part_never part [] n n x y (omega arith) same apart) e first h
-      | inr second ↦ second_never part rest n x y (λ same apart. groups_never rest (n + length (part_accesses part)) x y same apart) (subst (λ (m : ℕ). Same (n + m) (groups_phases rest) x y) (sym e) second) h
+        | inl first ↦ first_never part rest n x y (λ same apart. part_never part [] n n x y (omega arith) same apart) e first h
+        | inr second ↦ second_never part rest n x y (λ same apart. groups_never rest (n + length (part_accesses part)) x y same apart) (subst (λ (m : ℕ). Same (n + m) (groups_phases rest) x y) (sym e) second) h
       ]
 
   part_never : (part : Actions) (cs : List Action) (s n x y : ℕ) → s + length (commands_accesses cs) ≡ n
@@ -273,12 +273,12 @@ mutual
   part_never no_actions cs s n x y begin same h = h
   part_never (action_then a rest) cs s n x y begin same h =
       more_joined (meets n a) (part_meets (n + length (accesses a)) rest) (phases a) (parts_phases rest) cs s n (length (accesses a)) begin
-        (ap length (accesses_are a))
-        (λ z i. in_range a n z i)
-        (λ z i. (part_range rest (n + length (accesses a)) z i).0)
-        (λ z w same apart. never a n z w same apart)
-        (λ ds t z w begin same apart. part_never rest ds t (n + length (accesses a)) z w begin same apart)
-        x y same h
+      (ap length (accesses_are a))
+      (λ z i. in_range a n z i)
+      (λ z i. (part_range rest (n + length (accesses a)) z i).0)
+      (λ z w same apart. never a n z w same apart)
+      (λ ds t z w begin same apart. part_never rest ds t (n + length (accesses a)) z w begin same apart)
+      x y same h
 
 -- the charges of those accesses of a list that are chosen, numbered from a first one on
 abbrev pub picked : (ℕ → ℕ) → (ℕ → Bool) → ℕ → List Access → ℕ

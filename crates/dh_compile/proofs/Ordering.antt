@@ -1,8 +1,8 @@
 -- Commands are numbered in order, so the phases of a body have numbers in order, and no number stands in
 -- two of them.
-use Rattle.std.proofs.Common.{◌≡◌, ℕ, ◌+◌, ◌≤◌, ◌<◌, List, [], ◌∷◌, ◌++◌, refl, ap, sym, ◌∙◌, arith}
+use Rattle.std.proofs.Common.{◌≡◌, ℕ, ◌+◌, ◌≤◌, ◌<◌, List, [], ◌∷◌, ◌++◌, refl, arith}
 use Rattle.std.specs.Prelude.{Bool, true, false, ◌&&◌, ◌||◌, ◌==◌}
-use Rattle.std.specs.List.{AllByRecursion, list_any}
+use Rattle.std.specs.List.{AllByRecursion}
 use Rattle.std.proofs.lemmas.Bool.Decides.{nat_tests}
 use Rattle.dh_base.specs.declared.places.Place.{Place}
 use Rattle.dh_tree.specs.PlainTrees.{Action, action, ActionForm, lets, lets_memory, views, assigns, stores, reduces, calls, blocks, decides, repeats, counts, Actions, no_actions, action_then, Groups, no_groups, group_then}
@@ -55,13 +55,13 @@ joined_ordered low middle high cs ([] ∷ parts) b h k =
     joined_ordered low k.0 high cs parts (omega (arith, b, k.1.0)) (widen low middle k.0 low cs (omega arith) k.1.0 h) k.1.1
 joined_ordered low middle high cs ((straight ds ∷ []) ∷ parts) b h k =
     joined_ordered low k.0 high (cs ++ ds) parts (omega (arith, b, k.1.0.1.0, k.1.0.1.1.1))
-      (all_append (Numbered low k.0) cs ds
-        (widen low middle k.0 low cs (omega arith) (omega (arith, k.1.0.1.0, k.1.0.1.1.1)) h)
-        (widen middle k.1.0.0 k.0 low ds b k.1.0.1.1.1 k.1.0.1.1.0))
-      k.1.1
+    (all_append (Numbered low k.0) cs ds
+    (widen low middle k.0 low cs (omega arith) (omega (arith, k.1.0.1.0, k.1.0.1.1.1)) h)
+    (widen middle k.1.0.0 k.0 low ds b k.1.0.1.1.1 k.1.0.1.1.0))
+    k.1.1
 joined_ordered low middle high cs ((p ∷ q ∷ ps) ∷ parts) b h k =
     ordered_append low middle high (one_straight cs) ((p ∷ q ∷ ps) ++ joined [] parts) (one_ordered low middle cs b h)
-      (ordered_append middle k.0 high (p ∷ q ∷ ps) (joined [] parts) k.1.0 (joined_ordered k.0 k.0 high [] parts (omega arith) tt k.1.1))
+    (ordered_append middle k.0 high (p ∷ q ∷ ps) (joined [] parts) k.1.0 (joined_ordered k.0 k.0 high [] parts (omega arith) tt k.1.1))
 
 mutual
   -- a command's phases have the numbers of the command and of those inside it
@@ -85,8 +85,8 @@ mutual
   groups_ordered no_groups n h = omega arith
   groups_ordered (group_then part rest) n h =
       ordered_append n (part_after n part) (groups_after (part_after n part) rest) (joined [] (parts_phases part)) (groups_phases rest)
-        (joined_ordered n n (part_after n part) [] (parts_phases part) (omega arith) tt (part_ordered part n h.0))
-        (groups_ordered rest (part_after n part) h.1)
+      (joined_ordered n n (part_after n part) [] (parts_phases part) (omega arith) tt (part_ordered part n h.0))
+      (groups_ordered rest (part_after n part) h.1)
 
   part_ordered : (part : Actions) (n : ℕ) → AreCounted n part → PartsOrdered n (part_after n part) (parts_phases part)
   part_ordered no_actions n h = omega arith
@@ -108,8 +108,8 @@ held : (low high id : ℕ) (cs : List Action) → AllNumbered low high cs → ho
 held low high id [] h e = absurd (cc)
 held low high id (c ∷ cs) h e =
     first_or (id_of c == id) (holds_id id cs) ((low ≤ id) × (id < high)) e
-      (λ t. let same = tested (id_of c) id t in (omega (arith, same, h.0.0), omega (arith, same, h.0.1)))
-      (λ t. held low high id cs h.1 t)
+    (λ t. let same = tested (id_of c) id t in (omega (arith, same, h.0.0), omega (arith, same, h.0.1)))
+    (λ t. held low high id cs h.1 t)
 
 abbrev pub PhaseBelow : ℕ → Phase → Type 0
 PhaseBelow high (straight cs) = AllNumbered 0 high cs
@@ -122,20 +122,20 @@ not_behind : (low high x y : ℕ) (ps : List Phase) → Ordered low high ps → 
 not_behind low high x y [] h b e = absurd (cc)
 not_behind low high x y (straight cs ∷ ps) h b e =
     first_or (holds_both x y (straight cs)) (in_one_straight ps x y) ⊥ e
-      (λ t. let k = held low h.0 y cs h.1.1.0 (both (holds_id x cs) (holds_id y cs) t).1 in omega (arith, k.0, b))
-      (λ t. not_behind h.0 high x y ps h.1.1.1 (omega (arith, b, h.1.0)) t)
+    (λ t. let k = held low h.0 y cs h.1.1.0 (both (holds_id x cs) (holds_id y cs) t).1 in omega (arith, k.0, b))
+    (λ t. not_behind h.0 high x y ps h.1.1.1 (omega (arith, b, h.1.0)) t)
 
 -- a number before a phase and a number of the phase stand in no one phase
 pub not_together : (low middle high x y : ℕ) (before behind : List Phase) (cs : List Action) → AllBelow low before → AllNumbered low middle cs → Ordered middle high behind
     → x < low → low ≤ y → y < middle → in_one_straight (before ++ (straight cs ∷ behind)) x y ≡ true → ⊥
 not_together low middle high x y [] behind cs b h k first second third e =
     first_or (holds_both x y (straight cs)) (in_one_straight behind x y) ⊥ e
-      (λ t. let m = held low middle x cs h (both (holds_id x cs) (holds_id y cs) t).0 in omega (arith, m.0, first))
-      (λ t. not_behind middle high x y behind k third t)
+    (λ t. let m = held low middle x cs h (both (holds_id x cs) (holds_id y cs) t).0 in omega (arith, m.0, first))
+    (λ t. not_behind middle high x y behind k third t)
 not_together low middle high x y (straight ds ∷ before) behind cs b h k first second third e =
     first_or (holds_both x y (straight ds)) (in_one_straight (before ++ (straight cs ∷ behind)) x y) ⊥ e
-      (λ t. let m = held 0 low y ds b.0 (both (holds_id x ds) (holds_id y ds) t).1 in omega (arith, m.1, second))
-      (λ t. not_together low middle high x y before behind cs b.1 h k first second third t)
+    (λ t. let m = held 0 low y ds b.0 (both (holds_id x ds) (holds_id y ds) t).1 in omega (arith, m.1, second))
+    (λ t. not_together low middle high x y before behind cs b.1 h k first second third t)
 
 pub below_more : (low middle : ℕ) (before : List Phase) (cs : List Action) → low ≤ middle → AllBelow low before → AllNumbered low middle cs → AllBelow middle (before ++ straight cs ∷ [])
 below_more low middle [] cs b h k = (widen low middle middle 0 cs (omega arith) (omega arith) k, tt)

@@ -1,7 +1,7 @@
 -- What acceptance says of each store of a program: it is of the built forms, its elements are there and
 -- its number fits.
-use Rattle.std.proofs.Common.{◌≡◌, ℕ, ◌+◌, ◌≤◌, ◌<◌, ◌^◌, Option, Some, None, List, [], ◌∷◌, ◌++◌, length, map, refl, ap, sym, subst, ◌∙◌, arith, inl, inr}
-use Rattle.std.specs.Prelude.{◌⊎◌, Bool, true, false, ◌&&◌, ◌||◌, ◌==◌, nat_le, nat_lt, slice_get, if◌then◌else◌}
+use Rattle.std.proofs.Common.{◌≡◌, ℕ, ◌≤◌, ◌<◌, ◌^◌, Option, Some, None, List, [], ◌∷◌, ◌++◌, length, map, refl, ap, sym, ◌∙◌, arith, inl, inr}
+use Rattle.std.specs.Prelude.{Bool, true, false, ◌&&◌, ◌||◌, ◌==◌, nat_le, nat_lt, slice_get, if◌then◌else◌}
 use Rattle.std.specs.List.{AllByRecursion}
 use Rattle.std.specs.Option.{is_some}
 use Rattle.std.specs.Prelude.{option_map}
@@ -13,16 +13,15 @@ use Rattle.dh_value.specs.declared.operators.Op.{Op}
 use Rattle.dh_value.specs.declared.operators.Op.TheVariants as op
 use Rattle.dh_tree.specs.declared.breaches.Breach.{Breach}
 use Rattle.dh_tree.specs.declared.tables.Dim.{Dim}
-use Rattle.dh_tree.specs.declared.trees.expressions.Ref.{Ref}
-use Rattle.dh_tree.specs.PlainTrees.{Term, term, TermForm, number, truth_value, named, accessed, in_bank, applied, converted, Terms, no_terms, term_then, Action, action, ActionForm, lets, lets_memory, views, assigns, stores, reduces, calls, blocks, decides, repeats, counts, Actions, no_actions, action_then, Groups, no_groups, group_then, Declared, Program}
+use Rattle.dh_tree.specs.PlainTrees.{Term, term, TermForm, number, truth_value, named, accessed, in_bank, applied, converted, Terms, no_terms, term_then, Action, action, ActionForm, lets, lets_memory, views, assigns, stores, reduces, calls, blocks, decides, repeats, counts, Actions, no_actions, action_then, Groups, no_groups, group_then, Declared}
 use Rattle.dh_tree.specs.Phases.{Phase, straight, phases, form_phases, one_straight, joined, parts_phases, groups_phases}
-use Rattle.dh_tree.specs.Scopes.{Binding, entity_of, Scope, at_end, form_at_end, actions_at_end, groups_at_end, past}
+use Rattle.dh_tree.specs.Scopes.{Binding, entity_of, Scope, form_at_end, actions_at_end, past}
 use Rattle.dh_tree.specs.Breaches as names
-use Rattle.dh_tree.specs.Resolved.{used, resolved_term, resolved_term_form, resolved_terms, resolved_action, resolved_form, resolved_actions, resolved_groups}
-use Rattle.dh_tree.specs.Ranges.{index_range, dims_of, first_dim, other_dims, declared_dims, term_judged, form_judged, indices_judged, index_judged, action_judged, command_judged, groups_judged, part_judged}
+use Rattle.dh_tree.specs.Resolved.{resolved_term, resolved_term_form, resolved_action, resolved_form, resolved_actions, resolved_groups}
+use Rattle.dh_tree.specs.Ranges.{index_range, dims_of, first_dim, declared_dims, term_judged, form_judged, indices_judged, index_judged, action_judged, command_judged, groups_judged, part_judged}
 use Rattle.dh_tree.specs.Meaning.{entry_of}
 use Rattle.dh_tree.specs.Tables.{line_of}
-use Rattle.dh_check.specs.Forms.{unbuilt, plain_number, is_small, is_stored, is_element, is_access, further_indices, unbuilt_index, unbuilt_indices, unbuilt_element, unbuilt_access, is_sum_of, unbuilt_sum, unbuilt_stored, unbuilt_value, has_dashes, form_holds, unbuilt_action, unbuilt_form, unbuilt_groups, unbuilt_part}
+use Rattle.dh_check.specs.Forms.{unbuilt, plain_number, is_small, is_element, further_indices, unbuilt_index, unbuilt_indices, unbuilt_element, unbuilt_access, is_sum_of, unbuilt_stored, unbuilt_value, form_holds, unbuilt_action, unbuilt_form, unbuilt_groups, unbuilt_part}
 use Rattle.dh_compile.specs.Grouped as grouped
 
 -- a number without a sign of this kind
@@ -193,8 +192,8 @@ entity_fits : (ds : List Declared) (bs : List Binding) → Known ds bs → (plac
 entity_fits ds bs known place name None indices is some_one built judged = absurd (cc)
 entity_fits ds bs known place name (Some m) indices is some_one built judged =
     elim (slice_get_cases ds m).1 [
-      inl found ↦ index_fits ds m found.0 found.2 (at_place LineFits ds m found.0 known.lines found.2) place indices built judged
-    | inr over ↦ absurd (let below = known.declared name m is in omega (arith, below, over.0))
+      | inl found ↦ index_fits ds m found.0 found.2 (at_place LineFits ds m found.0 known.lines found.2) place indices built judged
+      | inr over ↦ absurd (let below = known.declared name m is in omega (arith, below, over.0))
     ]
 
 element_fits : (ds : List Declared) (bs : List Binding) → Known ds bs → (place : Place) (form : TermForm) → unbuilt_element place form ≡ []
@@ -245,11 +244,14 @@ value_fits ds bs known place (in_bank r bank bank_place row) built judged visibl
 value_fits ds bs known place (applied o (term lp lk left) (term rp rk right)) built judged visible resolved =
     let test = if_none (is_sum_of o && (is_element left && is_small (plain_number right))) (unbuilt_element lp left) _ [] built in
     let sum = both (is_sum_of o) (is_element left && is_small (plain_number right)) test.0 in
-    let small = both (is_element left) (is_small (plain_number right)) sum.1 in
-    (sum_is o sum.0,
-     (element_fits ds bs known lp left test.1 (no_rest (form_judged index_range ds left) (form_judged index_range ds right) judged).0
-       (no_rest (names.term_form_breaches bs left) (names.term_form_breaches bs right) visible).0 (ap left_form resolved),
-      small_number right small.1))
+    let small = both (is_element left) (is_small (plain_number right)) sum.1 in (
+      sum_is o sum.0,
+      (
+        element_fits ds bs known lp left test.1 (no_rest (form_judged index_range ds left) (form_judged index_range ds right) judged).0
+            (no_rest (names.term_form_breaches bs left) (names.term_form_breaches bs right) visible).0 (ap left_form resolved),
+        small_number right small.1,
+      ),
+    )
 value_fits ds bs known place (converted inner to) built judged visible resolved = absurd (cc)
 
 -- the parts of a store
@@ -291,7 +293,7 @@ joined_fit ds cs ([] ∷ parts) h k = joined_fit ds cs parts h k.1
 joined_fit ds cs ((straight more ∷ []) ∷ parts) h k = joined_fit ds (cs ++ more) parts (all_append (CommandFits ds) cs more h k.0.0.1) k.1
 joined_fit ds cs ((p ∷ q ∷ ps) ∷ parts) h k =
     all_append (PhaseFits ds) (one_straight cs) ((p ∷ q ∷ ps) ++ joined [] parts) (one_fits ds cs h)
-      (all_append (PhaseFits ds) (p ∷ q ∷ ps) (joined [] parts) k.0 (joined_fit ds [] parts tt k.1))
+    (all_append (PhaseFits ds) (p ∷ q ∷ ps) (joined [] parts) k.0 (joined_fit ds [] parts tt k.1))
 
 -- the form of a command, the parts of a block, and the lists of these
 abbrev action_form : Action → ActionForm
@@ -326,11 +328,21 @@ mutual
   form_fits ds bs known id place (lets_memory name shape shape_places value) s sees built judged visible resolved = absurd (cc)
   form_fits ds bs known id place (views name parent form) s sees built judged visible resolved = absurd (cc)
   form_fits ds bs known id place (assigns target value) s sees built judged visible resolved = absurd (cc)
-  form_fits ds bs known id place (stores target value) s sees built judged visible resolved =
-      (((omega arith,
-         (store_fits ds bs known target value built judged
-           (ap (λ b. names.term_breaches b target ++ names.term_breaches b value) (sym sees) ∙ visible)
-           (ap (λ b. stores (resolved_term b target) (resolved_term b value)) (sym sees) ∙ resolved), tt)), tt), sees)
+  form_fits ds bs known id place (stores target value) s sees built judged visible resolved = (
+    (
+      (
+        omega arith,
+        (
+          store_fits ds bs known target value built judged
+              (ap (λ b. names.term_breaches b target ++ names.term_breaches b value) (sym sees) ∙ visible)
+              (ap (λ b. stores (resolved_term b target) (resolved_term b value)) (sym sees) ∙ resolved),
+          tt,
+        ),
+      ),
+      tt,
+    ),
+    sees,
+  )
   form_fits ds bs known id place (reduces target o value) s sees built judged visible resolved = absurd (cc)
   form_fits ds bs known id place (calls function arguments) s sees built judged visible resolved = absurd (cc)
   form_fits ds bs known id place (blocks body) s sees built judged visible resolved =
@@ -348,8 +360,8 @@ mutual
       let v = no_rest (names.actions_breaches s part) (names.groups_breaches (actions_at_end s part) rest) visible in
       let first = part_fits ds bs known false part s sees b.0 j.0 v.0 (ap first_part resolved) in
       all_append (PhaseFits ds) (joined [] (parts_phases part)) (groups_phases rest)
-        (joined_fit ds [] (parts_phases part) tt first.0)
-        (groups_fit ds bs known rest (actions_at_end s part) first.1 b.1 j.1 v.1 (ap other_parts resolved))
+      (joined_fit ds [] (parts_phases part) tt first.0)
+      (groups_fit ds bs known rest (actions_at_end s part) first.1 b.1 j.1 v.1 (ap other_parts resolved))
 
   part_fits : (ds : List Declared) (bs : List Binding) → Known ds bs → (stepped : Bool) (part : Actions) (s : Scope) → s.visible ≡ bs → unbuilt_part stepped part ≡ []
       → part_judged index_range ds part ≡ [] → names.actions_breaches s part ≡ [] → resolved_actions s part ≡ part
@@ -357,7 +369,7 @@ mutual
   part_fits ds bs known stepped no_actions s sees built judged visible resolved = (tt, sees)
   part_fits ds bs known stepped (action_then (action id place form) rest) s sees built judged visible resolved =
       let b = no_rest (unbuilt_form place form) (unbuilt_part (stepped || form_holds form) rest)
-            (no_rest (if stepped && form_holds form then unbuilt place else []) (unbuilt_form place form ++ unbuilt_part (stepped || form_holds form) rest) built).1 in
+      (no_rest (if stepped && form_holds form then unbuilt place else []) (unbuilt_form place form ++ unbuilt_part (stepped || form_holds form) rest) built).1 in
       let j = no_rest (command_judged index_range ds form) (part_judged index_range ds rest) judged in
       let after = past s (action id place form) (form_at_end s form) in
       let v = no_rest (names.form_breaches s form) (names.actions_breaches after rest) visible in

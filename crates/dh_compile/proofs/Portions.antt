@@ -1,26 +1,21 @@
 -- The stores of one phase of a program that keeps the ports of its memories, each of which has one, keep
 -- them too: the accesses of the phase are a set that is together.
-use Rattle.std.proofs.Common.{◌≡◌, ℕ, ◌+◌, ◌≤◌, ◌<◌, Option, Some, None, List, [], ◌∷◌, ◌++◌, length, take, map, refl, ap, sym, subst, ◌∙◌, append_assoc, append-nil, arith, length-append, inl, inr}
-use Rattle.std.specs.Prelude.{◌⊎◌, Bool, true, false, IsTrue, not, ◌&&◌, ◌||◌, ◌==◌, nat_le, nat_lt, slice_get, if◌then◌else◌}
-use Rattle.std.specs.List.{AllByRecursion, list_any}
-use Rattle.std.proofs.lemmas.Bool.Decides.{nat_tests}
+use Rattle.std.proofs.Common.{◌≡◌, ℕ, ◌≤◌, Option, Some, None, List, [], ◌∷◌, ◌++◌, map, refl, ap, sym, subst, ◌∙◌, append-nil}
+use Rattle.std.specs.Prelude.{true, false}
+use Rattle.std.specs.List.{AllByRecursion}
 use Rattle.dh_base.specs.declared.places.Place.{Place}
-use Rattle.dh_value.specs.declared.kinds.Kind.{Kind}
-use Rattle.dh_value.specs.declared.operators.Op.{Op}
-use Rattle.dh_tree.specs.declared.trees.expressions.Ref.{Ref}
-use Rattle.dh_tree.specs.PlainTrees.{Term, term, TermForm, number, truth_value, named, accessed, in_bank, applied, converted, Terms, no_terms, term_then, Action, action, ActionForm, lets, lets_memory, views, assigns, stores, reduces, calls, blocks, decides, repeats, counts, Declared, Program}
-use Rattle.dh_tree.specs.Phases.{Phase, straight, phases, id_of, in_one_straight}
-use Rattle.dh_tree.specs.Meets.{Together, Apart, total}
-use Rattle.dh_tree.specs.Accesses.{Access, form_accesses, terms_accesses, target_accesses, term_accesses, accesses, meets, same_entity, equal_reads, shares, charge_behind, charge, ports_of, KeepsPorts}
+use Rattle.dh_tree.specs.PlainTrees.{Term, term, TermForm, number, truth_value, named, accessed, in_bank, applied, converted, Terms, no_terms, term_then, Action, action, lets, lets_memory, views, assigns, stores, reduces, calls, blocks, decides, repeats, counts, Declared}
+use Rattle.dh_tree.specs.Phases.{id_of}
+use Rattle.dh_tree.specs.Accesses.{Access, form_accesses, terms_accesses, accesses}
 use Rattle.dh_tree.specs.Meaning.{entry_of, entity_number}
 use Rattle.dh_compile.specs.declared.stores.Operand.{Operand}
 use Rattle.dh_compile.specs.declared.stores.Store.{Store}
 use Rattle.dh_compile.specs.Grouped as grouped
 use Rattle.dh_compile.specs.Grouped.{ReadsOther, ReadsAlike, AreApart}
-use Rattle.dh_compile.specs.Reading.{number_read, index_read, element_read, operand, stored_read, store_read, action_read}
+use Rattle.dh_compile.specs.Reading.{index_read, element_read, stored_read, store_read, action_read}
 use Rattle.dh_compile.proofs.Plain.{PlainNumber, OneIndex, EntityFits, ElementFits, IsSmall, ValueFits, StoreFits, CommandFits}
-use Rattle.dh_compile.proofs.Meeting.{commands_accesses, phase_accesses, phases_accesses, phases_append, accesses_are, Within, Same, never, picked, picked_append, total_is}
-use Rattle.dh_compile.proofs.Quiet.{charge_in, charges_in, OneRead, Pairwise, one_read}
+use Rattle.dh_compile.proofs.Meeting.{commands_accesses}
+use Rattle.dh_compile.proofs.Quiet.{charges_in, OneRead, Pairwise, one_read}
 
 -- a write of this memory by the command of this number
 pub record IsWriteOf (id memory : ℕ) (a : Access) : Type 0 where
@@ -78,7 +73,7 @@ source_reads : (ds : List Declared) (id : ℕ) (place : Place) (left : TermForm)
 source_reads ds id place (accessed r indices) h =
     let q = indices_quiet ds id r.entity indices h in
     subst (λ (xs : List Access). AreReads id (element_read (accessed r indices)) (xs ++ record { place = place; memory = r.entity; indices = indices; writes = false; command = id } ∷ [])) (sym q.0)
-      (record { of = q.1; index = refl; reads = refl; command = refl })
+    (record { of = q.1; index = refl; reads = refl; command = refl })
 source_reads ds id place (number negative value) h = absurd h
 source_reads ds id place (truth_value value) h = absurd h
 source_reads ds id place (named r) h = absurd h
@@ -94,8 +89,8 @@ value_reads ds id place (accessed r indices) h = absurd h
 value_reads ds id place (in_bank r bank bank_place row) h = absurd h
 value_reads ds id place (applied o (term lp lk left) (term rp rk right)) h =
     subst (λ (xs : List Access). AreReads id (element_read left) xs)
-      (sym (append-nil (form_accesses id lp left)) ∙ ap (λ l. form_accesses id lp left ++ l) (sym (number_quiet id rp right h.1.1)))
-      (source_reads ds id lp left h.1.0)
+    (sym (append-nil (form_accesses id lp left)) ∙ ap (λ l. form_accesses id lp left ++ l) (sym (number_quiet id rp right h.1.1)))
+    (source_reads ds id lp left h.1.0)
 value_reads ds id place (converted inner to) h = absurd h
 
 store_accesses_are : (ds : List Declared) (id : ℕ) (place : Place) (target value : Term) → StoreFits ds target value
@@ -209,22 +204,22 @@ reads_alike i j (Some o) (Some p) (x ∷ z ∷ rest) ys h k across = absurd h
 apart_from : (i j : ℕ) (s t : Store) (xs ys : List Access) → AreAccesses i s.source s.memory xs → AreAccesses j t.source t.memory ys → Across xs ys → AreApart s t
 apart_from i j s t xs ys h k across =
     let both : Across (h.reads ++ h.write ∷ []) (k.reads ++ k.write ∷ []) =
-          subst (λ (l : List Access). Across l (k.reads ++ k.write ∷ [])) h.are (subst (λ (l : List Access). Across xs l) k.are across) in
+    subst (λ (l : List Access). Across l (k.reads ++ k.write ∷ [])) h.are (subst (λ (l : List Access). Across xs l) k.are across) in
     let from_write = (all_second (λ x. AllByRecursion (Clear x) (k.reads ++ k.write ∷ [])) h.reads (h.write ∷ []) both).0 in
     let from_reads = all_first (λ x. AllByRecursion (Clear x) (k.reads ++ k.write ∷ [])) h.reads (h.write ∷ []) both in
     record {
       writes = λ same. write_first i s.memory t.memory h.write k.write h.has_write k.has_write.of (all_second (Clear h.write) k.reads (k.write ∷ []) from_write).0 same;
       first_read = reads_other i j t.memory s.source h.reads k.write h.has_reads k.has_write
-        (all_map (λ x. AllByRecursion (Clear x) (k.reads ++ k.write ∷ [])) (λ x. AllByRecursion (Clear x) (k.write ∷ [])) (λ x c. all_second (Clear x) k.reads (k.write ∷ []) c) h.reads from_reads);
+          (all_map (λ x. AllByRecursion (Clear x) (k.reads ++ k.write ∷ [])) (λ x. AllByRecursion (Clear x) (k.write ∷ [])) (λ x c. all_second (Clear x) k.reads (k.write ∷ []) c) h.reads from_reads);
       second_read = read_by_other i j s.memory t.source h.write k.reads h.has_write k.has_reads (all_first (Clear h.write) k.reads (k.write ∷ []) from_write);
       reads = reads_alike i j s.source t.source h.reads k.reads h.has_reads k.has_reads
-        (all_map (λ x. AllByRecursion (Clear x) (k.reads ++ k.write ∷ [])) (λ x. AllByRecursion (Clear x) k.reads) (λ x c. all_first (Clear x) k.reads (k.write ∷ []) c) h.reads from_reads);
+          (all_map (λ x. AllByRecursion (Clear x) (k.reads ++ k.write ∷ [])) (λ x. AllByRecursion (Clear x) k.reads) (λ x c. all_first (Clear x) k.reads (k.write ∷ []) c) h.reads from_reads);
     }
 
 own_read : (i : ℕ) (s : Store) (xs : List Access) → AreAccesses i s.source s.memory xs → Paired xs → ReadsOther s.memory s.source
 own_read i s xs h p =
     reads_other i i s.memory s.source h.reads h.write h.has_reads h.has_write
-      (paired_across h.reads (h.write ∷ []) (subst (λ (l : List Access). Paired l) h.are p))
+    (paired_across h.reads (h.write ∷ []) (subst (λ (l : List Access). Paired l) h.are p))
 
 across_first : (xs ys zs : List Access) → Across xs (ys ++ zs) → Across xs ys
 across_first xs ys zs h = all_map (λ x. AllByRecursion (Clear x) (ys ++ zs)) (λ x. AllByRecursion (Clear x) ys) (λ x c. all_first (Clear x) ys zs c) xs h
@@ -235,18 +230,22 @@ across_second xs ys zs h = all_map (λ x. AllByRecursion (Clear x) (ys ++ zs)) (
 all_apart : (ds : List Declared) (c : Action) (cs : List Action) → CommandFits ds c → AllByRecursion (CommandFits ds) cs → Across (accesses c) (commands_accesses cs)
     → AllByRecursion (AreApart (action_read c)) (map action_read cs)
 all_apart ds c [] h k across = tt
-all_apart ds c (d ∷ cs) h k across =
-    (apart_from (id_of c) (id_of d) (action_read c) (action_read d) (accesses c) (accesses d) (store_has ds c h) (store_has ds d k.0)
-       (across_first (accesses c) (accesses d) (commands_accesses cs) across),
-     all_apart ds c cs h k.1 (across_second (accesses c) (accesses d) (commands_accesses cs) across))
+all_apart ds c (d ∷ cs) h k across = (
+  apart_from (id_of c) (id_of d) (action_read c) (action_read d) (accesses c) (accesses d) (store_has ds c h) (store_has ds d k.0)
+      (across_first (accesses c) (accesses d) (commands_accesses cs) across),
+  all_apart ds c cs h k.1 (across_second (accesses c) (accesses d) (commands_accesses cs) across),
+)
 
 -- stores whose accesses are clear of one another keep ports
 stores_keep : (ds : List Declared) (cs : List Action) → AllByRecursion (CommandFits ds) cs → Paired (commands_accesses cs) → grouped.KeepsPorts (map action_read cs)
 stores_keep ds [] h p = tt
-stores_keep ds (c ∷ cs) h p =
-    (own_read (id_of c) (action_read c) (accesses c) (store_has ds c h.0) (paired_first (accesses c) (commands_accesses cs) p),
-     (all_apart ds c cs h.0 h.1 (paired_across (accesses c) (commands_accesses cs) p),
-      stores_keep ds cs h.1 (paired_second (accesses c) (commands_accesses cs) p)))
+stores_keep ds (c ∷ cs) h p = (
+  own_read (id_of c) (action_read c) (accesses c) (store_has ds c h.0) (paired_first (accesses c) (commands_accesses cs) p),
+  (
+    all_apart ds c cs h.0 h.1 (paired_across (accesses c) (commands_accesses cs) p),
+    stores_keep ds cs h.1 (paired_second (accesses c) (commands_accesses cs) p),
+  ),
+)
 
 -- stores of which any memory is charged once at most keep ports
 pub charged_keep : (ds : List Declared) (cs : List Action) → AllByRecursion (CommandFits ds) cs → ((m : ℕ) → charges_in m [] (commands_accesses cs) ≤ 1) → grouped.KeepsPorts (map action_read cs)

@@ -1,11 +1,11 @@
 -- Reads and writes of a group that charge no memory more than once: a read charges nothing where an
 -- earlier one in the group is equal to it. Then a memory that is written is accessed once, and all reads
 -- of a memory are of one element.
-use Rattle.std.proofs.Common.{◌≡◌, ℕ, ◌+◌, ◌≤◌, ◌<◌, Option, Some, None, List, [], ◌∷◌, ◌++◌, length, refl, ap, sym, subst, ◌∙◌, append_assoc, arith, inl, inr}
+use Rattle.std.proofs.Common.{◌≡◌, ℕ, ◌+◌, ◌≤◌, Option, Some, None, List, [], ◌∷◌, ◌++◌, refl, ap, sym, subst, ◌∙◌, arith, inl, inr}
 use Rattle.std.specs.Prelude.{◌⊎◌, Bool, true, false, not, ◌&&◌, ◌||◌, ◌==◌, if◌then◌else◌}
 use Rattle.std.specs.List.{AllByRecursion, list_any}
 use Rattle.std.proofs.lemmas.Bool.Decides.{nat_tests}
-use Rattle.dh_tree.specs.PlainTrees.{Term, term, TermForm, number, truth_value, named, accessed, in_bank, applied, converted, Terms, no_terms, term_then}
+use Rattle.dh_tree.specs.PlainTrees.{term, TermForm, number, truth_value, named, accessed, in_bank, applied, converted, Terms, no_terms, term_then}
 use Rattle.dh_tree.specs.Accesses.{Access, equal_reads, same_entity, same_sign, alike, all_alike}
 use Rattle.dh_compile.specs.Reading.{index_read, number_read}
 
@@ -133,10 +133,10 @@ shared : (memory : ℕ) (P : ℕ → Type 0) (earlier : List Access) (a : Access
     → list_any (λ e. equal_reads e a) earlier ≡ true → (a.writes ≡ false) × P (index_read a.indices)
 shared memory P earlier a h at any =
     any_one (λ e. equal_reads e a) ((a.writes ≡ false) × P (index_read a.indices)) earlier
-      (all_map (ReadsIf memory P) (λ e. equal_reads e a ≡ true → (a.writes ≡ false) × P (index_read a.indices))
-        (λ e if_read same. let eq = equal_are e a same in (eq.reads_too, subst P eq.index (if_read (eq.memory ∙ at) eq.reads)))
-        earlier h)
-      any
+    (all_map (ReadsIf memory P) (λ e. equal_reads e a ≡ true → (a.writes ≡ false) × P (index_read a.indices))
+    (λ e if_read same. let eq = equal_are e a same in (eq.reads_too, subst P eq.index (if_read (eq.memory ∙ at) eq.reads)))
+    earlier h)
+    any
 
 -- accesses that charge a memory nothing are reads such as those before them
 pub quiet : (memory : ℕ) (P : ℕ → Type 0) (earlier rest : List Access) → AllByRecursion (ReadsIf memory P) earlier
@@ -146,8 +146,8 @@ quiet memory P earlier (a ∷ rest) h none =
     let first : charge_in memory earlier a ≡ 0 = omega (arith, none) in
     let others : charges_in memory (earlier ++ a ∷ []) rest ≡ 0 = omega (arith, none) in
     let here : ReadsOnly memory P a = λ at.
-          shared memory P earlier a h at
-            (uncharged (same_entity a.memory (Some memory)) (list_any (λ e. equal_reads e a) earlier) (its_memory a.memory memory at) first) in
+    shared memory P earlier a h at
+    (uncharged (same_entity a.memory (Some memory)) (list_any (λ e. equal_reads e a) earlier) (its_memory a.memory memory at) first) in
     (here, quiet memory P (earlier ++ a ∷ []) rest (all_snoc (ReadsIf memory P) earlier a h (λ at reads. (here at).1)) others)
 
 -- no access is of this memory
@@ -162,35 +162,38 @@ none_shared false h = refl
 first_charges : (memory : ℕ) (earlier : List Access) (a : Access) → AllByRecursion (Unused memory) earlier → a.memory ≡ Some memory → charge_in memory earlier a ≡ 1
 first_charges memory earlier a unused at =
     charged (same_entity a.memory (Some memory)) (list_any (λ e. equal_reads e a) earlier) (its_memory a.memory memory at)
-      (none_shared (list_any (λ e. equal_reads e a) earlier)
-        (any_one (λ e. equal_reads e a) ⊥ earlier
-          (all_map (Unused memory) (λ e. equal_reads e a ≡ true → ⊥) (λ e no_use same. no_use ((equal_are e a same).memory ∙ at)) earlier unused)))
+    (none_shared (list_any (λ e. equal_reads e a) earlier)
+    (any_one (λ e. equal_reads e a) ⊥ earlier
+    (all_map (Unused memory) (λ e. equal_reads e a ≡ true → ⊥) (λ e no_use same. no_use ((equal_are e a same).memory ∙ at)) earlier unused)))
 
 all_alone : (memory : ℕ) (P : ℕ → Type 0) → ((i j : ℕ) → P i → P j → i ≡ j) → (xs : List Access) → AllByRecursion (ReadsOnly memory P) xs → Pairwise memory xs
 all_alone memory P one [] h = tt
-all_alone memory P one (a ∷ rest) h =
-    (all_map (ReadsOnly memory P) (OneRead memory a) (λ b only at there. let x = h.0 at in let y = only there in ((x.0, y.0), one _ _ x.1 y.1)) rest h.1,
-     all_alone memory P one rest h.1)
+all_alone memory P one (a ∷ rest) h = (
+  all_map (ReadsOnly memory P) (OneRead memory a) (λ b only at there. let x = h.0 at in let y = only there in ((x.0, y.0), one _ _ x.1 y.1)) rest h.1,
+  all_alone memory P one rest h.1,
+)
 
 -- behind a first access of the memory: a write stands alone, a read tells the index of the others
 behind : (memory : ℕ) (earlier rest : List Access) (a : Access) (w : Bool) → a.writes ≡ w → AllByRecursion (Unused memory) earlier → a.memory ≡ Some memory
     → charges_in memory (earlier ++ a ∷ []) rest ≡ 0 → AllByRecursion (OneRead memory a) rest × Pairwise memory rest
 behind memory earlier rest a true is unused at none =
     let only = quiet memory (λ i. ⊥) (earlier ++ a ∷ []) rest
-          (all_snoc (ReadsIf memory (λ i. ⊥)) earlier a
-            (all_map (Unused memory) (ReadsIf memory (λ i. ⊥)) (λ e no_use here reads. no_use here) earlier unused)
-            (λ here reads. absurd (let x : true ≡ false = sym is ∙ reads in cc)))
-          none in
-    (all_map (ReadsOnly memory (λ i. ⊥)) (OneRead memory a) (λ b reads here there. absurd ((reads there).1)) rest only,
-     all_alone memory (λ i. ⊥) (λ i j x y. absurd x) rest only)
+    (all_snoc (ReadsIf memory (λ i. ⊥)) earlier a
+    (all_map (Unused memory) (ReadsIf memory (λ i. ⊥)) (λ e no_use here reads. no_use here) earlier unused)
+    (λ here reads. absurd (let x : true ≡ false = sym is ∙ reads in cc)))
+    none in (
+      all_map (ReadsOnly memory (λ i. ⊥)) (OneRead memory a) (λ b reads here there. absurd ((reads there).1)) rest only,
+      all_alone memory (λ i. ⊥) (λ i j x y. absurd x) rest only,
+    )
 behind memory earlier rest a false is unused at none =
     let only = quiet memory (λ i. index_read a.indices ≡ i) (earlier ++ a ∷ []) rest
-          (all_snoc (ReadsIf memory (λ i. index_read a.indices ≡ i)) earlier a
-            (all_map (Unused memory) (ReadsIf memory (λ i. index_read a.indices ≡ i)) (λ e no_use here reads. absurd (no_use here)) earlier unused)
-            (λ here reads. refl))
-          none in
-    (all_map (ReadsOnly memory (λ i. index_read a.indices ≡ i)) (OneRead memory a) (λ b reads here there. ((is, (reads there).0), (reads there).1)) rest only,
-     all_alone memory (λ i. index_read a.indices ≡ i) (λ i j x y. sym x ∙ y) rest only)
+    (all_snoc (ReadsIf memory (λ i. index_read a.indices ≡ i)) earlier a
+    (all_map (Unused memory) (ReadsIf memory (λ i. index_read a.indices ≡ i)) (λ e no_use here reads. absurd (no_use here)) earlier unused)
+    (λ here reads. refl))
+    none in (
+      all_map (ReadsOnly memory (λ i. index_read a.indices ≡ i)) (OneRead memory a) (λ b reads here there. ((is, (reads there).0), (reads there).1)) rest only,
+      all_alone memory (λ i. index_read a.indices ≡ i) (λ i j x y. sym x ∙ y) rest only,
+    )
 
 decide_memory : (a : Option ℕ) (memory : ℕ) (b : Bool) → same_entity a (Some memory) ≡ b → (a ≡ Some memory) ⊎ (a ≡ Some memory → ⊥)
 decide_memory a memory true h = inl (same_memory a (Some memory) h)
@@ -201,12 +204,13 @@ pub one_read : (memory : ℕ) (earlier rest : List Access) → AllByRecursion (U
 one_read memory earlier [] unused most = tt
 one_read memory earlier (a ∷ rest) unused most =
     elim (decide_memory a.memory memory (same_entity a.memory (Some memory)) refl) [
-      inl at ↦
-        (let first = first_charges memory earlier a unused at in
-        behind memory earlier rest a a.writes refl unused at (omega (arith, first, most)))
-    | inr other ↦
-        (all_map (λ b. Unit {0}) (OneRead memory a) (λ b u at there. absurd (other at)) rest (all_units rest),
-         one_read memory (earlier ++ a ∷ []) rest (all_snoc (Unused memory) earlier a unused other) (omega (arith, most)))
+      | inl at ↦
+          (let first = first_charges memory earlier a unused at in
+          behind memory earlier rest a a.writes refl unused at (omega (arith, first, most)))
+      | inr other ↦ (
+        all_map (λ b. Unit {0}) (OneRead memory a) (λ b u at there. absurd (other at)) rest (all_units rest),
+        one_read memory (earlier ++ a ∷ []) rest (all_snoc (Unused memory) earlier a unused other) (omega (arith, most)),
+      )
     ]
   where
     all_units : (xs : List Access) → AllByRecursion (λ b. Unit {0}) xs

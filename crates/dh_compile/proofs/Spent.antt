@@ -1,14 +1,14 @@
 -- In a program that keeps the ports of its memories, each of which has one port, a phase charges each
 -- memory once at most: its accesses are a set that is together, and what they charge in the program is no
 -- less than what they charge in the phase alone.
-use Rattle.std.proofs.Common.{◌≡◌, ℕ, suc, ◌+◌, ◌≤◌, ◌<◌, Option, Some, None, List, [], ◌∷◌, ◌++◌, length, take, refl, ap, sym, subst, ◌∙◌, append_assoc, append-nil, arith, length-append, inl, inr}
+use Rattle.std.proofs.Common.{◌≡◌, ℕ, ◌+◌, ◌≤◌, ◌<◌, Some, List, [], ◌∷◌, ◌++◌, length, take, refl, ap, sym, subst, ◌∙◌, append_assoc, append-nil, arith, length-append, inl, inr}
 use Rattle.std.proofs.Math.Seq.{take-append_seam}
-use Rattle.std.specs.Prelude.{◌⊎◌, Bool, true, false, IsTrue, not, ◌&&◌, ◌||◌, ◌==◌, nat_le, nat_lt, slice_get, if◌then◌else◌}
+use Rattle.std.specs.Prelude.{Bool, true, false, IsTrue, not, ◌&&◌, ◌||◌, nat_le, nat_lt, slice_get, if◌then◌else◌}
 use Rattle.std.specs.List.{AllByRecursion, list_any}
 use Rattle.std.proofs.lemmas.Bool.Decides.{nat_tests}
 use Rattle.dh_tree.specs.PlainTrees.{Action, Program}
 use Rattle.dh_tree.specs.Phases.{Phase, straight, phases, in_one_straight}
-use Rattle.dh_tree.specs.Meets.{Together, Apart, total}
+use Rattle.dh_tree.specs.Meets.{total}
 use Rattle.dh_tree.specs.Accesses.{Access, accesses, meets, same_entity, equal_reads, shares, charge_behind, charge, ports_of, KeepsPorts}
 use Rattle.dh_compile.proofs.Meeting.{commands_accesses, phase_accesses, phases_accesses, phases_append, accesses_are, Within, Same, never, picked, picked_append, total_is}
 use Rattle.dh_compile.proofs.Quiet.{charge_in, charges_in}
@@ -38,12 +38,12 @@ shares_here : (steps : List Phase) (early here : List Access) (a : Access) → N
 shares_here steps [] [] a h e = absurd (cc)
 shares_here steps [] (x ∷ here) a h e =
     first_or (equal_reads x a && in_one_straight steps x.command a.command) (shares steps here a) (list_any (λ e. equal_reads e a) (x ∷ here) ≡ true) e
-      (λ t. or_first (equal_reads x a) (list_any (λ e. equal_reads e a) here) (both (equal_reads x a) (in_one_straight steps x.command a.command) t).0)
-      (λ t. or_second (equal_reads x a) (list_any (λ e. equal_reads e a) here) (shares_here steps [] here a tt t))
+    (λ t. or_first (equal_reads x a) (list_any (λ e. equal_reads e a) here) (both (equal_reads x a) (in_one_straight steps x.command a.command) t).0)
+    (λ t. or_second (equal_reads x a) (list_any (λ e. equal_reads e a) here) (shares_here steps [] here a tt t))
 shares_here steps (x ∷ early) here a h e =
     first_or (equal_reads x a && in_one_straight steps x.command a.command) (shares steps (early ++ here) a) (list_any (λ e. equal_reads e a) here ≡ true) e
-      (λ t. absurd (h.0 (both (equal_reads x a) (in_one_straight steps x.command a.command) t).1))
-      (λ t. shares_here steps early here a h.1 t)
+    (λ t. absurd (h.0 (both (equal_reads x a) (in_one_straight steps x.command a.command) t).1))
+    (λ t. shares_here steps early here a h.1 t)
 
 less_shared : (b c d : Bool) → (d ≡ true → c ≡ true) → (if b && not c then 1 else 0) ≤ (if b && not d then 1 else 0)
 less_shared false c d h = omega arith
@@ -78,18 +78,18 @@ picked_more steps m every chosen early here [] after n is split picks h = omega 
 picked_more steps m every chosen early here (a ∷ rest) after n is split picks h =
     let long : n ≡ length (early ++ here) = (let e = length-append early here in omega (arith, is, e)) in
     let before : take n every ≡ early ++ here =
-          ap (λ k. take k every) long ∙ (ap (take (length (early ++ here))) split ∙ take-append_seam (early ++ here) ((a ∷ rest) ++ after)) in
+    ap (λ k. take k every) long ∙ (ap (take (length (early ++ here))) split ∙ take-append_seam (early ++ here) ((a ∷ rest) ++ after)) in
     let there : slice_get every n ≡ Some a =
-          ap (slice_get every) long ∙ (ap (λ l. slice_get l (length (early ++ here))) split ∙ at_seam (early ++ here) a (rest ++ after)) in
+    ap (slice_get every) long ∙ (ap (λ l. slice_get l (length (early ++ here))) split ∙ at_seam (early ++ here) a (rest ++ after)) in
     let charged : charge_behind steps m (take n every) (slice_get every n) ≡ charge_behind steps m (early ++ here) (Some a) =
-          ap (λ l. charge_behind steps m l (slice_get every n)) before ∙ ap (charge_behind steps m (early ++ here)) there in
+    ap (λ l. charge_behind steps m l (slice_get every n)) before ∙ ap (charge_behind steps m (early ++ here)) there in
     let one = charge_least steps m early here a h.0 in
     let first = picked_one (chosen n) (charge_behind steps m (take n every) (slice_get every n)) (charge_in m here a) (picks n (omega arith) (omega arith)) (omega (arith, one, charged)) in
     let others = picked_more steps m every chosen early (here ++ a ∷ []) rest after (n + 1)
-          (let e = length-append here (a ∷ []) in omega (arith, is, e))
-          (split ∙ (sym (append_assoc (early ++ here) (a ∷ []) (rest ++ after)) ∙ ap (λ l. l ++ (rest ++ after)) (append_assoc early here (a ∷ []))))
-          (λ k low high. picks k (omega (arith, low)) (omega (arith, high)))
-          h.1 in
+    (let e = length-append here (a ∷ []) in omega (arith, is, e))
+    (split ∙ (sym (append_assoc (early ++ here) (a ∷ []) (rest ++ after)) ∙ ap (λ l. l ++ (rest ++ after)) (append_assoc early here (a ∷ []))))
+    (λ k low high. picks k (omega (arith, low)) (omega (arith, high)))
+    h.1 in
     omega (arith, first, others)
 
 same_here : (t : ℕ) (before : List Phase) (cs : List Action) (behind : List Phase) (x y : ℕ) → Within (t + length (phases_accesses before)) (length (commands_accesses cs)) x
@@ -117,17 +117,17 @@ phase_spent p m before cs behind split keeps one never_with =
     let here = commands_accesses cs in
     let after = phases_accesses behind in
     spent_sum p m early here after
-      (accesses_are p.body ∙ (ap phases_accesses split ∙ phases_append before (straight cs ∷ behind)))
-      (keeps (in_phase (length early) (length here))
-        (λ x y chosen_x chosen_y apart.
-          never p.body 0 x y
-            (subst (λ (ps : List Phase). Same 0 ps x y) (sym split)
-              (same_here 0 before cs behind x y
-                (let w = is_within (length early) (length here) x chosen_x in (omega (arith, w.0), omega (arith, w.1)))
-                (let w = is_within (length early) (length here) y chosen_y in (omega (arith, w.0), omega (arith, w.1)))))
-            apart)
-        m)
-      one never_with
+    (accesses_are p.body ∙ (ap phases_accesses split ∙ phases_append before (straight cs ∷ behind)))
+    (keeps (in_phase (length early) (length here))
+    (λ x y chosen_x chosen_y apart.
+    never p.body 0 x y
+    (subst (λ (ps : List Phase). Same 0 ps x y) (sym split)
+    (same_here 0 before cs behind x y
+    (let w = is_within (length early) (length here) x chosen_x in (omega (arith, w.0), omega (arith, w.1)))
+    (let w = is_within (length early) (length here) y chosen_y in (omega (arith, w.0), omega (arith, w.1)))))
+    apart)
+    m)
+    one never_with
   where
     spent_sum : (p : Program) (m : ℕ) (early here after : List Access) → accesses p.body ≡ early ++ (here ++ after)
         → total (charge p m) (in_phase (length early) (length here)) (meets 0 p.body) ≤ ports_of p m → ports_of p m ≤ 1
@@ -135,11 +135,11 @@ phase_spent p m before cs behind split keeps one never_with =
     spent_sum p m early here after split most one never_with =
         let chosen = in_phase (length early) (length here) in
         let sum : total (charge p m) chosen (meets 0 p.body) ≡ picked (charge p m) chosen 0 (early ++ (here ++ after)) =
-              total_is (charge p m) chosen p.body 0 ∙ ap (picked (charge p m) chosen 0) split in
+        total_is (charge p m) chosen p.body 0 ∙ ap (picked (charge p m) chosen 0) split in
         let first = picked_append (charge p m) chosen 0 early (here ++ after) in
         let second = picked_append (charge p m) chosen (0 + length early) here after in
         let least = picked_more (phases p.body) m (accesses p.body) chosen early [] here after (0 + length early) (let z : length {A = Access} [] ≡ 0 = refl in omega (arith, z))
-              (split ∙ ap (λ l. l ++ (here ++ after)) (sym (append-nil early)))
-              (λ k low high. picks_within (length early) (length here) k (omega (arith, low)) (omega (arith, high)))
-              never_with in
+        (split ∙ ap (λ l. l ++ (here ++ after)) (sym (append-nil early)))
+        (λ k low high. picks_within (length early) (length here) k (omega (arith, low)) (omega (arith, high)))
+        never_with in
         omega (arith, sum, first, second, least, most, one)

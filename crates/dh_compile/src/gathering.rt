@@ -315,7 +315,11 @@ mod tests {
     }
 
     /// `{ first --- second }`
-    fn block(alloc: Global, first: Vec<Command>, second: Vec<Command>) -> Result<Command, NoMemory> {
+    fn block(
+        alloc: Global,
+        first: Vec<Command>,
+        second: Vec<Command>,
+    ) -> Result<Command, NoMemory> {
         let mut body = Vec::new(alloc);
         body.push(first)?;
         body.push(second)?;
