@@ -1,6 +1,6 @@
 -- A net that plays the groups of an accepted program plays the program: programs that mean the same have
 -- the same runs.
-use Rattle.std.proofs.Common.{◌≡◌, ℕ, List, [], ◌∷◌, length, map, refl, ap, sym, subst, ◌∙◌, Result, Ok, Err, IfOk, arith}
+use Rattle.std.proofs.Common.{◌≡◌, ℕ, length, map, ap, sym, subst, ◌∙◌, Result, Ok, Err, IfOk}
 use Rattle.dh_base.specs.declared.lists.NoMemory.{NoMemory}
 use Rattle.dh_tree.specs.PlainTrees as plain
 use Rattle.dh_tree.specs.Phases.{phases}
@@ -19,6 +19,7 @@ use Rattle.dh_compile.specs.GroupRun.{PlaysGroups}
 use Rattle.dh_compile.specs.Reading.{phase_read, program_read}
 use Rattle.dh_compile.proofs.PlayingPrograms.{plays_groups, groups_end}
 use Rattle.dh_compile.proofs.Accepting.{accepted_grouped, accepted_meant}
+use Rattle.std.proofs.lemmas.List.{length-map}
 
 plays_meaning : (p : plain.Program) (g : Program) (net : Net) → tree_of g ≡ meaning_of p → PlaysGroups net g → PlaysProgram net p
 plays_meaning p g net same h =
@@ -37,14 +38,10 @@ pub built_plays_program : (p : plain.Program) (g : Program) (r : Result Net NoMe
 built_plays_program p g (Ok net) same grouped built valid = plays_meaning p g net same (plays_groups g net grouped valid built)
 built_plays_program p g (Err e) same grouped built valid = tt
 
-length_map : {A B : Type 0} (f : A → B) (xs : List A) → length (map f xs) ≡ length xs
-length_map f [] = refl
-length_map f (x ∷ xs) = let e = length_map f xs in omega (arith, e)
-
 pub accepted_ends : (p : plain.Program) → IsAccepted p → EndsSoon p
 accepted_ends p accepted = record {
   ends = λ memories fits.
-      subst (λ (n : ℕ). EndsAfter (run_of_tree (meaning_of p) memories) n) (length_map phase_read (phases p.body))
+      subst (λ (n : ℕ). EndsAfter (run_of_tree (meaning_of p) memories) n) (length-map (phases p.body) phase_read)
       (subst (λ (t : Tree). EndsAfter (run_of_tree t memories) (length (map phase_read (phases p.body)))) (accepted_meant p accepted)
       ((groups_end (program_read p) (accepted_grouped p accepted)).ends memories fits));
 }

@@ -28,14 +28,8 @@ use Rattle.dh_compile.proofs.Meeting.{commands_accesses, phases_accesses, phases
 use Rattle.dh_compile.proofs.Ordering.{AllNumbered, Ordered, AllBelow, ordered, not_together, below_more}
 use Rattle.dh_compile.proofs.Portions.{AreReads, AreAccesses, store_has, charged_keep}
 use Rattle.dh_compile.proofs.Spent.{NeverWith, phase_spent}
-
-all_append : {A : Type 0} (P : A → Type 0) (xs ys : List A) → AllByRecursion P xs → AllByRecursion P ys → AllByRecursion P (xs ++ ys)
-all_append P [] ys h k = k
-all_append P (x ∷ xs) ys h k = (h.0, all_append P xs ys h.1 k)
-
-all_map : {A : Type 0} (P Q : A → Type 0) → ((x : A) → P x → Q x) → (xs : List A) → AllByRecursion P xs → AllByRecursion Q xs
-all_map P Q f [] h = tt
-all_map P Q f (x ∷ xs) h = (f x h.0, all_map P Q f xs h.1)
+use Rattle.std.proofs.lemmas.List.{length-map}
+use Rattle.dh_compile.proofs.Listing.{all_append, all_map}
 
 reads_command : (id : ℕ) (source : Option Operand) (xs : List Access) → AreReads id source xs → AllByRecursion (λ (a : Access). a.command ≡ id) xs
 reads_command id None [] h = tt
@@ -61,10 +55,6 @@ commands_between ds low high (c ∷ cs) h k =
     (all_map (λ (a : Access). a.command ≡ id_of c) (Between low high) (λ a e. (omega (arith, e, k.0.0), omega (arith, e, k.0.1))) (accesses c)
     (its_accesses (id_of c) (action_read c).memory (action_read c).source (accesses c) (store_has ds c h.0)))
     (commands_between ds low high cs h.1 k.1)
-
-length_map : {A B : Type 0} (f : A → B) (xs : List A) → length (map f xs) ≡ length xs
-length_map f [] = refl
-length_map f (x ∷ xs) = let e = length_map f xs in omega (arith, e)
 
 -- what is known of an accepted program
 record Facts (p : Program) : Type 0 where
@@ -97,7 +87,7 @@ groups_are p facts before (straight cs ∷ behind) low high split below early o 
     (phases_accesses before) early)
     (commands_accesses cs) here in
     let group : IsGroup (table_of p) (map action_read cs) = record {
-      least = let e = length_map action_read cs in omega (arith, e, fits.0.0);
+      least = let e = length-map cs action_read in omega (arith, e, fits.0.0);
       stores = stores_are p.decls cs fits.0.1;
       ports = charged_keep p.decls cs fits.0.1 (λ m. phase_spent p m before cs behind split facts.keeps (one_port p.decls m facts.decls) never_with);
     } in (

@@ -24,14 +24,11 @@ use Rattle.dh_tree.specs.Meaning.{entry_of}
 use Rattle.dh_check.specs.Forms.{is_word, unbuilt_where, further_dims, unbuilt_dims, unbuilt_decl, unbuilt_decls, unbuilt_functions}
 use Rattle.dh_compile.specs.Grouped as grouped
 use Rattle.dh_compile.proofs.Plain.{LineFits, no_rest, if_none}
+use Rattle.dh_compile.proofs.Listing.{all_append}
 
 -- the numbers of all visible names are below a number
 abbrev Below : ℕ → List Binding → Type 0
 Below n bs = AllByRecursion (λ b. b.entity < n) bs
-
-all_append : {A : Type 0} (P : A → Type 0) (xs ys : List A) → AllByRecursion P xs → AllByRecursion P ys → AllByRecursion P (xs ++ ys)
-all_append P [] ys h k = k
-all_append P (x ∷ xs) ys h k = (h.0, all_append P xs ys h.1 k)
 
 either_some : (b : Bool) (e m n : ℕ) (rest : Option ℕ) → e < n → (rest ≡ Some m → m < n) → (if b then Some e else rest) ≡ Some m → m < n
 either_some true e m n rest first others h = let same : e ≡ m = cc in omega (arith, same, first)

@@ -1,3 +1,4 @@
+pub mod Listing
 pub mod AcceptedRuns
 pub mod Accepting
 pub mod Spent

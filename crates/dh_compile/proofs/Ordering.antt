@@ -1,13 +1,13 @@
 -- Commands are numbered in order, so the phases of a body have numbers in order, and no number stands in
 -- two of them.
-use Rattle.std.proofs.Common.{◌≡◌, ℕ, ◌+◌, ◌≤◌, ◌<◌, List, [], ◌∷◌, ◌++◌, refl, arith}
-use Rattle.std.specs.Prelude.{Bool, true, false, ◌&&◌, ◌||◌, ◌==◌}
+use Rattle.std.proofs.Common.{◌≡◌, ℕ, ◌+◌, ◌≤◌, ◌<◌, List, [], ◌∷◌, ◌++◌, arith}
+use Rattle.std.specs.Prelude.{true, ◌==◌}
 use Rattle.std.specs.List.{AllByRecursion}
-use Rattle.std.proofs.lemmas.Bool.Decides.{nat_tests}
 use Rattle.dh_base.specs.declared.places.Place.{Place}
 use Rattle.dh_tree.specs.PlainTrees.{Action, action, ActionForm, lets, lets_memory, views, assigns, stores, reduces, calls, blocks, decides, repeats, counts, Actions, no_actions, action_then, Groups, no_groups, group_then}
 use Rattle.dh_tree.specs.Phases.{Phase, straight, phases, form_phases, one_straight, joined, parts_phases, groups_phases, id_of, holds_id, holds_both, in_one_straight}
 use Rattle.dh_tree.specs.FirstForms.{number_after, form_after, groups_after, part_after, IsCounted, IsCountedForm, AreCountedGroups, AreCounted}
+use Rattle.dh_compile.proofs.Listing.{all_append, first_or, both, tested}
 
 -- its number lies between these
 abbrev pub Numbered : (low high : ℕ) → Action → Type 0
@@ -28,10 +28,6 @@ PartsOrdered low high (ps ∷ rest) = (middle : ℕ) × (Ordered low middle ps �
 widen : (low middle high wide : ℕ) (cs : List Action) → wide ≤ low → middle ≤ high → AllNumbered low middle cs → AllNumbered wide high cs
 widen low middle high wide [] b a h = tt
 widen low middle high wide (c ∷ cs) b a h = ((omega (arith, b, h.0.0), omega (arith, a, h.0.1)), widen low middle high wide cs b a h.1)
-
-all_append : {A : Type 0} (P : A → Type 0) (xs ys : List A) → AllByRecursion P xs → AllByRecursion P ys → AllByRecursion P (xs ++ ys)
-all_append P [] ys h k = k
-all_append P (x ∷ xs) ys h k = (h.0, all_append P xs ys h.1 k)
 
 lower : (low high wide : ℕ) (ps : List Phase) → wide ≤ low → Ordered low high ps → Ordered wide high ps
 lower low high wide [] b h = omega (arith, b, h)
@@ -91,17 +87,6 @@ mutual
   part_ordered : (part : Actions) (n : ℕ) → AreCounted n part → PartsOrdered n (part_after n part) (parts_phases part)
   part_ordered no_actions n h = omega arith
   part_ordered (action_then a rest) n h = (number_after n a, (ordered a n h.0, part_ordered rest (number_after n a) h.1))
-
-tested : (a b : ℕ) → (a == b) ≡ true → a ≡ b
-tested a b h = grind (arith, nat_tests)
-
-first_or : (a b : Bool) (X : Type 0) → (a || b) ≡ true → (a ≡ true → X) → (b ≡ true → X) → X
-first_or true b X e x y = x refl
-first_or false b X e x y = y e
-
-both : (a b : Bool) → (a && b) ≡ true → (a ≡ true) × (b ≡ true)
-both true b e = (refl, e)
-both false b e = absurd (cc)
 
 -- a command that is held has its number
 held : (low high id : ℕ) (cs : List Action) → AllNumbered low high cs → holds_id id cs ≡ true → (low ≤ id) × (id < high)

@@ -23,6 +23,7 @@ use Rattle.dh_tree.specs.Meaning.{entry_of}
 use Rattle.dh_tree.specs.Tables.{line_of}
 use Rattle.dh_check.specs.Forms.{unbuilt, plain_number, is_small, is_element, further_indices, unbuilt_index, unbuilt_indices, unbuilt_element, unbuilt_access, is_sum_of, unbuilt_stored, unbuilt_value, form_holds, unbuilt_action, unbuilt_form, unbuilt_groups, unbuilt_part}
 use Rattle.dh_compile.specs.Grouped as grouped
+use Rattle.dh_compile.proofs.Listing.{all_append, both}
 
 -- a number without a sign of this kind
 abbrev pub PlainNumber : (ℕ → Type 0) → TermForm → Type 0
@@ -118,10 +119,6 @@ small_number (converted inner to) e = absurd (cc)
 pub if_none : {A : Type 0} (b : Bool) (xs : List A) (y : A) (ys : List A) → (if b then xs else y ∷ ys) ≡ [] → (b ≡ true) × (xs ≡ [])
 if_none true xs y ys e = (refl, e)
 if_none false xs y ys e = absurd (cc)
-
-both : (a b : Bool) → (a && b) ≡ true → (a ≡ true) × (b ≡ true)
-both true b e = (refl, e)
-both false b e = absurd (cc)
 
 in_size : (place : Place) (n size : ℕ) (zero_size below : Bool) (b : Breach) → (size == 0) ≡ zero_size → nat_lt n size ≡ below → 1 ≤ size
     → (if zero_size then [] else (if below then [] else b ∷ [])) ≡ [] → n < size
@@ -278,10 +275,6 @@ PhaseFits ds (straight cs) = (1 ≤ length cs) × AllByRecursion (CommandFits ds
 
 abbrev pub PhasesFit : List Declared → List Phase → Type 0
 PhasesFit ds ps = AllByRecursion (PhaseFits ds) ps
-
-all_append : {A : Type 0} (P : A → Type 0) (xs ys : List A) → AllByRecursion P xs → AllByRecursion P ys → AllByRecursion P (xs ++ ys)
-all_append P [] ys h k = k
-all_append P (x ∷ xs) ys h k = (h.0, all_append P xs ys h.1 k)
 
 one_fits : (ds : List Declared) (cs : List Action) → AllByRecursion (CommandFits ds) cs → PhasesFit ds (one_straight cs)
 one_fits ds [] h = tt

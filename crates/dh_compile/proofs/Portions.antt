@@ -16,6 +16,7 @@ use Rattle.dh_compile.specs.Reading.{index_read, element_read, stored_read, stor
 use Rattle.dh_compile.proofs.Plain.{PlainNumber, OneIndex, EntityFits, ElementFits, IsSmall, ValueFits, StoreFits, CommandFits}
 use Rattle.dh_compile.proofs.Meeting.{commands_accesses}
 use Rattle.dh_compile.proofs.Quiet.{charges_in, OneRead, Pairwise, one_read}
+use Rattle.dh_compile.proofs.Listing.{all_map}
 
 -- a write of this memory by the command of this number
 pub record IsWriteOf (id memory : ℕ) (a : Access) : Type 0 where
@@ -148,10 +149,6 @@ all_first P (x ∷ xs) ys h = (h.0, all_first P xs ys h.1)
 all_second : {A : Type 0} (P : A → Type 0) (xs ys : List A) → AllByRecursion P (xs ++ ys) → AllByRecursion P ys
 all_second P [] ys h = h
 all_second P (x ∷ xs) ys h = all_second P xs ys h.1
-
-all_map : {A : Type 0} (P Q : A → Type 0) → ((x : A) → P x → Q x) → (xs : List A) → AllByRecursion P xs → AllByRecursion Q xs
-all_map P Q f [] h = tt
-all_map P Q f (x ∷ xs) h = (f x h.0, all_map P Q f xs h.1)
 
 -- each of the first with each of the second
 abbrev Across : List Access → List Access → Type 0

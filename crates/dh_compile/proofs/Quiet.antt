@@ -2,12 +2,13 @@
 -- earlier one in the group is equal to it. Then a memory that is written is accessed once, and all reads
 -- of a memory are of one element.
 use Rattle.std.proofs.Common.{◌≡◌, ℕ, ◌+◌, ◌≤◌, Option, Some, None, List, [], ◌∷◌, ◌++◌, refl, ap, sym, subst, ◌∙◌, arith, inl, inr}
-use Rattle.std.specs.Prelude.{◌⊎◌, Bool, true, false, not, ◌&&◌, ◌||◌, ◌==◌, if◌then◌else◌}
+use Rattle.std.specs.Prelude.{◌⊎◌, Bool, true, false, not, ◌&&◌, ◌==◌, if◌then◌else◌}
 use Rattle.std.specs.List.{AllByRecursion, list_any}
 use Rattle.std.proofs.lemmas.Bool.Decides.{nat_tests}
 use Rattle.dh_tree.specs.PlainTrees.{term, TermForm, number, truth_value, named, accessed, in_bank, applied, converted, Terms, no_terms, term_then}
 use Rattle.dh_tree.specs.Accesses.{Access, equal_reads, same_entity, same_sign, alike, all_alike}
 use Rattle.dh_compile.specs.Reading.{index_read, number_read}
+use Rattle.dh_compile.proofs.Listing.{all_map, first_or, both, tested}
 
 -- what an access charges on a memory, behind the earlier ones of its group
 abbrev pub charge_in : ℕ → List Access → Access → ℕ
@@ -35,10 +36,6 @@ abbrev pub Pairwise : ℕ → List Access → Type 0
 Pairwise memory [] = Unit {0}
 Pairwise memory (a ∷ rest) = AllByRecursion (OneRead memory a) rest × Pairwise memory rest
 
-first_or : (a b : Bool) (X : Type 0) → (a || b) ≡ true → (a ≡ true → X) → (b ≡ true → X) → X
-first_or true b X e x y = x refl
-first_or false b X e x y = y e
-
 any_one : {A : Type 0} (f : A → Bool) (X : Type 0) (xs : List A) → AllByRecursion (λ x. f x ≡ true → X) xs → list_any f xs ≡ true → X
 any_one f X [] h e = absurd (cc)
 any_one f X (x ∷ xs) h e = first_or (f x) (list_any f xs) X e h.0 (λ more. any_one f X xs h.1 more)
@@ -47,20 +44,9 @@ all_snoc : {A : Type 0} (P : A → Type 0) (xs : List A) (x : A) → AllByRecurs
 all_snoc P [] x h p = (p, tt)
 all_snoc P (y ∷ ys) x h p = (h.0, all_snoc P ys x h.1 p)
 
-all_map : {A : Type 0} (P Q : A → Type 0) → ((x : A) → P x → Q x) → (xs : List A) → AllByRecursion P xs → AllByRecursion Q xs
-all_map P Q f [] h = tt
-all_map P Q f (x ∷ xs) h = (f x h.0, all_map P Q f xs h.1)
-
-both : (a b : Bool) → (a && b) ≡ true → (a ≡ true) × (b ≡ true)
-both true b e = (refl, e)
-both false b e = absurd (cc)
-
 not_true : (b : Bool) → not b ≡ true → b ≡ false
 not_true true e = absurd (cc)
 not_true false e = refl
-
-tested : (a b : ℕ) → (a == b) ≡ true → a ≡ b
-tested a b h = grind (arith, nat_tests)
 
 alike_numbers : (t u : TermForm) (tp up : _) (tk uk : _) → alike (term tp tk t) (term up uk u) ≡ true → number_read t ≡ number_read u
 alike_numbers (number s m) (number t n) tp up tk uk e = tested m n (both (same_sign s t) (m == n) e).1

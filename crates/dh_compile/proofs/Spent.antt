@@ -12,18 +12,11 @@ use Rattle.dh_tree.specs.Meets.{total}
 use Rattle.dh_tree.specs.Accesses.{Access, accesses, meets, same_entity, equal_reads, shares, charge_behind, charge, ports_of, KeepsPorts}
 use Rattle.dh_compile.proofs.Meeting.{commands_accesses, phase_accesses, phases_accesses, phases_append, accesses_are, Within, Same, never, picked, picked_append, total_is}
 use Rattle.dh_compile.proofs.Quiet.{charge_in, charges_in}
+use Rattle.dh_compile.proofs.Listing.{first_or, both}
 
 -- no access of the first stands in one phase with the other
 abbrev pub NeverWith : List Phase → List Access → Access → Type 0
 NeverWith steps early a = AllByRecursion (λ e. in_one_straight steps e.command a.command ≡ true → ⊥) early
-
-first_or : (a b : Bool) (X : Type 0) → (a || b) ≡ true → (a ≡ true → X) → (b ≡ true → X) → X
-first_or true b X e x y = x refl
-first_or false b X e x y = y e
-
-both : (a b : Bool) → (a && b) ≡ true → (a ≡ true) × (b ≡ true)
-both true b e = (refl, e)
-both false b e = absurd (cc)
 
 or_first : (a b : Bool) → a ≡ true → (a || b) ≡ true
 or_first true b e = refl
