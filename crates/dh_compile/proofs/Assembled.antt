@@ -1,13 +1,13 @@
 -- A net of the parts that were built is as the program has it, and valid.
 -- Each wire's value holds of every solution of the cells' equations, and so of each valuation. The
 -- cells were valid beside two registers of the same widths, and to a cell no more matters of them.
-use Rattle.std.proofs.Common.{◌≡◌, ℕ, zero, suc, ◌+◌, ◌*◌, ◌%◌, ◌^◌, ◌≤◌, Some, List, [], ◌∷◌, length, refl, sym, ap, subst, ◌∙◌, arith}
+use Rattle.std.proofs.Common.{◌≡◌, ℕ, zero, suc, ◌+◌, ◌%◌, ◌^◌, Some, List, [], ◌∷◌, length, refl, sym, ap, subst, ◌∙◌, arith}
 use Rattle.std.specs.Prelude.{slice_get, slice_index, option_map, if◌then◌else◌, ◌==◌}
 use Rattle.std.specs.List.{AllByRecursion}
 use Rattle.std.proofs.lemmas.Option.{slice_get_within}
 use Rattle.dh_tree.specs.declared.tables.MemEntry.{MemEntry}
 use Rattle.dh_compile.specs.declared.stores.Program.{Program}
-use Rattle.dh_tree.specs.Tables.{elements_in, IsEntry, IsTable}
+use Rattle.dh_tree.specs.Tables.{IsEntry, IsTable}
 use Rattle.dh_value.specs.Words.{IsInteger}
 use Rattle.dh_compile.specs.Grouped.{IsLineEntry, IsGrouped}
 use Rattle.dh_net.specs.Valid.{HasWidth, FormFits, IsCell, IsRegister, IsValid}
@@ -24,7 +24,6 @@ use Rattle.dh_compile.specs.Drafts.{Drafted, plain_registers, AreCells, Solves, 
 use Rattle.dh_compile.specs.Drivers.{HasPorts, AddsPorts}
 use Rattle.dh_compile.specs.Heads.{AddsHead}
 use Rattle.dh_compile.proofs.Cells.{later, width_later, grows_then}
-use Rattle.dh_compile.proofs.Programs.{grouped_size}
 
 -- the parts of a net
 pub record HasParts (net : Net) (p : Program) (next_clock next_tick : ℕ) : Type 0 where

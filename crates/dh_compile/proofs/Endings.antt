@@ -1,20 +1,16 @@
 -- When the run of a grouped program ends: it goes on through its groups, never faults and is never
 -- stuck, and has ended after the last one.
-use Rattle.std.proofs.Common.{◌≡◌, ℕ, ◌<◌, ◌≤◌, List, [], ◌∷◌, length, refl, sym, ◌∙◌, zero, suc, arith, subst, inl, inr}
+use Rattle.std.proofs.Common.{◌≡◌, ℕ, ◌<◌, ◌≤◌, [], length, refl, sym, ◌∙◌, zero, suc, arith, subst, inl, inr}
 use Rattle.std.specs.Prelude.{slice_index_or}
-use Rattle.std.specs.List.{AllByRecursion}
 use Rattle.std.proofs.lemmas.Bool.{cases_lt}
 use Rattle.std.proofs.lemmas.Option.{slice_get-get_or}
 use Rattle.dh_base.specs.declared.outcomes.FaultKind.{FaultKind}
 use Rattle.dh_base.specs.declared.outcomes.Outcome.{Outcome}
 use Rattle.dh_base.specs.declared.outcomes.Outcome.TheVariants.{Going, Ended, Faulted}
 use Rattle.dh_base.specs.declared.places.Place.{Place}
-use Rattle.dh_tree.specs.declared.tables.MemEntry.{MemEntry}
-use Rattle.dh_compile.specs.declared.stores.Store.{Store}
 use Rattle.dh_compile.specs.declared.stores.Program.{Program}
 use Rattle.dh_compile.specs.Grouped.{IsGrouped}
 use Rattle.dh_net.specs.Plays.{Run, clocks_of, IsGoing, IsFine, IsStuck, EndsAfter}
-use Rattle.dh_compile.specs.Timetable.{total_length}
 use Rattle.dh_compile.specs.GroupRun.{DoesGroups}
 use Rattle.dh_compile.proofs.Times.{clocks_before, clocks_before_more}
 

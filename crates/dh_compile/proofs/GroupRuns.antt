@@ -18,7 +18,7 @@ use Rattle.dh_compile.specs.Grouped.{IsLineEntry, IsGroup, IsGrouped}
 use Rattle.dh_compile.specs.declared.uses.Use.{Use}
 use Rattle.dh_compile.specs.declared.uses.Use.TheVariants.{Reads, Writes}
 use Rattle.dh_compile.specs.Timetable.{use_in, is_read, any_read, group_length, stored_of, rows_after}
-use Rattle.dh_compile.specs.GroupRun.{run_of, AreLong, GroupDone, DoesGroups}
+use Rattle.dh_compile.specs.GroupRun.{group_run, AreLong, GroupDone, DoesGroups}
 use Rattle.dh_compile.proofs.Groups.{at_place, some_at}
 use Rattle.dh_compile.proofs.GroupEvents.{group_events, events_are}
 use Rattle.dh_compile.proofs.Spending.{no_stop, group_agrees, group_ports}
@@ -178,7 +178,7 @@ does_group p memories h f n g e =
     (group_done s.memories g group.ports)
 
 -- a grouped program's run does its groups
-pub does_groups : (p : Program) → IsGrouped p → (m : List (List ℕ)) → Fits p.table m → DoesGroups p (run_of p m)
+pub does_groups : (p : Program) → IsGrouped p → (m : List (List ℕ)) → Fits p.table m → DoesGroups p (group_run p m)
 does_groups p h m f = record {
   long = λ n. (is_at p m h f n).long;
   going = λ n l. is_going p m h f n l;

@@ -1,3 +1,15 @@
+pub mod Listing
+pub mod AcceptedRuns
+pub mod Accepting
+pub mod Spent
+pub mod Portions
+pub mod Ordering
+pub mod Meant
+pub mod Declarations
+pub mod Plain
+pub mod Meeting
+pub mod Joining
+pub mod Quiet
 pub mod Cells
 pub mod Pushes
 pub mod Driven

@@ -15,7 +15,7 @@ use Rattle.dh_compile.specs.Grouped.{IsLineEntry, IsElement, IsSource, IsStore, 
 use Rattle.dh_net.specs.Valid.{IsRowWidth}
 use Rattle.dh_compile.specs.declared.uses.Use.{Use}
 use Rattle.dh_compile.specs.declared.uses.Use.TheVariants.{Reads, Writes}
-use Rattle.dh_compile.specs.Timetable.{use_of_source, use_in, any_read, total_length}
+use Rattle.dh_compile.specs.Timetable.{use_of_source, use_in, total_length}
 use Rattle.dh_compile.specs.Drafts.{IsHeld}
 use Rattle.dh_compile.specs.Drivers.{FitsUse, FitsGroup, FitsGroups}
 use Rattle.dh_compile.proofs.Groups.{at_place}

@@ -1,5 +1,6 @@
 pub mod Timetable
 pub mod Grouped
+pub mod Reading
 pub mod Built
 pub mod GroupRun
 pub mod Compiled

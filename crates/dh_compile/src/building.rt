@@ -67,8 +67,8 @@ pub(crate) fn build(alloc: Global, program: &Program) -> Result<Net, NoMemory>
 mod tests {
     use super::*;
     use crate::stores::{Operand, Store};
-    use dh_tree::{Dim, Kind, MemEntry, Name, Shape};
     use dh_base::Place;
+    use dh_tree::{Dim, Kind, MemEntry, Name, Shape};
     use std::test::Fail;
 
     const FIRST: Place = Place { line: 1, column: 1 };

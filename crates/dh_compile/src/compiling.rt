@@ -1,31 +1,33 @@
 //! The compiler's public call.
 
 ghost use Rattle.std.specs.Prelude.{IfOk};
-ghost use Rattle.dh_compile.specs.Grouped.{IsGrouped};
+ghost use Rattle.dh_tree.specs.PlainTrees.{Program};
+ghost use Rattle.dh_tree.specs.Seen.{program_seen};
+ghost use Rattle.dh_check.specs.Acceptance.{IsAccepted};
 ghost use Rattle.dh_compile.specs.Compiled.{PlaysProgram, EndsSoon};
-ghost use Rattle.dh_compile.specs.declared.stores.Program.{Program};
 
 use crate::building::build;
-use crate::stores::Program;
+use crate::gathering::groups_of;
 use dh_base::NoMemory;
+use dh_check::Accepted;
 use dh_net::Net;
 use std::alloc::Global;
 
-/// Compiles a grouped program. The net is valid, its table is the program's, and from all fitting
+/// Compiles an accepted program. The net is valid, its table is the program's, and from all fitting
 /// memories it plays the checked run of the program: no clock drives a bank beyond its ports, at its
 /// nth tick it holds the memories after n steps, and it shows done exactly once the run has ended.
 ///
 /// # Errors
 ///
 /// `NoMemory` where an allocation was refused.
-pub fn compile(alloc: Global, program: &Program) -> Result<Net, NoMemory>
-    requires { IsGrouped program.now }
-    ensures { IfOk result (λ net. PlaysProgram net program.now) }
+pub fn compile(alloc: Global, accepted: &Accepted) -> Result<Net, NoMemory>
+    ensures { IfOk result (λ net. PlaysProgram net (program_seen accepted.now)) }
 {
-    build(alloc, program)
+    let program = groups_of(alloc, accepted.tree())?;
+    build(alloc, &program)
 }
 
-/// The run of a grouped program ends after its last group, within 128 clocks.
-pub fn grouped_programs_end()
-    ensures { (p : Program) → IsGrouped p → EndsSoon p }
+/// The run of an accepted program ends after its last phase, within 128 clocks.
+pub fn accepted_programs_end()
+    ensures { (p : Program) → IsAccepted p → EndsSoon p }
 {}

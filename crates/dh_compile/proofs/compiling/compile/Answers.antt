@@ -1,6 +1,12 @@
--- What is built for the program plays it.
-use Rattle.dh_compile.proofs.PlayingPrograms.{built_plays}
+-- What is built for the groups of an accepted program plays the program.
+use Rattle.std.proofs.Common.{ap, ◌∙◌}
+use Rattle.dh_tree.specs.Seen.{program_seen}
+use Rattle.dh_tree.specs.Meaning.{meaning_of}
+use Rattle.dh_compile.proofs.AcceptedRuns.{built_plays_program}
 use Rattle.dh_compile.proofs.compiling.compile.Goals as goal
 
 pub returns : goal.returns
-returns c = built_plays c.args.program.now c.build.result c.requires c.build.ensures.built c.build.ensures.valid
+returns c =
+    built_plays_program (program_seen c.args.accepted.now) c.in_ok-program.program c.build.result
+    (c.in_ok-program.ensures.meaning ∙ ap (λ t. meaning_of (program_seen t)) c.tree.ensures.tree)
+    c.in_ok-program.ensures.grouped c.build.ensures.built c.build.ensures.valid

@@ -1,0 +1,201 @@
+-- An accepted program's groups are those of a program that the compiler takes, and mean what the program
+-- means.
+use Rattle.std.proofs.Common.{◌≡◌, ℕ, ◌+◌, ◌≤◌, ◌<◌, Option, Some, None, List, [], ◌∷◌, ◌++◌, length, map, refl, ap, sym, subst, ◌∙◌, append_assoc, append-nil, arith, length-append, inl, inr}
+use Rattle.std.specs.Prelude.{Bool, true, false, ◌||◌, slice_get, if◌then◌else◌}
+use Rattle.std.specs.List.{AllByRecursion}
+use Rattle.std.proofs.lemmas.Option.{slice_get_cases}
+use Rattle.dh_value.specs.declared.kinds.Kind.TheVariants.{Unsigned}
+use Rattle.dh_tree.specs.PlainTrees.{Action, Declared, Defined, Program}
+use Rattle.dh_tree.specs.Phases.{Phase, straight, phases, id_of, in_one_straight}
+use Rattle.dh_tree.specs.Accesses.{Access, accesses, declared_ports, KeepsPorts}
+use Rattle.dh_tree.specs.Scopes.{memory_items, function_items, merged, items_of, after_items, body_scope, entity_of}
+use Rattle.dh_tree.specs.Breaches.{items_breaches, functions_breaches, breaches}
+use Rattle.dh_tree.specs.Scopes.{first_scope}
+use Rattle.dh_tree.specs.Ranges.{index_range, decls_judged, action_judged}
+use Rattle.dh_tree.specs.Meaning.{meaning_of, table_of}
+use Rattle.dh_tree.specs.FirstForms.{number_after}
+use Rattle.dh_check.specs.Forms.{unbuilt_decls, unbuilt_functions, unbuilt_action}
+use Rattle.dh_check.specs.Acceptance.{IsAccepted}
+use Rattle.dh_compile.specs.declared.stores.Operand.{Operand}
+use Rattle.dh_compile.specs.Grouped.{IsGroup, IsGrouped, tree_of}
+use Rattle.dh_compile.specs.Timetable.{any_read, is_read, total_length}
+use Rattle.dh_compile.specs.Reading.{action_read, phase_read, program_read}
+use Rattle.dh_compile.proofs.Groups.{at_place}
+use Rattle.dh_compile.proofs.Plain.{no_rest, Known, CommandFits, PhasesFit, body_fits}
+use Rattle.dh_compile.proofs.Declarations.{IsLineDecl, merged_none, no_functions, visible_declared, distinct_names, decls_are, lines_are, entries_are}
+use Rattle.dh_compile.proofs.Meant.{AreWords, phases_are, stores_are}
+use Rattle.dh_compile.proofs.Meeting.{commands_accesses, phases_accesses, phases_append, accesses_are}
+use Rattle.dh_compile.proofs.Ordering.{AllNumbered, Ordered, AllBelow, ordered, not_together, below_more}
+use Rattle.dh_compile.proofs.Portions.{AreReads, AreAccesses, store_has, charged_keep}
+use Rattle.dh_compile.proofs.Spent.{NeverWith, phase_spent}
+use Rattle.std.proofs.lemmas.List.{length-map}
+use Rattle.dh_compile.proofs.Listing.{all_append, all_map}
+
+reads_command : (id : ℕ) (source : Option Operand) (xs : List Access) → AreReads id source xs → AllByRecursion (λ (a : Access). a.command ≡ id) xs
+reads_command id None [] h = tt
+reads_command id None (x ∷ xs) h = absurd h
+reads_command id (Some o) [] h = absurd h
+reads_command id (Some o) (x ∷ []) h = (h.command, tt)
+reads_command id (Some o) (x ∷ y ∷ xs) h = absurd h
+
+-- the accesses of a store are of its command
+its_accesses : (id m : ℕ) (source : Option Operand) (xs : List Access) → AreAccesses id source m xs → AllByRecursion (λ (a : Access). a.command ≡ id) xs
+its_accesses id m source xs h =
+    subst (λ (l : List Access). AllByRecursion (λ (a : Access). a.command ≡ id) l) (sym h.are)
+    (all_append (λ (a : Access). a.command ≡ id) h.reads (h.write ∷ []) (reads_command id source h.reads h.has_reads) (h.has_write.command, tt))
+
+-- its command's number lies between these
+abbrev Between : (low high : ℕ) → Access → Type 0
+Between low high a = (low ≤ a.command) × (a.command < high)
+
+commands_between : (ds : List Declared) (low high : ℕ) (cs : List Action) → AllByRecursion (CommandFits ds) cs → AllNumbered low high cs → AllByRecursion (Between low high) (commands_accesses cs)
+commands_between ds low high [] h k = tt
+commands_between ds low high (c ∷ cs) h k =
+    all_append (Between low high) (accesses c) (commands_accesses cs)
+    (all_map (λ (a : Access). a.command ≡ id_of c) (Between low high) (λ a e. (omega (arith, e, k.0.0), omega (arith, e, k.0.1))) (accesses c)
+    (its_accesses (id_of c) (action_read c).memory (action_read c).source (accesses c) (store_has ds c h.0)))
+    (commands_between ds low high cs h.1 k.1)
+
+-- what is known of an accepted program
+record Facts (p : Program) : Type 0 where
+  pub decls : AllByRecursion IsLineDecl p.decls
+  pub fits : PhasesFit p.decls (phases p.body)
+  pub keeps : KeepsPorts p
+
+words_are : (ds : List Declared) → AllByRecursion IsLineDecl ds → AreWords ds
+words_are ds h = all_map IsLineDecl (λ (d : Declared). d.shape.kind ≡ Unsigned 32) (λ d k. k.kind) ds h
+
+one_port : (ds : List Declared) (m : ℕ) → AllByRecursion IsLineDecl ds → declared_ports (slice_get ds m) ≤ 1
+one_port ds m h =
+    elim (slice_get_cases ds m).1 [
+      | inl found ↦ (let e = ap declared_ports found.2 in let f = (at_place IsLineDecl ds m found.0 h found.2).ports in omega (arith, e, f))
+      | inr over ↦ (let e = ap declared_ports over.1 in omega (arith, e))
+    ]
+
+-- the groups of phases that come behind others
+groups_are : (p : Program) → Facts p → (before rest : List Phase) (low high : ℕ) → phases p.body ≡ before ++ rest → AllBelow low before
+    → AllByRecursion (λ (e : Access). e.command < low) (phases_accesses before) → Ordered low high rest → PhasesFit p.decls rest
+    → AllByRecursion (IsGroup (table_of p)) (map phase_read rest)
+groups_are p facts before [] low high split below early o fits = tt
+groups_are p facts before (straight cs ∷ behind) low high split below early o fits =
+    let here = commands_between p.decls low o.0 cs fits.0.1 o.1.1.0 in
+    let never_with : AllByRecursion (NeverWith (phases p.body) (phases_accesses before)) (commands_accesses cs) =
+    all_map (Between low o.0) (NeverWith (phases p.body) (phases_accesses before))
+    (λ a at. all_map (λ (e : Access). e.command < low) (λ (e : Access). in_one_straight (phases p.body) e.command a.command ≡ true → ⊥)
+    (λ e first together. not_together low o.0 high e.command a.command before behind cs below o.1.1.0 o.1.1.1 first at.0 at.1
+    (ap (λ ps. in_one_straight ps e.command a.command) (sym split) ∙ together))
+    (phases_accesses before) early)
+    (commands_accesses cs) here in
+    let group : IsGroup (table_of p) (map action_read cs) = record {
+      least = let e = length-map cs action_read in omega (arith, e, fits.0.0);
+      stores = stores_are p.decls cs fits.0.1;
+      ports = charged_keep p.decls cs fits.0.1 (λ m. phase_spent p m before cs behind split facts.keeps (one_port p.decls m facts.decls) never_with);
+    } in (
+      group,
+      groups_are p facts (before ++ straight cs ∷ []) behind o.0 high (split ∙ sym (append_assoc before (straight cs ∷ []) behind))
+          (below_more low o.0 before cs o.1.0 below o.1.1.0)
+          (subst (λ (l : List Access). AllByRecursion (λ (e : Access). e.command < o.0) l) (sym (phases_append before (straight cs ∷ []) ∙ ap (λ l. phases_accesses before ++ l) (append-nil (commands_accesses cs))))
+          (all_append (λ (e : Access). e.command < o.0) (phases_accesses before) (commands_accesses cs)
+          (all_map (λ (e : Access). e.command < low) (λ (e : Access). e.command < o.0) (λ e l. omega (arith, l, o.1.0)) (phases_accesses before) early)
+          (all_map (Between low o.0) (λ (e : Access). e.command < o.0) (λ e b. b.1) (commands_accesses cs) here)))
+          o.1.1.1 fits.1,
+    )
+
+-- a store that reads has two accesses, any other one
+many : (id m : ℕ) (source : Option Operand) (xs : List Access) → AreAccesses id source m xs → (if is_read source then 2 else 1) ≤ length xs
+many id m source xs h =
+    let e : length xs ≡ length (h.reads ++ h.write ∷ []) = ap length h.are in
+    let f = length-append h.reads (h.write ∷ []) in
+    let g = reads_many id source h.reads h.has_reads in
+    omega (arith, e, f, g)
+  where
+    reads_many : (id : ℕ) (source : Option Operand) (xs : List Access) → AreReads id source xs → (if is_read source then 2 else 1) ≤ length xs + 1
+    reads_many id None xs h = omega arith
+    reads_many id (Some o) [] h = absurd h
+    reads_many id (Some o) (x ∷ []) h = omega arith
+    reads_many id (Some o) (x ∷ y ∷ xs) h = omega arith
+
+either_read : (r s : Bool) (a b : ℕ) → (if r then 2 else 1) ≤ a → (if s then 2 else 0) ≤ b → (if r || s then 2 else 0) ≤ a + b
+either_read true s a b h k = omega (arith, h)
+either_read false true a b h k = omega (arith, k)
+either_read false false a b h k = omega arith
+
+reads_long : (ds : List Declared) (cs : List Action) → AllByRecursion (CommandFits ds) cs → (if any_read (map action_read cs) then 2 else 0) ≤ length (commands_accesses cs)
+reads_long ds [] h = omega arith
+reads_long ds (c ∷ cs) h =
+    let one = many (id_of c) (action_read c).memory (action_read c).source (accesses c) (store_has ds c h.0) in
+    let others = reads_long ds cs h.1 in
+    let e = length-append (accesses c) (commands_accesses cs) in
+    let both = either_read (is_read (action_read c).source) (any_read (map action_read cs)) (length (accesses c)) (length (commands_accesses cs)) one others in
+    omega (arith, both, e)
+
+at_least : (r : Bool) (a : ℕ) → (if r then 2 else 1) ≤ a → 1 ≤ a
+at_least true a h = omega (arith, h)
+at_least false a h = omega (arith, h)
+
+one_long : (ds : List Declared) (cs : List Action) → AllByRecursion (CommandFits ds) cs → 1 ≤ length cs → 1 ≤ length (commands_accesses cs)
+one_long ds [] h l = omega (arith, l)
+one_long ds (c ∷ cs) h l =
+    let one = at_least (is_read (action_read c).source) (length (accesses c)) (many (id_of c) (action_read c).memory (action_read c).source (accesses c) (store_has ds c h.0)) in
+    let e = length-append (accesses c) (commands_accesses cs) in
+    omega (arith, one, e)
+
+long_enough : (r : Bool) (n : ℕ) → (if r then 2 else 0) ≤ n → 1 ≤ n → (if r then 2 else 1) ≤ n
+long_enough true n h k = h
+long_enough false n h k = k
+
+-- groups take no more clocks than they have accesses
+clocks_are : (ds : List Declared) (ps : List Phase) → PhasesFit ds ps → total_length (map phase_read ps) ≤ length (phases_accesses ps)
+clocks_are ds [] h = omega arith
+clocks_are ds (straight cs ∷ ps) h =
+    let one = long_enough (any_read (map action_read cs)) (length (commands_accesses cs)) (reads_long ds cs h.0.1) (one_long ds cs h.0.1 h.0.0) in
+    let others = clocks_are ds ps h.1 in
+    let e = length-append (commands_accesses cs) (phases_accesses ps) in
+    omega (arith, one, others, e)
+
+-- a program without functions has the memories alone as its outer names
+items_are : (ds : List Declared) (n : ℕ) (fs : List Defined) → fs ≡ [] → merged (memory_items 0 ds) (function_items n fs) ≡ memory_items 0 ds
+items_are ds n fs none = ap (λ l. merged (memory_items 0 ds) (function_items n l)) none ∙ merged_none (memory_items 0 ds)
+
+accepted_items : (p : Program) → IsAccepted p → items_of p ≡ memory_items 0 p.decls
+accepted_items p a =
+    let built = no_rest (unbuilt_decls p.decls) _ a.built in
+    items_are p.decls (length p.decls) p.functions (no_functions p.functions (no_rest (unbuilt_functions p.functions) (unbuilt_action p.body) built.1).0)
+
+facts_are : (p : Program) → IsAccepted p → Facts p
+facts_are p a =
+    let built = no_rest (unbuilt_decls p.decls) _ a.built in
+    let forms = no_rest (unbuilt_functions p.functions) (unbuilt_action p.body) built.1 in
+    let ranges = no_rest (decls_judged p.decls) (action_judged index_range p.decls p.body) a.ranges in
+    let names = no_rest (items_breaches [] (items_of p)) _ a.names in
+    let body_names = no_rest (functions_breaches (length p.decls) (first_scope p) p.functions) (breaches (body_scope p) p.body) names.1 in
+    let decls = decls_are p.decls a.written.decls built.0 ranges.0 in
+    let known : Known p.decls (body_scope p).visible = record {
+      declared = λ name m e. visible_declared p.decls name m (ap (λ items. entity_of (after_items [] items) name) (sym (accepted_items p a)) ∙ e);
+      lines = lines_are p.decls decls;
+    } in
+    record {
+      decls = decls;
+      fits = body_fits p.decls (body_scope p).visible known p.body (body_scope p) refl forms.1 ranges.1 body_names.1 (ap (λ q. q.body) a.entities);
+      keeps = a.ports;
+    }
+
+-- an accepted program's groups are such as the compiler takes
+pub accepted_grouped : (p : Program) → IsAccepted p → IsGrouped (program_read p)
+accepted_grouped p a =
+    let facts = facts_are p a in
+    record {
+      entries = entries_are p.decls a.written.decls facts.decls a.elements;
+      names = distinct_names [] 0 p.decls (ap (items_breaches []) (sym (accepted_items p a)) ∙ (no_rest (items_breaches [] (items_of p)) _ a.names).0);
+      elements = a.elements;
+      groups = groups_are p facts [] (phases p.body) a.written.first_number (number_after a.written.first_number p.body) refl tt tt (ordered p.body a.written.first_number a.written.counted) facts.fits;
+      short = let clocks = clocks_are p.decls (phases p.body) facts.fits in
+          let e : length (accesses p.body) ≡ length (phases_accesses (phases p.body)) = ap length (accesses_are p.body) in
+          omega (arith, clocks, e, a.written.accesses);
+    }
+
+-- they mean what it means
+pub accepted_meant : (p : Program) → IsAccepted p → tree_of (program_read p) ≡ meaning_of p
+accepted_meant p a =
+    let facts = facts_are p a in
+    ap (λ ps. record { table = table_of p; phases = ps }) (phases_are p.decls (words_are p.decls facts.decls) (phases p.body) facts.fits)

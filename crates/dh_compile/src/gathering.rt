@@ -1,0 +1,361 @@
+//! The groups of a tree: one for each straight phase of its body, in order.
+
+ghost use Rattle.std.specs.Prelude.{◌≡◌, ◌++◌, [], ◌∷◌, map, IfOk, OnOk};
+ghost use Rattle.dh_tree.specs.Seen.{term_seen, form_seen, terms, action_seen, declared_seen, program_seen, actions, groups, part_seen};
+ghost use Rattle.dh_tree.specs.Meaning.{memory_of, entry_of, meaning_of};
+ghost use Rattle.dh_check.specs.Acceptance.{IsAccepted};
+ghost use Rattle.dh_compile.specs.Grouped.{IsGrouped, tree_of};
+ghost use Rattle.dh_compile.specs.Reading as read;
+ghost use Rattle.dh_compile.specs.Reading.{number_read, index_read, element_read, stored_read, store_read, groups_read, one_group, done_by, current_after, parts_read, part_read, program_read};
+
+use crate::stores::{Operand, Program, Store};
+use dh_base::{Items, NoMemory, Place};
+use dh_tree::{Command, CommandForm, Decl, Expr, ExprForm, MemEntry, MemTable, Ref, Tree};
+use std::alloc::Global;
+use std::mem;
+
+/// What is stored: an element with its place, where there is one, and a number.
+#[derive(Clone, Copy, Debug, PartialEq, Eq)]
+struct Stored {
+    source_place: Place,
+    source: Option<Operand>,
+    number: u64,
+}
+
+/// The number that the expression is.
+#[tactic(auto, using(dh_tree::proofs::SeenTerms::terms_are))]
+fn number_of(form: &ExprForm) -> u64
+    ensures { result ≡ number_read (form_seen form.now) }
+{
+    match form {
+        ExprForm::Number { value, .. } => *value,
+        ExprForm::Truth { .. } => 0,
+        ExprForm::Variable { .. } => 0,
+        ExprForm::Access { .. } => 0,
+        ExprForm::Physical { .. } => 0,
+        ExprForm::Binary { .. } => 0,
+        ExprForm::Cast { .. } => 0,
+    }
+}
+
+/// The number that the first index is.
+fn index_of(indices: &[Expr]) -> u64
+    ensures { result ≡ index_read (terms (map term_seen indices.now)) }
+{
+    match indices {
+        [] => 0,
+        [first, ..] => number_of(&first.form),
+    }
+}
+
+/// The number of the memory that the name stands for.
+fn memory_number(of: &Ref) -> u32
+    ensures { result ≡ memory_of of.now }
+{
+    match of.entity {
+        Some(number) => number,
+        None => 0,
+    }
+}
+
+/// The element that the expression is an access of.
+#[tactic(auto, using(dh_tree::proofs::SeenTerms::terms_are))]
+fn element_of(form: &ExprForm) -> Option<Operand>
+    ensures { result ≡ element_read (form_seen form.now) }
+{
+    match form {
+        ExprForm::Access { of, indices } => {
+            let memory = memory_number(of);
+            let index = index_of(indices.as_slice());
+            Some(Operand { memory, index })
+        }
+        ExprForm::Number { .. } => None,
+        ExprForm::Truth { .. } => None,
+        ExprForm::Variable { .. } => None,
+        ExprForm::Physical { .. } => None,
+        ExprForm::Binary { .. } => None,
+        ExprForm::Cast { .. } => None,
+    }
+}
+
+/// A number that is stored alone.
+fn stored_alone(source_place: Place, number: u64) -> Stored
+    ensures { result ≡ read.stored source_place None number }
+{
+    Stored {
+        source_place,
+        source: None,
+        number,
+    }
+}
+
+/// What is stored by a value at this place.
+#[tactic(auto, using(dh_tree::proofs::SeenTerms::terms_are))]
+fn stored_of(place: Place, form: &ExprForm) -> Stored
+    ensures { result ≡ stored_read place (form_seen form.now) }
+{
+    match form {
+        ExprForm::Number { value, .. } => stored_alone(place, *value),
+        ExprForm::Binary { left, right, .. } => Stored {
+            source_place: left.place,
+            source: element_of(&left.form),
+            number: number_of(&right.form),
+        },
+        ExprForm::Truth { .. } => stored_alone(place, 0),
+        ExprForm::Variable { .. } => stored_alone(place, 0),
+        ExprForm::Access { .. } => stored_alone(place, 0),
+        ExprForm::Physical { .. } => stored_alone(place, 0),
+        ExprForm::Cast { .. } => stored_alone(place, 0),
+    }
+}
+
+/// The store that a store command is.
+fn store_of(target: &Expr, value: &Expr) -> Store
+    ensures { result ≡ store_read (term_seen target.now) (term_seen value.now) }
+{
+    let element = match element_of(&target.form) {
+        Some(element) => element,
+        None => Operand {
+            memory: 0,
+            index: 0,
+        },
+    };
+    let stored = stored_of(value.place, &value.form);
+    Store {
+        place: target.place,
+        memory: element.memory,
+        index: element.index,
+        source_place: stored.source_place,
+        source: stored.source,
+        number: stored.number,
+    }
+}
+
+/// A group of one store alone.
+fn group_of_one(alloc: Global, store: Store) -> Result<Vec<Items<Store>>, NoMemory>
+    ensures { IfOk result (λ gathered. gathered.items ≡ (store ∷ []) ∷ []) }
+{
+    let mut group = Items::new(alloc);
+    group.push(store)?;
+    let mut gathered = Vec::new(alloc);
+    gathered.push(group)?;
+    Ok(gathered)
+}
+
+/// Ends the open group, where it has a store.
+fn end_group(
+    alloc: Global,
+    done: &mut Vec<Items<Store>>,
+    current: &mut Vec<Store>,
+) -> Result<(), NoMemory>
+    ensures done { OnOk result (done.new.items ≡ done.old.items ++ one_group current.old.items) }
+    ensures current { OnOk result (current.new.items ≡ []) }
+{
+    if !current.is_empty() {
+        let group = mem::replace(current, Vec::new(alloc));
+        done.push(Items::from_vec(group))?;
+    }
+    Ok(())
+}
+
+/// Puts the groups of the next command of a list behind the open group: a group alone joins it, several
+/// end it.
+fn join(
+    alloc: Global,
+    done: &mut Vec<Items<Store>>,
+    current: &mut Vec<Store>,
+    mut next: Vec<Items<Store>>,
+) -> Result<(), NoMemory>
+    ensures done { OnOk result (done.new.items ≡ done.old.items ++ done_by current.old.items next.items) }
+    ensures current { OnOk result (current.new.items ≡ current_after current.old.items next.items) }
+{
+    match next.as_slice() {
+        [] => {}
+        [group] => current.extend_from_slice(group.as_slice())?,
+        [_, _, ..] => {
+            end_group(alloc, done, current)?;
+            done.append(&mut next)?;
+        }
+    }
+    Ok(())
+}
+
+/// The groups of a command.
+#[cycle(gathering)]
+#[tactic(auto, using(dh_tree::proofs::SeenActions::actions_are))]
+fn groups_in(alloc: Global, command: &Command) -> Result<Vec<Items<Store>>, NoMemory>
+    ensures { IfOk result (λ gathered. gathered.items ≡ groups_read (action_seen command.now)) }
+{
+    match &command.form {
+        CommandForm::Store { target, value } => group_of_one(alloc, store_of(target, value)),
+        CommandForm::Block { body } => groups_in_parts(alloc, body.as_slice()),
+        CommandForm::Let { .. } => Ok(Vec::new(alloc)),
+        CommandForm::LetMemory { .. } => Ok(Vec::new(alloc)),
+        CommandForm::View { .. } => Ok(Vec::new(alloc)),
+        CommandForm::Assign { .. } => Ok(Vec::new(alloc)),
+        CommandForm::Reduce { .. } => Ok(Vec::new(alloc)),
+        CommandForm::Call { .. } => Ok(Vec::new(alloc)),
+        CommandForm::If { .. } => Ok(Vec::new(alloc)),
+        CommandForm::While { .. } => Ok(Vec::new(alloc)),
+        CommandForm::For { .. } => Ok(Vec::new(alloc)),
+    }
+}
+
+/// The groups of the parts between `---`, one part after the other.
+#[cycle(gathering)]
+fn groups_in_parts(alloc: Global, parts: &[Vec<Command>]) -> Result<Vec<Items<Store>>, NoMemory>
+    ensures { IfOk result (λ gathered. gathered.items ≡ parts_read (groups (map part_seen parts.now))) }
+{
+    let mut done = Vec::new(alloc);
+    let mut current = Vec::new(alloc);
+    for part in parts {
+        for command in part {
+            let next = groups_in(alloc, command)?;
+            join(alloc, &mut done, &mut current, next)?;
+        }
+        end_group(alloc, &mut done, &mut current)?;
+    }
+    Ok(done)
+}
+
+/// The memory that a declaration declares.
+fn entry_in(alloc: Global, decl: &Decl) -> Result<MemEntry, NoMemory>
+    ensures { IfOk result (λ entry. entry ≡ entry_of (declared_seen decl.now)) }
+{
+    Ok(MemEntry {
+        name: decl.name.name.try_clone(alloc)?,
+        shape: decl.shape.try_clone(alloc)?,
+        outside: true,
+    })
+}
+
+/// The memories of declarations.
+fn table_in(alloc: Global, decls: &[Decl]) -> Result<MemTable, NoMemory>
+    ensures { IfOk result (λ table. table ≡ map entry_of (map declared_seen decls.now)) }
+{
+    let mut table = Items::new(alloc);
+    for decl in decls {
+        table.push(entry_in(alloc, decl)?)?;
+    }
+    Ok(table)
+}
+
+/// The program of a tree as its groups.
+fn program_in(alloc: Global, tree: &Tree) -> Result<Program, NoMemory>
+    ensures { IfOk result (λ program. program ≡ program_read (program_seen tree.now)) }
+{
+    let table = table_in(alloc, tree.decls.as_slice())?;
+    let groups = groups_in(alloc, &tree.body)?;
+    Ok(Program {
+        table,
+        groups: Items::from_vec(groups),
+    })
+}
+
+/// The program of an accepted tree as its groups: one for each straight phase of its body, in order.
+pub(crate) fn groups_of(alloc: Global, tree: &Tree) -> Result<Program, NoMemory>
+    requires { IsAccepted (program_seen tree.now) }
+    ensures meaning { IfOk result (λ program. tree_of program ≡ meaning_of (program_seen tree.now)) }
+    ensures grouped { IfOk result (λ program. IsGrouped program) }
+{
+    program_in(alloc, tree)
+}
+
+#[cfg(test)]
+mod tests {
+    use super::*;
+    use dh_tree::Name;
+    use std::test::Fail;
+
+    const FIRST: Place = Place { line: 1, column: 1 };
+
+    fn number(value: u64) -> Expr {
+        Expr {
+            place: FIRST,
+            kind: None,
+            form: ExprForm::Number {
+                negative: false,
+                value,
+            },
+        }
+    }
+
+    /// `M[0]`, of the memory of this number.
+    fn element(alloc: Global, memory: u32) -> Result<Expr, NoMemory> {
+        let name = Name::new(String::from_str(alloc, "M")?);
+        let mut indices = Vec::new(alloc);
+        indices.push(number(0))?;
+        let of = Ref {
+            name,
+            place: FIRST,
+            entity: Some(memory),
+        };
+        Ok(Expr {
+            place: FIRST,
+            kind: None,
+            form: ExprForm::Access { of, indices },
+        })
+    }
+
+    fn command(form: CommandForm) -> Command {
+        Command {
+            id: 0,
+            place: FIRST,
+            form,
+        }
+    }
+
+    /// `M[0] := 7`
+    fn store(alloc: Global, memory: u32) -> Result<Command, NoMemory> {
+        let target = element(alloc, memory)?;
+        Ok(command(CommandForm::Store {
+            target,
+            value: number(7),
+        }))
+    }
+
+    /// `{ first --- second }`
+    fn block(
+        alloc: Global,
+        first: Vec<Command>,
+        second: Vec<Command>,
+    ) -> Result<Command, NoMemory> {
+        let mut body = Vec::new(alloc);
+        body.push(first)?;
+        body.push(second)?;
+        Ok(command(CommandForm::Block { body }))
+    }
+
+    /// `M[0] := 7;`
+    fn one(alloc: Global, memory: u32) -> Result<Vec<Command>, NoMemory> {
+        let mut part = Vec::new(alloc);
+        part.push(store(alloc, memory)?)?;
+        Ok(part)
+    }
+
+    /// `{ A := 7; { B := 7 --- } C := 7 --- { D := 7 --- E := 7 } F := 7 }`, with the memories in order.
+    fn nested(alloc: Global) -> Result<Command, NoMemory> {
+        let mut first = one(alloc, 0)?;
+        first.push(block(alloc, one(alloc, 1)?, Vec::new(alloc))?)?;
+        first.push(store(alloc, 2)?)?;
+        let mut second = Vec::new(alloc);
+        second.push(block(alloc, one(alloc, 3)?, one(alloc, 4)?)?)?;
+        second.push(store(alloc, 5)?)?;
+        block(alloc, first, second)
+    }
+
+    #[test]
+    fn gathers_straight_neighbours(rt: HostRuntime) -> Result<(), Fail> {
+        let alloc = rt.alloc();
+        let groups = groups_in(alloc, &nested(alloc)?)?;
+        let mut text = String::new(alloc);
+        for group in &groups {
+            for store in group.as_slice() {
+                write!(text, "{} ", store.memory)?;
+            }
+            write!(text, "| ")?;
+        }
+        assert_eq!(rt; text.as_str(), "0 1 2 | 3 | 4 | 5 | ");
+        Ok(())
+    }
+}
