@@ -14,7 +14,7 @@ use Rattle.dh_tree.specs.Scopes.{first_scope}
 use Rattle.dh_tree.specs.Ranges.{index_range, decls_judged, action_judged}
 use Rattle.dh_tree.specs.Meaning.{meaning_of, table_of}
 use Rattle.dh_tree.specs.FirstForms.{number_after}
-use Rattle.dh_check.specs.Forms.{unbuilt_decls, unbuilt_functions, unbuilt_action}
+use Rattle.dh_tree.specs.Forms.{unbuilt_decls, unbuilt_functions, unbuilt_action}
 use Rattle.dh_check.specs.Acceptance.{IsAccepted}
 use Rattle.dh_compile.specs.declared.stores.Operand.{Operand}
 use Rattle.dh_compile.specs.Grouped.{IsGroup, IsGrouped, tree_of}

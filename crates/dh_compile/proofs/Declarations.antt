@@ -21,7 +21,7 @@ use Rattle.dh_tree.specs.Ranges.{sizes_judged, decls_judged}
 use Rattle.dh_tree.specs.Tables.{line_of, elements_of, elements_in, most_elements, HasNoName, HasDistinctNames}
 use Rattle.dh_tree.specs.Written.{IsOneUnless, AreDims, IsDeclared}
 use Rattle.dh_tree.specs.Meaning.{entry_of}
-use Rattle.dh_check.specs.Forms.{is_word, unbuilt_where, further_dims, unbuilt_dims, unbuilt_decl, unbuilt_decls, unbuilt_functions}
+use Rattle.dh_tree.specs.Forms.{is_word, unbuilt_where, further_dims, unbuilt_dims, unbuilt_decl, unbuilt_decls, unbuilt_functions}
 use Rattle.dh_compile.specs.Grouped as grouped
 use Rattle.dh_compile.proofs.Plain.{LineFits, no_rest, if_none}
 use Rattle.dh_compile.proofs.Listing.{all_append}

@@ -21,7 +21,7 @@ use Rattle.dh_tree.specs.Resolved.{resolved_term, resolved_term_form, resolved_a
 use Rattle.dh_tree.specs.Ranges.{index_range, dims_of, first_dim, declared_dims, term_judged, form_judged, indices_judged, index_judged, action_judged, command_judged, groups_judged, part_judged}
 use Rattle.dh_tree.specs.Meaning.{entry_of}
 use Rattle.dh_tree.specs.Tables.{line_of}
-use Rattle.dh_check.specs.Forms.{unbuilt, plain_number, is_small, is_element, further_indices, unbuilt_index, unbuilt_indices, unbuilt_element, unbuilt_access, is_sum_of, unbuilt_stored, unbuilt_value, form_holds, unbuilt_action, unbuilt_form, unbuilt_groups, unbuilt_part}
+use Rattle.dh_tree.specs.Forms.{unbuilt, plain_number, is_small, is_element, further_indices, unbuilt_index, unbuilt_indices, unbuilt_element, unbuilt_access, is_sum_of, unbuilt_stored, unbuilt_value, form_holds, unbuilt_action, unbuilt_form, unbuilt_groups, unbuilt_part}
 use Rattle.dh_compile.specs.Grouped as grouped
 use Rattle.dh_compile.proofs.Listing.{all_append, both}
 
@@ -361,8 +361,8 @@ mutual
       → AllByRecursion (PhasesFit ds) (parts_phases part) × ((actions_at_end s part).visible ≡ bs)
   part_fits ds bs known stepped no_actions s sees built judged visible resolved = (tt, sees)
   part_fits ds bs known stepped (action_then (action id place form) rest) s sees built judged visible resolved =
-      let b = no_rest (unbuilt_form place form) (unbuilt_part (stepped || form_holds form) rest)
-      (no_rest (if stepped && form_holds form then unbuilt place else []) (unbuilt_form place form ++ unbuilt_part (stepped || form_holds form) rest) built).1 in
+      let a = no_rest (unbuilt_form place form) ((if stepped && form_holds form then unbuilt place else []) ++ unbuilt_part (stepped || form_holds form) rest) built in
+      let b = (a.0, (no_rest (if stepped && form_holds form then unbuilt place else []) (unbuilt_part (stepped || form_holds form) rest) a.1).1) in
       let j = no_rest (command_judged index_range ds form) (part_judged index_range ds rest) judged in
       let after = past s (action id place form) (form_at_end s form) in
       let v = no_rest (names.form_breaches s form) (names.actions_breaches after rest) visible in

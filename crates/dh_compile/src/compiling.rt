@@ -27,7 +27,7 @@ pub fn compile(alloc: Global, accepted: &Accepted) -> Result<Net, NoMemory>
     build(alloc, &program)
 }
 
-/// The run of an accepted program ends after its last phase, within 128 clocks.
+/// The run of an accepted program ends after its last phase.
 pub fn accepted_programs_end()
     ensures { (p : Program) → IsAccepted p → EndsSoon p }
 {}
