@@ -7,7 +7,7 @@ use Rattle.std.proofs.lemmas.List.{get_or-set_other, length-set, append-nil, app
 abbrev pub Unvisited : {C : Type 0} → List C → List C → ℕ → Type 0
 Unvisited {C} before now index = (length now ≡ length before) × ((k : ℕ) → (d : C) → index ≤ k → slice_index_or now k d ≡ slice_index_or before k d)
 
-at_item : {C : Type 0} (xs : List C) (i : ℕ) (x : C) → i < length xs → x ≡ get_or xs i x → drop i xs ≡ x ∷ drop (i + 1) xs
+pub at_item : {C : Type 0} (xs : List C) (i : ℕ) (x : C) → i < length xs → x ≡ get_or xs i x → drop i xs ≡ x ∷ drop (i + 1) xs
 at_item xs i x within is = drop-cons xs i x within ∙ (ap (λ y. y ∷ drop (suc i) xs) (sym is) ∙ ap (λ n. x ∷ drop n xs) (sym (add-one i)))
 
 unvisited : {C : Type 0} (before now : List C) (index : ℕ) (e' : C) → Unvisited before now index → Unvisited before (slice_set now index e') (index + 1)

@@ -10,3 +10,4 @@ pub mod Again
 pub mod AgainPrograms
 pub mod LeastKept
 pub mod FunctionsDone
+pub mod ItemsDone
