@@ -85,7 +85,7 @@ formals_further s (f ∷ fs) =
     let d = declare s f.name (formal_sort f.shape) in
     onward s.visible d.visible (after_formals d fs).visible (declare_further s f.name (formal_sort f.shape)) (formals_further d fs)
 
-function_counted : (n : ℕ) (s : Scope) (f : Defined) → length (after_function n s f).entities ≡ length s.entities + (length f.parameters + declared_in f.body)
+pub function_counted : (n : ℕ) (s : Scope) (f : Defined) → length (after_function n s f).entities ≡ length s.entities + (length f.parameters + declared_in f.body)
 function_counted n s f =
     let e = counted (body_start s f) f.body in
     let d = formals_counted s f.parameters in omega (arith, e, d)

@@ -11,3 +11,4 @@ pub mod AgainPrograms
 pub mod LeastKept
 pub mod FunctionsDone
 pub mod ItemsDone
+pub mod ProgramsDone

@@ -142,6 +142,7 @@ pub fn resolve(alloc: Global, tree: Tree) -> Result<Named, PassFault>
         mut body,
         entities: _,
     } = tree;
+    let count = decls.len() as u32;
     let mut names = no_names(alloc);
     let mut least = None;
     bind_items(alloc, &mut names, &mut least, &decls, &functions)?;
@@ -151,19 +152,19 @@ pub fn resolve(alloc: Global, tree: Tree) -> Result<Named, PassFault>
         least,
     };
     number_decls(&mut decls);
-    walk.functions(alloc, &mut functions, decls.len() as u32)?;
+    walk.functions(alloc, &mut functions, count)?;
     walk.names = names;
     walk.command(alloc, &mut body)?;
-    if let Some(breach) = walk.least {
-        return Err(PassFault::Refused {
+    match walk.least {
+        Some(breach) => Err(PassFault::Refused {
             rule: breach.rule,
             place: breach.place,
-        });
+        }),
+        None => Ok(Named::of(Tree {
+            decls,
+            functions,
+            body,
+            entities: walk.entities,
+        })),
     }
-    Ok(Named::of(Tree {
-        decls,
-        functions,
-        body,
-        entities: walk.entities,
-    }))
 }
