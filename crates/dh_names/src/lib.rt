@@ -9,6 +9,8 @@ mod expressions;
 mod functions;
 mod programs;
 mod scopes;
+#[cfg(test)]
+mod tests;
 mod views;
 mod walks;
 
