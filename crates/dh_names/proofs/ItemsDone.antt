@@ -105,12 +105,13 @@ module _ (decls : List Decl) (functions : List Function) (old : List Binding) (o
       record {
         item = function_item (length decls + k) f;
         next = ap (λ l. rest_of m (drop m decls) (length decls + k) l) rest ∙ function_goes m (drop m decls) (length decls + k) f (drop (k + 1) functions) test'
-          ∙ ap (λ n. function_item (length decls + k) f ∷ rest_of m (drop m decls) n (drop (k + 1) functions)) (add_assoc (length decls) k 1);
+            ∙ ap (λ n. function_item (length decls + k) f ∷ rest_of m (drop m decls) n (drop (k + 1) functions)) (add_assoc (length decls) k 1);
         bound = bound;
         least = least;
         counted = omega arith;
         memories = a.memories;
-        functions_done = omega (arith, within) }
+        functions_done = omega (arith, within);
+      }
 
   pub memory_next : (new : List Binding) (new_least : Option Breach) → AreLeft decls functions (m, k) → (d : Decl) → is_function_next (map declared_seen (drop m decls)) (map defined_seen (drop k functions)) ≡ false
       → new ≡ bind old (get_or decls m d).name.name m → new_least ≡ least_of old_least (twice old (get_or decls m d).name)
@@ -127,4 +128,5 @@ module _ (decls : List Decl) (functions : List Function) (old : List Binding) (o
         least = least;
         counted = omega arith;
         memories = omega (arith, within);
-        functions_done = a.functions_done }
+        functions_done = a.functions_done;
+      }

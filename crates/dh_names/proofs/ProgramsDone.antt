@@ -80,7 +80,7 @@ pub start_scope : (tree : Tree) (o w : List Binding) (es : List Entity) (ds2 : L
     → es ≡ map (λ d. entity d.name Memory) (map declared_seen ds2) ++ map (λ f. entity f.name Function) (map defined_seen fs2) → record { visible = o ++ w; entities = es } ≡ first_scope (program_seen tree)
 start_scope tree o w es ds2 fs2 o_is w_is d2 f2 listed =
     scope_is (program_seen tree) o w es o_is w_is (listed ∙ ap (λ x. map (λ d. entity d.name Memory) (map declared_seen x) ++ map (λ f. entity f.name Function) (map defined_seen fs2)) d2
-      ∙ ap (λ x. map (λ d. entity d.name Memory) (map declared_seen tree.decls.items) ++ map (λ f. entity f.name Function) (map defined_seen x)) f2)
+    ∙ ap (λ x. map (λ d. entity d.name Memory) (map declared_seen tree.decls.items) ++ map (λ f. entity f.name Function) (map defined_seen x)) f2)
 
 pub facts : (tree : Tree) (s0 s1 s3 : State) (outer top vis : List Binding) (o w : List Binding) (ds1 ds2 : List Decl) (fs1 fs2 : List code.Function) (ds' : List Declared) (fs' : List Defined) (b' : Action) (n : ℕ)
     → HasFewNames (program_seen tree) → o ≡ [] → w ≡ [] → vis ≡ [] → s0.scope.visible ≡ o ++ w
@@ -100,7 +100,8 @@ facts tree s0 s1 s3 outer top vis o w ds1 ds2 fs1 fs2 ds' fs' b' n few o_is w_is
       functions = subst (λ k. ResolvesFunctions k s0 s1 p.functions fs') (count ∙ sym (length_map declared_seen tree.decls.items)) functions;
       decls = decls;
       names = names ∙ ap (λ x. after_items x (left ds1 fs1 (0, 0))) vis_is ∙ ap (λ x. after_items [] x) all;
-      body = body }
+      body = body;
+    }
 
 module _ (p : Program) (s0 s1 s3 : State) (outer top : List Binding) (ds' : List Declared) (fs' : List Defined) (b' : Action) (x : Facts p s0 s1 s3 outer top ds' fs' b') where
   abbrev count : ℕ

@@ -101,10 +101,11 @@ resolved_functions n s (f ∷ fs) = resolved_function n s f ∷ resolved_functio
 -- the program with its entities
 abbrev pub resolved : Program → Program
 resolved p = record {
-    decls = resolved_decls 0 p.decls;
-    functions = resolved_functions (length p.decls) (first_scope p) p.functions;
-    body = resolved_action (body_scope p) p.body;
-    entities = (last_scope p).entities }
+  decls = resolved_decls 0 p.decls;
+  functions = resolved_functions (length p.decls) (first_scope p) p.functions;
+  body = resolved_action (body_scope p) p.body;
+  entities = (last_scope p).entities;
+}
 
 -- every name has the entity that it stands for, and the entities are listed
 abbrev pub HasEntities : Program → Type 0

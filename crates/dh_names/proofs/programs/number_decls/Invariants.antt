@@ -6,6 +6,7 @@ use Rattle.dh_names.proofs.programs.number_decls.Given as goal
 
 abbrev pub invariant-loop-decl : goal.invariant-loop-decl
 invariant-loop-decl l = record {
-    unvisited : Unvisited l.initial.decl-items l.decl-items l.decl-index;
-    so : SoFar declared_seen decl_step decl_made l.initial.decl-items l.decl-items l.decl-index 0 l.number;
-    number : l.number ≡ l.decl-index }
+  unvisited : Unvisited l.initial.decl-items l.decl-items l.decl-index;
+  so : SoFar declared_seen decl_step decl_made l.initial.decl-items l.decl-items l.decl-index 0 l.number;
+  number : l.number ≡ l.decl-index;
+}
