@@ -7,6 +7,7 @@ mod bindings;
 mod commands;
 mod expressions;
 mod functions;
+mod laws;
 mod programs;
 mod scopes;
 #[cfg(test)]
@@ -14,4 +15,5 @@ mod tests;
 mod views;
 mod walks;
 
+pub use laws::resolved_programs_stay_so;
 pub use programs::resolve;
