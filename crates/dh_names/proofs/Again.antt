@@ -153,14 +153,14 @@ mutual
   form_alike s (blocks body) = groups_alike s body
   form_alike s (decides test chosen other) =
       both _ (term_breaches s.visible test) _ (breaches s chosen ++ other_breaches (leave s (at_end s chosen)) other) (term_alike s.visible test)
-        (both _ (breaches s chosen) _ (other_breaches (leave s (at_end s chosen)) other) (action_alike s chosen)
-          (ap (λ x. other_breaches (leave s x) (resolved_other (leave s (at_end s chosen)) other)) (end_again s chosen) ∙ other_alike (leave s (at_end s chosen)) other))
+      (both _ (breaches s chosen) _ (other_breaches (leave s (at_end s chosen)) other) (action_alike s chosen)
+      (ap (λ x. other_breaches (leave s x) (resolved_other (leave s (at_end s chosen)) other)) (end_again s chosen) ∙ other_alike (leave s (at_end s chosen)) other))
   form_alike s (repeats test body) = both _ (term_breaches s.visible test) _ (breaches s body) (term_alike s.visible test) (action_alike s body)
   form_alike s (counts iterator declared low high factor body combine combine_place) =
       let d = declare s iterator Iterator in
       ap (λ l. twice s.visible iterator ++ l)
-        (both _ (breaches d body) _ (other_breaches (at_end d body) combine) (action_alike d body)
-          (ap (λ x. other_breaches x (resolved_other (at_end d body) combine)) (end_again d body) ∙ other_alike (at_end d body) combine))
+      (both _ (breaches d body) _ (other_breaches (at_end d body) combine) (action_alike d body)
+      (ap (λ x. other_breaches x (resolved_other (at_end d body) combine)) (end_again d body) ∙ other_alike (at_end d body) combine))
 
   other_alike : (s : Scope) (o : MaybeAction) → other_breaches s (resolved_other s o) ≡ other_breaches s o
   other_alike s no_action = refl
@@ -170,13 +170,13 @@ mutual
   actions_alike s no_actions = refl
   actions_alike s (action_then a rest) =
       both _ (breaches s a) _ (actions_breaches (past s a (at_end s a)) rest) (action_alike s a)
-        (ap (λ x. actions_breaches x (resolved_actions (past s a (at_end s a)) rest)) (next_again s a) ∙ actions_alike (past s a (at_end s a)) rest)
+      (ap (λ x. actions_breaches x (resolved_actions (past s a (at_end s a)) rest)) (next_again s a) ∙ actions_alike (past s a (at_end s a)) rest)
 
   groups_alike : (s : Scope) (l : Groups) → groups_breaches s (resolved_groups s l) ≡ groups_breaches s l
   groups_alike s no_groups = refl
   groups_alike s (group_then g rest) =
       both _ (actions_breaches s g) _ (groups_breaches (actions_at_end s g) rest) (actions_alike s g)
-        (ap (λ x. groups_breaches x (resolved_groups (actions_at_end s g) rest)) (actions_end_again s g) ∙ groups_alike (actions_at_end s g) rest)
+      (ap (λ x. groups_breaches x (resolved_groups (actions_at_end s g) rest)) (actions_end_again s g) ∙ groups_alike (actions_at_end s g) rest)
 
 mutual
   pub action_again : (s : Scope) (a : Action) → resolved_action s (resolved_action s a) ≡ resolved_action s a
@@ -197,7 +197,7 @@ mutual
       ap (λ t. decides t (resolved_action s (resolved_action s chosen)) (resolved_other (leave s (at_end s (resolved_action s chosen))) o)) (term_again s.visible test)
       ∙ ap (λ a. decides (resolved_term s.visible test) a (resolved_other (leave s (at_end s (resolved_action s chosen))) o)) (action_again s chosen)
       ∙ ap (λ x. decides (resolved_term s.visible test) (resolved_action s chosen) x)
-          (ap (λ x. resolved_other (leave s x) o) (end_again s chosen) ∙ other_again (leave s (at_end s chosen)) other)
+      (ap (λ x. resolved_other (leave s x) o) (end_again s chosen) ∙ other_again (leave s (at_end s chosen)) other)
   form_again s (repeats test body) =
       ap (λ t. repeats t (resolved_action s (resolved_action s body))) (term_again s.visible test) ∙ ap (λ a. repeats (resolved_term s.visible test) a) (action_again s body)
   form_again s (counts iterator declared low high factor body combine combine_place) =
@@ -205,7 +205,7 @@ mutual
       let o = resolved_other (at_end d body) combine in
       ap (λ a. counts (declares s iterator) declared low high factor a (resolved_other (at_end d (resolved_action d body)) o) combine_place) (action_again d body)
       ∙ ap (λ x. counts (declares s iterator) declared low high factor (resolved_action d body) x combine_place)
-          (ap (λ x. resolved_other x o) (end_again d body) ∙ other_again (at_end d body) combine)
+      (ap (λ x. resolved_other x o) (end_again d body) ∙ other_again (at_end d body) combine)
 
   other_again : (s : Scope) (o : MaybeAction) → resolved_other s (resolved_other s o) ≡ resolved_other s o
   other_again s no_action = refl
@@ -249,13 +249,13 @@ function_end_again n s f =
 function_alike : (n : ℕ) (s : Scope) (f : Defined) → function_breaches s (resolved_function n s f) ≡ function_breaches s f
 function_alike n s f =
     both _ (formals_breaches s f.parameters) _ (breaches (body_start s f) f.body) (formals_alike s f.parameters)
-      (ap (λ x. breaches x (resolved_action (body_start s f) f.body)) (start_again n s f) ∙ action_alike (body_start s f) f.body)
+    (ap (λ x. breaches x (resolved_action (body_start s f) f.body)) (start_again n s f) ∙ action_alike (body_start s f) f.body)
 
 function_again : (n : ℕ) (s : Scope) (f : Defined) → resolved_function n s (resolved_function n s f) ≡ resolved_function n s f
 function_again n s f =
     ap (λ l. record { name = numbered n f.name; parameters = l; body = resolved_action (body_start s (resolved_function n s f)) (resolved_action (body_start s f) f.body) }) (formals_again s f.parameters)
     ∙ ap (λ a. record { name = numbered n f.name; parameters = resolved_formals s f.parameters; body = a })
-        (ap (λ x. resolved_action x (resolved_action (body_start s f) f.body)) (start_again n s f) ∙ action_again (body_start s f) f.body)
+    (ap (λ x. resolved_action x (resolved_action (body_start s f) f.body)) (start_again n s f) ∙ action_again (body_start s f) f.body)
 
 pub functions_end_again : (n : ℕ) (s : Scope) (fs : List Defined) → after_functions n s (resolved_functions n s fs) ≡ after_functions n s fs
 functions_end_again n s [] = refl
@@ -266,7 +266,7 @@ pub functions_alike : (n : ℕ) (s : Scope) (fs : List Defined) → functions_br
 functions_alike n s [] = refl
 functions_alike n s (f ∷ fs) =
     both _ (function_breaches s f) _ (functions_breaches (n + 1) (after_function n s f) fs) (function_alike n s f)
-      (ap (λ x. functions_breaches (n + 1) x (resolved_functions (n + 1) (after_function n s f) fs)) (function_end_again n s f) ∙ functions_alike (n + 1) (after_function n s f) fs)
+    (ap (λ x. functions_breaches (n + 1) x (resolved_functions (n + 1) (after_function n s f) fs)) (function_end_again n s f) ∙ functions_alike (n + 1) (after_function n s f) fs)
 
 pub functions_again : (n : ℕ) (s : Scope) (fs : List Defined) → resolved_functions n s (resolved_functions n s fs) ≡ resolved_functions n s fs
 functions_again n s [] = refl

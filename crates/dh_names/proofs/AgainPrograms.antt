@@ -90,12 +90,12 @@ module _ (p : Program) where
   pub breaches_again : breaches_of (resolved p) ≡ breaches_of p
   breaches_again =
       ap (λ l. l ++ (functions_breaches (length (resolved p).decls) (first_scope (resolved p)) (resolved p).functions ++ breaches (body_scope (resolved p)) (resolved p).body))
-        (ap (λ l. items_breaches [] l) items_again ∙ items_alike [] (items_of p))
+      (ap (λ l. items_breaches [] l) items_again ∙ items_alike [] (items_of p))
       ∙ ap (λ l. items_breaches [] (items_of p) ++ (l ++ breaches (body_scope (resolved p)) (resolved p).body))
-        (ap (λ n. functions_breaches n (first_scope (resolved p)) (resolved p).functions) count_again
-          ∙ ap (λ s. functions_breaches count s (resolved p).functions) first_again ∙ functions_alike count (first_scope p) p.functions)
+      (ap (λ n. functions_breaches n (first_scope (resolved p)) (resolved p).functions) count_again
+      ∙ ap (λ s. functions_breaches count s (resolved p).functions) first_again ∙ functions_alike count (first_scope p) p.functions)
       ∙ ap (λ l. items_breaches [] (items_of p) ++ (functions_breaches count (first_scope p) p.functions ++ l))
-        (ap (λ s. breaches s (resolved p).body) body_again ∙ action_alike (body_scope p) p.body)
+      (ap (λ s. breaches s (resolved p).body) body_again ∙ action_alike (body_scope p) p.body)
 
   functions_twice : resolved_functions (length (resolved p).decls) (first_scope (resolved p)) (resolved p).functions ≡ (resolved p).functions
   functions_twice =

@@ -111,7 +111,7 @@ mutual
   form_counted s (counts iterator declared low high factor body combine combine_place) =
       let d = declare s iterator Iterator in
       summed (length s.entities) (length d.entities) _ 1 (declared_in body + declared_in_other combine) (declare_counted s iterator Iterator)
-        (summed (length d.entities) (length (at_end d body).entities) _ (declared_in body) (declared_in_other combine) (counted d body) (other_counted (at_end d body) combine))
+      (summed (length d.entities) (length (at_end d body).entities) _ (declared_in body) (declared_in_other combine) (counted d body) (other_counted (at_end d body) combine))
 
   pub other_counted : (s : Scope) (m : MaybeAction) → length (other_at_end s m).entities ≡ length s.entities + declared_in_other m
   other_counted s no_action = omega arith

@@ -37,7 +37,7 @@ pub cut_is : (s s' : State) (xs : List Breach) (t : Scope) (n : ℕ) → s' ≡ 
     → cut s' n ≡ walked s xs (leave s.scope t)
 cut_is s s' xs t n is own more =
     let kept : take (length s.outer + n) t.visible ≡ s.scope.visible =
-      ap (λ k. take k t.visible) own ∙ ap (λ l. take (length s.scope.visible) l) more.1 ∙ take-append_seam s.scope.visible more.0 in
+    ap (λ k. take k t.visible) own ∙ ap (λ l. take (length s.scope.visible) l) more.1 ∙ take-append_seam s.scope.visible more.0 in
     ap (λ x. cut x n) is ∙ ap (λ l. record { outer = s.outer; scope = record { visible = l; entities = t.entities }; least = least_of s.least xs }) kept
 
 pub form_done : (s s' : State) (a a' b b' : ActionForm) → a ≡ a' → b ≡ b' → (Room s (declared_in_form a') → ResolvesForm s s' a' b') → Room s (declared_in_form a) → ResolvesForm s s' a b
@@ -52,7 +52,8 @@ lets_done s0 s1 s2 name name' k v v' value one number two room =
     let r = room_at s0 s1 (value_breaches s0.scope.visible v) s0.scope 1 one room in
     record {
       tree = ap (λ n. lets n k v') (number r ∙ ap (λ s. declares s.scope name) one) ∙ ap (λ w. lets (declares s0.scope name) k w) value;
-      state = next_step s0 s1 s2 (value_breaches s0.scope.visible v) s0.scope (λ s. twice s.scope.visible name) (λ s. declare s.scope name Variable) one (two r) }
+      state = next_step s0 s1 s2 (value_breaches s0.scope.visible v) s0.scope (λ s. twice s.scope.visible name) (λ s. declare s.scope name Variable) one (two r);
+    }
 
 pub memory_done : (s0 s1 s2 : State) (name name' : Ref) (shape : Shape) (places : ShapePlaces) (v v' : Option Term)
     → v' ≡ option_map (resolved_term s0.scope.visible) v → s1 ≡ walked s0 (value_breaches s0.scope.visible v) s0.scope
@@ -62,7 +63,8 @@ memory_done s0 s1 s2 name name' shape places v v' value one number two room =
     let r = room_at s0 s1 (value_breaches s0.scope.visible v) s0.scope 1 one room in
     record {
       tree = ap (λ n. lets_memory n shape places v') (number r ∙ ap (λ s. declares s.scope name) one) ∙ ap (λ w. lets_memory (declares s0.scope name) shape places w) value;
-      state = next_step s0 s1 s2 (value_breaches s0.scope.visible v) s0.scope (λ s. twice s.scope.visible name) (λ s. declare s.scope name Memory) one (two r) }
+      state = next_step s0 s1 s2 (value_breaches s0.scope.visible v) s0.scope (λ s. twice s.scope.visible name) (λ s. declare s.scope name Memory) one (two r);
+    }
 
 pub views_done : (s0 s1 s2 s3 : State) (name name' parent parent' : Ref) (f f' : ViewPlan)
     → parent' ≡ used s0.scope.visible parent → s1 ≡ walked s0 (unknown s0.scope.visible parent) s0.scope
@@ -75,42 +77,47 @@ views_done s0 s1 s2 s3 name name' parent parent' f f' use_is one plan two number
     let same : s2.scope ≡ s0.scope = ap (λ s. s.scope) two ∙ ap (λ s. s.scope) one in
     record {
       tree = ap (λ n. views n parent' f') (number r2 ∙ ap (λ s. declares s name) same)
-        ∙ ap (λ p. views (declares s0.scope name) p f') use_is
-        ∙ ap (λ g. views (declares s0.scope name) (used s0.scope.visible parent) g) (plan ∙ ap (λ s. resolved_plan s.scope.visible f) one);
+          ∙ ap (λ p. views (declares s0.scope name) p f') use_is
+          ∙ ap (λ g. views (declares s0.scope name) (used s0.scope.visible parent) g) (plan ∙ ap (λ s. resolved_plan s.scope.visible f) one);
       state = next_step s0 s1 s3 (unknown s0.scope.visible parent) s0.scope (λ s. plan_breaches s.scope.visible f ++ twice s.scope.visible name) (λ s. declare s.scope name View) one
-        (next_step s1 s2 s3 (plan_breaches s1.scope.visible f) s1.scope (λ s. twice s.scope.visible name) (λ s. declare s.scope name View) two (three r2)) }
+          (next_step s1 s2 s3 (plan_breaches s1.scope.visible f) s1.scope (λ s. twice s.scope.visible name) (λ s. declare s.scope name View) two (three r2));
+    }
 
 pub assigns_done : (s0 s1 s2 : State) (target target' : Ref) (v v' : Term)
     → target' ≡ used s0.scope.visible target → s1 ≡ walked s0 (unknown s0.scope.visible target) s0.scope
     → v' ≡ resolved_term s1.scope.visible v → s2 ≡ walked s1 (term_breaches s1.scope.visible v) s1.scope
     → ResolvesForm s0 s2 (assigns target v) (assigns target' v')
 assigns_done s0 s1 s2 target target' v v' use_is one value two = record {
-    tree = ap (λ n. assigns n v') use_is ∙ ap (λ w. assigns (used s0.scope.visible target) w) (value ∙ ap (λ s. resolved_term s.scope.visible v) one);
-    state = next_step s0 s1 s2 (unknown s0.scope.visible target) s0.scope (λ s. term_breaches s.scope.visible v) (λ s. s.scope) one two }
+  tree = ap (λ n. assigns n v') use_is ∙ ap (λ w. assigns (used s0.scope.visible target) w) (value ∙ ap (λ s. resolved_term s.scope.visible v) one);
+  state = next_step s0 s1 s2 (unknown s0.scope.visible target) s0.scope (λ s. term_breaches s.scope.visible v) (λ s. s.scope) one two;
+}
 
 pub stores_done : (s0 s1 s2 : State) (target target' : Term) (v v' : Term)
     → target' ≡ resolved_term s0.scope.visible target → s1 ≡ walked s0 (term_breaches s0.scope.visible target) s0.scope
     → v' ≡ resolved_term s1.scope.visible v → s2 ≡ walked s1 (term_breaches s1.scope.visible v) s1.scope
     → ResolvesForm s0 s2 (stores target v) (stores target' v')
 stores_done s0 s1 s2 target target' v v' use_is one value two = record {
-    tree = ap (λ n. stores n v') use_is ∙ ap (λ w. stores (resolved_term s0.scope.visible target) w) (value ∙ ap (λ s. resolved_term s.scope.visible v) one);
-    state = next_step s0 s1 s2 (term_breaches s0.scope.visible target) s0.scope (λ s. term_breaches s.scope.visible v) (λ s. s.scope) one two }
+  tree = ap (λ n. stores n v') use_is ∙ ap (λ w. stores (resolved_term s0.scope.visible target) w) (value ∙ ap (λ s. resolved_term s.scope.visible v) one);
+  state = next_step s0 s1 s2 (term_breaches s0.scope.visible target) s0.scope (λ s. term_breaches s.scope.visible v) (λ s. s.scope) one two;
+}
 
 pub reduces_done : (s0 s1 s2 : State) (target target' : Ref) (op : Op) (v v' : Term)
     → target' ≡ used s0.scope.visible target → s1 ≡ walked s0 (unknown s0.scope.visible target) s0.scope
     → v' ≡ resolved_term s1.scope.visible v → s2 ≡ walked s1 (term_breaches s1.scope.visible v) s1.scope
     → ResolvesForm s0 s2 (reduces target op v) (reduces target' op v')
 reduces_done s0 s1 s2 target target' op v v' use_is one value two = record {
-    tree = ap (λ n. reduces n op v') use_is ∙ ap (λ w. reduces (used s0.scope.visible target) op w) (value ∙ ap (λ s. resolved_term s.scope.visible v) one);
-    state = next_step s0 s1 s2 (unknown s0.scope.visible target) s0.scope (λ s. term_breaches s.scope.visible v) (λ s. s.scope) one two }
+  tree = ap (λ n. reduces n op v') use_is ∙ ap (λ w. reduces (used s0.scope.visible target) op w) (value ∙ ap (λ s. resolved_term s.scope.visible v) one);
+  state = next_step s0 s1 s2 (unknown s0.scope.visible target) s0.scope (λ s. term_breaches s.scope.visible v) (λ s. s.scope) one two;
+}
 
 pub calls_done : (s0 s1 s2 : State) (function function' : Ref) (ts ts' : List Term)
     → function' ≡ used s0.scope.visible function → s1 ≡ walked s0 (unknown s0.scope.visible function) s0.scope
     → ts' ≡ map (resolved_term s1.scope.visible) ts → s2 ≡ walked s1 (list_breaches s1.scope.visible ts) s1.scope
     → ResolvesForm s0 s2 (calls function ts) (calls function' ts')
 calls_done s0 s1 s2 function function' ts ts' use_is one value two = record {
-    tree = ap (λ n. calls n ts') use_is ∙ ap (λ w. calls (used s0.scope.visible function) w) (value ∙ ap (λ s. map (resolved_term s.scope.visible) ts) one);
-    state = next_step s0 s1 s2 (unknown s0.scope.visible function) s0.scope (λ s. list_breaches s.scope.visible ts) (λ s. s.scope) one two }
+  tree = ap (λ n. calls n ts') use_is ∙ ap (λ w. calls (used s0.scope.visible function) w) (value ∙ ap (λ s. map (resolved_term s.scope.visible) ts) one);
+  state = next_step s0 s1 s2 (unknown s0.scope.visible function) s0.scope (λ s. list_breaches s.scope.visible ts) (λ s. s.scope) one two;
+}
 
 pub blocks_done : (s s' : State) (g g' : Groups) → (Room s (declared_in_groups g) → ResolvesGroups s s' g g') → Room s (declared_in_groups g) → ResolvesForm s s' (blocks g) (blocks g')
 blocks_done s s' g g' done room = record { tree = ap (λ x. blocks x) (done room).tree; state = (done room).state }
@@ -122,7 +129,8 @@ repeats_done s0 s1 s2 t t' a a' test one inner room =
     let done = inner (room_at s0 s1 (term_breaches s0.scope.visible t) s0.scope (declared_in a) one room) in
     record {
       tree = ap (λ x. repeats x a') test ∙ ap (λ x. repeats (resolved_term s0.scope.visible t) x) (done.tree ∙ ap (λ s. resolved_action s.scope a) one);
-      state = next_step s0 s1 s2 (term_breaches s0.scope.visible t) s0.scope (λ s. breaches s.scope a) (λ s. leave s.scope (at_end s.scope a)) one done.state }
+      state = next_step s0 s1 s2 (term_breaches s0.scope.visible t) s0.scope (λ s. breaches s.scope a) (λ s. leave s.scope (at_end s.scope a)) one done.state;
+    }
 
 pub first_room : (e m n : ℕ) → e + (m + n) ≤ 2 ^ 32 → e + m ≤ 2 ^ 32
 first_room e m n h = omega (arith, h)
@@ -144,10 +152,11 @@ decides_done s0 s1 s2 s3 s4 own t t' a a' o o' test one start inner optional cut
     let ended = cut_to ∙ cut_is s1 s3 (breaches s1.scope a ++ other_breaches after o) (other_at_end after o) own both start (other_further after o) in
     record {
       tree = ap (λ x. decides x a' o') test
-        ∙ ap (λ x. decides (resolved_term s0.scope.visible t) x o') (two.tree ∙ ap (λ s. resolved_action s.scope a) one)
-        ∙ ap (λ x. decides (resolved_term s0.scope.visible t) (resolved_action s0.scope a) x)
-            (three.tree ∙ ap (λ s. resolved_other s.scope o) two.state ∙ ap (λ s. resolved_other (leave s.scope (at_end s.scope a)) o) one);
-      state = next_step s0 s1 s4 (term_breaches s0.scope.visible t) s0.scope (λ s. breaches s.scope a ++ other_breaches (leave s.scope (at_end s.scope a)) o) (λ s. leave s.scope (other_at_end (leave s.scope (at_end s.scope a)) o)) one ended }
+          ∙ ap (λ x. decides (resolved_term s0.scope.visible t) x o') (two.tree ∙ ap (λ s. resolved_action s.scope a) one)
+          ∙ ap (λ x. decides (resolved_term s0.scope.visible t) (resolved_action s0.scope a) x)
+          (three.tree ∙ ap (λ s. resolved_other s.scope o) two.state ∙ ap (λ s. resolved_other (leave s.scope (at_end s.scope a)) o) one);
+      state = next_step s0 s1 s4 (term_breaches s0.scope.visible t) s0.scope (λ s. breaches s.scope a ++ other_breaches (leave s.scope (at_end s.scope a)) o) (λ s. leave s.scope (other_at_end (leave s.scope (at_end s.scope a)) o)) one ended;
+    }
 
 pub counts_done : (s0 s1 s2 s3 s4 : State) (own : ℕ) (i i' : Ref) (k : Option Kind) (low high factor : Placed) (a a' : Action) (o o' : MaybeAction) (place : Place)
     → length s0.outer + own ≡ length s0.scope.visible
@@ -164,13 +173,14 @@ counts_done s0 s1 s2 s3 s4 own i i' k low high factor a a' o o' place start numb
     let three = optional (room_at s0 s2 (twice s0.scope.visible i ++ breaches d a) (at_end d a) (declared_in_other o) two_is (next_room (length d.entities) (length (at_end d a).entities) (declared_in a) (declared_in_other o) (counted d a) d_room)) in
     let rest = next_step s1 s2 s3 (breaches s1.scope a) (at_end s1.scope a) (λ s. other_breaches s.scope o) (λ s. other_at_end s.scope o) two.state three.state in
     let all : s3 ≡ walked s0 (twice s0.scope.visible i ++ (breaches d a ++ other_breaches (at_end d a) o)) (other_at_end (at_end d a) o) =
-      next_step s0 s1 s3 (twice s0.scope.visible i) d (λ s. breaches s.scope a ++ other_breaches (at_end s.scope a) o) (λ s. other_at_end (at_end s.scope a) o) one rest in
+    next_step s0 s1 s3 (twice s0.scope.visible i) d (λ s. breaches s.scope a ++ other_breaches (at_end s.scope a) o) (λ s. other_at_end (at_end s.scope a) o) one rest in
     let more = onward s0.scope.visible d.visible (other_at_end (at_end d a) o).visible (declare_further s0.scope i Iterator) (onward d.visible (at_end d a).visible (other_at_end (at_end d a) o).visible (further d a) (other_further (at_end d a) o)) in
     record {
       tree = ap (λ x. counts x k low high factor a' o' place) (number r0)
-        ∙ ap (λ x. counts (declares s0.scope i) k low high factor x o' place) (two.tree ∙ ap (λ s. resolved_action s.scope a) one)
-        ∙ ap (λ x. counts (declares s0.scope i) k low high factor (resolved_action d a) x place) (three.tree ∙ ap (λ s. resolved_other s.scope o) two_is);
-      state = cut_to ∙ cut_is s0 s3 (twice s0.scope.visible i ++ (breaches d a ++ other_breaches (at_end d a) o)) (other_at_end (at_end d a) o) own all start more }
+          ∙ ap (λ x. counts (declares s0.scope i) k low high factor x o' place) (two.tree ∙ ap (λ s. resolved_action s.scope a) one)
+          ∙ ap (λ x. counts (declares s0.scope i) k low high factor (resolved_action d a) x place) (three.tree ∙ ap (λ s. resolved_other s.scope o) two_is);
+      state = cut_to ∙ cut_is s0 s3 (twice s0.scope.visible i ++ (breaches d a ++ other_breaches (at_end d a) o)) (other_at_end (at_end d a) o) own all start more;
+    }
 
 pub inner_done : (s0 s1 s2 : State) (own : ℕ) (a a' : Action) → length s0.outer + own ≡ length s0.scope.visible → (Room s0 (declared_in a) → Resolves s0 s1 a a') → s2 ≡ cut s1 own
     → Room s0 (declared_in a) → ResolvesInner s0 s2 a a'
@@ -206,13 +216,15 @@ past_other s t id place (counts iterator declared low high factor body combine c
 
 pub next_block : (s s' : State) (id : ℕ) (place : Place) (f : ActionForm) (b : Action) → is_blocks f ≡ true → ResolvesInner s s' (action id place f) b → ResolvesNext s s' (action id place f) b
 next_block s s' id place f b is done = record {
-    tree = done.tree;
-    state = done.state ∙ ap (λ t. walked s (form_breaches s.scope f) t) (sym (past_block s.scope (form_at_end s.scope f) id place f is)) }
+  tree = done.tree;
+  state = done.state ∙ ap (λ t. walked s (form_breaches s.scope f) t) (sym (past_block s.scope (form_at_end s.scope f) id place f is));
+}
 
 pub next_other : (s s' : State) (id : ℕ) (place : Place) (f : ActionForm) (b : Action) → is_blocks f ≡ false → Resolves s s' (action id place f) b → ResolvesNext s s' (action id place f) b
 next_other s s' id place f b is done = record {
-    tree = done.tree;
-    state = done.state ∙ ap (λ t. walked s (form_breaches s.scope f) t) (sym (past_other s.scope (form_at_end s.scope f) id place f is)) }
+  tree = done.tree;
+  state = done.state ∙ ap (λ t. walked s (form_breaches s.scope f) t) (sym (past_other s.scope (form_at_end s.scope f) id place f is));
+}
 
 -- the state with other visible names
 abbrev pub with_visible : State → List Binding → State

@@ -43,7 +43,7 @@ formals_run : (s : State) (list : List Formal) → run formal_seen formal_step f
 formals_run s [] = refl
 formals_run s (x ∷ rest) =
     next_step s (formal_step s x) (run formal_seen formal_step formal_made (formal_step s x) rest) (twice s.scope.visible x.name) (declare s.scope x.name (formal_sort x.shape))
-      (λ y. formals_breaches y.scope rest) (λ y. after_formals y.scope rest) refl (formals_run (formal_step s x) rest)
+    (λ y. formals_breaches y.scope rest) (λ y. after_formals y.scope rest) refl (formals_run (formal_step s x) rest)
 
 formals_sum : (list : List Formal) → sum formal_seen formal_step formal_made entity_count one_name formal_grows (2 ^ 32) list ≡ length list
 formals_sum [] = refl
@@ -56,9 +56,10 @@ length_map f (x ∷ l) = let e = length_map f l in omega (arith, e)
 -- one turn: the parameter as it stands in the list, and as it was taken
 pub formal_turn : (s s' : State) (x y : Parameter) (name' : Ref) (sort : Sort) → x ≡ y → sort ≡ formal_sort y.shape → (Room s 1 → name' ≡ declares s.scope y.name) → (Room s 1 → s' ≡ walked s (twice s.scope.visible y.name) (declare s.scope y.name sort)) → Room s 1
     → (formal_seen (record { name = name'; shape = y.shape; shape_places = y.shape_places; kind = y.kind }) ≡ formal_made s (formal_seen x)) × (s' ≡ formal_step s (formal_seen x))
-formal_turn s s' x y name' sort is sort_is tree state room =
-    (ap (λ n. record { name = n; shape = y.shape; shape_places = y.shape_places; kind = y.kind }) (tree room) ∙ ap (λ z. formal_made s (formal_seen z)) (sym is),
-      state room ∙ ap (λ k. walked s (twice s.scope.visible y.name) (declare s.scope y.name k)) sort_is ∙ ap (λ z. formal_step s (formal_seen z)) (sym is))
+formal_turn s s' x y name' sort is sort_is tree state room = (
+  ap (λ n. record { name = n; shape = y.shape; shape_places = y.shape_places; kind = y.kind }) (tree room) ∙ ap (λ z. formal_made s (formal_seen z)) (sym is),
+  state room ∙ ap (λ k. walked s (twice s.scope.visible y.name) (declare s.scope y.name k)) sort_is ∙ ap (λ z. formal_step s (formal_seen z)) (sym is),
+)
 
 pub formals_done : (s s' : State) (v : Vec Parameter Global) (before now : List Parameter) (index : ℕ) → before ≡ v.items → length before ≡ v.len → length before ≤ index → Unvisited before now index
     → (Fits formal_seen formal_step formal_made entity_count one_name formal_grows (2 ^ 32) s (map formal_seen before) → FitsSoFar formal_seen formal_step formal_made entity_count one_name formal_grows (2 ^ 32) before now index s s')
@@ -68,10 +69,11 @@ formals_done s s' v before now index is long past u so room =
     let end = finish formal_seen formal_step formal_made before now index s s' (omega (arith, past, u.0)) u (so f).so in
     record {
       tree = ap (λ l. map formal_seen l) (written v.items now v.len (u.0 ∙ ap (λ l. length l) is) (sym (ap (λ l. length l) is) ∙ long))
-        ∙ end.0
-        ∙ formals_made s (map formal_seen before)
-        ∙ ap (λ l. resolved_formals s.scope (map formal_seen l)) is;
-      state = end.1 ∙ formals_run s (map formal_seen before) ∙ ap (λ l. walked s (formals_breaches s.scope (map formal_seen l)) (after_formals s.scope (map formal_seen l))) is }
+          ∙ end.0
+          ∙ formals_made s (map formal_seen before)
+          ∙ ap (λ l. resolved_formals s.scope (map formal_seen l)) is;
+      state = end.1 ∙ formals_run s (map formal_seen before) ∙ ap (λ l. walked s (formals_breaches s.scope (map formal_seen l)) (after_formals s.scope (map formal_seen l))) is;
+    }
 
 formals_counted : (s : Scope) (fs : List Formal) → length (after_formals s fs).entities ≡ length s.entities + length fs
 formals_counted s [] = omega arith
@@ -85,7 +87,7 @@ formals_further s (f ∷ fs) =
     let d = declare s f.name (formal_sort f.shape) in
     onward s.visible d.visible (after_formals d fs).visible (declare_further s f.name (formal_sort f.shape)) (formals_further d fs)
 
-function_counted : (n : ℕ) (s : Scope) (f : Defined) → length (after_function n s f).entities ≡ length s.entities + (length f.parameters + declared_in f.body)
+pub function_counted : (n : ℕ) (s : Scope) (f : Defined) → length (after_function n s f).entities ≡ length s.entities + (length f.parameters + declared_in f.body)
 function_counted n s f =
     let e = counted (body_start s f) f.body in
     let d = formals_counted s f.parameters in omega (arith, e, d)
@@ -108,16 +110,17 @@ function_done n s0 s1 s2 f ps' b' outer' own' outside room formals command own_i
     let one = formals (first_room (length s0.scope.entities) (length f.parameters) (declared_in f.body) room) in
     let start = body_start s0.scope f in
     let two = command (room_at s0 s1 (formals_breaches s0.scope f.parameters) start (declared_in f.body) one.state
-      (next_room (length s0.scope.entities) (length start.entities) (length f.parameters) (declared_in f.body) (formals_counted s0.scope f.parameters) room)) in
+    (next_room (length s0.scope.entities) (length start.entities) (length f.parameters) (declared_in f.body) (formals_counted s0.scope f.parameters) room)) in
     let all : s2 ≡ walked s0 (function_breaches s0.scope f) (at_end start f.body) =
-      next_step s0 s1 s2 (formals_breaches s0.scope f.parameters) start (λ s. breaches s.scope f.body) (λ s. at_end s.scope f.body) one.state two.state in
+    next_step s0 s1 s2 (formals_breaches s0.scope f.parameters) start (λ s. breaches s.scope f.body) (λ s. at_end s.scope f.body) one.state two.state in
     record {
       tree = ap (λ l. record { name = numbered n f.name; parameters = l; body = b' }) one.tree
-        ∙ ap (λ a. record { name = numbered n f.name; parameters = resolved_formals s0.scope f.parameters; body = a }) (two.tree ∙ ap (λ s. resolved_action s.scope f.body) one.state);
+          ∙ ap (λ a. record { name = numbered n f.name; parameters = resolved_formals s0.scope f.parameters; body = a }) (two.tree ∙ ap (λ s. resolved_action s.scope f.body) one.state);
       state = ap (λ l. record { outer = outer'; scope = record { visible = outer' ++ l; entities = s2.scope.entities }; least = s2.least }) own_is
-        ∙ ap (λ l. record { outer = outer'; scope = record { visible = l; entities = s2.scope.entities }; least = s2.least }) (append-nil outer')
-        ∙ ap (λ o. settled o s2) (outer_is ∙ ap (λ s. bind s.outer f.name.name n) all ∙ ap (λ v. bind v f.name.name n) (sym outside))
-        ∙ ap (λ s. settled (bind s0.scope.visible f.name.name n) s) all }
+          ∙ ap (λ l. record { outer = outer'; scope = record { visible = l; entities = s2.scope.entities }; least = s2.least }) (append-nil outer')
+          ∙ ap (λ o. settled o s2) (outer_is ∙ ap (λ s. bind s.outer f.name.name n) all ∙ ap (λ v. bind v f.name.name n) (sym outside))
+          ∙ ap (λ s. settled (bind s0.scope.visible f.name.name n) s) all;
+    }
 
 -- functions in order: the number of the next one, and the state before it
 abbrev pub function_step : ℕ × State → Defined → ℕ × State
@@ -155,9 +158,10 @@ functions_start p list room = subst (λ n. state_size p + n ≤ 2 ^ 32) (sym (fu
 
 pub function_turn : (n : ℕ) (s s' : State) (x y : Function) (b : Defined) → x ≡ y → ResolvesFunction n s s' (defined_seen y) b
     → (b ≡ function_made (n, s) (defined_seen x)) × ((n + 1, s') ≡ function_step (n, s) (defined_seen x))
-function_turn n s s' x y b is done =
-    (done.tree ∙ ap (λ z. resolved_function n s.scope (defined_seen z)) (sym is),
-      ap (λ t. numbered_state (n + 1) t) (done.state ∙ ap (λ z. between s (after_function n s.scope (defined_seen z)) (least_of s.least (function_breaches s.scope (defined_seen z)))) (sym is)))
+function_turn n s s' x y b is done = (
+  done.tree ∙ ap (λ z. resolved_function n s.scope (defined_seen z)) (sym is),
+  ap (λ t. numbered_state (n + 1) t) (done.state ∙ ap (λ z. between s (after_function n s.scope (defined_seen z)) (least_of s.least (function_breaches s.scope (defined_seen z)))) (sym is)),
+)
 
 pub functions_done : (n n' : ℕ) (s s' : State) (v : Vec Function Global) (before now : List Function) (index : ℕ) → before ≡ v.items → length before ≡ v.len → length before ≤ index → Unvisited before now index → IsOutside s
     → FitsSoFar defined_seen function_step function_made state_size function_cost function_grows (2 ^ 32) before now index (n, s) (n', s')
@@ -166,8 +170,9 @@ functions_done n n' s s' v before now index is long past u outside so =
     let end = finish defined_seen function_step function_made before now index (n, s) (n', s') (omega (arith, past, u.0)) u so.so in
     record {
       tree = ap (λ l. map defined_seen l) (written v.items now v.len (u.0 ∙ ap (λ l. length l) is) (sym (ap (λ l. length l) is) ∙ long))
-        ∙ end.0
-        ∙ functions_made (n, s) (map defined_seen before)
-        ∙ ap (λ l. resolved_functions n s.scope (map defined_seen l)) is;
+          ∙ end.0
+          ∙ functions_made (n, s) (map defined_seen before)
+          ∙ ap (λ l. resolved_functions n s.scope (map defined_seen l)) is;
       state = ap (λ p. state_in p) end.1 ∙ functions_run (n, s) (map defined_seen before) outside
-        ∙ ap (λ l. between s (after_functions n s.scope (map defined_seen l)) (least_of s.least (functions_breaches n s.scope (map defined_seen l)))) is }
+          ∙ ap (λ l. between s (after_functions n s.scope (map defined_seen l)) (least_of s.least (functions_breaches n s.scope (map defined_seen l)))) is;
+    }

@@ -55,7 +55,8 @@ kept a [] b e =
     record {
       among = inl (sym is);
       first = subst (λ x. precedes a x ≡ false) is (never_itself a.place.line a.place.column (number_of a.rule));
-      others = λ c at. absurd (nothing c at) }
+      others = λ c at. absurd (nothing c at);
+    }
   where
     nothing : (c : Breach) → Contains [] c → ⊥
     nothing c at = omega (arith, at.1)
@@ -67,14 +68,17 @@ kept a (x ∷ xs) b e = by (precedes x a) refl (kept x xs b) (kept a xs b) e
         let k = new h in record {
           among = inr (elim k.among [ inl same ↦ subst (Contains (x ∷ xs)) (sym same) (0, omega arith, refl) | inr there ↦ Contains-append_right (x ∷ []) xs b there ]);
           first = flip a b (precedes a b) refl (λ p. absurd (clash (sym (onward x.place.line x.place.column (number_of x.rule) a.place.line a.place.column (number_of a.rule) b.place.line b.place.column (number_of b.rule) is p) ∙ k.first)));
-          others = λ c at. elim (cases x xs c at) [ inl same ↦ subst (λ z. precedes z b ≡ false) (sym same) k.first | inr there ↦ k.others c there ] }
+          others = λ c at. elim (cases x xs c at) [ inl same ↦ subst (λ z. precedes z b ≡ false) (sym same) k.first | inr there ↦ k.others c there ];
+        }
     by false is new old h =
         let k = old h in record {
           among = elim k.among [ inl same ↦ inl same | inr there ↦ inr (Contains-append_right (x ∷ []) xs b there) ];
           first = k.first;
           others = λ c at. elim (cases x xs c at) [
-            inl same ↦ subst (λ z. precedes z b ≡ false) (sym same) (flip x b (precedes x b) refl (λ p. absurd (clash (sym (between x.place.line x.place.column (number_of x.rule) a.place.line a.place.column (number_of a.rule) b.place.line b.place.column (number_of b.rule) p k.first) ∙ is))))
-            | inr there ↦ k.others c there ] }
+            | inl same ↦ subst (λ z. precedes z b ≡ false) (sym same) (flip x b (precedes x b) refl (λ p. absurd (clash (sym (between x.place.line x.place.column (number_of x.rule) a.place.line a.place.column (number_of a.rule) b.place.line b.place.column (number_of b.rule) p k.first) ∙ is))))
+            | inr there ↦ k.others c there
+          ];
+        }
 
 some_stays : (a : Breach) (bs : List Breach) → least_of (Some a) bs ≡ None → ⊥
 some_stays a [] e = cc
@@ -93,4 +97,5 @@ least_kept [] b e = cc
 least_kept (x ∷ xs) b e =
     let k = kept x xs b e in record {
       among = elim k.among [ inl same ↦ subst (Contains (x ∷ xs)) (sym same) (0, omega arith, refl) | inr there ↦ Contains-append_right (x ∷ []) xs b there ];
-      least = λ c at. elim (cases x xs c at) [ inl same ↦ told c b (subst (λ z. precedes z b ≡ false) (sym same) k.first) | inr there ↦ told c b (k.others c there) ] }
+      least = λ c at. elim (cases x xs c at) [ inl same ↦ told c b (subst (λ z. precedes z b ≡ false) (sym same) k.first) | inr there ↦ told c b (k.others c there) ];
+    }

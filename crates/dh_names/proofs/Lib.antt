@@ -10,3 +10,5 @@ pub mod Again
 pub mod AgainPrograms
 pub mod LeastKept
 pub mod FunctionsDone
+pub mod ItemsDone
+pub mod ProgramsDone

@@ -84,10 +84,11 @@ part_done s s' v before now index is long past u so room =
     let end = finish action_seen action_step action_made before now index s s' (omega (arith, past, u.0)) u (so f).so in
     record {
       tree = ap (λ l. actions (map action_seen l)) (written v.items now v.len (u.0 ∙ ap (λ l. length l) is) (sym (ap (λ l. length l) is) ∙ long))
-        ∙ ap (λ l. actions l) end.0
-        ∙ actions_made s (map action_seen before)
-        ∙ ap (λ l. resolved_actions s.scope (actions (map action_seen l))) is;
-      state = end.1 ∙ actions_run s (map action_seen before) ∙ ap (λ l. walked s (actions_breaches s.scope (actions (map action_seen l))) (actions_at_end s.scope (actions (map action_seen l)))) is }
+          ∙ ap (λ l. actions l) end.0
+          ∙ actions_made s (map action_seen before)
+          ∙ ap (λ l. resolved_actions s.scope (actions (map action_seen l))) is;
+      state = end.1 ∙ actions_run s (map action_seen before) ∙ ap (λ l. walked s (actions_breaches s.scope (actions (map action_seen l))) (actions_at_end s.scope (actions (map action_seen l)))) is;
+    }
 
 pub parts_done : (s s' : State) (v : Vec (Vec Command Global) Global) (before now : List (Vec Command Global)) (index : ℕ) → before ≡ v.items → length before ≡ v.len → length before ≤ index → Unvisited before now index
     → (Fits part_seen part_step part_made entity_count declared_in_actions part_grows (2 ^ 32) s (map part_seen before) → FitsSoFar part_seen part_step part_made entity_count declared_in_actions part_grows (2 ^ 32) before now index s s')
@@ -97,7 +98,8 @@ parts_done s s' v before now index is long past u so room =
     let end = finish part_seen part_step part_made before now index s s' (omega (arith, past, u.0)) u (so f).so in
     record {
       tree = ap (λ l. groups (map part_seen l)) (written v.items now v.len (u.0 ∙ ap (λ l. length l) is) (sym (ap (λ l. length l) is) ∙ long))
-        ∙ ap (λ l. groups l) end.0
-        ∙ groups_made s (map part_seen before)
-        ∙ ap (λ l. resolved_groups s.scope (groups (map part_seen l))) is;
-      state = end.1 ∙ groups_run s (map part_seen before) ∙ ap (λ l. walked s (groups_breaches s.scope (groups (map part_seen l))) (groups_at_end s.scope (groups (map part_seen l)))) is }
+          ∙ ap (λ l. groups l) end.0
+          ∙ groups_made s (map part_seen before)
+          ∙ ap (λ l. resolved_groups s.scope (groups (map part_seen l))) is;
+      state = end.1 ∙ groups_run s (map part_seen before) ∙ ap (λ l. walked s (groups_breaches s.scope (groups (map part_seen l))) (groups_at_end s.scope (groups (map part_seen l)))) is;
+    }

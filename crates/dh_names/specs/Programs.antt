@@ -1,14 +1,16 @@
 -- What the walk over a program does before and behind its commands, and what it answers.
-use Rattle.std.specs.Prelude.{ℕ, Bool, true, false, ◌+◌, ◌≡◌, List, [], ◌∷◌, length, Option, Result, Ok, Err}
+use Rattle.std.specs.Prelude.{ℕ, Bool, true, false, ◌+◌, ◌≡◌, List, [], ◌∷◌, ◌<◌, ◌≤◌, length, map, drop, Option, Result, Ok, Err}
 use Rattle.dh_base.specs.declared.faults.PassFault.{PassFault}
 use Rattle.dh_base.specs.declared.faults.PassFault.TheVariants as fault
 use Rattle.dh_tree.specs.declared.breaches.Breach.{Breach}
+use Rattle.dh_tree.specs.declared.trees.programs.Decl.{Decl}
+use Rattle.dh_tree.specs.declared.trees.programs.Function.{Function}
 use Rattle.dh_tree.specs.declared.trees.named.Named.{Named}
 use Rattle.dh_tree.specs.PlainTrees.{Declared, Formal, Defined, Program}
-use Rattle.dh_tree.specs.Seen.{program_seen}
+use Rattle.dh_tree.specs.Seen.{declared_seen, defined_seen, program_seen}
 use Rattle.dh_tree.specs.LeastBreach.{is_before, breach, least_of, IsLeast}
-use Rattle.dh_tree.specs.Scopes.{Scope, after_formals, after_function, after_functions}
-use Rattle.dh_tree.specs.Breaches.{breaches_of, KeepsNames, formals_breaches, function_breaches, functions_breaches}
+use Rattle.dh_tree.specs.Scopes.{Binding, bind, Item, memory_items, function_items, merged, Scope, after_formals, after_function, after_functions}
+use Rattle.dh_tree.specs.Breaches.{breaches_of, KeepsNames, twice, formals_breaches, function_breaches, functions_breaches}
 use Rattle.dh_tree.specs.Resolved.{resolved, resolved_formals, resolved_function, resolved_functions}
 use Rattle.dh_names.specs.Walks.{State, walked}
 
@@ -39,6 +41,27 @@ abbrev pub is_function_next : List Declared → List Defined → Bool
 is_function_next memories [] = false
 is_function_next [] (f ∷ functions) = true
 is_function_next (m ∷ memories) (f ∷ functions) = is_before f.name.place m.name.place
+
+-- the names that are left in text order, after so many memories and so many functions
+abbrev pub left : List Decl → List Function → ℕ × ℕ → List Item
+left decls functions done =
+    merged (memory_items done.0 (map declared_seen (drop done.0 decls))) (function_items (length decls + done.1) (map defined_seen (drop done.1 functions)))
+
+-- so many are done, and some are left
+pub record AreLeft (decls : List Decl) (functions : List Function) (done : ℕ × ℕ) : Type 0 where
+  pub some : done.0 + done.1 < length decls + length functions
+  pub memories : done.0 ≤ length decls
+  pub functions_done : done.1 ≤ length functions
+
+-- the next name of those left is made visible
+pub record BindsNext (decls : List Decl) (functions : List Function) (old : List Binding) (old_least : Option Breach) (done : ℕ × ℕ) (new : List Binding) (new_least : Option Breach) (after : ℕ × ℕ) : Type 0 where
+  pub item : Item
+  pub next : left decls functions done ≡ item ∷ left decls functions after
+  pub bound : new ≡ bind old item.name.name item.entity
+  pub least : new_least ≡ least_of old_least (twice old item.name)
+  pub counted : after.0 + after.1 ≡ done.0 + done.1 + 1
+  pub memories : after.0 ≤ length decls
+  pub functions_done : after.1 ≤ length functions
 
 -- a program is answered by its tree with entities where no name breaks a rule, and else by the breach
 -- that stands first; for want of memory it may have no answer

@@ -24,11 +24,7 @@ fn sort_of(parameter: &Parameter) -> Sort
 
 impl Walk {
     // The parameters in order.
-    fn parameters(
-        &mut self,
-        alloc: Global,
-        parameters: &mut Vec<Parameter>,
-    ) -> Result<(), NoMemory>
+    fn parameters(&mut self, alloc: Global, parameters: &mut Vec<Parameter>) -> Result<(), NoMemory>
         ensures { OnOk result (Room (state_of self.old) (length parameters.old.items) → ResolvesFormals (state_of self.old) (state_of self.new) (map formal_seen parameters.old.items) (map formal_seen parameters.new.items)) }
     {
         for parameter in parameters.iter_mut() {

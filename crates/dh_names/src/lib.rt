@@ -7,9 +7,13 @@ mod bindings;
 mod commands;
 mod expressions;
 mod functions;
+mod laws;
 mod programs;
 mod scopes;
+#[cfg(test)]
+mod tests;
 mod views;
 mod walks;
 
+pub use laws::resolved_programs_stay_so;
 pub use programs::resolve;

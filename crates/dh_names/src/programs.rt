@@ -3,13 +3,13 @@
 ghost use Rattle.std.specs.Prelude.{◌≡◌, ◌+◌, ◌<◌, ◌^◌, [], ◌++◌, IfOk, OnOk, length, map, drop};
 ghost use Rattle.dh_tree.specs.declared.trees.programs.Sort.TheVariants as sort;
 ghost use Rattle.dh_tree.specs.LeastBreach.{least_of};
-ghost use Rattle.dh_tree.specs.Scopes.{entity, merged, memory_items, function_items, after_items};
+ghost use Rattle.dh_tree.specs.Scopes.{entity, after_items};
 ghost use Rattle.dh_tree.specs.Breaches.{items_breaches};
 ghost use Rattle.dh_tree.specs.Resolved.{resolved_decls};
 ghost use Rattle.dh_tree.specs.Seen.{declared_seen, defined_seen, program_seen};
 ghost use Rattle.dh_tree.specs.NameCounts.{HasFewNames};
 ghost use Rattle.dh_names.specs.Visible.{visible};
-ghost use Rattle.dh_names.specs.Programs.{Answers, is_function_next};
+ghost use Rattle.dh_names.specs.Programs.{Answers, is_function_next, left, AreLeft, BindsNext};
 
 use crate::bindings::Bindings;
 use crate::scopes::{Names, bind_name};
@@ -68,6 +68,32 @@ fn function_is_next(decls: &[Decl], functions: &[Function], memory: usize, funct
     }
 }
 
+// Makes the name visible that is the next in text order, where `done` counts the memories and the
+// functions that are visible already, and counts it too.
+fn bind_next(
+    alloc: Global,
+    names: &mut Names,
+    least: &mut Option<Breach>,
+    decls: &[Decl],
+    functions: &[Function],
+    done: (usize, usize),
+) -> Result<(usize, usize), NoMemory>
+    requires few { length decls.now + length functions.now < 2 ^ 32 }
+    requires left { AreLeft decls.now functions.now done }
+    ensures outer { names.new.outer ≡ names.old.outer }
+    ensures next { IfOk result (λ after. BindsNext decls.now functions.now (visible names.old) least.old done (visible names.new) least.new after) }
+{
+    let (memory, function) = done;
+    if function_is_next(decls, functions, memory, function) {
+        let number = (decls.len() + function) as u32;
+        bind_name(alloc, names, least, &functions[function].name, number)?;
+        Ok((memory, function + 1))
+    } else {
+        bind_name(alloc, names, least, &decls[memory].name, memory as u32)?;
+        Ok((memory + 1, function))
+    }
+}
+
 // Makes memories from outside and functions visible, in text order.
 fn bind_items(
     alloc: Global,
@@ -78,20 +104,12 @@ fn bind_items(
 ) -> Result<(), NoMemory>
     requires few { length decls.now + length functions.now < 2 ^ 32 }
     ensures outer { names.new.outer ≡ names.old.outer }
-    ensures names { OnOk result (visible names.new ≡ after_items (visible names.old) (merged (memory_items 0 (map declared_seen decls.now)) (function_items (length decls.now) (map defined_seen functions.now)))) }
-    ensures least { OnOk result (least.new ≡ least_of least.old (items_breaches (visible names.old) (merged (memory_items 0 (map declared_seen decls.now)) (function_items (length decls.now) (map defined_seen functions.now))))) }
+    ensures names { OnOk result (visible names.new ≡ after_items (visible names.old) (left decls.now functions.now (0, 0))) }
+    ensures least { OnOk result (least.new ≡ least_of least.old (items_breaches (visible names.old) (left decls.now functions.now (0, 0)))) }
 {
-    let mut memory = 0;
-    let mut function = 0;
+    let mut done = (0, 0);
     for _ in 0..decls.len() + functions.len() {
-        if function_is_next(decls, functions, memory, function) {
-            let number = (decls.len() + function) as u32;
-            bind_name(alloc, names, least, &functions[function].name, number)?;
-            function += 1;
-        } else {
-            bind_name(alloc, names, least, &decls[memory].name, memory as u32)?;
-            memory += 1;
-        }
+        done = bind_next(alloc, names, least, decls, functions, done)?;
     }
     Ok(())
 }
@@ -124,6 +142,7 @@ pub fn resolve(alloc: Global, tree: Tree) -> Result<Named, PassFault>
         mut body,
         entities: _,
     } = tree;
+    let count = decls.len() as u32;
     let mut names = no_names(alloc);
     let mut least = None;
     bind_items(alloc, &mut names, &mut least, &decls, &functions)?;
@@ -133,19 +152,19 @@ pub fn resolve(alloc: Global, tree: Tree) -> Result<Named, PassFault>
         least,
     };
     number_decls(&mut decls);
-    walk.functions(alloc, &mut functions, decls.len() as u32)?;
+    walk.functions(alloc, &mut functions, count)?;
     walk.names = names;
     walk.command(alloc, &mut body)?;
-    if let Some(breach) = walk.least {
-        return Err(PassFault::Refused {
+    match walk.least {
+        Some(breach) => Err(PassFault::Refused {
             rule: breach.rule,
             place: breach.place,
-        });
+        }),
+        None => Ok(Named::of(Tree {
+            decls,
+            functions,
+            body,
+            entities: walk.entities,
+        })),
     }
-    Ok(Named::of(Tree {
-        decls,
-        functions,
-        body,
-        entities: walk.entities,
-    }))
 }

@@ -15,9 +15,9 @@ pub resolve_terms-loop-term-preserved : goal.resolve_terms-loop-term-preserved
 resolve_terms-loop-term-preserved t c =
     let bs = visible c.args.names.now in
     turn term_seen (term_step bs) (term_made bs) c.deref_mut-term-items.result.now c.loop-term.term-items c.loop-term.term-index c.args.least.now c.loop-term.least c.resolve_term.new.least c.term-item.result c.resolve_term.new.term
-      (omega (arith, c.loop-term-test.true, c.loop-term.auto.term-items)) c.loop-term.invariant.0 c.loop-term.invariant.1 c.term-item.is
-      (c.resolve_term.ensures.tree ∙ ap (λ e. resolved_term bs (term_seen e)) (sym c.term-item.is))
-      (c.resolve_term.ensures.least ∙ ap (λ e. least_of c.loop-term.least (term_breaches bs (term_seen e))) (sym c.term-item.is))
+    (omega (arith, c.loop-term-test.true, c.loop-term.auto.term-items)) c.loop-term.invariant.0 c.loop-term.invariant.1 c.term-item.is
+    (c.resolve_term.ensures.tree ∙ ap (λ e. resolved_term bs (term_seen e)) (sym c.term-item.is))
+    (c.resolve_term.ensures.least ∙ ap (λ e. least_of c.loop-term.least (term_breaches bs (term_seen e))) (sym c.term-item.is))
 
 pub resolve_terms-returns-clause-tree : goal.resolve_terms-returns-clause-tree
 resolve_terms-returns-clause-tree t c =
@@ -25,7 +25,7 @@ resolve_terms-returns-clause-tree t c =
     let v = c.deref_mut-term-items.ensures.value in
     ap (λ l. map term_seen l) (written c.args.terms.now.items c.loop-term.term-items c.args.terms.now.len (c.loop-term.auto.term-items ∙ ap (λ l. length l) v) (sym (ap (λ l. length l) v) ∙ c.deref_mut-term-items.ensures.len))
     ∙ (finish term_seen (term_step bs) (term_made bs) c.deref_mut-term-items.result.now c.loop-term.term-items c.loop-term.term-index c.args.least.now c.loop-term.least
-        (omega (arith, c.loop-term-test.false, c.loop-term.auto.term-items)) c.loop-term.invariant.0 c.loop-term.invariant.1).0
+    (omega (arith, c.loop-term-test.false, c.loop-term.auto.term-items)) c.loop-term.invariant.0 c.loop-term.invariant.1).0
     ∙ terms_made bs _ _
     ∙ ap (λ l. map (resolved_term bs) (map term_seen l)) v
 
@@ -33,7 +33,7 @@ pub resolve_terms-returns-clause-least : goal.resolve_terms-returns-clause-least
 resolve_terms-returns-clause-least t c =
     let bs = visible c.args.names.now in
     (finish term_seen (term_step bs) (term_made bs) c.deref_mut-term-items.result.now c.loop-term.term-items c.loop-term.term-index c.args.least.now c.loop-term.least
-        (omega (arith, c.loop-term-test.false, c.loop-term.auto.term-items)) c.loop-term.invariant.0 c.loop-term.invariant.1).1
+    (omega (arith, c.loop-term-test.false, c.loop-term.auto.term-items)) c.loop-term.invariant.0 c.loop-term.invariant.1).1
     ∙ terms_run bs c.args.least.now (map term_seen c.deref_mut-term-items.result.now)
     ∙ ap (λ l. least_of c.args.least.now (list_breaches bs (map term_seen l))) c.deref_mut-term-items.ensures.value
 
@@ -47,14 +47,14 @@ pub resolved_form-returns-in-Physical-clause-tree : goal.resolved_form-returns-i
 resolved_form-returns-in-Physical-clause-tree t c =
     let bs = visible c.args.names.now in
     physical_done bs _ _ _ _ _ _ _ c.in-Physical.is c.resolve_use-in-Physical.ensures.tree
-      (c.resolve_term.ensures.tree ∙ ap (λ e. resolved_term bs (term_seen e)) c.deref_mut.ensures.value)
+    (c.resolve_term.ensures.tree ∙ ap (λ e. resolved_term bs (term_seen e)) c.deref_mut.ensures.value)
 
 pub resolved_form-returns-in-Binary-clause-tree : goal.resolved_form-returns-in-Binary-clause-tree
 resolved_form-returns-in-Binary-clause-tree t c =
     let bs = visible c.args.names.now in
     binary_done bs _ _ _ _ _ _ c.in-Binary.is
-      (c.resolve_term-in-Binary.ensures.tree ∙ ap (λ e. resolved_term bs (term_seen e)) c.deref_mut-in-Binary.ensures.value)
-      (c.resolve_term-in-Binary-2.ensures.tree ∙ ap (λ e. resolved_term bs (term_seen e)) c.deref_mut-in-Binary-2.ensures.value)
+    (c.resolve_term-in-Binary.ensures.tree ∙ ap (λ e. resolved_term bs (term_seen e)) c.deref_mut-in-Binary.ensures.value)
+    (c.resolve_term-in-Binary-2.ensures.tree ∙ ap (λ e. resolved_term bs (term_seen e)) c.deref_mut-in-Binary-2.ensures.value)
 
 pub resolved_form-returns-in-Cast-clause-tree : goal.resolved_form-returns-in-Cast-clause-tree
 resolved_form-returns-in-Cast-clause-tree t c =

@@ -9,9 +9,9 @@ use Rattle.dh_names.proofs.walks.Walk.function.Goals as goal
 pub returns : goal.returns
 returns c =
     on_ok_weaker c.bind.result
-      (λ bound. function_done c.args.number (state_of c.args.self.now) (state_of c.parameters.new.self) (state_of c.command.new.self) (defined_seen c.args.function.now) (map formal_seen c.parameters.new.parameters.items) (action_seen c.command.new.command) c.bind.new.self c.truncate.new.self
-        c.requires.outside
-        (subst (λ n. Room (state_of c.args.self.now) (n + declared_in (action_seen c.args.function.now.body))) (sym (length_map formal_seen c.args.function.now.parameters.items)) c.requires.room)
-        (λ room. c.in_ok-parameters.ensures (subst (λ n. Room (state_of c.args.self.now) n) (length_map formal_seen c.args.function.now.parameters.items) room))
-        c.in_ok-command.ensures c.truncate.ensures bound)
-      c.bind.ensures
+    (λ bound. function_done c.args.number (state_of c.args.self.now) (state_of c.parameters.new.self) (state_of c.command.new.self) (defined_seen c.args.function.now) (map formal_seen c.parameters.new.parameters.items) (action_seen c.command.new.command) c.bind.new.self c.truncate.new.self
+    c.requires.outside
+    (subst (λ n. Room (state_of c.args.self.now) (n + declared_in (action_seen c.args.function.now.body))) (sym (length_map formal_seen c.args.function.now.parameters.items)) c.requires.room)
+    (λ room. c.in_ok-parameters.ensures (subst (λ n. Room (state_of c.args.self.now) n) (length_map formal_seen c.args.function.now.parameters.items) room))
+    c.in_ok-command.ensures c.truncate.ensures bound)
+    c.bind.ensures

@@ -1,0 +1,154 @@
+-- A walk over a whole program.
+use Rattle.std.proofs.Common.{◌≡◌, ℕ, suc, ◌+◌, ◌<◌, ◌≤◌, ◌^◌, List, [], ◌∷◌, ◌++◌, length, map, drop, Option, Some, None, refl, sym, ap, subst, ◌∙◌, arith}
+use Rattle.std.proofs.lemmas.List.{length-append, append-nil}
+use Rattle.dh_tree.specs.declared.breaches.Breach.{Breach}
+use Rattle.dh_tree.specs.declared.trees.programs.Decl.{Decl}
+use Rattle.dh_tree.specs.declared.trees.programs.Entity.{Entity}
+use Rattle.dh_tree.specs.declared.trees.programs.Tree.{Tree}
+use Rattle.dh_tree.specs.declared.trees.programs.Function as code
+use Rattle.dh_tree.specs.declared.trees.programs.Sort.TheVariants.{Memory, Function}
+use Rattle.dh_tree.specs.PlainTrees.{Action, Declared, Defined, Program}
+use Rattle.dh_tree.specs.Seen.{declared_seen, defined_seen, action_seen, program_seen}
+use Rattle.dh_tree.specs.LeastBreach.{least_of, IsLeast}
+use Rattle.dh_tree.specs.Scopes.{Binding, Scope, at_end, after_function, after_functions, memory_items, function_items, merged, items_of, after_items, entity, outer_entities, first_scope, body_scope}
+use Rattle.dh_tree.specs.Breaches.{breaches, functions_breaches, items_breaches, breaches_of, KeepsNames}
+use Rattle.dh_tree.specs.Resolved.{resolved_action, resolved_decls, resolved_functions, resolved, HasEntities}
+use Rattle.dh_tree.specs.NameCounts.{declared_in, declared_in_functions, names_declared, HasFewNames}
+use Rattle.dh_names.specs.Walks.{State, walked, Room, Resolves}
+use Rattle.dh_names.specs.Programs.{between, ResolvesFunctions, left}
+use Rattle.dh_names.proofs.Keeping.{least_then}
+use Rattle.dh_names.proofs.LeastKept.{none_kept, least_kept}
+use Rattle.dh_names.proofs.AgainPrograms.{breaches_again, resolved_again}
+use Rattle.dh_names.proofs.FunctionsDone.{length_map, function_counted}
+
+functions_counted : (n : ℕ) (s : Scope) (fs : List Defined) → length (after_functions n s fs).entities ≡ length s.entities + declared_in_functions fs
+functions_counted n s [] = omega arith
+functions_counted n s (f ∷ fs) =
+    let e = functions_counted (n + 1) (after_function n s f) fs in
+    let d = function_counted n s f in omega (arith, e, d)
+
+outer_counted : (p : Program) → length (outer_entities p) ≡ length p.decls + length p.functions
+outer_counted p =
+    let e = length-append (map (λ d. entity d.name Memory) p.decls) (map (λ f. entity f.name Function) p.functions) in
+    let d = length_map (λ d. entity d.name Memory) p.decls in
+    let f = length_map (λ f. entity f.name Function) p.functions in omega (arith, e, d, f)
+
+-- all names of memories from outside and of functions are left at first
+pub all_left : (ds : List Decl) (fs : List code.Function) → left ds fs (0, 0) ≡ merged (memory_items 0 (map declared_seen ds)) (function_items (length (map declared_seen ds)) (map defined_seen fs))
+all_left ds fs =
+    let e = length_map declared_seen ds in
+    let same : length ds + 0 ≡ length (map declared_seen ds) = omega (arith, e) in
+    ap (λ n. merged (memory_items 0 (map declared_seen ds)) (function_items n (map defined_seen fs))) same
+
+pub functions_room : (p : Program) (s : State) → HasFewNames p → s.scope ≡ first_scope p → Room s (declared_in_functions p.functions)
+functions_room p s few is =
+    let e : length s.scope.entities ≡ length (outer_entities p) = ap (λ x. length x.entities) is in
+    let d = outer_counted p in omega (arith, few, e, d)
+
+abbrev pub program : List Declared → List Defined → Action → List Entity → Program
+program ds fs b es = record { decls = ds; functions = fs; body = b; entities = es }
+
+-- the state before the program's body
+abbrev pub before_body : List Binding → List Binding → State → State
+before_body outer top s = record { outer = outer; scope = record { visible = top; entities = s.scope.entities }; least = s.least }
+
+-- what the calls of the walk did
+pub record Facts (p : Program) (s0 s1 s3 : State) (outer top : List Binding) (ds' : List Declared) (fs' : List Defined) (b' : Action) : Type 0 where
+  pub few : HasFewNames p
+  pub scope : s0.scope ≡ first_scope p
+  pub items : s0.least ≡ least_of None (items_breaches [] (items_of p))
+  pub functions : ResolvesFunctions (length p.decls) s0 s1 p.functions fs'
+  pub decls : ds' ≡ resolved_decls 0 p.decls
+  pub names : top ≡ after_items [] (items_of p)
+  pub body : Room (before_body outer top s1) (declared_in p.body) → Resolves (before_body outer top s1) s3 p.body b'
+
+pub scope_is : (p : Program) (o w : List Binding) (es : List Entity) → o ≡ [] → w ≡ [] → es ≡ outer_entities p → record { visible = o ++ w; entities = es } ≡ first_scope p
+scope_is p o w es o_is w_is es_is =
+    ap (λ x. record { visible = x ++ w; entities = es }) o_is ∙ ap (λ x. record { visible = x; entities = es }) w_is ∙ ap (λ x. record { visible = []; entities = x }) es_is
+
+pub nothing_own : (o w : List Binding) → w ≡ [] → o ++ w ≡ o
+nothing_own o w is = ap (λ x. o ++ x) is ∙ append-nil o
+
+pub no_names_seen : (o w : List Binding) → o ≡ [] → w ≡ [] → o ++ w ≡ []
+no_names_seen o w o_is w_is = ap (λ x. x ++ w) o_is ∙ w_is
+
+-- names that are left, for lists that are these ones
+left_is : (ds ds' : List Decl) (fs fs' : List code.Function) → ds ≡ ds' → fs ≡ fs' → left ds fs (0, 0) ≡ merged (memory_items 0 (map declared_seen ds')) (function_items (length (map declared_seen ds')) (map defined_seen fs'))
+left_is ds ds' fs fs' p q = ap (λ x. left x fs (0, 0)) p ∙ ap (λ x. left ds' x (0, 0)) q ∙ all_left ds' fs'
+
+pub start_scope : (tree : Tree) (o w : List Binding) (es : List Entity) (ds2 : List Decl) (fs2 : List code.Function) → o ≡ [] → w ≡ [] → ds2 ≡ tree.decls.items → fs2 ≡ tree.functions.items
+    → es ≡ map (λ d. entity d.name Memory) (map declared_seen ds2) ++ map (λ f. entity f.name Function) (map defined_seen fs2) → record { visible = o ++ w; entities = es } ≡ first_scope (program_seen tree)
+start_scope tree o w es ds2 fs2 o_is w_is d2 f2 listed =
+    scope_is (program_seen tree) o w es o_is w_is (listed ∙ ap (λ x. map (λ d. entity d.name Memory) (map declared_seen x) ++ map (λ f. entity f.name Function) (map defined_seen fs2)) d2
+    ∙ ap (λ x. map (λ d. entity d.name Memory) (map declared_seen tree.decls.items) ++ map (λ f. entity f.name Function) (map defined_seen x)) f2)
+
+pub facts : (tree : Tree) (s0 s1 s3 : State) (outer top vis : List Binding) (o w : List Binding) (ds1 ds2 : List Decl) (fs1 fs2 : List code.Function) (ds' : List Declared) (fs' : List Defined) (b' : Action) (n : ℕ)
+    → HasFewNames (program_seen tree) → o ≡ [] → w ≡ [] → vis ≡ [] → s0.scope.visible ≡ o ++ w
+    → ds1 ≡ tree.decls.items → fs1 ≡ tree.functions.items → ds2 ≡ tree.decls.items → fs2 ≡ tree.functions.items → n ≡ length tree.decls.items
+    → s0.scope.entities ≡ map (λ d. entity d.name Memory) (map declared_seen ds2) ++ map (λ f. entity f.name Function) (map defined_seen fs2)
+    → top ≡ after_items vis (left ds1 fs1 (0, 0)) → s0.least ≡ least_of None (items_breaches vis (left ds1 fs1 (0, 0)))
+    → ResolvesFunctions n s0 s1 (map defined_seen tree.functions.items) fs' → ds' ≡ resolved_decls 0 (map declared_seen tree.decls.items)
+    → (Room (before_body outer top s1) (declared_in (action_seen tree.body)) → Resolves (before_body outer top s1) s3 (action_seen tree.body) b')
+    → Facts (program_seen tree) s0 s1 s3 outer top ds' fs' b'
+facts tree s0 s1 s3 outer top vis o w ds1 ds2 fs1 fs2 ds' fs' b' n few o_is w_is vis_is seen d1 f1 d2 f2 count listed names items functions decls body =
+    let p = program_seen tree in
+    let all = left_is ds1 tree.decls.items fs1 tree.functions.items d1 f1 in
+    record {
+      few = few;
+      scope = ap (λ x. record { visible = x; entities = s0.scope.entities }) seen ∙ start_scope tree o w s0.scope.entities ds2 fs2 o_is w_is d2 f2 listed;
+      items = items ∙ ap (λ x. least_of None (items_breaches x (left ds1 fs1 (0, 0)))) vis_is ∙ ap (λ x. least_of None (items_breaches [] x)) all;
+      functions = subst (λ k. ResolvesFunctions k s0 s1 p.functions fs') (count ∙ sym (length_map declared_seen tree.decls.items)) functions;
+      decls = decls;
+      names = names ∙ ap (λ x. after_items x (left ds1 fs1 (0, 0))) vis_is ∙ ap (λ x. after_items [] x) all;
+      body = body;
+    }
+
+module _ (p : Program) (s0 s1 s3 : State) (outer top : List Binding) (ds' : List Declared) (fs' : List Defined) (b' : Action) (x : Facts p s0 s1 s3 outer top ds' fs' b') where
+  abbrev count : ℕ
+  count = length p.decls
+
+  entities_then : s1.scope.entities ≡ (after_functions count (first_scope p) p.functions).entities
+  entities_then = ap (λ s. s.scope.entities) x.functions.state ∙ ap (λ y. (after_functions count y p.functions).entities) x.scope
+
+  room : Room (before_body outer top s1) (declared_in p.body)
+  room =
+      let e : length s1.scope.entities ≡ length (after_functions count (first_scope p) p.functions).entities = ap (λ l. length l) entities_then in
+      let f = functions_counted count (first_scope p) p.functions in
+      let d = outer_counted p in omega (arith, x.few, e, f, d)
+
+  body_then : (before_body outer top s1).scope ≡ body_scope p
+  body_then =
+      ap (λ l. record { visible = l; entities = s1.scope.entities }) x.names ∙ ap (λ l. record { visible = after_items [] (items_of p); entities = l }) entities_then
+
+  done : Resolves (before_body outer top s1) s3 p.body b'
+  done = x.body room
+
+  pub program_tree : program ds' fs' b' s3.scope.entities ≡ resolved p
+  program_tree =
+      ap (λ y. program y fs' b' s3.scope.entities) x.decls
+      ∙ ap (λ y. program (resolved_decls 0 p.decls) y b' s3.scope.entities) (x.functions.tree ∙ ap (λ y. resolved_functions count y p.functions) x.scope)
+      ∙ ap (λ y. program (resolved_decls 0 p.decls) (resolved p).functions y s3.scope.entities) (done.tree ∙ ap (λ y. resolved_action y p.body) body_then)
+      ∙ ap (λ y. program (resolved_decls 0 p.decls) (resolved p).functions (resolved p).body y) (ap (λ s. s.scope.entities) done.state ∙ ap (λ y. (at_end y p.body).entities) body_then)
+
+  pub program_least : s3.least ≡ least_of None (breaches_of p)
+  program_least =
+      let f = functions_breaches count (first_scope p) p.functions in
+      let b = breaches (body_scope p) p.body in
+      ap (λ s. s.least) done.state
+      ∙ ap (λ y. least_of s1.least (breaches y p.body)) body_then
+      ∙ ap (λ k. least_of k b) (ap (λ s. s.least) x.functions.state ∙ ap (λ y. least_of s0.least (functions_breaches count y p.functions)) x.scope)
+      ∙ sym (least_then s0.least f b)
+      ∙ ap (λ k. least_of k (f ++ b)) x.items
+      ∙ sym (least_then None (items_breaches [] (items_of p)) (f ++ b))
+
+  pub program_refused : (b : Breach) → s3.least ≡ Some b → IsLeast (breaches_of p) b
+  program_refused b is = least_kept (breaches_of p) b (sym program_least ∙ is)
+
+  pub program_keeps : s3.least ≡ None → KeepsNames p
+  program_keeps is = none_kept (breaches_of p) (sym program_least ∙ is)
+
+  pub tree_keeps : s3.least ≡ None → KeepsNames (program ds' fs' b' s3.scope.entities)
+  tree_keeps is = ap (λ q. breaches_of q) program_tree ∙ breaches_again p ∙ program_keeps is
+
+  pub tree_resolved : HasEntities (program ds' fs' b' s3.scope.entities)
+  tree_resolved = ap (λ q. resolved q) program_tree ∙ resolved_again p ∙ sym program_tree
