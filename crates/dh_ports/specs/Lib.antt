@@ -1,0 +1,5 @@
+pub mod SingleElements
+pub mod FirstForms
+pub mod Tags
+pub mod StepCounts
+pub mod Logs
