@@ -1,3 +1,4 @@
 pub mod Literals
 pub mod FullPhases
 pub mod Turns
+pub mod LogFacts

@@ -14,6 +14,9 @@ use Rattle.dh_ports.proofs.FullPhases.{part_long, long_phases}
 pub at_item : {X : Type 0} (xs : List X) (i : ℕ) (x : X) → i < length xs → x ≡ get_or xs i x → drop i xs ≡ x ∷ drop (i + 1) xs
 at_item xs i x within is = drop-cons xs i x within ∙ (ap (λ y. y ∷ drop (suc i) xs) (sym is) ∙ ap (λ n. x ∷ drop n xs) (sym (add-one i)))
 
+pub at_place : {X : Type 0} (xs : List X) (i : ℕ) (d : X) → i < length xs → drop i xs ≡ get_or xs i d ∷ drop (i + 1) xs
+at_place xs i d within = drop-cons xs i d within ∙ ap (λ n. get_or xs i d ∷ drop n xs) (sym (add-one i))
+
 counted_up : (n m k l r w b : ℕ) → n ≤ 2 → m ≡ min 2 k → l ≡ k + r → min 2 (n + l) ≡ w → b ≡ min (n + m) 2 → (b ≤ 2) × (min 2 (b + r) ≡ w)
 counted_up n m k l r w b e f g h i = (grind (arith, e, f, g, h, i), grind (arith, e, f, g, h, i))
 

@@ -3,3 +3,5 @@ pub mod FirstForms
 pub mod Tags
 pub mod StepCounts
 pub mod Logs
+pub mod Recalled
+pub mod Walked
