@@ -2,6 +2,7 @@
 use Rattle.std.proofs.Common.{◌≡◌, ℕ, zero, suc, ◌+◌, ◌-◌, ◌≤◌, ◌<◌, ◌==◌, Bool, true, false, List, [], ◌∷◌, ◌++◌, length, take, drop, get_or, set, slice_index, slice_set, map, min, Some, if◌then◌else◌, refl, ap, sym, ◌∙◌, subst, arith, ◌⊎◌, inl, inr}
 use Rattle.std.specs.List.{slice_get}
 use Rattle.std.proofs.lemmas.Bool.{eqb-true, eq-eqb, ne_eqb, cases_Bool}
+use Rattle.std.proofs.lemmas.Option.{slice_get-get_or}
 use Rattle.std.proofs.lemmas.List.{get_or-set_same, get_or-set_other, length-set}
 use Rattle.dh_ports.specs.declared.marks.Mark.{Mark}
 use Rattle.dh_ports.specs.Logs.{at_begin, least, AreMarks, marks_now}
@@ -143,3 +144,29 @@ module _ (left0 : List ℕ) (log0 lows0 : List Mark) (left : List ℕ) (log lows
         logged = λ m. logged_turn left log low.memory low.left m within ∙ so.logged m;
         marks = λ are. marks_more (length left0) log low.memory _ (so.marks are) inside;
       }))
+
+pub undoing_turn : (n : ℕ) (left : List ℕ) (log : List Mark) (i m w : ℕ) (d : Mark) → AreMarks n log → length left ≡ n → 0 < i → i ≤ length log
+    → at_begin (take i log) m (slice_index left m) ≡ w
+    → at_begin (take (i - 1) log) m (slice_index (slice_set left (get_or log (i - 1) d).memory (get_or log (i - 1) d).left) m) ≡ w
+undoing_turn n left log i m w d are long some within is =
+    let last : i - 1 < length log = omega (arith, some, within) in
+    let inside = are (i - 1) (get_or log (i - 1) d) (slice_get-get_or log (i - 1) d last) in
+    undo_turn left log i m w d some within (subst (λ (k : ℕ). (get_or log (i - 1) d).memory < k) (sym long) inside) is
+
+pub any_default : {X : Type 0} (xs : List X) (i : ℕ) (d e : X) → i < length xs → get_or xs i d ≡ get_or xs i e
+any_default [] i d e within = elim (none i within) [ ]
+  where
+    none : (n : ℕ) → n < 0 → ⊥
+    none n f = omega (arith, f)
+any_default (x ∷ xs) zero d e within = refl
+any_default (x ∷ xs) (suc i) d e within = any_default xs i d e (omega (arith, within))
+
+-- one port less of a memory, with a mark of what was left
+module _ (left : List ℕ) (log log1 : List Mark) (k x v : ℕ) (inside : k < length left) (is : x ≡ get_or left k x) (more : log1 ≡ log ++ mark k x ∷ []) where
+  pub spent_begun : (m : ℕ) → at_begin log1 m (slice_index (slice_set left k v) m) ≡ at_begin log m (slice_index left m)
+  spent_begun m =
+      ap (λ l. at_begin l m (slice_index (slice_set left k v) m)) (more ∙ ap (λ n. log ++ mark k n ∷ []) (is ∙ any_default left k x 0 inside))
+      ∙ logged_turn left log k v m inside
+
+  pub spent_marks : AreMarks (length left) log → AreMarks (length (slice_set left k v)) log1
+  spent_marks are = subst (λ (n : ℕ). AreMarks n log1) (sym (length-set left k v)) (subst (λ (l : List Mark). AreMarks (length left) l) (sym more) (marks_more (length left) log k x are inside))

@@ -5,3 +5,4 @@ pub mod StepCounts
 pub mod Logs
 pub mod Recalled
 pub mod Walked
+pub mod WalkSteps

@@ -39,7 +39,7 @@ pub record Lowers (tagged : List Tagged) (base low new : ℕ → ℕ) (t : Meets
 -- are new.
 pub record Remembers (earlier : List Tagged) (recents : List Recent) (going : Option ℕ) (next : ℕ) : Type 0 where
   pub current : (phase : ℕ) (a : Access) (e : Element) → going ≡ Some phase → IsAt a e → a.writes ≡ false → e.memory < length recents
-    → shares_one earlier (tag phase a) ≡ known (slice_get recents e.memory) phase e.index
+      → shares_one earlier (tag phase a) ≡ known (slice_get recents e.memory) phase e.index
   pub new_reads : (phase : ℕ) (a : Access) → next ≤ phase → shares_one earlier (tag phase a) ≡ false
   pub new_known : (m phase : ℕ) (index : Literal) → next ≤ phase → known (slice_get recents m) phase index ≡ false
   pub old : (phase : ℕ) → going ≡ Some phase → phase < next

@@ -1,10 +1,21 @@
 //! A walk through a program in order of evaluation, with the ports that are left.
 
+ghost use Rattle.std.specs.Prelude.{◌≡◌, ℕ, ◌+◌, ◌<◌, ◌++◌, List, Some, IfOk, map, length, slice_index};
+ghost use Rattle.dh_tree.specs.PlainTrees.{blocks};
+ghost use Rattle.dh_tree.specs.Seen.{term_seen, action_seen, part_seen, groups};
+ghost use Rattle.dh_tree.specs.Accesses.{store_accesses, row, meets, groups_meets};
+ghost use Rattle.dh_ports.specs.FirstForms.{IsElement, IsRightSide, IsBuilt, AreBuiltGroups, IsCounted, AreCountedGroups, number_after, groups_after};
+ghost use Rattle.dh_ports.specs.Tags.{Tagged, tag, tags, groups_tags, phase_at, released, is_stepped, going_after, form_going};
+ghost use Rattle.dh_ports.specs.Logs.{AreMarks, at_begin, marks_now};
+ghost use Rattle.dh_ports.specs.Walked.{Remembers, Walked};
+ghost use Rattle.dh_ports.specs.WalkSteps.{standing, IsKept, Spends, ReadsOne};
+ghost use Rattle.dh_ports.specs.declared.walks.Stop.TheVariants as stop;
+
 use crate::elements::{Element, accessed_element, read_of};
 use crate::marks::{Mark, lower, note_lows, undo};
 use crate::recents::Recent;
 use crate::steps::block_steps;
-use dh_base::{NoMemory, Place};
+use dh_base::Place;
 use dh_tree::{Command, CommandForm, Expr};
 use std::alloc::{AllocError, AllocFailed, Global};
 
@@ -18,12 +29,16 @@ pub enum Stop {
 }
 
 impl From<AllocError> for Stop {
+    ghost from_gives = { λ _ e. e ≡ stop.NoMemory };
+
     fn from(_refused: AllocError) -> Stop {
         Stop::NoMemory
     }
 }
 
 impl<T: Drop> From<AllocFailed<T>> for Stop {
+    ghost from_gives = { λ _ e. e ≡ stop.NoMemory };
+
     fn from(_refused: AllocFailed<T>) -> Stop {
         Stop::NoMemory
     }
@@ -43,7 +58,13 @@ pub struct Walk {
 
 impl Walk {
     /// Spends a port of an element's memory.
-    fn spend(&mut self, element: Element, log: &mut Vec<Mark>) -> Result<(), Stop> {
+    fn spend(&mut self, element: Element, log: &mut Vec<Mark>) -> Result<(), Stop>
+        requires memory { element.memory < length self.old.left.items }
+        requires recents { length self.old.recents.items ≡ length self.old.left.items }
+        requires marks { AreMarks (length self.old.left.items) log.old.items }
+        ensures kept { IfOk result (λ _. IsKept self.old self.new log.old.items log.new.items) }
+        ensures spends { Spends element (standing self.old) (standing self.new) result }
+    {
         let left = self.left[element.memory as usize];
         if left == 0 {
             return Err(Stop::Spent(element.place));
@@ -57,7 +78,13 @@ impl Walk {
     }
 
     /// Spends a port for a read in this phase, unless it shares an earlier one.
-    fn read(&mut self, phase: u32, element: Element, log: &mut Vec<Mark>) -> Result<(), Stop> {
+    fn read(&mut self, phase: u32, element: Element, log: &mut Vec<Mark>) -> Result<(), Stop>
+        requires memory { element.memory < length self.old.left.items }
+        requires recents { length self.old.recents.items ≡ length self.old.left.items }
+        requires marks { AreMarks (length self.old.left.items) log.old.items }
+        ensures kept { IfOk result (λ _. IsKept self.old self.new log.old.items log.new.items) }
+        ensures reads { ReadsOne phase element (standing self.old) (standing self.new) result }
+    {
         if self.recents[element.memory as usize].has(phase, element.index) {
             return Ok(());
         }
@@ -73,7 +100,16 @@ impl Walk {
         target: &Expr,
         value: &Expr,
         log: &mut Vec<Mark>,
-    ) -> Result<(), Stop> {
+    ) -> Result<(), Stop>
+        requires target { IsElement (length self.old.left.items) (term_seen target.now) }
+        requires value { IsRightSide (length self.old.left.items) (term_seen value.now) }
+        requires recents { length self.old.recents.items ≡ length self.old.left.items }
+        requires marks { AreMarks (length self.old.left.items) log.old.items }
+        ensures kept { IfOk result (λ _. IsKept self.old self.new log.old.items log.new.items) }
+        ensures going { IfOk result (λ _. self.new.going ≡ Some (phase_at self.old.going id)) }
+        ensures walked { (earlier after : List Tagged) → Remembers earlier self.old.recents.items self.old.going id
+            → Walked earlier (map (tag (phase_at self.old.going id)) (store_accesses id (term_seen target.now) (term_seen value.now))) after (id + 1) (standing self.old) (standing self.new) (row (length earlier) (store_accesses id (term_seen target.now) (term_seen value.now))) result }
+    {
         let phase = self.going.unwrap_or(id);
         self.going = Some(phase);
         if let Some(read) = read_of(value) {
@@ -87,52 +123,91 @@ impl Walk {
 
     /// Walks a command.
     #[cycle(walk)]
+    #[tactic(auto, using(dh_tree::proofs::SeenActions::actions_are))]
     pub fn command(
         &mut self,
         alloc: Global,
         command: &Command,
         log: &mut Vec<Mark>,
-    ) -> Result<(), Stop> {
+    ) -> Result<(), Stop>
+        requires built { IsBuilt (length self.old.left.items) (action_seen command.now) }
+        requires recents { length self.old.recents.items ≡ length self.old.left.items }
+        requires marks { AreMarks (length self.old.left.items) log.old.items }
+        ensures kept { IfOk result (λ _. IsKept self.old self.new log.old.items log.new.items) }
+        ensures going { IfOk result (λ _. self.new.going ≡ going_after self.old.going (action_seen command.now)) }
+        ensures walked { (earlier after : List Tagged) (n : ℕ) → IsCounted n (action_seen command.now) → Remembers earlier self.old.recents.items self.old.going n
+            → Walked earlier (tags self.old.going (action_seen command.now)) after (number_after n (action_seen command.now)) (standing self.old) (standing self.new) (meets (length earlier) (action_seen command.now)) result }
+    {
         match &command.form {
             CommandForm::Store { target, value } => self.store(command.id, target, value, log),
             CommandForm::Block { body } => self.block(alloc, body.as_slice(), log),
-            _ => Ok(()),
+            CommandForm::Let { .. }
+            | CommandForm::LetMemory { .. }
+            | CommandForm::View { .. }
+            | CommandForm::Assign { .. }
+            | CommandForm::Reduce { .. }
+            | CommandForm::Call { .. }
+            | CommandForm::If { .. }
+            | CommandForm::While { .. }
+            | CommandForm::For { .. } => Ok(()),
         }
     }
 
     /// Walks a block. Of its parts between `---` each starts from the ports that were left before
     /// the block, and after it the least that any of them left is left.
     #[cycle(walk)]
+    #[tactic(auto, using(dh_tree::proofs::SeenActions::actions_are))]
     fn block(
         &mut self,
         alloc: Global,
         body: &[Vec<Command>],
         log: &mut Vec<Mark>,
-    ) -> Result<(), Stop> {
+    ) -> Result<(), Stop>
+        requires built { AreBuiltGroups (length self.old.left.items) (groups (map part_seen body.now)) }
+        requires recents { length self.old.recents.items ≡ length self.old.left.items }
+        requires marks { AreMarks (length self.old.left.items) log.old.items }
+        ensures kept { IfOk result (λ _. IsKept self.old self.new log.old.items log.new.items) }
+        ensures going { IfOk result (λ _. self.new.going ≡ form_going self.old.going 0 (blocks (groups (map part_seen body.now)))) }
+        ensures walked { (earlier after : List Tagged) (n : ℕ) → AreCountedGroups n (groups (map part_seen body.now)) → Remembers earlier self.old.recents.items self.old.going n
+            → Walked earlier (groups_tags (is_stepped (groups (map part_seen body.now))) self.old.going (groups (map part_seen body.now))) after (groups_after n (groups (map part_seen body.now))) (standing self.old) (standing self.new) (groups_meets (length earlier) (groups (map part_seen body.now))) result }
+    {
         let stepped = block_steps(body) == 2;
         let mut lows = Vec::new(alloc);
         for part in body {
-            if stepped {
-                self.going = None;
-            }
+            self.release(stepped);
             let mut part_log = Vec::new(alloc);
-            self.part(alloc, part.as_slice(), &mut part_log)?;
-            note_lows(self.left.as_slice(), part_log.as_slice(), &mut lows)?;
-            undo(self.left.as_mut_slice(), part_log.as_slice());
+            for command in part.as_slice() {
+                self.command(alloc, command, &mut part_log)?;
+            }
+            self.give_back(part_log.as_slice(), &mut lows)?;
         }
-        if stepped {
-            self.going = None;
-        }
+        self.release(stepped);
         lower(self.left.as_mut_slice(), lows.as_slice(), log)?;
         Ok(())
     }
 
-    /// Walks the commands of an unordered list.
-    #[cycle(walk)]
-    fn part(&mut self, alloc: Global, part: &[Command], log: &mut Vec<Mark>) -> Result<(), Stop> {
-        for command in part {
-            self.command(alloc, command, log)?;
+    /// Ends the phase that goes on where a `---` stands beside it.
+    fn release(&mut self, stepped: bool)
+        ensures left { self.new.left ≡ self.old.left }
+        ensures recents { self.new.recents ≡ self.old.recents }
+        ensures going { self.new.going ≡ released stepped self.old.going }
+    {
+        if stepped {
+            self.going = None;
         }
+    }
+
+    /// Gives back what a part spent, and notes what it left.
+    fn give_back(&mut self, log: &[Mark], lows: &mut Vec<Mark>) -> Result<(), AllocFailed<Mark>>
+        requires marks { AreMarks (length self.old.left.items) log.now }
+        ensures long { IfOk result (λ _. length self.new.left.items ≡ length self.old.left.items) }
+        ensures begun { IfOk result (λ _. (m : ℕ) → slice_index self.new.left.items m ≡ at_begin log.now m (slice_index self.old.left.items m)) }
+        ensures lows { IfOk result (λ _. lows.new.items ≡ lows.old.items ++ marks_now self.old.left.items log.now) }
+        ensures recents { IfOk result (λ _. self.new.recents ≡ self.old.recents) }
+        ensures going { IfOk result (λ _. self.new.going ≡ self.old.going) }
+    {
+        note_lows(self.left.as_slice(), log, lows)?;
+        undo(self.left.as_mut_slice(), log);
         Ok(())
     }
 }
