@@ -3,3 +3,6 @@ pub mod FullPhases
 pub mod Turns
 pub mod LogFacts
 pub mod RecallFacts
+pub mod WalkTrees
+pub mod SharedReads
+pub mod AccessWalks

@@ -43,16 +43,21 @@ read_paid e phase old mid new x y r within x_is fresh spent same y_is noted is =
   where
     inside : e.memory < length mid.recents
     inside = subst (λ (l : List Recent). e.memory < length l) (sym same) within
+
     recents_are : new.recents ≡ set mid.recents e.memory r
     recents_are = ap (λ s. s.recents) is
+
     old_is : slice_get old.recents e.memory ≡ Some y
     old_is = ap (λ l. slice_get l e.memory) (sym same) ∙ item_at mid.recents e.memory y inside y_is
+
     now_spent : IsSpent e old new
     now_spent = record { some = spent.some; left_is = ap (λ s. s.left) is ∙ spent.left_is; going_is = ap (λ s. s.going) is ∙ spent.going_is }
+
     now_recalled : IsRecalled phase e old new
     now_recalled = record {
-        long = ap (λ l. length l) recents_are ∙ (length-set mid.recents e.memory r ∙ ap (λ l. length l) same);
-        here = λ q i. ap (λ l. known (slice_get l e.memory) q i) recents_are
-            ∙ (ap (λ o. known o q i) (get_set_same mid.recents e.memory r inside)
-            ∙ (noted q i ∙ ap (λ o. if phase == q then known o q i || same_literal e.index i else false) (sym old_is)));
-        other = λ m q i differ. ap (λ l. known (slice_get l m) q i) recents_are ∙ (ap (λ o. known o q i) (get_set_other mid.recents e.memory m r differ) ∙ ap (λ l. known (slice_get l m) q i) same) }
+      long = ap (λ l. length l) recents_are ∙ (length-set mid.recents e.memory r ∙ ap (λ l. length l) same);
+      here = λ q i. ap (λ l. known (slice_get l e.memory) q i) recents_are
+          ∙ (ap (λ o. known o q i) (get_set_same mid.recents e.memory r inside)
+          ∙ (noted q i ∙ ap (λ o. if phase == q then known o q i || same_literal e.index i else false) (sym old_is)));
+      other = λ m q i differ. ap (λ l. known (slice_get l m) q i) recents_are ∙ (ap (λ o. known o q i) (get_set_other mid.recents e.memory m r differ) ∙ ap (λ l. known (slice_get l m) q i) same);
+    }

@@ -6,3 +6,4 @@ pub mod Logs
 pub mod Recalled
 pub mod Walked
 pub mod WalkSteps
+pub mod Weights

@@ -2,10 +2,10 @@
 
 ghost use Rattle.std.specs.Prelude.{◌≡◌, ℕ, ◌+◌, ◌<◌, ◌++◌, List, Some, IfOk, map, length, slice_index};
 ghost use Rattle.dh_tree.specs.PlainTrees.{blocks};
-ghost use Rattle.dh_tree.specs.Seen.{term_seen, action_seen, part_seen, groups};
-ghost use Rattle.dh_tree.specs.Accesses.{store_accesses, row, meets, groups_meets};
-ghost use Rattle.dh_ports.specs.FirstForms.{IsElement, IsRightSide, IsBuilt, AreBuiltGroups, IsCounted, AreCountedGroups, number_after, groups_after};
-ghost use Rattle.dh_ports.specs.Tags.{Tagged, tag, tags, groups_tags, phase_at, released, is_stepped, going_after, form_going};
+ghost use Rattle.dh_tree.specs.Seen.{term_seen, action_seen, part_seen, groups, actions};
+ghost use Rattle.dh_tree.specs.Accesses.{store_accesses, row, meets, part_meets, groups_meets};
+ghost use Rattle.dh_ports.specs.FirstForms.{IsElement, IsRightSide, IsBuilt, AreBuilt, AreBuiltGroups, IsCounted, AreCounted, AreCountedGroups, number_after, part_after, groups_after};
+ghost use Rattle.dh_ports.specs.Tags.{Tagged, tag, tags, part_tags, groups_tags, phase_at, released, is_stepped, going_after, part_going, form_going};
 ghost use Rattle.dh_ports.specs.Logs.{AreMarks, at_begin, marks_now};
 ghost use Rattle.dh_ports.specs.Walked.{Remembers, Walked};
 ghost use Rattle.dh_ports.specs.WalkSteps.{standing, IsKept, Spends, ReadsOne};
@@ -176,13 +176,29 @@ impl Walk {
         for part in body {
             self.release(stepped);
             let mut part_log = Vec::new(alloc);
-            for command in part.as_slice() {
-                self.command(alloc, command, &mut part_log)?;
-            }
+            self.part(alloc, part.as_slice(), &mut part_log)?;
             self.give_back(part_log.as_slice(), &mut lows)?;
         }
         self.release(stepped);
         lower(self.left.as_mut_slice(), lows.as_slice(), log)?;
+        Ok(())
+    }
+
+    /// Walks the commands of an unordered list.
+    #[cycle(walk)]
+    #[tactic(auto, using(dh_tree::proofs::SeenActions::actions_are))]
+    fn part(&mut self, alloc: Global, part: &[Command], log: &mut Vec<Mark>) -> Result<(), Stop>
+        requires built { AreBuilt (length self.old.left.items) (actions (map action_seen part.now)) }
+        requires recents { length self.old.recents.items ≡ length self.old.left.items }
+        requires marks { AreMarks (length self.old.left.items) log.old.items }
+        ensures kept { IfOk result (λ _. IsKept self.old self.new log.old.items log.new.items) }
+        ensures going { IfOk result (λ _. self.new.going ≡ part_going self.old.going (actions (map action_seen part.now))) }
+        ensures walked { (earlier after : List Tagged) (n : ℕ) → AreCounted n (actions (map action_seen part.now)) → Remembers earlier self.old.recents.items self.old.going n
+            → Walked earlier (part_tags self.old.going (actions (map action_seen part.now))) after (part_after n (actions (map action_seen part.now))) (standing self.old) (standing self.new) (part_meets (length earlier) (actions (map action_seen part.now))) result }
+    {
+        for command in part {
+            self.command(alloc, command, log)?;
+        }
         Ok(())
     }
 
