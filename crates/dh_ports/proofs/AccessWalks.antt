@@ -44,8 +44,10 @@ module _ (h after : List Tagged) (p n : ℕ) (a : Access) (e : Element) (at : Is
     where
       back : (x : ℕ) → 0 < x → x - 1 + 1 ≡ x
       back x some = omega (arith, some)
+
       none : (x : ℕ) → x + 0 ≡ x
       none x = omega arith
+
       by_test : (m : ℕ) → ((e.memory == m) ≡ true) ⊎ ((e.memory == m) ≡ false) → (if e.memory == m then slice_index old.left e.memory - 1 else slice_index old.left m) + (if (e.memory == m) && true then 1 else 0) ≡ slice_index old.left m
       by_test m (inl u) = ap (λ t. (if t then slice_index old.left e.memory - 1 else slice_index old.left m) + (if t && true then 1 else 0)) u ∙ (back _ s.some ∙ ap (λ k. slice_index old.left k) (eqb-true e.memory m u))
       by_test m (inr u) = ap (λ t. (if t then slice_index old.left e.memory - 1 else slice_index old.left m) + (if t && true then 1 else 0)) u ∙ none _
@@ -61,23 +63,26 @@ module _ (h after : List Tagged) (p n : ℕ) (a : Access) (e : Element) (at : Is
   pub write_walked : (old new : Standing) (result : Result (Unit {0}) Stop) → a.writes ≡ true → old.going ≡ Some p → Remembers h old.recents (Some p) n → Spends e old new result
       → Walked h (tag p a ∷ []) after n old new (access (length h)) result
   write_walked old new (Ok u) w going r (s, same) = record {
-      fits = spent_fits old new (write_shares_none h p a w) s;
-      remembers = subst (λ (l : List Recent). Remembers (h ++ tag p a ∷ []) l new.going n) (sym same) (subst (λ (o : Option ℕ). Remembers (h ++ tag p a ∷ []) old.recents o n) (sym (s.going_is ∙ going)) (remembers_write h old.recents p n r a w)) }
+    fits = spent_fits old new (write_shares_none h p a w) s;
+    remembers = subst (λ (l : List Recent). Remembers (h ++ tag p a ∷ []) l new.going n) (sym same) (subst (λ (o : Option ℕ). Remembers (h ++ tag p a ∷ []) old.recents o n) (sym (s.going_is ∙ going)) (remembers_write h old.recents p n r a w));
+  }
   write_walked old new (Err (stop.Spent place)) w going r s = stopped old place (write_shares_none h p a w) s
   write_walked old new (Err stop.NoMemory) w going r s = tt
 
   pub read_walked : (old new : Standing) (result : Result (Unit {0}) Stop) → a.writes ≡ false → e.memory < length old.recents → old.going ≡ Some p → Remembers h old.recents (Some p) n → ReadsOne p e old new result
       → Walked h (tag p a ∷ []) after n old new (access (length h)) result
   read_walked old new (Ok u) w inside going r (inl (shared, same)) = record {
-      fits = fits_access (h ++ (tag p a ∷ after)) (length h) (slice_index old.left) (slice_index new.left) (λ m.
-          ap (λ c. slice_index new.left m + c) (charge_is m true (r.current p a e refl at w inside ∙ shared)) ∙ (ap (λ (s : Standing). slice_index s.left m + (if (e.memory == m) && false then 1 else 0)) same ∙ no_charge (e.memory == m) _));
-      remembers = subst (λ (s : Standing). Remembers (h ++ tag p a ∷ []) s.recents s.going n) (sym same) (subst (λ (o : Option ℕ). Remembers (h ++ tag p a ∷ []) old.recents o n) (sym going) (remembers_shared h old.recents p n r a e at w shared)) }
+    fits = fits_access (h ++ (tag p a ∷ after)) (length h) (slice_index old.left) (slice_index new.left) (λ m.
+        ap (λ c. slice_index new.left m + c) (charge_is m true (r.current p a e refl at w inside ∙ shared)) ∙ (ap (λ (s : Standing). slice_index s.left m + (if (e.memory == m) && false then 1 else 0)) same ∙ no_charge (e.memory == m) _));
+    remembers = subst (λ (s : Standing). Remembers (h ++ tag p a ∷ []) s.recents s.going n) (sym same) (subst (λ (o : Option ℕ). Remembers (h ++ tag p a ∷ []) old.recents o n) (sym going) (remembers_shared h old.recents p n r a e at w shared));
+  }
     where
       no_charge : (t : Bool) (x : ℕ) → x + (if t && false then 1 else 0) ≡ x
       no_charge true x = omega arith
       no_charge false x = omega arith
   read_walked old new (Ok u) w inside going r (inr (fresh, (s, rec))) = record {
-      fits = spent_fits old new (r.current p a e refl at w inside ∙ fresh) s;
-      remembers = subst (λ (o : Option ℕ). Remembers (h ++ tag p a ∷ []) new.recents o n) (sym (s.going_is ∙ going)) (remembers_read h old.recents p n r a e at w old new refl inside rec) }
+    fits = spent_fits old new (r.current p a e refl at w inside ∙ fresh) s;
+    remembers = subst (λ (o : Option ℕ). Remembers (h ++ tag p a ∷ []) new.recents o n) (sym (s.going_is ∙ going)) (remembers_read h old.recents p n r a e at w old new refl inside rec);
+  }
   read_walked old new (Err (stop.Spent place)) w inside going r (fresh, s) = stopped old place (r.current p a e refl at w inside ∙ fresh) s
   read_walked old new (Err stop.NoMemory) w inside going r s = tt

@@ -6,3 +6,5 @@ pub mod RecallFacts
 pub mod WalkTrees
 pub mod SharedReads
 pub mod AccessWalks
+pub mod WalkJoins
+pub mod StoreWalks

@@ -108,30 +108,35 @@ or_none x y e = ap (λ v. x || v) e ∙ or-false x
 -- a phase begins or goes on
 pub opened : (h : List Tagged) (recents : List Recent) (going : Option ℕ) (n : ℕ) → Remembers h recents going n → Remembers h recents (Some (phase_at going n)) (n + 1)
 opened h recents None n r = record {
-    current = λ p a e is at read within. let same : n ≡ p = cc in
-        r.new_reads p a (omega (arith, same)) ∙ sym (r.new_known e.memory p e.index (omega (arith, same)));
-    new_reads = λ p a later. r.new_reads p a (omega (arith, later));
-    new_known = λ m p i later. r.new_known m p i (omega (arith, later));
-    old = λ p is. let same : n ≡ p = cc in omega (arith, same) }
+  current = λ p a e is at read within. let same : n ≡ p = cc in
+      r.new_reads p a (omega (arith, same)) ∙ sym (r.new_known e.memory p e.index (omega (arith, same)));
+  new_reads = λ p a later. r.new_reads p a (omega (arith, later));
+  new_known = λ m p i later. r.new_known m p i (omega (arith, later));
+  old = λ p is. let same : n ≡ p = cc in omega (arith, same);
+}
 opened h recents (Some q) n r = record {
-    current = λ p a e is at read within. r.current p a e is at read within;
-    new_reads = λ p a later. r.new_reads p a (omega (arith, later));
-    new_known = λ m p i later. r.new_known m p i (omega (arith, later));
-    old = λ p is. let before = r.old p is in omega (arith, before) }
+  current = λ p a e is at read within. r.current p a e is at read within;
+  new_reads = λ p a later. r.new_reads p a (omega (arith, later));
+  new_known = λ m p i later. r.new_known m p i (omega (arith, later));
+  old = λ p is. let before = r.old p is in omega (arith, before);
+}
 
 pub remembers_released : (stepped : Bool) (h : List Tagged) (recents : List Recent) (going : Option ℕ) (n : ℕ) → Remembers h recents going n → Remembers h recents (if stepped then None else going) n
 remembers_released true h recents going n r = record {
-    current = λ p a e is at read within. cc;
-    new_reads = r.new_reads; new_known = r.new_known;
-    old = λ p is. cc }
+  current = λ p a e is at read within. cc;
+  new_reads = r.new_reads;
+  new_known = r.new_known;
+  old = λ p is. cc;
+}
 remembers_released false h recents going n r = r
 
 pub remembers_later : (h : List Tagged) (recents : List Recent) (going : Option ℕ) (n m : ℕ) → n ≤ m → Remembers h recents going n → Remembers h recents going m
 remembers_later h recents going n m le r = record {
-    current = r.current;
-    new_reads = λ p a later. r.new_reads p a (omega (arith, later, le));
-    new_known = λ k p i later. r.new_known k p i (omega (arith, later, le));
-    old = λ p is. let before = r.old p is in omega (arith, before, le) }
+  current = r.current;
+  new_reads = λ p a later. r.new_reads p a (omega (arith, later, le));
+  new_known = λ k p i later. r.new_known k p i (omega (arith, later, le));
+  old = λ p is. let before = r.old p is in omega (arith, before, le);
+}
 
 module _ (h : List Tagged) (recents : List Recent) (p n : ℕ) (r : Remembers h recents (Some p) n) (a : Access) where
   later_phase : (q : ℕ) → n ≤ q → (p == q) ≡ false
@@ -146,15 +151,21 @@ module _ (h : List Tagged) (recents : List Recent) (p n : ℕ) (r : Remembers h 
   -- a write
   pub remembers_write : a.writes ≡ true → Remembers (h ++ tag p a ∷ []) recents (Some p) n
   remembers_write w = record {
-      current = λ q b e is at read within. shares_more h (tag p a) (tag q b) ∙ (or_none _ _ (false_and _ _ (write_first a b w)) ∙ r.current q b e is at read within);
-      new_reads = new_more; new_known = r.new_known; old = r.old }
+    current = λ q b e is at read within. shares_more h (tag p a) (tag q b) ∙ (or_none _ _ (false_and _ _ (write_first a b w)) ∙ r.current q b e is at read within);
+    new_reads = new_more;
+    new_known = r.new_known;
+    old = r.old;
+  }
 
   module _ (e : Element) (at : IsAt a e) (read : a.writes ≡ false) where
     -- a read that shares
     pub remembers_shared : known (slice_get recents e.memory) p e.index ≡ true → Remembers (h ++ tag p a ∷ []) recents (Some p) n
     remembers_shared shared = record {
-        current = λ q b f is bt reads within. shares_more h (tag p a) (tag q b) ∙ (ap (λ v. v || (equal_reads a b && (p == q))) (r.current q b f is bt reads within) ∙ covered q b f is bt reads);
-        new_reads = new_more; new_known = r.new_known; old = r.old }
+      current = λ q b f is bt reads within. shares_more h (tag p a) (tag q b) ∙ (ap (λ v. v || (equal_reads a b && (p == q))) (r.current q b f is bt reads within) ∙ covered q b f is bt reads);
+      new_reads = new_more;
+      new_known = r.new_known;
+      old = r.old;
+    }
       where
         implied : (x y z : Bool) → (y ≡ true → x ≡ true) → (x || (y && z)) ≡ x
         implied true y z so = refl
@@ -163,21 +174,25 @@ module _ (h : List Tagged) (recents : List Recent) (p n : ℕ) (r : Remembers h 
             wrong : false ≡ true → ⊥
             wrong e = cc
         implied false false z so = refl
+
         parts : (x y : Bool) → (x && y) ≡ true → (x ≡ true) × (y ≡ true)
         parts true true e = (refl, refl)
         parts true false e = cc
         parts false y e = cc
+
         same_signs : (s t : Bool) → same_sign s t ≡ true → s ≡ t
         same_signs true true e = refl
         same_signs true false e = cc
         same_signs false true e = cc
         same_signs false false e = refl
+
         literals : (i j : Literal) → same_literal i j ≡ true → i ≡ j
         literals i j e = let x = parts _ _ e in let u = same_signs i.negative j.negative x.0 in let v = eqb-true i.value j.value x.1 in
             ap (λ s. make s i.value) u ∙ ap (λ n. make j.negative n) v
           where
             make : Bool → ℕ → Literal
             make s n = record { negative = s; value = n }
+
         covered : (q : ℕ) (b : Access) (f : Element) → Some p ≡ Some q → IsAt b f → b.writes ≡ false → (known (slice_get recents f.memory) q f.index || (equal_reads a b && (p == q))) ≡ known (slice_get recents f.memory) q f.index
         covered q b f is bt reads = implied _ _ _ (λ equal.
             let x = parts _ _ (sym (reads_same a b e f at bt read reads) ∙ equal) in
@@ -209,6 +224,7 @@ module _ (h : List Tagged) (recents : List Recent) (p n : ℕ) (r : Remembers h 
           one_more k true true u = refl
           one_more k false true u = refl
           one_more k s false u = cc
+
           by_test : ((e.memory == f.memory) ≡ true) ⊎ ((e.memory == f.memory) ≡ false) → (known (slice_get recents f.memory) q f.index || (((e.memory == f.memory) && same_literal e.index f.index) && (p == q))) ≡ known (slice_get new.recents f.memory) q f.index
           by_test (inl u) = ap (λ v. known (slice_get recents f.memory) q f.index || ((v && same_literal e.index f.index) && (p == q))) u ∙ (one_more _ _ _ (eq-eqb p q same) ∙ sym (known_here f.memory q f.index u))
           by_test (inr u) = ap (λ v. known (slice_get recents f.memory) q f.index || ((v && same_literal e.index f.index) && (p == q))) u ∙ (or-false _ ∙ sym (known_other f.memory q f.index u))
@@ -222,5 +238,8 @@ module _ (h : List Tagged) (recents : List Recent) (p n : ℕ) (r : Remembers h 
 
       pub remembers_read : Remembers (h ++ tag p a ∷ []) new.recents (Some p) n
       remembers_read = record {
-          current = λ q b f is bt reads within. let same : p ≡ q = cc in new_current q b f same bt reads within;
-          new_reads = new_more; new_known = still_new; old = r.old }
+        current = λ q b f is bt reads within. let same : p ≡ q = cc in new_current q b f same bt reads within;
+        new_reads = new_more;
+        new_known = still_new;
+        old = r.old;
+      }

@@ -25,62 +25,91 @@ beyond_load u l x s o e f g = omega (arith, e, f, g)
 module _ (w : List Tagged) (l r : Meets) (apart : Disjoint l r) where
   pub fits_all : (s0 s1 s2 : ℕ → ℕ) → Fits w s0 s1 l → Fits w s1 s2 r → Fits w s0 s2 (all l r)
   fits_all s0 s1 s2 f g = record {
-      each = λ m a i. elim i [
-          inl j ↦ as_before _ _ _ (upto_first (charges w m) a l r j) (f.each m a j)
-        | inr j ↦ after_load _ (load (charges w m) l) _ (s1 m) 0 _ (upto_second (charges w m) a l r (λ k. apart a k j)) (g.each m a j) (f.rest m) ];
-      rest = λ m. then_load _ (s1 m) _ (load (charges w m) l) _ (f.rest m) (g.rest m) }
+    each = λ m a i. elim i [
+      | inl j ↦ as_before _ _ _ (upto_first (charges w m) a l r j) (f.each m a j)
+      | inr j ↦ after_load _ (load (charges w m) l) _ (s1 m) 0 _ (upto_second (charges w m) a l r (λ k. apart a k j)) (g.each m a j) (f.rest m)
+    ];
+    rest = λ m. then_load _ (s1 m) _ (load (charges w m) l) _ (f.rest m) (g.rest m);
+  }
 
   pub beyond_first : (s0 : ℕ → ℕ) (place : Place) → Beyond w s0 l place → Beyond w s0 (all l r) place
   beyond_first s0 place b = record {
-      number = b.number; inside = inl b.inside; stands = b.stands; memory = b.memory;
-      beyond = subst (λ (n : ℕ). s0 b.memory < n) (sym (upto_first (charges w b.memory) b.number l r b.inside)) b.beyond;
-      earlier = λ m x e. elim e [
-          inl p ↦ elim (apart b.number b.inside p.1) [ ]
-        | inr q ↦ elim q [
-            inl p ↦ as_before _ _ _ (upto_first (charges w m) x l r (before_left l x b.number p)) (b.earlier m x p)
-          | inr p ↦ elim (apart b.number b.inside (before_right r x b.number p)) [ ] ] ] }
+    number = b.number;
+    inside = inl b.inside;
+    stands = b.stands;
+    memory = b.memory;
+    beyond = subst (λ (n : ℕ). s0 b.memory < n) (sym (upto_first (charges w b.memory) b.number l r b.inside)) b.beyond;
+    earlier = λ m x e. elim e [
+      | inl p ↦ elim (apart b.number b.inside p.1) [ ]
+      | inr q ↦ elim q [
+        | inl p ↦ as_before _ _ _ (upto_first (charges w m) x l r (before_left l x b.number p)) (b.earlier m x p)
+        | inr p ↦ elim (apart b.number b.inside (before_right r x b.number p)) [ ]
+      ]
+    ];
+  }
 
   pub beyond_second : (s0 s1 : ℕ → ℕ) (place : Place) → Fits w s0 s1 l → Beyond w s1 r place → Beyond w s0 (all l r) place
   beyond_second s0 s1 place f b = record {
-      number = b.number; inside = inr b.inside; stands = b.stands; memory = b.memory;
-      beyond = beyond_load _ (load (charges w b.memory) l) _ (s1 b.memory) _ (upto_second (charges w b.memory) b.number l r (λ k. apart b.number k b.inside)) b.beyond (f.rest b.memory);
-      earlier = λ m x e. elim e [
-          inl p ↦ as_before _ _ _ (upto_first (charges w m) x l r p.0) (f.each m x p.0)
-        | inr q ↦ elim q [
-            inl p ↦ elim (apart b.number (before_right l x b.number p) b.inside) [ ]
-          | inr p ↦ after_load _ (load (charges w m) l) _ (s1 m) 0 _ (upto_second (charges w m) x l r (λ k. apart x k (before_left r x b.number p))) (b.earlier m x p) (f.rest m) ] ] }
+    number = b.number;
+    inside = inr b.inside;
+    stands = b.stands;
+    memory = b.memory;
+    beyond = beyond_load _ (load (charges w b.memory) l) _ (s1 b.memory) _ (upto_second (charges w b.memory) b.number l r (λ k. apart b.number k b.inside)) b.beyond (f.rest b.memory);
+    earlier = λ m x e. elim e [
+      | inl p ↦ as_before _ _ _ (upto_first (charges w m) x l r p.0) (f.each m x p.0)
+      | inr q ↦ elim q [
+        | inl p ↦ elim (apart b.number (before_right l x b.number p) b.inside) [ ]
+        | inr p ↦ after_load _ (load (charges w m) l) _ (s1 m) 0 _ (upto_second (charges w m) x l r (λ k. apart x k (before_left r x b.number p))) (b.earlier m x p) (f.rest m)
+      ]
+    ];
+  }
 
   pub beyond_one_first : (base : ℕ → ℕ) (place : Place) → Beyond w base l place → Beyond w base (one l r) place
   beyond_one_first base place b = record {
-      number = b.number; inside = inl b.inside; stands = b.stands; memory = b.memory;
-      beyond = subst (λ (n : ℕ). base b.memory < n) (sym (upto_one_first (charges w b.memory) b.number l r b.inside)) b.beyond;
-      earlier = λ m x e. elim e [
-          inl p ↦ elim (apart b.number b.inside p.1) [ ]
-        | inr q ↦ elim q [
-            inl p ↦ as_before _ _ _ (upto_one_first (charges w m) x l r (before_left l x b.number p)) (b.earlier m x p)
-          | inr p ↦ elim (apart b.number b.inside (before_right r x b.number p)) [ ] ] ] }
+    number = b.number;
+    inside = inl b.inside;
+    stands = b.stands;
+    memory = b.memory;
+    beyond = subst (λ (n : ℕ). base b.memory < n) (sym (upto_one_first (charges w b.memory) b.number l r b.inside)) b.beyond;
+    earlier = λ m x e. elim e [
+      | inl p ↦ elim (apart b.number b.inside p.1) [ ]
+      | inr q ↦ elim q [
+        | inl p ↦ as_before _ _ _ (upto_one_first (charges w m) x l r (before_left l x b.number p)) (b.earlier m x p)
+        | inr p ↦ elim (apart b.number b.inside (before_right r x b.number p)) [ ]
+      ]
+    ];
+  }
 
   pub beyond_one_second : (base e : ℕ → ℕ) (place : Place) → Fits w base e l → Beyond w base r place → Beyond w base (one l r) place
   beyond_one_second base e place f b = record {
-      number = b.number; inside = inr b.inside; stands = b.stands; memory = b.memory;
-      beyond = subst (λ (n : ℕ). base b.memory < n) (sym (upto_one_second (charges w b.memory) b.number l r (λ k. apart b.number k b.inside))) b.beyond;
-      earlier = λ m x e. elim e [
-          inl p ↦ as_before _ _ _ (upto_one_first (charges w m) x l r p.0) (f.each m x p.0)
-        | inr q ↦ elim q [
-            inl p ↦ elim (apart b.number (before_right l x b.number p) b.inside) [ ]
-          | inr p ↦ as_before _ _ _ (upto_one_second (charges w m) x l r (λ k. apart x k (before_left r x b.number p))) (b.earlier m x p) ] ] }
+    number = b.number;
+    inside = inr b.inside;
+    stands = b.stands;
+    memory = b.memory;
+    beyond = subst (λ (n : ℕ). base b.memory < n) (sym (upto_one_second (charges w b.memory) b.number l r (λ k. apart b.number k b.inside))) b.beyond;
+    earlier = λ m x e. elim e [
+      | inl p ↦ as_before _ _ _ (upto_one_first (charges w m) x l r p.0) (f.each m x p.0)
+      | inr q ↦ elim q [
+        | inl p ↦ elim (apart b.number (before_right l x b.number p) b.inside) [ ]
+        | inr p ↦ as_before _ _ _ (upto_one_second (charges w m) x l r (λ k. apart x k (before_left r x b.number p))) (b.earlier m x p)
+      ]
+    ];
+  }
 
   pub lowers_one : (base e low low1 new : ℕ → ℕ) → Fits w base e l → ((m : ℕ) → low1 m ≡ min (low m) (e m)) → Lowers w base low1 new r → Lowers w base low new (one l r)
   lowers_one base e low low1 new f is g = record {
-      each = λ m a i. elim i [
-          inl j ↦ as_before _ _ _ (upto_one_first (charges w m) a l r j) (f.each m a j)
-        | inr j ↦ as_before _ _ _ (upto_one_second (charges w m) a l r (λ k. apart a k j)) (g.each m a j) ];
-      end = λ m. min (e m) (g.end m);
-      rest = λ m. greatest (e m) (g.end m) (load (charges w m) l) (load (charges w m) r) (base m) (f.rest m) (g.rest m);
-      least_is = λ m. both (low m) (e m) (g.end m) (low1 m) (new m) (is m) (g.least_is m) }
+    each = λ m a i. elim i [
+      | inl j ↦ as_before _ _ _ (upto_one_first (charges w m) a l r j) (f.each m a j)
+      | inr j ↦ as_before _ _ _ (upto_one_second (charges w m) a l r (λ k. apart a k j)) (g.each m a j)
+    ];
+    end = λ m. min (e m) (g.end m);
+    rest = λ m. greatest (e m) (g.end m) (load (charges w m) l) (load (charges w m) r) (base m) (f.rest m) (g.rest m);
+    least_is = λ m. both (low m) (e m) (g.end m) (low1 m) (new m) (is m) (g.least_is m);
+  }
     where
       greatest : (x y a b n : ℕ) → x + a ≡ n → y + b ≡ n → min x y + max a b ≡ n
       greatest x y a b n p q = grind (arith, p, q)
+
       both : (a b c d n : ℕ) → d ≡ min a b → n ≡ min d c → n ≡ min a (min b c)
       both a b c d n p q = grind (arith, p, q)
 
@@ -92,10 +121,15 @@ fits_nothing w s = record { each = λ m a i. elim i [ ]; rest = λ m. zero_right
 
 pub lowers_nothing : (w : List Tagged) (base low : ℕ → ℕ) → ((m : ℕ) → low m ≤ base m) → Lowers w base low low nothing
 lowers_nothing w base low below = record {
-    each = λ m a i. elim i [ ]; end = base; rest = λ m. zero_right (base m); least_is = λ m. lower (low m) (base m) (below m) }
+  each = λ m a i. elim i [ ];
+  end = base;
+  rest = λ m. zero_right (base m);
+  least_is = λ m. lower (low m) (base m) (below m);
+}
   where
     zero_right : (n : ℕ) → n + 0 ≡ n
     zero_right n = omega arith
+
     lower : (a b : ℕ) → a ≤ b → a ≡ min a b
     lower a b e = grind (arith, e)
 
@@ -108,8 +142,9 @@ lowers_fits w base new t g = record { each = g.each; rest = λ m. left_is (new m
 
 pub fits_same : (w : List Tagged) (s0 s1 new : ℕ → ℕ) (t : Meets) → ((m : ℕ) → s1 m ≡ s0 m) → Fits w s1 new t → Fits w s0 new t
 fits_same w s0 s1 new t same f = record {
-    each = λ m a i. subst (λ (n : ℕ). upto (charges w m) a t ≤ n) (same m) (f.each m a i);
-    rest = λ m. f.rest m ∙ same m }
+  each = λ m a i. subst (λ (n : ℕ). upto (charges w m) a t ≤ n) (same m) (f.each m a i);
+  rest = λ m. f.rest m ∙ same m;
+}
 
 pub fits_access : (w : List Tagged) (k : ℕ) (old new : ℕ → ℕ) → ((m : ℕ) → new m + charges w m k ≡ old m) → Fits w old new (access k)
 fits_access w k old new is = record { each = λ m a i. below (new m) _ (old m) (is m); rest = is }

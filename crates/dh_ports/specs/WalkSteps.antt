@@ -1,5 +1,5 @@
 -- What the steps of a walk make of where it stands.
-use Rattle.std.specs.Prelude.{◌≡◌, ℕ, ◌-◌, ◌<◌, ◌==◌, ◌||◌, ◌⊎◌, Bool, true, false, length, slice_get, slice_index, slice_set, Option, Some, Result, Ok, Err, if◌then◌else◌, List}
+use Rattle.std.specs.Prelude.{◌≡◌, ℕ, ◌-◌, ◌<◌, ◌==◌, ◌||◌, ◌⊎◌, Bool, true, false, length, slice_get, slice_index, slice_set, Option, Some, None, Result, Ok, Err, if◌then◌else◌, List}
 use Rattle.dh_base.specs.declared.places.Place.{Place}
 use Rattle.dh_ports.specs.declared.elements.Element.{Element}
 use Rattle.dh_ports.specs.declared.elements.Literal.{Literal}
@@ -50,3 +50,12 @@ ReadsOne phase e old new (Ok _) =
     ⊎ ((known (slice_get old.recents e.memory) phase e.index ≡ false) × (IsSpent e old new × IsRecalled phase e old new))
 ReadsOne phase e old new (Err (stop.Spent place)) = (known (slice_get old.recents e.memory) phase e.index ≡ false) × IsStopped e old place
 ReadsOne phase e old new (Err stop.NoMemory) = Unit {0}
+
+-- where there is an element
+abbrev pub SpendsAny : Option Element → Standing → Standing → Result (Unit {0}) Stop → Type 0
+SpendsAny None old new result = result ≡ Ok tt
+SpendsAny (Some e) old new result = Spends e old new result
+
+abbrev pub ReadsAny : ℕ → Option Element → Standing → Standing → Result (Unit {0}) Stop → Type 0
+ReadsAny phase None old new result = (result ≡ Ok tt) × (new ≡ old)
+ReadsAny phase (Some e) old new result = ReadsOne phase e old new result

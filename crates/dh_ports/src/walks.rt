@@ -6,9 +6,10 @@ ghost use Rattle.dh_tree.specs.Seen.{term_seen, action_seen, part_seen, groups, 
 ghost use Rattle.dh_tree.specs.Accesses.{store_accesses, row, meets, part_meets, groups_meets};
 ghost use Rattle.dh_ports.specs.FirstForms.{IsElement, IsRightSide, IsBuilt, AreBuilt, AreBuiltGroups, IsCounted, AreCounted, AreCountedGroups, number_after, part_after, groups_after};
 ghost use Rattle.dh_ports.specs.Tags.{Tagged, tag, tags, part_tags, groups_tags, phase_at, released, is_stepped, going_after, part_going, form_going};
+ghost use Rattle.dh_ports.specs.SingleElements.{element_at, read_at};
 ghost use Rattle.dh_ports.specs.Logs.{AreMarks, at_begin, marks_now};
 ghost use Rattle.dh_ports.specs.Walked.{Remembers, Walked};
-ghost use Rattle.dh_ports.specs.WalkSteps.{standing, IsKept, Spends, ReadsOne};
+ghost use Rattle.dh_ports.specs.WalkSteps.{standing, IsKept, Spends, SpendsAny, ReadsOne, ReadsAny};
 ghost use Rattle.dh_ports.specs.declared.walks.Stop.TheVariants as stop;
 
 use crate::elements::{Element, accessed_element, read_of};
@@ -93,6 +94,34 @@ impl Walk {
         Ok(())
     }
 
+    /// Reads what a right side reads.
+    fn read_side(&mut self, phase: u32, value: &Expr, log: &mut Vec<Mark>) -> Result<(), Stop>
+        requires value { IsRightSide (length self.old.left.items) (term_seen value.now) }
+        requires recents { length self.old.recents.items ≡ length self.old.left.items }
+        requires marks { AreMarks (length self.old.left.items) log.old.items }
+        ensures kept { IfOk result (λ _. IsKept self.old self.new log.old.items log.new.items) }
+        ensures reads { ReadsAny phase (read_at (term_seen value.now)) (standing self.old) (standing self.new) result }
+    {
+        match read_of(value) {
+            Some(read) => self.read(phase, read, log),
+            None => Ok(()),
+        }
+    }
+
+    /// Writes the element of a store.
+    fn write(&mut self, target: &Expr, log: &mut Vec<Mark>) -> Result<(), Stop>
+        requires target { IsElement (length self.old.left.items) (term_seen target.now) }
+        requires recents { length self.old.recents.items ≡ length self.old.left.items }
+        requires marks { AreMarks (length self.old.left.items) log.old.items }
+        ensures kept { IfOk result (λ _. IsKept self.old self.new log.old.items log.new.items) }
+        ensures spends { SpendsAny (element_at (term_seen target.now)) (standing self.old) (standing self.new) result }
+    {
+        match accessed_element(target) {
+            Some(write) => self.spend(write, log),
+            None => Ok(()),
+        }
+    }
+
     /// Walks a store of this number.
     fn store(
         &mut self,
@@ -112,13 +141,8 @@ impl Walk {
     {
         let phase = self.going.unwrap_or(id);
         self.going = Some(phase);
-        if let Some(read) = read_of(value) {
-            self.read(phase, read, log)?;
-        }
-        if let Some(write) = accessed_element(target) {
-            self.spend(write, log)?;
-        }
-        Ok(())
+        self.read_side(phase, value, log)?;
+        self.write(target, log)
     }
 
     /// Walks a command.
