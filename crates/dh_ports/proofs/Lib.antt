@@ -8,3 +8,5 @@ pub mod SharedReads
 pub mod AccessWalks
 pub mod WalkJoins
 pub mod StoreWalks
+pub mod Numbering
+pub mod PartWalks

@@ -2,6 +2,9 @@ use Rattle.std.proofs.Common.{◌≡◌, ◌≤◌, ℕ, length, slice_index, dr
 use Rattle.dh_tree.specs.Seen.{part_seen, groups, action_seen, actions}
 use Rattle.dh_ports.specs.Logs.{AreMarks, at_begin}
 use Rattle.dh_ports.specs.FirstForms.{AreBuilt, AreBuiltGroups}
+use Rattle.dh_ports.specs.Tags.{groups_going, part_going}
+use Rattle.dh_ports.specs.WalkSteps.{standing}
+use Rattle.dh_ports.proofs.PartWalks.{GroupsLoop, PartLoop}
 use Rattle.dh_ports.specs.Weights.{weight, groups_weight, part_weight}
 use Rattle.dh_ports.proofs.walks.Walk.+walk.Given as goal
 
