@@ -10,3 +10,4 @@ pub mod WalkJoins
 pub mod StoreWalks
 pub mod Numbering
 pub mod PartWalks
+pub mod LoopStates

@@ -26,6 +26,7 @@ join n c d k l r total (u, x) (v, y) = (((u, v), spans_apart n (n + c) ((n + c) 
   where
     wider : (a : ℕ) → (n ≤ a) × (a < n + c) → (n ≤ a) × (a < n + k)
     wider a (e, f) = (e, omega (arith, f, total))
+
     later : (a : ℕ) → (n + c ≤ a) × (a < (n + c) + d) → (n ≤ a) × (a < n + k)
     later a (e, f) = (omega (arith, e), omega (arith, f, total))
 
@@ -38,6 +39,7 @@ row_numbered n (x ∷ list) = join n 1 (length list) (length (x ∷ list)) (acce
   where
     one_more : (k : ℕ) → suc k ≡ 1 + k
     one_more k = omega arith
+
     here : (a : ℕ) → a ≡ n → (n ≤ a) × (a < n + 1)
     here a e = (omega (arith, e), omega (arith, e))
 

@@ -49,17 +49,21 @@ module _ (s0 s s1 : Standing) (whole : Actions) (a : Action) (rest : Actions) (l
       let now = loop h after n counted r in
       let p = walked now.done (part_tags (going_after s.going a) rest ++ after) now.next now.counted.0 now.remembers in
       record {
-        done = now.done ++ tags s.going a; next = number_after now.next a; counted = now.counted.1; remembers = p.remembers;
+        done = now.done ++ tags s.going a;
+        next = number_after now.next a;
+        counted = now.counted.1;
+        remembers = p.remembers;
         so = λ s2 result w. now.so s2 result (walked_then now.done (tags s.going a) (part_tags (going_after s.going a) rest) after (number_after now.next a) (part_after (number_after now.next a) rest) s s1 s2 (meets (length now.done) a) (part_meets (length now.done + length (accesses a)) rest) (part_apart (length now.done) a rest) result p
-          (subst (λ (k : ℕ). Walked (now.done ++ tags s.going a) (part_tags (going_after s.going a) rest) after (part_after (number_after now.next a) rest) s1 s2 (part_meets k rest) result) (length-append now.done (tags s.going a) ∙ ap (λ k. length now.done + k) (tags_long s.going a))
-            (subst (λ (o : Option ℕ). Walked (now.done ++ tags s.going a) (part_tags o rest) after (part_after (number_after now.next a) rest) s1 s2 (part_meets (length (now.done ++ tags s.going a)) rest) result) going w))) }
+            (subst (λ (k : ℕ). Walked (now.done ++ tags s.going a) (part_tags (going_after s.going a) rest) after (part_after (number_after now.next a) rest) s1 s2 (part_meets k rest) result) (length-append now.done (tags s.going a) ∙ ap (λ k. length now.done + k) (tags_long s.going a))
+            (subst (λ (o : Option ℕ). Walked (now.done ++ tags s.going a) (part_tags o rest) after (part_after (number_after now.next a) rest) s1 s2 (part_meets (length (now.done ++ tags s.going a)) rest) result) going w)));
+      }
 
   -- a command that stops the walk
   pub part_stops : (s2 : Standing) (f : Stop) → CommandWalked a s s1 (Err f) → (h after : List Tagged) (n : ℕ) → AreCounted n whole → Remembers h s0.recents s0.going n → PartGoal h after n s0 whole s2 (Err f)
   part_stops s2 f walked h after n counted r =
       let now = loop h after n counted r in
       now.so s2 (Err f) (walked_stop now.done (tags s.going a) (part_tags (going_after s.going a) rest) after (number_after now.next a) (part_after (number_after now.next a) rest) s s1 s2 (meets (length now.done) a) (part_meets (length now.done + length (accesses a)) rest) (part_apart (length now.done) a rest) f
-        (walked now.done (part_tags (going_after s.going a) rest ++ after) now.next now.counted.0 now.remembers))
+      (walked now.done (part_tags (going_after s.going a) rest ++ after) now.next now.counted.0 now.remembers))
 
 -- the end of the list
 pub part_ends : (s0 s : Standing) (whole : Actions) → PartLoop s0 whole s no_actions → (h after : List Tagged) (n : ℕ) → AreCounted n whole → Remembers h s0.recents s0.going n → PartGoal h after n s0 whole s (Ok tt)
@@ -116,26 +120,30 @@ module _ (stepped : Bool) (s0 s s1 : Standing) (whole : Groups) (part : Actions)
       let p = walked now.done (later ++ after) now.next now.counted.0 (remembers_at stepped now.done s.recents s.going now.next now.remembers) in
       let w = now.done ++ ((ts ++ later) ++ after) in
       record {
-        done = now.done ++ ts; next = part_after now.next part; counted = now.counted.1;
+        done = now.done ++ ts;
+        next = part_after now.next part;
+        counted = now.counted.1;
         remembers = subst (λ (l : List Recent). Remembers (now.done ++ ts) l s2.going (part_after now.next part)) (sym recents_same) (subst (λ (o : Option ℕ). Remembers (now.done ++ ts) s1.recents o (part_after now.next part)) (sym going_same) p.remembers);
         so = λ new s3 result g. now.so new s3 result (joined now.done ts later after (part_after now.next part) (groups_after (part_after now.next part) rest) (part_meets (length now.done) part) (groups_meets (length now.done + length (part_accesses part)) rest) (groups_apart (length now.done) part rest) new s3 result
-          (fits_base (now.done ++ (ts ++ (later ++ after))) (slice_index s1.left) (part_meets (length now.done) part) p.fits)
-          (subst (λ (k : ℕ). GroupWalked (now.done ++ ts) later after (groups_after (part_after now.next part) rest) (slice_index s0.left) (λ m. least lows1 m (slice_index s0.left m)) new s3 (groups_meets k rest) result) (length-append now.done ts ∙ ap (λ k. length now.done + k) (part_tags_long (released stepped s.going) part))
-            (subst (λ (o : Option ℕ). GroupWalked (now.done ++ ts) (groups_tags stepped o rest) after (groups_after (part_after now.next part) rest) (slice_index s0.left) (λ m. least lows1 m (slice_index s0.left m)) new s3 (groups_meets (length (now.done ++ ts)) rest) result) (going_same ∙ going) g))) }
+            (fits_base (now.done ++ (ts ++ (later ++ after))) (slice_index s1.left) (part_meets (length now.done) part) p.fits)
+            (subst (λ (k : ℕ). GroupWalked (now.done ++ ts) later after (groups_after (part_after now.next part) rest) (slice_index s0.left) (λ m. least lows1 m (slice_index s0.left m)) new s3 (groups_meets k rest) result) (length-append now.done ts ∙ ap (λ k. length now.done + k) (part_tags_long (released stepped s.going) part))
+            (subst (λ (o : Option ℕ). GroupWalked (now.done ++ ts) (groups_tags stepped o rest) after (groups_after (part_after now.next part) rest) (slice_index s0.left) (λ m. least lows1 m (slice_index s0.left m)) new s3 (groups_meets (length (now.done ++ ts)) rest) result) (going_same ∙ going) g)));
+      }
     where
       joined : (h xs ys after : List Tagged) (n1 n2 : ℕ) (l r : Meets) (apart : Disjoint l r) (new : ℕ → ℕ) (s3 : Standing) (result : Result (Unit {0}) Stop)
           → Fits (h ++ (xs ++ (ys ++ after))) (slice_index s0.left) (slice_index s1.left) l
           → GroupWalked (h ++ xs) ys after n2 (slice_index s0.left) (λ m. least lows1 m (slice_index s0.left m)) new s3 r result
           → GroupWalked h (xs ++ ys) after n2 (slice_index s0.left) (λ m. least lows m (slice_index s0.left m)) new s3 (one l r) result
-      joined h xs ys after n1 n2 l r apart new s3 (Ok u) f (g, q) =
-          ( lowers_one (h ++ ((xs ++ ys) ++ after)) l r apart (slice_index s0.left) (slice_index s1.left) (λ m. least lows m (slice_index s0.left m)) (λ m. least lows1 m (slice_index s0.left m)) new
-              (subst (λ (w : List Tagged). Fits w (slice_index s0.left) (slice_index s1.left) l) (middle h xs ys after) f) lower
-              (subst (λ (w : List Tagged). Lowers w (slice_index s0.left) (λ m. least lows1 m (slice_index s0.left m)) new r) (front h xs ys after) g)
-          , subst (λ (w : List Tagged). Remembers w s3.recents s3.going n2) (append_assoc h xs ys) q )
+      joined h xs ys after n1 n2 l r apart new s3 (Ok u) f (g, q) = (
+        lowers_one (h ++ ((xs ++ ys) ++ after)) l r apart (slice_index s0.left) (slice_index s1.left) (λ m. least lows m (slice_index s0.left m)) (λ m. least lows1 m (slice_index s0.left m)) new
+            (subst (λ (w : List Tagged). Fits w (slice_index s0.left) (slice_index s1.left) l) (middle h xs ys after) f) lower
+            (subst (λ (w : List Tagged). Lowers w (slice_index s0.left) (λ m. least lows1 m (slice_index s0.left m)) new r) (front h xs ys after) g),
+        subst (λ (w : List Tagged). Remembers w s3.recents s3.going n2) (append_assoc h xs ys) q,
+      )
       joined h xs ys after n1 n2 l r apart new s3 (Err (stop.Spent place)) f b =
           beyond_one_second (h ++ ((xs ++ ys) ++ after)) l r apart (slice_index s0.left) (slice_index s1.left) place
-            (subst (λ (w : List Tagged). Fits w (slice_index s0.left) (slice_index s1.left) l) (middle h xs ys after) f)
-            (subst (λ (w : List Tagged). Beyond w (slice_index s0.left) r place) (front h xs ys after) b)
+          (subst (λ (w : List Tagged). Fits w (slice_index s0.left) (slice_index s1.left) l) (middle h xs ys after) f)
+          (subst (λ (w : List Tagged). Beyond w (slice_index s0.left) r place) (front h xs ys after) b)
       joined h xs ys after n1 n2 l r apart new s3 (Err stop.NoMemory) f b = tt
 
   -- a part that stops the walk
@@ -146,7 +154,7 @@ module _ (stepped : Bool) (s0 s s1 : Standing) (whole : Groups) (part : Actions)
       let ts = part_tags (released stepped s.going) part in
       let later = groups_tags stepped (part_going (released stepped s.going) part) rest in
       now.so (slice_index s0.left) s3 (Err f) (by_stop f now.done ts later after (part_after now.next part) (groups_after (part_after now.next part) rest) (part_meets (length now.done) part) (groups_meets (length now.done + length (part_accesses part)) rest) (groups_apart (length now.done) part rest)
-        (walked now.done (later ++ after) now.next now.counted.0 (remembers_at stepped now.done s.recents s.going now.next now.remembers)))
+      (walked now.done (later ++ after) now.next now.counted.0 (remembers_at stepped now.done s.recents s.going now.next now.remembers)))
     where
       by_stop : (f : Stop) (h xs ys after : List Tagged) (n1 n2 : ℕ) (l r : Meets) (apart : Disjoint l r) → Walked h xs (ys ++ after) n1 (ReleasedTo stepped s) s1 l (Err f)
           → GroupWalked h (xs ++ ys) after n2 (slice_index s0.left) (λ m. least lows m (slice_index s0.left m)) (slice_index s0.left) s3 (one l r) (Err f)
@@ -174,14 +182,16 @@ pub block_ends : (stepped : Bool) (s0 s s2 : Standing) (whole : Groups) (lows : 
     → BlockGoal stepped s0 whole s2 (Ok tt)
 block_ends stepped s0 s s2 whole lows loop lowered recents_same going_is h after n counted r =
     let now = loop h after n counted r in
-    let g = now.so (λ m. least lows m (slice_index s0.left m)) s (Ok tt)
-              ( lowers_nothing (now.done ++ after) (slice_index s0.left) (λ m. least lows m (slice_index s0.left m)) (λ m. least_low lows m (slice_index s0.left m))
-              , subst (λ (w : List Tagged). Remembers w s.recents s.going now.next) (sym (append-nil now.done)) now.remembers ) in
+    let g = now.so (λ m. least lows m (slice_index s0.left m)) s (Ok tt) (
+      lowers_nothing (now.done ++ after) (slice_index s0.left) (λ m. least lows m (slice_index s0.left m)) (λ m. least_low lows m (slice_index s0.left m)),
+      subst (λ (w : List Tagged). Remembers w s.recents s.going now.next) (sym (append-nil now.done)) now.remembers,
+    ) in
     record {
       fits = fits_new (h ++ (groups_tags stepped s0.going whole ++ after)) (slice_index s0.left) (λ m. least lows m (slice_index s0.left m)) (slice_index s2.left) (groups_meets (length h) whole) lowered
-        (lowers_fits (h ++ (groups_tags stepped s0.going whole ++ after)) (slice_index s0.left) (λ m. least lows m (slice_index s0.left m)) (groups_meets (length h) whole) g.0);
+          (lowers_fits (h ++ (groups_tags stepped s0.going whole ++ after)) (slice_index s0.left) (λ m. least lows m (slice_index s0.left m)) (groups_meets (length h) whole) g.0);
       remembers = subst (λ (l : List Recent). Remembers (h ++ groups_tags stepped s0.going whole) l s2.going (groups_after n whole)) (sym recents_same)
-        (subst (λ (o : Option ℕ). Remembers (h ++ groups_tags stepped s0.going whole) s.recents o (groups_after n whole)) (sym going_is) (remembers_at stepped (h ++ groups_tags stepped s0.going whole) s.recents s.going (groups_after n whole) g.1)) }
+          (subst (λ (o : Option ℕ). Remembers (h ++ groups_tags stepped s0.going whole) s.recents o (groups_after n whole)) (sym going_is) (remembers_at stepped (h ++ groups_tags stepped s0.going whole) s.recents s.going (groups_after n whole) g.1));
+    }
 
 -- a command by its form
 pub store_command : (id : ℕ) (place : Place) (form : ActionForm) (target value : Term) (s0 s1 : Standing) (result : Result (Unit {0}) Stop) → form ≡ stores target value
@@ -189,7 +199,7 @@ pub store_command : (id : ℕ) (place : Place) (form : ActionForm) (target value
     → CommandWalked (action id place form) s0 s1 result
 store_command id place form target value s0 s1 result is walked = subst (λ (f : ActionForm). CommandWalked (action id place f) s0 s1 result) (sym is) (λ h after n counted r.
     subst (λ (k : ℕ). Walked h (map (tag (phase_at s0.going id)) (store_accesses id target value)) after (k + 1) s0 s1 (row (length h) (store_accesses id target value)) result) counted.0
-      (walked h after (subst (λ (k : ℕ). Remembers h s0.recents s0.going k) (sym counted.0) r)))
+    (walked h after (subst (λ (k : ℕ). Remembers h s0.recents s0.going k) (sym counted.0) r)))
 
 pub block_command : (id : ℕ) (place : Place) (form : ActionForm) (body : Groups) (s0 s1 : Standing) (result : Result (Unit {0}) Stop) → form ≡ blocks body → BlockGoal (is_stepped body) s0 body s1 result → CommandWalked (action id place form) s0 s1 result
 block_command id place form body s0 s1 result is walked = subst (λ (f : ActionForm). CommandWalked (action id place f) s0 s1 result) (sym is) (λ h after n counted r.

@@ -36,9 +36,14 @@ pub record TheAccess (memories : ℕ) (o : Option Element) (writes : Bool) (list
 the_access : (memories id : ℕ) (place : Place) (o : Option ℕ) (p : Place) (k : Option Kind) (n : Bool) (v : ℕ) (writes : Bool) → IsMemory memories o
     → TheAccess memories (element_from place o (literal_at (term_then (term p k (number n v)) no_terms))) writes (record { place = place; memory = o; indices = term_then (term p k (number n v)) no_terms; writes = writes; command = id } ∷ [])
 the_access memories id place (Some m) p k n v writes within = record {
-    a = record { place = place; memory = Some m; indices = term_then (term p k (number n v)) no_terms; writes = writes; command = id };
-    e = record { place = place; memory = m; index = record { negative = n; value = v } };
-    only = refl; element = refl; at = record { place_is = refl; memory_is = refl; index_is = refl }; kind = refl; inside = within }
+  a = record { place = place; memory = Some m; indices = term_then (term p k (number n v)) no_terms; writes = writes; command = id };
+  e = record { place = place; memory = m; index = record { negative = n; value = v } };
+  only = refl;
+  element = refl;
+  at = record { place_is = refl; memory_is = refl; index_is = refl };
+  kind = refl;
+  inside = within;
+}
 the_access memories id place None p k n v writes within = elim within [ ]
 
 absurd : {A : Type 0} → ⊥ → A
@@ -128,7 +133,7 @@ module _ (h after : List Tagged) (id p : ℕ) (s0 : Standing) (r : Remembers h s
       → Walked h (tag p a ∷ []) after (id + 1) s0 s2 (all (access (length h)) nothing) result
   alone a e at w s2 result s =
       walked_last h (tag p a ∷ []) after (id + 1) s0 s2 (access (length h)) result
-        (from_begun result (write_walked h after p (id + 1) a e at (record { left = s0.left; recents = s0.recents; going = Some p }) s2 result w refl ready s))
+      (from_begun result (write_walked h after p (id + 1) a e at (record { left = s0.left; recents = s0.recents; going = Some p }) s2 result w refl ready s))
     where
       from_begun : (res : Result (Unit {0}) Stop) → Walked h (tag p a ∷ []) after (id + 1) (record { left = s0.left; recents = s0.recents; going = Some p }) s2 (access (length h)) res → Walked h (tag p a ∷ []) after (id + 1) s0 s2 (access (length h)) res
       from_begun (Ok u) q = record { fits = q.fits; remembers = q.remembers }
@@ -166,9 +171,9 @@ module _ (h after : List Tagged) (id p : ℕ) (s0 : Standing) (r : Remembers h s
         let one = first s1 (Ok tt) x (tag p b ∷ after) in
         let going = still_going e s1 x in
         walked_then h (tag p a ∷ []) (tag p b ∷ []) after (id + 1) (id + 1) s0 s1 s2 (access (length h)) (all (access (length h + 1)) nothing) apart result (record { fits = one.fits; remembers = one.remembers })
-          (walked_last (h ++ tag p a ∷ []) (tag p b ∷ []) after (id + 1) s1 s2 (access (length h + 1)) result
-            (subst (λ (k : ℕ). Walked (h ++ tag p a ∷ []) (tag p b ∷ []) after (id + 1) s1 s2 (access k) result) (length-append h (tag p a ∷ []))
-              (write_walked (h ++ tag p a ∷ []) after p (id + 1) b f bt s1 s2 result w going (subst (λ (o : Option ℕ). Remembers (h ++ tag p a ∷ []) s1.recents o (id + 1)) going one.remembers) s)))
+        (walked_last (h ++ tag p a ∷ []) (tag p b ∷ []) after (id + 1) s1 s2 (access (length h + 1)) result
+        (subst (λ (k : ℕ). Walked (h ++ tag p a ∷ []) (tag p b ∷ []) after (id + 1) s1 s2 (access k) result) (length-append h (tag p a ∷ []))
+        (write_walked (h ++ tag p a ∷ []) after p (id + 1) b f bt s1 s2 result w going (subst (λ (o : Option ℕ). Remembers (h ++ tag p a ∷ []) s1.recents o (id + 1)) going one.remembers) s)))
 
 module _ (memories id p : ℕ) (target value : Term) (built : IsElement memories target) (right : IsRightSide memories value) (s0 : Standing) (long : length s0.recents ≡ memories) where
   abbrev StoreWalked : List Tagged → List Tagged → Standing → Result (Unit {0}) Stop → List Access → Type 0
@@ -186,16 +191,18 @@ module _ (memories id p : ℕ) (target value : Term) (built : IsElement memories
     where
       t : TheAccess memories (element_at target) true (target_accesses id target)
       t = target_access memories id target built
+
       spends : SpendsAny (Some t.e) s1 s2 result
       spends = subst (λ (o : Option Element). SpendsAny o s1 s2 result) t.element s
+
       by_side : Side memories (read_at value) (term_accesses id value) → Walked h (map (tag p) (store_accesses id target value)) after (id + 1) s0 s2 (row (length h) (store_accesses id target value)) result
       by_side (reads_none none is) =
           let same = subst (λ (o : Option Element). ReadsAny p o (record { left = s0.left; recents = s0.recents; going = Some p }) s1 (Ok tt)) is x in
           subst (λ (l : List Access). StoreWalked h after s2 result l) (sym (one_is (term_accesses id value) (target_accesses id target) t.a none t.only))
-            (alone h after id p s0 r p_is t.a t.e t.at t.kind s2 result (subst (λ (st : Standing). SpendsAny (Some t.e) st s2 result) same.1 spends))
+          (alone h after id p s0 r p_is t.a t.e t.at t.kind s2 result (subst (λ (st : Standing). SpendsAny (Some t.e) st s2 result) same.1 spends))
       by_side (reads_one u) =
           subst (λ (l : List Access). StoreWalked h after s2 result l) (sym (both_are (term_accesses id value) (target_accesses id target) u.a t.a u.only t.only))
-            (ends h after id p s0 r p_is u.a u.e u.at u.kind (subst (λ (n : ℕ). u.e.memory < n) (sym long) u.inside) t.a t.e t.at t.kind s1 s2 result (subst (λ (o : Option Element). ReadsAny p o (record { left = s0.left; recents = s0.recents; going = Some p }) s1 (Ok tt)) u.element x) spends)
+          (ends h after id p s0 r p_is u.a u.e u.at u.kind (subst (λ (n : ℕ). u.e.memory < n) (sym long) u.inside) t.a t.e t.at t.kind s1 s2 result (subst (λ (o : Option Element). ReadsAny p o (record { left = s0.left; recents = s0.recents; going = Some p }) s1 (Ok tt)) u.element x) spends)
 
   pub store_stops : (h after : List Tagged) (sx s2 : Standing) (f : Stop) → p ≡ phase_at s0.going id → ReadsAny p (read_at value) (record { left = s0.left; recents = s0.recents; going = Some p }) sx (Err f) → Remembers h s0.recents s0.going id
       → Walked h (map (tag p) (store_accesses id target value)) after (id + 1) s0 s2 (row (length h) (store_accesses id target value)) (Err f)
@@ -203,13 +210,15 @@ module _ (memories id p : ℕ) (target value : Term) (built : IsElement memories
     where
       t : TheAccess memories (element_at target) true (target_accesses id target)
       t = target_access memories id target built
+
       never : ReadsAny p None (record { left = s0.left; recents = s0.recents; going = Some p }) sx (Err f) → ⊥
       never (e, same) = cc
+
       by_side : Side memories (read_at value) (term_accesses id value) → Walked h (map (tag p) (store_accesses id target value)) after (id + 1) s0 s2 (row (length h) (store_accesses id target value)) (Err f)
       by_side (reads_none none is) = absurd (never (subst (λ (o : Option Element). ReadsAny p o (record { left = s0.left; recents = s0.recents; going = Some p }) sx (Err f)) is x))
       by_side (reads_one u) =
           subst (λ (l : List Access). StoreWalked h after s2 (Err f) l) (sym (both_are (term_accesses id value) (target_accesses id target) u.a t.a u.only t.only))
-            (stops h after id p s0 r p_is u.a u.e u.at u.kind (subst (λ (n : ℕ). u.e.memory < n) (sym long) u.inside) t.a sx s2 f (subst (λ (o : Option Element). ReadsAny p o (record { left = s0.left; recents = s0.recents; going = Some p }) sx (Err f)) u.element x))
+          (stops h after id p s0 r p_is u.a u.e u.at u.kind (subst (λ (n : ℕ). u.e.memory < n) (sym long) u.inside) t.a sx s2 f (subst (λ (o : Option Element). ReadsAny p o (record { left = s0.left; recents = s0.recents; going = Some p }) sx (Err f)) u.element x))
 
 phase_is : (o : Option ℕ) (id : ℕ) → unwrap_or o id ≡ phase_at o id
 phase_is (Some q) id = refl
@@ -222,12 +231,12 @@ module _ (memories id p : ℕ) (target value : Term) (built : IsElement memories
   store_walked s1 s2 result x s h after r =
       let is = told ∙ phase_is s0.going id in
       subst (λ (q : ℕ). Walked h (map (tag q) (store_accesses id target value)) after (id + 1) s0 s2 (row (length h) (store_accesses id target value)) result) is
-        (store_ends memories id p target value built right s0 long h after s1 s2 result is x s r)
+      (store_ends memories id p target value built right s0 long h after s1 s2 result is x s r)
 
   pub store_stopped : (sx s2 : Standing) (f g : Stop) (result : Result (Unit {0}) Stop) → g ≡ f → result ≡ Err g → ReadsAny p (read_at value) (record { left = s0.left; recents = s0.recents; going = Some p }) sx (Err f)
       → (h after : List Tagged) → Remembers h s0.recents s0.going id → Walked h (map (tag (phase_at s0.going id)) (store_accesses id target value)) after (id + 1) s0 s2 (row (length h) (store_accesses id target value)) result
   store_stopped sx s2 f g result same answer x h after r =
       let is = told ∙ phase_is s0.going id in
       subst (λ (q : ℕ). Walked h (map (tag q) (store_accesses id target value)) after (id + 1) s0 s2 (row (length h) (store_accesses id target value)) result) is
-        (subst (λ (res : Result (Unit {0}) Stop). Walked h (map (tag p) (store_accesses id target value)) after (id + 1) s0 s2 (row (length h) (store_accesses id target value)) res) (sym (answer ∙ ap (λ e. Err e) same))
-          (store_stops memories id p target value built right s0 long h after sx s2 f is x r))
+      (subst (λ (res : Result (Unit {0}) Stop). Walked h (map (tag p) (store_accesses id target value)) after (id + 1) s0 s2 (row (length h) (store_accesses id target value)) res) (sym (answer ∙ ap (λ e. Err e) same))
+      (store_stops memories id p target value built right s0 long h after sx s2 f is x r))

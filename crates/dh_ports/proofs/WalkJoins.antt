@@ -24,10 +24,11 @@ module _ (h xs ys after : List Tagged) (n1 n2 : ℕ) (s0 s1 s2 : Standing) (l r 
 
   pub walked_then : (result : Result (Unit {0}) Stop) → Passes h xs (ys ++ after) n1 s0 s1 l → Walked (h ++ xs) ys after n2 s1 s2 r result → Walked h (xs ++ ys) after n2 s0 s2 (all l r) result
   walked_then (Ok u) p q = record {
-      fits = fits_all (h ++ ((xs ++ ys) ++ after)) l r apart (slice_index s0.left) (slice_index s1.left) (slice_index s2.left)
+    fits = fits_all (h ++ ((xs ++ ys) ++ after)) l r apart (slice_index s0.left) (slice_index s1.left) (slice_index s2.left)
         (subst (λ (w : List Tagged). Fits w (slice_index s0.left) (slice_index s1.left) l) (middle h xs ys after) p.fits)
         (subst (λ (w : List Tagged). Fits w (slice_index s1.left) (slice_index s2.left) r) (front h xs ys after) q.fits);
-      remembers = subst (λ (w : List Tagged). Remembers w s2.recents s2.going n2) (append_assoc h xs ys) q.remembers }
+    remembers = subst (λ (w : List Tagged). Remembers w s2.recents s2.going n2) (append_assoc h xs ys) q.remembers;
+  }
   walked_then (Err (stop.Spent place)) p b = beyond_second (h ++ ((xs ++ ys) ++ after)) l r apart (slice_index s0.left) (slice_index s1.left) place
       (subst (λ (w : List Tagged). Fits w (slice_index s0.left) (slice_index s1.left) l) (middle h xs ys after) p.fits)
       (subst (λ (w : List Tagged). Beyond w (slice_index s1.left) r place) (front h xs ys after) b)
@@ -42,7 +43,8 @@ passes_nothing h after n s r = record { fits = fits_nothing (h ++ after) (slice_
 -- a walk of a list's last part
 pub walked_last : (h xs after : List Tagged) (n : ℕ) (s0 s1 : Standing) (t : Meets) (result : Result (Unit {0}) Stop) → Walked h xs after n s0 s1 t result → Walked h xs after n s0 s1 (all t nothing) result
 walked_last h xs after n s0 s1 t (Ok u) p = record {
-    fits = fits_all (h ++ (xs ++ after)) t nothing (none_apart t) (slice_index s0.left) (slice_index s1.left) (slice_index s1.left) p.fits (fits_nothing (h ++ (xs ++ after)) (slice_index s1.left));
-    remembers = p.remembers }
+  fits = fits_all (h ++ (xs ++ after)) t nothing (none_apart t) (slice_index s0.left) (slice_index s1.left) (slice_index s1.left) p.fits (fits_nothing (h ++ (xs ++ after)) (slice_index s1.left));
+  remembers = p.remembers;
+}
 walked_last h xs after n s0 s1 t (Err (stop.Spent place)) b = beyond_first (h ++ (xs ++ after)) t nothing (none_apart t) (slice_index s0.left) place b
 walked_last h xs after n s0 s1 t (Err stop.NoMemory) b = tt

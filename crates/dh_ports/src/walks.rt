@@ -7,7 +7,7 @@ ghost use Rattle.dh_tree.specs.Accesses.{store_accesses, row, meets, part_meets,
 ghost use Rattle.dh_ports.specs.FirstForms.{IsElement, IsRightSide, IsBuilt, AreBuilt, AreBuiltGroups, IsCounted, AreCounted, AreCountedGroups, number_after, part_after, groups_after};
 ghost use Rattle.dh_ports.specs.Tags.{Tagged, tag, tags, part_tags, groups_tags, phase_at, released, is_stepped, going_after, part_going, form_going};
 ghost use Rattle.dh_ports.specs.SingleElements.{element_at, read_at};
-ghost use Rattle.dh_ports.specs.Logs.{AreMarks, at_begin, marks_now};
+ghost use Rattle.dh_ports.specs.Logs.{AreMarks, at_begin, least, marks_now};
 ghost use Rattle.dh_ports.specs.Walked.{Remembers, Walked};
 ghost use Rattle.dh_ports.specs.WalkSteps.{standing, IsKept, Spends, SpendsAny, ReadsOne, ReadsAny};
 ghost use Rattle.dh_ports.specs.declared.walks.Stop.TheVariants as stop;
@@ -204,7 +204,7 @@ impl Walk {
             self.give_back(part_log.as_slice(), &mut lows)?;
         }
         self.release(stepped);
-        lower(self.left.as_mut_slice(), lows.as_slice(), log)?;
+        self.settle(lows.as_slice(), log)?;
         Ok(())
     }
 
@@ -249,5 +249,18 @@ impl Walk {
         note_lows(self.left.as_slice(), log, lows)?;
         undo(self.left.as_mut_slice(), log);
         Ok(())
+    }
+
+    /// Leaves of each memory the least of the lows.
+    fn settle(&mut self, lows: &[Mark], log: &mut Vec<Mark>) -> Result<(), AllocFailed<Mark>>
+        requires inside { AreMarks (length self.old.left.items) lows.now }
+        ensures long { length self.new.left.items ≡ length self.old.left.items }
+        ensures lowered { IfOk result (λ _. (m : ℕ) → slice_index self.new.left.items m ≡ least lows.now m (slice_index self.old.left.items m)) }
+        ensures logged { IfOk result (λ _. (m : ℕ) → at_begin log.new.items m (slice_index self.new.left.items m) ≡ at_begin log.old.items m (slice_index self.old.left.items m)) }
+        ensures marks { IfOk result (λ _. AreMarks (length self.old.left.items) log.old.items → AreMarks (length self.old.left.items) log.new.items) }
+        ensures recents { self.new.recents ≡ self.old.recents }
+        ensures going { self.new.going ≡ self.old.going }
+    {
+        lower(self.left.as_mut_slice(), lows, log)
     }
 }
