@@ -11,3 +11,4 @@ pub mod StoreWalks
 pub mod Numbering
 pub mod PartWalks
 pub mod LoopStates
+pub mod PhaseTags

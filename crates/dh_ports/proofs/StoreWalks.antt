@@ -8,7 +8,8 @@ use Rattle.dh_value.specs.declared.kinds.Kind.{Kind}
 use Rattle.dh_tree.specs.declared.trees.expressions.Ref.{Ref}
 use Rattle.dh_tree.specs.PlainTrees.{Term, term, TermForm, number, truth_value, named, accessed, in_bank, applied, converted, Terms, no_terms, term_then}
 use Rattle.dh_tree.specs.Meets.{Meets, nothing, access, all}
-use Rattle.dh_tree.specs.Accesses.{Access, term_accesses, target_accesses, store_accesses, row}
+use Rattle.std.specs.List.{AllByRecursion}
+use Rattle.dh_tree.specs.Accesses.{Access, term_accesses, terms_accesses, target_accesses, store_accesses, row}
 use Rattle.dh_ports.specs.declared.elements.Element.{Element}
 use Rattle.dh_ports.specs.declared.recents.Recent.{Recent}
 use Rattle.dh_ports.specs.declared.walks.Stop.{Stop}
@@ -106,11 +107,11 @@ number_reads_none id (term p k (applied op x y)) b = absurd b
 number_reads_none id (term p k (converted x y)) b = absurd b
 
 -- what a right side reads
-data Side (memories : ℕ) (o : Option Element) (list : List Access) : Type 0 where
+pub data Side (memories : ℕ) (o : Option Element) (list : List Access) : Type 0 where
   reads_none : list ≡ [] → o ≡ None → Side memories o list
   reads_one : TheAccess memories o false list → Side memories o list
 
-side : (memories id : ℕ) (t : Term) → IsRightSide memories t → Side memories (read_at t) (term_accesses id t)
+pub side : (memories id : ℕ) (t : Term) → IsRightSide memories t → Side memories (read_at t) (term_accesses id t)
 side memories id (term p k (number n v)) b = reads_none refl refl
 side memories id (term p k (truth_value v)) b = absurd b
 side memories id (term p k (named of)) b = absurd b
@@ -119,6 +120,44 @@ side memories id (term p k (in_bank of i pl row)) b = absurd b
 side memories id (term p k (applied op x y)) b =
     reads_one (subst (λ (l : List Access). TheAccess memories (element_at x) false l) (sym (ap (λ l. term_accesses id x ++ l) (number_reads_none id y b.1) ∙ append-nil (term_accesses id x))) (read_access memories id x b.0))
 side memories id (term p k (converted x y)) b = absurd b
+
+-- the accesses of a store have its number
+the_number : (memories id : ℕ) (place : Place) (of : Ref) (indices : Terms) (writes : Bool) → OneNumber indices → AllByRecursion (λ (x : Access). x.command ≡ id) (terms_accesses id indices ++ record { place = place; memory = of.entity; indices = indices; writes = writes; command = id } ∷ [])
+the_number memories id place of indices writes o = subst (λ (ts : Terms). AllByRecursion (λ (x : Access). x.command ≡ id) (terms_accesses id ts ++ record { place = place; memory = of.entity; indices = ts; writes = writes; command = id } ∷ [])) (sym o.is) (refl, tt)
+
+target_number : (memories id : ℕ) (t : Term) → IsElement memories t → AllByRecursion (λ (x : Access). x.command ≡ id) (target_accesses id t)
+target_number memories id (term p k (number n v)) b = absurd b
+target_number memories id (term p k (truth_value v)) b = absurd b
+target_number memories id (term p k (named of)) b = absurd b
+target_number memories id (term p k (accessed of i)) b = the_number memories id p of i true (one_number i b.1)
+target_number memories id (term p k (in_bank of i pl row)) b = absurd b
+target_number memories id (term p k (applied op x y)) b = absurd b
+target_number memories id (term p k (converted x y)) b = absurd b
+
+read_number : (memories id : ℕ) (t : Term) → IsElement memories t → AllByRecursion (λ (x : Access). x.command ≡ id) (term_accesses id t)
+read_number memories id (term p k (number n v)) b = absurd b
+read_number memories id (term p k (truth_value v)) b = absurd b
+read_number memories id (term p k (named of)) b = absurd b
+read_number memories id (term p k (accessed of i)) b = the_number memories id p of i false (one_number i b.1)
+read_number memories id (term p k (in_bank of i pl row)) b = absurd b
+read_number memories id (term p k (applied op x y)) b = absurd b
+read_number memories id (term p k (converted x y)) b = absurd b
+
+all_both : (id : ℕ) (xs ys : List Access) → AllByRecursion (λ (x : Access). x.command ≡ id) xs → AllByRecursion (λ (x : Access). x.command ≡ id) ys → AllByRecursion (λ (x : Access). x.command ≡ id) (xs ++ ys)
+all_both id [] ys a b = b
+all_both id (x ∷ xs) ys a b = (a.0, all_both id xs ys a.1 b)
+
+side_number : (memories id : ℕ) (t : Term) → IsRightSide memories t → AllByRecursion (λ (x : Access). x.command ≡ id) (term_accesses id t)
+side_number memories id (term p k (number n v)) b = tt
+side_number memories id (term p k (truth_value v)) b = absurd b
+side_number memories id (term p k (named of)) b = absurd b
+side_number memories id (term p k (accessed of i)) b = absurd b
+side_number memories id (term p k (in_bank of i pl row)) b = absurd b
+side_number memories id (term p k (applied op x y)) b = subst (λ (l : List Access). AllByRecursion (λ (x : Access). x.command ≡ id) l) (sym (ap (λ l. term_accesses id x ++ l) (number_reads_none id y b.1) ∙ append-nil (term_accesses id x))) (read_number memories id x b.0)
+side_number memories id (term p k (converted x y)) b = absurd b
+
+pub one_accesses : (memories id : ℕ) (target value : Term) → IsElement memories target → IsRightSide memories value → AllByRecursion (λ (x : Access). x.command ≡ id) (store_accesses id target value)
+one_accesses memories id target value t v = all_both id (term_accesses id value) (target_accesses id target) (side_number memories id value v) (target_number memories id target t)
 
 -- a row of one access, or of two
 module _ (h after : List Tagged) (id p : ℕ) (s0 : Standing) (r : Remembers h s0.recents s0.going id) (p_is : p ≡ phase_at s0.going id) where

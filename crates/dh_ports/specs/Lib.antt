@@ -7,3 +7,4 @@ pub mod Recalled
 pub mod Walked
 pub mod WalkSteps
 pub mod Weights
+pub mod Told
