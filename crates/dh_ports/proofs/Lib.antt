@@ -12,3 +12,4 @@ pub mod Numbering
 pub mod PartWalks
 pub mod LoopStates
 pub mod PhaseTags
+pub mod PhaseRanges
