@@ -13,3 +13,4 @@ pub mod PartWalks
 pub mod LoopStates
 pub mod PhaseTags
 pub mod PhaseRanges
+pub mod PortsTold

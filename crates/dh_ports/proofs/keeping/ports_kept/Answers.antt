@@ -1,9 +1,13 @@
-use Rattle.dh_ports.proofs.PhaseTags.{body_stands}
-use Rattle.dh_ports.proofs.PhaseRanges.{phases_ranged, tags_tell}
+use Rattle.std.proofs.Common.{[], ap, map, ◌∙◌}
+use Rattle.dh_ports.proofs.PortsTold.{told_kept, told_spent, none_recalled}
 use Rattle.dh_ports.proofs.keeping.ports_kept.Goals as goal
 
 pub returns-in-Ok : goal.returns-in-Ok
-returns-in-Ok c = let x = body_stands in let y = tags_tell in ?
+returns-in-Ok c =
+    told_kept c.args.tree.now c.requires.forms _ (c.in_ok-all_ports.ensures ∙ ap (λ l. map (λ d. d.shape.ports) l) c.as_slice.ensures.value) c.loads_are_largest_sums.ensures.whole _
+      (c.in-Ok.ensures.walked [] [] c.requires.forms.first_number c.requires.forms.counted (none_recalled c.in_ok-no_recents.field-0.items c.requires.forms.first_number c.in_ok-no_recents.ensures.empty)).fits
 
 pub returns-in-Err-Spent : goal.returns-in-Err-Spent
-returns-in-Err-Spent c = ?
+returns-in-Err-Spent c =
+    told_spent c.args.tree.now c.requires.forms _ (c.in_ok-all_ports.ensures ∙ ap (λ l. map (λ d. d.shape.ports) l) c.as_slice.ensures.value) c.loads_are_largest_sums.ensures.upto_one c.in-Err-Spent.place
+      (c.in-Err-Spent.ensures.walked [] [] c.requires.forms.first_number c.requires.forms.counted (none_recalled c.in_ok-no_recents.field-0.items c.requires.forms.first_number c.in_ok-no_recents.ensures.empty))
