@@ -1,5 +1,5 @@
 -- From loads to sets: what a walk of the whole body tells of the program.
-use Rattle.std.proofs.Common.{◌≡◌, ℕ, zero, suc, ◌+◌, ◌≤◌, ◌<◌, ◌==◌, ◌&&◌, ◌||◌, not, Bool, true, false, List, [], ◌∷◌, ◌++◌, length, map, take, slice_index, Option, Some, None, option_map, if◌then◌else◌, refl, ap, sym, ◌∙◌, subst, arith}
+use Rattle.std.proofs.Common.{◌≡◌, ℕ, zero, suc, ◌+◌, ◌≤◌, ◌<◌, ◌==◌, ◌&&◌, ◌||◌, not, Bool, true, false, List, [], ◌∷◌, ◌++◌, length, map, take, slice_index, Option, Some, None, option_map, Err, if◌then◌else◌, refl, ap, sym, ◌∙◌, subst, arith}
 use Rattle.std.specs.List.{slice_get, list_any, AllByRecursion}
 use Rattle.std.proofs.lemmas.List.{append-nil}
 use Rattle.dh_base.specs.declared.places.Place.{Place}
@@ -17,7 +17,9 @@ use Rattle.dh_ports.specs.Tags.{Tagged, tags, shares_one, charge_after, charges}
 use Rattle.dh_ports.specs.declared.elements.Literal.{Literal}
 use Rattle.dh_ports.specs.SingleElements.{same_literal}
 use Rattle.dh_ports.specs.Recalled.{known}
-use Rattle.dh_ports.specs.Walked.{Fits, Beyond, Remembers}
+use Rattle.dh_ports.specs.declared.walks.Stop.{Stop}
+use Rattle.dh_ports.specs.declared.walks.Stop.TheVariants as stop
+use Rattle.dh_ports.specs.Walked.{Fits, Beyond, Remembers, Standing, Walked}
 use Rattle.dh_ports.proofs.Numbering.{tags_are, meets_numbered}
 use Rattle.dh_ports.proofs.PhaseTags.{StandsFrom, AllStand, body_stands}
 use Rattle.dh_ports.proofs.PhaseRanges.{Ranged, phases_ranged, tags_tell}
@@ -149,3 +151,7 @@ none_recalled recents n empty = record {
     unknown : (o : Option Recent) (phase : ℕ) (index : Literal) → ((r : Recent) → o ≡ Some r → r.phase ≡ None) → known o phase index ≡ false
     unknown None phase index none = refl
     unknown (Some r) phase index none = ap (λ x. same_entity x (Some phase) && list_any (λ i. same_literal i index) r.indices.items) (none r refl)
+
+-- a walk that stops answers so
+pub stopped_at : (now : List Tagged) (n : ℕ) (s0 s1 : Standing) (t : Meets) (f : Stop) (place : Place) → f ≡ stop.Spent place → Walked [] now [] n s0 s1 t (Err f) → Beyond (now ++ []) (slice_index s0.left) t place
+stopped_at now n s0 s1 t f place is walked = subst (λ (g : Stop). Walked [] now [] n s0 s1 t (Err g)) is walked
