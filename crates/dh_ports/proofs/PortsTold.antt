@@ -1,5 +1,5 @@
 -- From loads to sets: what a walk of the whole body tells of the program.
-use Rattle.std.proofs.Common.{◌≡◌, ℕ, zero, suc, ◌+◌, ◌≤◌, ◌<◌, ◌==◌, ◌&&◌, ◌||◌, not, Bool, true, false, List, [], ◌∷◌, ◌++◌, length, map, take, slice_index, Option, Some, None, option_map, Err, if◌then◌else◌, refl, ap, sym, ◌∙◌, subst, arith}
+use Rattle.std.proofs.Common.{◌≡◌, ◌↔◌, ℕ, zero, suc, ◌+◌, ◌≤◌, ◌<◌, ◌==◌, ◌&&◌, ◌||◌, not, Bool, true, false, List, [], ◌∷◌, ◌++◌, length, map, take, slice_index, Option, Some, None, option_map, Err, if◌then◌else◌, refl, ap, sym, ◌∙◌, subst, arith}
 use Rattle.std.specs.List.{slice_get, list_any, AllByRecursion}
 use Rattle.std.proofs.lemmas.List.{append-nil}
 use Rattle.dh_base.specs.declared.places.Place.{Place}
@@ -155,3 +155,16 @@ none_recalled recents n empty = record {
 -- a walk that stops answers so
 pub stopped_at : (now : List Tagged) (n : ℕ) (s0 s1 : Standing) (t : Meets) (f : Stop) (place : Place) → f ≡ stop.Spent place → Walked [] now [] n s0 s1 t (Err f) → Beyond (now ++ []) (slice_index s0.left) t place
 stopped_at now n s0 s1 t f place is walked = subst (λ (g : Stop). Walked [] now [] n s0 s1 t (Err g)) is walked
+
+-- no program both keeps its ports and spends too many
+pub spent_not_kept : (p : Program) (place : Place) → PortsSpent p place → KeepsPorts p → ⊥
+spent_not_kept p place s kept = above _ _ s.spent.beyond (kept s.spent.chosen s.spent.completes.together s.spent.memory)
+  where
+    above : (a b : ℕ) → a < b → b ≤ a → ⊥
+    above a b e f = omega (arith, e, f)
+
+pub kept_is_none : (p : Program) → KeepsPorts p → (answer : Option Place) → answer ≡ None → (answer ≡ None) ↔ KeepsPorts p
+kept_is_none p kept answer is = (λ e. kept, λ k. is)
+
+pub spent_is_some : (p : Program) (place : Place) → PortsSpent p place → (Some place ≡ None) ↔ KeepsPorts p
+spent_is_some p place s = (λ e. cc, λ kept. elim (spent_not_kept p place s kept) [ ])

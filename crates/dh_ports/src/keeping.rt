@@ -1,7 +1,8 @@
 //! Whether a program keeps the ports of its memories.
 
-ghost use Rattle.std.specs.Prelude.{◌≡◌, ℕ, IfOk, Some, None, map, length, slice_get};
+ghost use Rattle.std.specs.Prelude.{◌≡◌, ◌↔◌, ℕ, IfOk, Some, None, map, length, slice_get};
 ghost use Rattle.dh_tree.specs.Seen.{program_seen};
+ghost use Rattle.dh_tree.specs.Accesses.{KeepsPorts};
 ghost use Rattle.dh_ports.specs.declared.recents.Recent.{Recent};
 ghost use Rattle.dh_ports.specs.FirstForms.{HasFirstForms};
 ghost use Rattle.dh_ports.specs.Told.{Tells};
@@ -42,7 +43,8 @@ fn no_recents(alloc: Global, count: usize) -> Result<Vec<Recent>, NoMemory>
 /// order of evaluation, with which it does not.
 pub fn ports_kept(alloc: Global, tree: &Tree) -> Result<Option<Place>, NoMemory>
     requires forms { HasFirstForms (program_seen tree.now) }
-    ensures { Tells (program_seen tree.now) result }
+    ensures told { Tells (program_seen tree.now) result }
+    ensures kept { IfOk result (λ answer. (answer ≡ None) ↔ KeepsPorts (program_seen tree.now)) }
 {
     loads_are_largest_sums();
     let mut walk = Walk {
