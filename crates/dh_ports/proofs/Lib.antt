@@ -1,0 +1,16 @@
+pub mod Literals
+pub mod FullPhases
+pub mod Turns
+pub mod LogFacts
+pub mod RecallFacts
+pub mod WalkTrees
+pub mod SharedReads
+pub mod AccessWalks
+pub mod WalkJoins
+pub mod StoreWalks
+pub mod Numbering
+pub mod PartWalks
+pub mod LoopStates
+pub mod PhaseTags
+pub mod PhaseRanges
+pub mod PortsTold

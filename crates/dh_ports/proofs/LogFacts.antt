@@ -1,0 +1,172 @@
+-- Logs as functions of the memory: a mark more, undoing from the end, lowering from the front.
+use Rattle.std.proofs.Common.{◌≡◌, ℕ, zero, suc, ◌+◌, ◌-◌, ◌≤◌, ◌<◌, ◌==◌, Bool, true, false, List, [], ◌∷◌, ◌++◌, length, take, drop, get_or, set, slice_index, slice_set, map, min, Some, if◌then◌else◌, refl, ap, sym, ◌∙◌, subst, arith, ◌⊎◌, inl, inr}
+use Rattle.std.specs.List.{slice_get}
+use Rattle.std.proofs.lemmas.Bool.{eqb-true, eq-eqb, ne_eqb, cases_Bool}
+use Rattle.std.proofs.lemmas.Option.{slice_get-get_or}
+use Rattle.std.proofs.lemmas.List.{get_or-set_same, get_or-set_other, length-set}
+use Rattle.dh_ports.specs.declared.marks.Mark.{Mark}
+use Rattle.dh_ports.specs.Logs.{at_begin, least, AreMarks, marks_now}
+
+abbrev pub mark : ℕ → ℕ → Mark
+mark memory left = record { memory = memory; left = left }
+
+other_number : (a b : ℕ) → (a == b) ≡ false → b ≡ a → ⊥
+other_number a b f i = let g : (a == b) ≡ true = eq-eqb a b (sym i) in cc
+
+pub index_set : (xs : List ℕ) (k v m : ℕ) → k < length xs → slice_index (slice_set xs k v) m ≡ (if k == m then v else slice_index xs m)
+index_set xs k v m within = by_test (cases_Bool (k == m))
+  where
+    by_test : ((k == m) ≡ true) ⊎ ((k == m) ≡ false) → slice_index (slice_set xs k v) m ≡ (if k == m then v else slice_index xs m)
+    by_test (inl e) = ap (λ j. slice_index (slice_set xs k v) j) (sym (eqb-true k m e)) ∙ (get_or-set_same xs k v 0 within ∙ sym (ap (λ b. if b then v else slice_index xs m) e))
+    by_test (inr e) = get_or-set_other xs k m v 0 (λ i. elim (other_number k m e i) [ ]) ∙ sym (ap (λ b. if b then v else slice_index xs m) e)
+
+pub begin_more : (log : List Mark) (k v m x : ℕ) → at_begin (log ++ mark k v ∷ []) m x ≡ at_begin log m (if k == m then v else x)
+begin_more [] k v m x = refl
+begin_more (b ∷ log) k v m x = ap (λ n. if b.memory == m then b.left else n) (begin_more log k v m x)
+
+take_more : {X : Type 0} (xs : List X) (k : ℕ) (d : X) → k < length xs → take (suc k) xs ≡ take k xs ++ get_or xs k d ∷ []
+take_more [] k d within = elim (none k within) [ ]
+  where
+    none : (n : ℕ) → n < 0 → ⊥
+    none n e = omega (arith, e)
+take_more (x ∷ xs) zero d within = refl
+take_more (x ∷ xs) (suc k) d within = ap (λ l. x ∷ l) (take_more xs k d (omega (arith, within)))
+
+-- one mark of an undoing
+pub undo_turn : (left : List ℕ) (log : List Mark) (i m w : ℕ) (d : Mark) → 0 < i → i ≤ length log → (get_or log (i - 1) d).memory < length left
+    → at_begin (take i log) m (slice_index left m) ≡ w
+    → at_begin (take (i - 1) log) m (slice_index (slice_set left (get_or log (i - 1) d).memory (get_or log (i - 1) d).left) m) ≡ w
+undo_turn left log i m w d some within inside is =
+    let last = get_or log (i - 1) d in
+    let back : suc (i - 1) ≡ i = omega (arith, some) in
+    let more : take i log ≡ take (i - 1) log ++ last ∷ [] = ap (λ n. take n log) (sym back) ∙ take_more log (i - 1) d (omega (arith, some, within)) in
+    ap (λ x. at_begin (take (i - 1) log) m x) (index_set left last.memory last.left m inside)
+    ∙ (sym (begin_more (take (i - 1) log) last.memory last.left m (slice_index left m)) ∙ (ap (λ l. at_begin l m (slice_index left m)) (sym more) ∙ is))
+
+pub least_min : (lows : List Mark) (m a x : ℕ) → least lows m (min a x) ≡ min a (least lows m x)
+least_min [] m a x = refl
+least_min (b ∷ lows) m a x = by_test (b.memory == m) _ _ (least_min lows m a x)
+  where
+    swap : (u n k : ℕ) → n ≡ min a k → min u n ≡ min a (min u k)
+    swap u n k e = grind (arith, e)
+
+    by_test : (t : Bool) (n k : ℕ) → n ≡ min a k → (if t then min b.left n else n) ≡ min a (if t then min b.left k else k)
+    by_test true n k e = swap b.left _ _ e
+    by_test false n k e = e
+
+pub least_low : (lows : List Mark) (m x : ℕ) → least lows m x ≤ x
+least_low [] m x = omega arith
+least_low (b ∷ lows) m x = by_test (b.memory == m) _ (least_low lows m x)
+  where
+    smaller : (u n k : ℕ) → n ≤ k → min u n ≤ k
+    smaller u n k e = grind (arith, e)
+
+    by_test : (t : Bool) (n : ℕ) → n ≤ x → (if t then min b.left n else n) ≤ x
+    by_test true n e = smaller b.left _ _ e
+    by_test false n e = e
+
+-- one low that is below what is left
+pub lower_turn : (left : List ℕ) (k v m : ℕ) (rest : List Mark) → k < length left → v < slice_index left k
+    → least rest m (slice_index (slice_set left k v) m) ≡ least (mark k v ∷ rest) m (slice_index left m)
+lower_turn left k v m rest inside less = ap (λ x. least rest m x) (index_set left k v m inside) ∙ by_test (cases_Bool (k == m))
+  where
+    smaller : (x : ℕ) → v < x → v ≡ min v x
+    smaller x e = grind (arith, e)
+
+    small : (k == m) ≡ true → v < slice_index left m
+    small e = subst (λ (j : ℕ). v < slice_index left j) (eqb-true k m e) less
+
+    by_test : ((k == m) ≡ true) ⊎ ((k == m) ≡ false) → least rest m (if k == m then v else slice_index left m) ≡ (if k == m then min v (least rest m (slice_index left m)) else least rest m (slice_index left m))
+    by_test (inl e) = ap (λ t. least rest m (if t then v else slice_index left m)) e ∙ (ap (λ x. least rest m x) (smaller _ (small e)) ∙ (least_min rest m v (slice_index left m) ∙ sym (ap (λ t. if t then min v (least rest m (slice_index left m)) else least rest m (slice_index left m)) e)))
+    by_test (inr e) = ap (λ t. least rest m (if t then v else slice_index left m)) e ∙ sym (ap (λ t. if t then min v (least rest m (slice_index left m)) else least rest m (slice_index left m)) e)
+
+-- one low that is not
+pub keep_turn : (left : List ℕ) (k v m : ℕ) (rest : List Mark) → slice_index left k ≤ v
+    → least rest m (slice_index left m) ≡ least (mark k v ∷ rest) m (slice_index left m)
+keep_turn left k v m rest more = by_test (cases_Bool (k == m))
+  where
+    larger : (x n : ℕ) → x ≤ v → n ≤ x → n ≡ min v n
+    larger x n e f = grind (arith, e, f)
+
+    large : (k == m) ≡ true → slice_index left m ≤ v
+    large e = subst (λ (j : ℕ). slice_index left j ≤ v) (eqb-true k m e) more
+
+    by_test : ((k == m) ≡ true) ⊎ ((k == m) ≡ false) → least rest m (slice_index left m) ≡ (if k == m then min v (least rest m (slice_index left m)) else least rest m (slice_index left m))
+    by_test (inl e) = larger _ _ (large e) (least_low rest m (slice_index left m)) ∙ sym (ap (λ t. if t then min v (least rest m (slice_index left m)) else least rest m (slice_index left m)) e)
+    by_test (inr e) = sym (ap (λ t. if t then min v (least rest m (slice_index left m)) else least rest m (slice_index left m)) e)
+
+-- a change of what is left, with a mark of what was left
+pub logged_turn : (left : List ℕ) (log : List Mark) (k v m : ℕ) → k < length left
+    → at_begin (log ++ mark k (slice_index left k) ∷ []) m (slice_index (slice_set left k v) m) ≡ at_begin log m (slice_index left m)
+logged_turn left log k v m inside =
+    begin_more log k (slice_index left k) m (slice_index (slice_set left k v) m)
+    ∙ ap (λ x. at_begin log m x) (ap (λ x. if k == m then slice_index left k else x) (index_set left k v m inside) ∙ by_test (cases_Bool (k == m)))
+  where
+    by_test : ((k == m) ≡ true) ⊎ ((k == m) ≡ false) → (if k == m then slice_index left k else (if k == m then v else slice_index left m)) ≡ slice_index left m
+    by_test (inl e) = ap (λ t. if t then slice_index left k else (if t then v else slice_index left m)) e ∙ ap (λ j. slice_index left j) (eqb-true k m e)
+    by_test (inr e) = ap (λ t. if t then slice_index left k else (if t then v else slice_index left m)) e
+
+pub marks_more : (n : ℕ) (log : List Mark) (k v : ℕ) → AreMarks n log → k < n → AreMarks n (log ++ mark k v ∷ [])
+marks_more n [] k v are inside zero b is = let e : mark k v ≡ b = cc in subst (λ (x : Mark). x.memory < n) e inside
+marks_more n [] k v are inside (suc i) b is = cc
+marks_more n (x ∷ log) k v are inside zero b is = are zero b is
+marks_more n (x ∷ log) k v are inside (suc i) b is = marks_more n log k v (λ j c at. are (suc j) c at) inside i b is
+
+pub no_marks : (n : ℕ) → AreMarks n []
+no_marks n i b is = cc
+
+-- how far a lowering is: what is left, the log, and the lows still to come
+pub record IsLowering (left0 : List ℕ) (log0 lows0 : List Mark) (left : List ℕ) (log lows : List Mark) : Type 0 where
+  pub long : length left ≡ length left0
+  pub lowered : (m : ℕ) → least lows m (slice_index left m) ≡ least lows0 m (slice_index left0 m)
+  pub logged : (m : ℕ) → at_begin log m (slice_index left m) ≡ at_begin log0 m (slice_index left0 m)
+  pub marks : AreMarks (length left0) log0 → AreMarks (length left0) log
+
+-- one low more, for a part of the loop's list
+module _ (left0 : List ℕ) (log0 lows0 : List Mark) (left : List ℕ) (log lows : List Mark) (low : Mark) (rest : List Mark) (at : lows ≡ low ∷ rest) (before : IsLowering left0 log0 lows0 left log lows) where
+  so : IsLowering left0 log0 lows0 left log (low ∷ rest)
+  so = subst (λ (l : List Mark). IsLowering left0 log0 lows0 left log l) at before
+
+  pub lowering_kept : (left1 : List ℕ) (log1 : List Mark) → left1 ≡ left → log1 ≡ log → slice_index left low.memory ≤ low.left → IsLowering left0 log0 lows0 left1 log1 rest
+  lowering_kept left1 log1 e f more = subst (λ (l : List ℕ). IsLowering left0 log0 lows0 l log1 rest) (sym e) (subst (λ (l : List Mark). IsLowering left0 log0 lows0 left l rest) (sym f) (record {
+    long = so.long;
+    lowered = λ m. keep_turn left low.memory low.left m rest more ∙ so.lowered m;
+    logged = so.logged;
+    marks = so.marks;
+  }))
+
+  pub lowering_turn : (left1 : List ℕ) (log1 : List Mark) → left1 ≡ slice_set left low.memory low.left → log1 ≡ log ++ mark low.memory (slice_index left low.memory) ∷ [] → low.memory < length left0 → low.left < slice_index left low.memory → IsLowering left0 log0 lows0 left1 log1 rest
+  lowering_turn left1 log1 e f inside less =
+      let within = subst (λ (n : ℕ). low.memory < n) (sym so.long) inside in
+      subst (λ (l : List ℕ). IsLowering left0 log0 lows0 l log1 rest) (sym e) (subst (λ (l : List Mark). IsLowering left0 log0 lows0 (slice_set left low.memory low.left) l rest) (sym f) (record {
+        long = length-set left low.memory low.left ∙ so.long;
+        lowered = λ m. lower_turn left low.memory low.left m rest within less ∙ so.lowered m;
+        logged = λ m. logged_turn left log low.memory low.left m within ∙ so.logged m;
+        marks = λ are. marks_more (length left0) log low.memory _ (so.marks are) inside;
+      }))
+
+pub undoing_turn : (n : ℕ) (left : List ℕ) (log : List Mark) (i m w : ℕ) (d : Mark) → AreMarks n log → length left ≡ n → 0 < i → i ≤ length log
+    → at_begin (take i log) m (slice_index left m) ≡ w
+    → at_begin (take (i - 1) log) m (slice_index (slice_set left (get_or log (i - 1) d).memory (get_or log (i - 1) d).left) m) ≡ w
+undoing_turn n left log i m w d are long some within is =
+    let last : i - 1 < length log = omega (arith, some, within) in
+    let inside = are (i - 1) (get_or log (i - 1) d) (slice_get-get_or log (i - 1) d last) in
+    undo_turn left log i m w d some within (subst (λ (k : ℕ). (get_or log (i - 1) d).memory < k) (sym long) inside) is
+
+pub any_default : {X : Type 0} (xs : List X) (i : ℕ) (d e : X) → i < length xs → get_or xs i d ≡ get_or xs i e
+any_default [] i d e within = elim (none i within) [ ]
+  where
+    none : (n : ℕ) → n < 0 → ⊥
+    none n f = omega (arith, f)
+any_default (x ∷ xs) zero d e within = refl
+any_default (x ∷ xs) (suc i) d e within = any_default xs i d e (omega (arith, within))
+
+-- one port less of a memory, with a mark of what was left
+module _ (left : List ℕ) (log log1 : List Mark) (k x v : ℕ) (inside : k < length left) (is : x ≡ get_or left k x) (more : log1 ≡ log ++ mark k x ∷ []) where
+  pub spent_begun : (m : ℕ) → at_begin log1 m (slice_index (slice_set left k v) m) ≡ at_begin log m (slice_index left m)
+  spent_begun m =
+      ap (λ l. at_begin l m (slice_index (slice_set left k v) m)) (more ∙ ap (λ n. log ++ mark k n ∷ []) (is ∙ any_default left k x 0 inside))
+      ∙ logged_turn left log k v m inside
+
+  pub spent_marks : AreMarks (length left) log → AreMarks (length (slice_set left k v)) log1
+  spent_marks are = subst (λ (n : ℕ). AreMarks n log1) (sym (length-set left k v)) (subst (λ (l : List Mark). AreMarks (length left) l) (sym more) (marks_more (length left) log k x are inside))
