@@ -1,3 +1,4 @@
 pub mod Judges
 pub mod Elements
 pub mod Acceptance
+pub mod Verdicts

@@ -92,3 +92,18 @@ Checks text (Ok a) = IsVerdict text (accepts (program_seen a))
 Checks text (Err (fault.Refused rule place)) = IsVerdict text (refuses rule place)
 Checks text (Err (fault.TooLarge excess)) = IsVerdict text (exceeds excess)
 Checks text (Err fault.NoMemory) = Unit {0}
+
+-- an answer whose verdict is one of these
+abbrev pub TellsBy : (Verdict → Type 0) → Result Accepted CheckFault → Type 0
+TellsBy judged (Ok a) = judged (accepts (program_seen a))
+TellsBy judged (Err (fault.Refused rule place)) = judged (refuses rule place)
+TellsBy judged (Err (fault.TooLarge excess)) = judged (exceeds excess)
+TellsBy judged (Err fault.NoMemory) = Unit {0}
+
+-- what the passes over a tree tell
+abbrev pub TellsTree : Program → Result Accepted CheckFault → Type 0
+TellsTree p result = TellsBy (JudgedTree p) result
+
+-- what the passes over a tree with resolved names tell
+abbrev pub TellsNamed : Program → Result Accepted CheckFault → Type 0
+TellsNamed p result = TellsBy (JudgedNamed p) result

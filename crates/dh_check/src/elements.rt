@@ -37,7 +37,7 @@ fn count_elements(decls: &[Decl]) -> u64
 }
 
 /// That the memories have too many elements together, where they have.
-pub fn elements_excess(decls: &[Decl]) -> Option<Excess>
+pub(crate) fn elements_excess(decls: &[Decl]) -> Option<Excess>
     requires { AllByRecursion HasOneDim (map declared_seen decls.now) }
     ensures { result ≡ excess_of (elements_in (map entry_of (map declared_seen decls.now))) }
 {

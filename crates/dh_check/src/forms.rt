@@ -296,7 +296,7 @@ fn keep_second(kept: &mut Option<Breach>, is_second: bool, place: Place)
 
 /// The first form of a program that is not built, if there is one.
 #[tactic(auto, using(crate::proofs::Leasts::least_append))]
-pub fn first_unbuilt(tree: &Tree) -> Option<Breach>
+pub(crate) fn first_unbuilt(tree: &Tree) -> Option<Breach>
     ensures { result ≡ least_of None (unbuilt_forms (program_seen tree.now)) }
 {
     let mut kept = None;

@@ -3,11 +3,10 @@
 #![tactic(auto)]
 
 mod accepted;
+mod checking;
 mod elements;
 mod forms;
 mod ranges;
 
 pub use accepted::Accepted;
-pub use elements::elements_excess;
-pub use forms::first_unbuilt;
-pub use ranges::{Judging, first_lost, first_out_of_range};
+pub use checking::{CheckFault, Forms, check};

@@ -15,7 +15,7 @@ use dh_tree::{
 
 /// A rule on literal indices.
 #[derive(Clone, Copy, Debug, PartialEq, Eq)]
-pub enum Judging {
+pub(crate) enum Judging {
     /// A number is a value of its kind.
     Kinds,
     /// An index is below its size.
@@ -194,7 +194,7 @@ fn keep_sizes(kept: &mut Option<Breach>, decls: &[Decl])
 }
 
 /// The first number of a program that is no value of its kind, if there is one.
-pub fn first_lost(tree: &Tree) -> Option<Breach>
+pub(crate) fn first_lost(tree: &Tree) -> Option<Breach>
     ensures { result ≡ least_of None (kind_breaches (program_seen tree.now)) }
 {
     let mut kept = None;
@@ -204,7 +204,7 @@ pub fn first_lost(tree: &Tree) -> Option<Breach>
 
 /// The first size or index of a program that is out of range, if there is one.
 #[tactic(auto, using(crate::proofs::Leasts::least_append))]
-pub fn first_out_of_range(tree: &Tree) -> Option<Breach>
+pub(crate) fn first_out_of_range(tree: &Tree) -> Option<Breach>
     ensures { result ≡ least_of None (range_breaches (program_seen tree.now)) }
 {
     let mut kept = None;

@@ -253,8 +253,8 @@ function_alike n s f =
 
 function_again : (n : ℕ) (s : Scope) (f : Defined) → resolved_function n s (resolved_function n s f) ≡ resolved_function n s f
 function_again n s f =
-    ap (λ l. record { name = numbered n f.name; parameters = l; body = resolved_action (body_start s (resolved_function n s f)) (resolved_action (body_start s f) f.body) }) (formals_again s f.parameters)
-    ∙ ap (λ a. record { name = numbered n f.name; parameters = resolved_formals s f.parameters; body = a })
+    ap (λ l. record { place = f.place; name = numbered n f.name; parameters = l; body = resolved_action (body_start s (resolved_function n s f)) (resolved_action (body_start s f) f.body) }) (formals_again s f.parameters)
+    ∙ ap (λ a. record { place = f.place; name = numbered n f.name; parameters = resolved_formals s f.parameters; body = a })
     (ap (λ x. resolved_action x (resolved_action (body_start s f) f.body)) (start_again n s f) ∙ action_again (body_start s f) f.body)
 
 pub functions_end_again : (n : ℕ) (s : Scope) (fs : List Defined) → after_functions n s (resolved_functions n s fs) ≡ after_functions n s fs

@@ -105,7 +105,7 @@ state_in p = p.1
 -- one function
 pub function_done : (n : ℕ) (s0 s1 s2 : State) (f : Defined) (ps' : List Formal) (b' : Action) (outer' own' : List Binding) → IsOutside s0 → Room s0 (length f.parameters + declared_in f.body)
     → (Room s0 (length f.parameters) → ResolvesFormals s0 s1 f.parameters ps') → (Room s1 (declared_in f.body) → Resolves s1 s2 f.body b') → own' ≡ [] → outer' ≡ bind s2.outer f.name.name n
-    → ResolvesFunction n s0 (record { outer = outer'; scope = record { visible = outer' ++ own'; entities = s2.scope.entities }; least = s2.least }) f (record { name = numbered n f.name; parameters = ps'; body = b' })
+    → ResolvesFunction n s0 (record { outer = outer'; scope = record { visible = outer' ++ own'; entities = s2.scope.entities }; least = s2.least }) f (record { place = f.place; name = numbered n f.name; parameters = ps'; body = b' })
 function_done n s0 s1 s2 f ps' b' outer' own' outside room formals command own_is outer_is =
     let one = formals (first_room (length s0.scope.entities) (length f.parameters) (declared_in f.body) room) in
     let start = body_start s0.scope f in
@@ -114,8 +114,8 @@ function_done n s0 s1 s2 f ps' b' outer' own' outside room formals command own_i
     let all : s2 ≡ walked s0 (function_breaches s0.scope f) (at_end start f.body) =
     next_step s0 s1 s2 (formals_breaches s0.scope f.parameters) start (λ s. breaches s.scope f.body) (λ s. at_end s.scope f.body) one.state two.state in
     record {
-      tree = ap (λ l. record { name = numbered n f.name; parameters = l; body = b' }) one.tree
-          ∙ ap (λ a. record { name = numbered n f.name; parameters = resolved_formals s0.scope f.parameters; body = a }) (two.tree ∙ ap (λ s. resolved_action s.scope f.body) one.state);
+      tree = ap (λ l. record { place = f.place; name = numbered n f.name; parameters = l; body = b' }) one.tree
+          ∙ ap (λ a. record { place = f.place; name = numbered n f.name; parameters = resolved_formals s0.scope f.parameters; body = a }) (two.tree ∙ ap (λ s. resolved_action s.scope f.body) one.state);
       state = ap (λ l. record { outer = outer'; scope = record { visible = outer' ++ l; entities = s2.scope.entities }; least = s2.least }) own_is
           ∙ ap (λ l. record { outer = outer'; scope = record { visible = l; entities = s2.scope.entities }; least = s2.least }) (append-nil outer')
           ∙ ap (λ o. settled o s2) (outer_is ∙ ap (λ s. bind s.outer f.name.name n) all ∙ ap (λ v. bind v f.name.name n) (sym outside))

@@ -13,7 +13,7 @@ use Rattle.dh_ports.specs.declared.marks.Mark.{Mark}
 use Rattle.dh_ports.specs.declared.recents.Recent.{Recent}
 use Rattle.dh_ports.specs.declared.walks.Walk.{Walk}
 use Rattle.dh_ports.specs.declared.walks.Stop.{Stop}
-use Rattle.dh_ports.specs.FirstForms.{AreBuilt, AreBuiltGroups, AreCounted, AreCountedGroups}
+use Rattle.dh_tree.specs.FirstForms.{AreBuilt, AreBuiltGroups, AreCounted, AreCountedGroups}
 use Rattle.dh_ports.specs.Logs.{AreMarks, at_begin, least, marks_now}
 use Rattle.dh_ports.specs.Tags.{Tagged, released, going_after, groups_going, part_going, is_stepped}
 use Rattle.dh_ports.specs.Walked.{Standing, Remembers}

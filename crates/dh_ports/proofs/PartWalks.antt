@@ -10,7 +10,7 @@ use Rattle.dh_ports.specs.declared.marks.Mark.{Mark}
 use Rattle.dh_ports.specs.declared.recents.Recent.{Recent}
 use Rattle.dh_ports.specs.declared.walks.Stop.{Stop}
 use Rattle.dh_ports.specs.declared.walks.Stop.TheVariants as stop
-use Rattle.dh_ports.specs.FirstForms.{IsCounted, AreCounted, AreCountedGroups, number_after, part_after, groups_after}
+use Rattle.dh_tree.specs.FirstForms.{IsCounted, AreCounted, AreCountedGroups, number_after, part_after, groups_after}
 use Rattle.dh_ports.specs.Logs.{least, at_begin, marks_now}
 use Rattle.dh_ports.specs.Tags.{Tagged, tag, tags, part_tags, groups_tags, phase_at, released, going_after, part_going, is_stepped, charges}
 use Rattle.dh_ports.specs.Walked.{Fits, Beyond, Lowers, Remembers, Standing, Passes, Walked}

@@ -8,7 +8,7 @@ use Rattle.std.proofs.lemmas.List.Folds.{list_any-append}
 use Rattle.dh_base.specs.declared.places.Place.{Place}
 use Rattle.dh_tree.specs.PlainTrees.{Action, action, ActionForm, lets, lets_memory, views, assigns, stores, reduces, calls, blocks, decides, repeats, counts, Actions, no_actions, action_then, Groups, no_groups, group_then}
 use Rattle.dh_tree.specs.Phases.{Phase, straight, one_straight, joined, phases, form_phases, groups_phases, parts_phases, id_of, holds_id, holds_both, in_one_straight}
-use Rattle.dh_ports.specs.FirstForms.{IsCounted, IsCountedForm, AreCounted, AreCountedGroups, number_after, form_after, groups_after, part_after}
+use Rattle.dh_tree.specs.FirstForms.{IsCounted, IsCountedForm, AreCounted, AreCountedGroups, number_after, form_after, groups_after, part_after}
 use Rattle.dh_ports.specs.Tags.{phase_at}
 use Rattle.dh_ports.proofs.PhaseTags.{Heads, StandsFrom}
 

@@ -10,7 +10,7 @@ use Rattle.dh_base.specs.declared.places.Place.{Place}
 use Rattle.dh_tree.specs.PlainTrees.{Term, Action, action, ActionForm, lets, lets_memory, views, assigns, stores, reduces, calls, blocks, decides, repeats, counts, Actions, no_actions, action_then, Groups, no_groups, group_then}
 use Rattle.dh_tree.specs.Phases.{Phase, straight, one_straight, joined, phases, form_phases, groups_phases, parts_phases, id_of, holds_id}
 use Rattle.dh_tree.specs.Accesses.{Access, term_accesses, form_accesses, terms_accesses, target_accesses, store_accesses}
-use Rattle.dh_ports.specs.FirstForms.{IsElement, IsRightSide, IsBuilt, IsBuiltForm, AreBuilt, AreBuiltGroups}
+use Rattle.dh_tree.specs.FirstForms.{IsElement, IsRightSide, IsBuilt, IsBuiltForm, AreBuilt, AreBuiltGroups}
 use Rattle.dh_ports.specs.Tags.{Tagged, tag, tags, form_tags, groups_tags, part_tags, released, is_stepped, going_after, form_going, groups_going, part_going, phase_at}
 use Rattle.dh_ports.proofs.StoreWalks.{one_accesses}
 

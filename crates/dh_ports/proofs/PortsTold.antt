@@ -12,7 +12,7 @@ use Rattle.dh_tree.specs.Meets.{Meets, nothing, access, all, one, In, Distinct, 
 use Rattle.dh_tree.specs.Accesses.{Access, accesses, meets, shares, equal_reads, same_entity, charge, charge_behind, declared_ports, ports_of, KeepsPorts, Overspends, PortsSpent}
 use Rattle.dh_tree.proofs.LargestSums.{before_left}
 use Rattle.dh_ports.specs.declared.recents.Recent.{Recent}
-use Rattle.dh_ports.specs.FirstForms.{HasFirstForms, number_after}
+use Rattle.dh_tree.specs.FirstForms.{HasFirstForms, number_after}
 use Rattle.dh_ports.specs.Tags.{Tagged, tags, shares_one, charge_after, charges}
 use Rattle.dh_ports.specs.declared.elements.Literal.{Literal}
 use Rattle.dh_ports.specs.SingleElements.{same_literal}

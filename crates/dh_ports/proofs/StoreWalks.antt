@@ -15,7 +15,7 @@ use Rattle.dh_ports.specs.declared.recents.Recent.{Recent}
 use Rattle.dh_ports.specs.declared.walks.Stop.{Stop}
 use Rattle.dh_ports.specs.declared.walks.Stop.TheVariants as stop
 use Rattle.dh_ports.specs.SingleElements.{literal_at, element_at, element_from, read_at, IsAt}
-use Rattle.dh_ports.specs.FirstForms.{IsNumber, IsOneNumber, IsMemory, IsElement, IsRightSide}
+use Rattle.dh_tree.specs.FirstForms.{IsNumber, IsOneNumber, IsMemory, IsElement, IsRightSide}
 use Rattle.dh_ports.specs.Tags.{Tagged, tag, phase_at}
 use Rattle.dh_ports.specs.Walked.{Remembers, Standing, Passes, Walked}
 use Rattle.dh_ports.specs.WalkSteps.{ReadsOne, ReadsAny, SpendsAny}

@@ -1,5 +1,4 @@
 pub mod SingleElements
-pub mod FirstForms
 pub mod Tags
 pub mod StepCounts
 pub mod Logs

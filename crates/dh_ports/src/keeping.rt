@@ -4,7 +4,7 @@ ghost use Rattle.std.specs.Prelude.{◌≡◌, ◌↔◌, ℕ, IfOk, Some, None,
 ghost use Rattle.dh_tree.specs.Seen.{program_seen};
 ghost use Rattle.dh_tree.specs.Accesses.{KeepsPorts};
 ghost use Rattle.dh_ports.specs.declared.recents.Recent.{Recent};
-ghost use Rattle.dh_ports.specs.FirstForms.{HasFirstForms};
+ghost use Rattle.dh_tree.specs.FirstForms.{HasFirstForms};
 ghost use Rattle.dh_ports.specs.Told.{Tells};
 
 use crate::recents::Recent;

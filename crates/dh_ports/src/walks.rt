@@ -4,7 +4,7 @@ ghost use Rattle.std.specs.Prelude.{◌≡◌, ℕ, ◌+◌, ◌<◌, ◌++◌, 
 ghost use Rattle.dh_tree.specs.PlainTrees.{blocks};
 ghost use Rattle.dh_tree.specs.Seen.{term_seen, action_seen, part_seen, groups, actions};
 ghost use Rattle.dh_tree.specs.Accesses.{store_accesses, row, meets, part_meets, groups_meets};
-ghost use Rattle.dh_ports.specs.FirstForms.{IsElement, IsRightSide, IsBuilt, AreBuilt, AreBuiltGroups, IsCounted, AreCounted, AreCountedGroups, number_after, part_after, groups_after};
+ghost use Rattle.dh_tree.specs.FirstForms.{IsElement, IsRightSide, IsBuilt, AreBuilt, AreBuiltGroups, IsCounted, AreCounted, AreCountedGroups, number_after, part_after, groups_after};
 ghost use Rattle.dh_ports.specs.Tags.{Tagged, tag, tags, part_tags, groups_tags, phase_at, released, is_stepped, going_after, part_going, form_going};
 ghost use Rattle.dh_ports.specs.SingleElements.{element_at, read_at};
 ghost use Rattle.dh_ports.specs.Logs.{AreMarks, at_begin, least, marks_now};

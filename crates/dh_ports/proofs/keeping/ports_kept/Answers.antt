@@ -1,6 +1,6 @@
 use Rattle.std.proofs.Common.{[], None, refl, ap, map, ◌∙◌}
 use Rattle.dh_tree.specs.Seen.{action_seen, program_seen}
-use Rattle.dh_ports.specs.FirstForms.{number_after}
+use Rattle.dh_tree.specs.FirstForms.{number_after}
 use Rattle.dh_ports.specs.WalkSteps.{standing}
 use Rattle.dh_ports.proofs.PortsTold.{told_kept, told_spent, none_recalled, stopped_at, kept_is_none, spent_is_some}
 use Rattle.dh_ports.proofs.keeping.ports_kept.Goals as goal
