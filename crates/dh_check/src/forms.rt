@@ -156,11 +156,11 @@ fn keep_index(kept: &mut Option<Breach>, index: &Expr)
 }
 
 #[tactic(auto, using(dh_tree::proofs::SeenTerms::terms_are, crate::proofs::Leasts::least_append))]
-fn keep_indices(kept: &mut Option<Breach>, indices: &[Expr])
-    ensures { kept.new ≡ least_of kept.old (unbuilt_indices (terms (map term_seen indices.now))) }
+fn keep_indices(kept: &mut Option<Breach>, place: Place, indices: &[Expr])
+    ensures { kept.new ≡ least_of kept.old (unbuilt_indices place (terms (map term_seen indices.now))) }
 {
     match indices {
-        [] => {}
+        [] => keep_unbuilt(kept, place),
         [first, further @ ..] => {
             keep_index(kept, first);
             keep_further_indices(kept, further);
@@ -173,7 +173,7 @@ fn keep_access(kept: &mut Option<Breach>, access: &Expr)
     ensures { kept.new ≡ least_of kept.old (unbuilt_access (term_seen access.now)) }
 {
     match &access.form {
-        ExprForm::Access { indices, .. } => keep_indices(kept, indices.as_slice()),
+        ExprForm::Access { indices, .. } => keep_indices(kept, access.place, indices.as_slice()),
         ExprForm::Number { .. } => keep_unbuilt(kept, access.place),
         ExprForm::Truth { .. } => keep_unbuilt(kept, access.place),
         ExprForm::Variable { .. } => keep_unbuilt(kept, access.place),

@@ -91,13 +91,14 @@ further_indices (term_then (term place kind form) rest) = unbuilt place ++ furth
 abbrev pub unbuilt_index : Term → List Breach
 unbuilt_index (term place kind form) = if is_some (plain_number form) then [] else unbuilt place
 
-abbrev pub unbuilt_indices : Terms → List Breach
-unbuilt_indices no_terms = []
-unbuilt_indices (term_then t rest) = unbuilt_index t ++ further_indices rest
+-- of an access at this place
+abbrev pub unbuilt_indices : Place → Terms → List Breach
+unbuilt_indices place no_terms = unbuilt place
+unbuilt_indices place (term_then t rest) = unbuilt_index t ++ further_indices rest
 
 -- an access by one number, at its name where it is of a bank
 abbrev pub unbuilt_element : Place → TermForm → List Breach
-unbuilt_element place (accessed r indices) = unbuilt_indices indices
+unbuilt_element place (accessed r indices) = unbuilt_indices place indices
 unbuilt_element place (number negative n) = unbuilt place
 unbuilt_element place (truth_value value) = unbuilt place
 unbuilt_element place (named r) = unbuilt place
