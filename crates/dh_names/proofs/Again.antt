@@ -1,11 +1,11 @@
 -- Resolving a resolved tree changes nothing, and finds the same breaches.
-use Rattle.std.proofs.Common.{◌≡◌, ℕ, ◌+◌, List, [], ◌∷◌, ◌++◌, length, map, Option, Some, None, option_map, refl, sym, ap, ◌∙◌}
+use Rattle.std.proofs.Common.{◌≡◌, ℕ, ◌+◌, List, [], ◌∷◌, ◌++◌, map, Option, Some, None, option_map, refl, ap, ◌∙◌}
 use Rattle.dh_tree.specs.declared.breaches.Breach.{Breach}
 use Rattle.dh_tree.specs.declared.trees.programs.Sort.TheVariants.{Iterator}
-use Rattle.dh_tree.specs.PlainTrees.{Term, term, TermForm, number, truth_value, named, accessed, in_bank, applied, converted, Terms, no_terms, term_then, Suffixed, ViewPlan, shrinks, splits, suffixes, shifts, Action, action, ActionForm, lets, lets_memory, views, assigns, stores, reduces, calls, blocks, decides, repeats, counts, MaybeAction, no_action, one_action, Actions, no_actions, action_then, Groups, no_groups, group_then, Declared, Formal, Defined, Program}
-use Rattle.dh_tree.specs.Scopes.{Binding, Scope, declare, leave, past, at_end, form_at_end, other_at_end, actions_at_end, groups_at_end, formal_sort, after_formals, body_start, after_function, after_functions, memory_items, function_items, items_of, outer_entities, first_scope, body_scope}
-use Rattle.dh_tree.specs.Breaches.{unknown, twice, term_breaches, term_form_breaches, terms_breaches, list_breaches, offsets_breaches, plan_breaches, value_breaches, breaches, form_breaches, other_breaches, actions_breaches, groups_breaches, formals_breaches, function_breaches, functions_breaches, items_breaches, breaches_of}
-use Rattle.dh_tree.specs.Resolved.{used, declares, numbered, resolved_term, resolved_term_form, resolved_terms, resolved_offset, resolved_plan, resolved_action, resolved_form, resolved_other, resolved_actions, resolved_groups, resolved_decls, resolved_formals, resolved_function, resolved_functions, resolved}
+use Rattle.dh_tree.specs.PlainTrees.{Term, term, TermForm, number, truth_value, named, accessed, in_bank, applied, converted, Terms, no_terms, term_then, Suffixed, ViewPlan, shrinks, splits, suffixes, shifts, Action, action, ActionForm, lets, lets_memory, views, assigns, stores, reduces, calls, blocks, decides, repeats, counts, MaybeAction, no_action, one_action, Actions, no_actions, action_then, Groups, no_groups, group_then, Formal, Defined}
+use Rattle.dh_tree.specs.Scopes.{Binding, Scope, declare, leave, past, at_end, form_at_end, other_at_end, actions_at_end, groups_at_end, formal_sort, after_formals, body_start, after_function, after_functions}
+use Rattle.dh_tree.specs.Breaches.{unknown, twice, term_breaches, term_form_breaches, terms_breaches, list_breaches, offsets_breaches, plan_breaches, value_breaches, breaches, form_breaches, other_breaches, actions_breaches, groups_breaches, formals_breaches, function_breaches, functions_breaches}
+use Rattle.dh_tree.specs.Resolved.{used, declares, numbered, resolved_term, resolved_term_form, resolved_terms, resolved_offset, resolved_plan, resolved_action, resolved_form, resolved_other, resolved_actions, resolved_groups, resolved_formals, resolved_function, resolved_functions}
 
 -- two equal parts of a list of breaches
 both : (a a' b b' : List Breach) → a ≡ a' → b ≡ b' → a ++ b ≡ a' ++ b'

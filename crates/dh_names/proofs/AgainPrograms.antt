@@ -1,13 +1,12 @@
 -- Resolving a resolved program changes nothing, and finds the same breaches.
-use Rattle.std.proofs.Common.{◌≡◌, ℕ, suc, ◌+◌, Bool, true, false, List, [], ◌∷◌, ◌++◌, length, map, refl, sym, ap, ◌∙◌, if◌then◌else◌}
-use Rattle.dh_tree.specs.declared.breaches.Breach.{Breach}
+use Rattle.std.proofs.Common.{◌≡◌, ℕ, suc, ◌+◌, Bool, true, false, List, [], ◌∷◌, ◌++◌, length, map, refl, ap, ◌∙◌, if◌then◌else◌}
 use Rattle.dh_tree.specs.declared.trees.programs.Entity.{Entity}
 use Rattle.dh_tree.specs.declared.trees.programs.Sort.TheVariants.{Memory, Function}
 use Rattle.dh_tree.specs.PlainTrees.{Action, Declared, Defined, Program}
 use Rattle.dh_tree.specs.LeastBreach.{is_before}
-use Rattle.dh_tree.specs.Scopes.{Binding, bind, Scope, at_end, after_functions, Item, memory_items, function_items, merged, items_of, after_items, entity, outer_entities, first_scope, body_scope, after_function}
+use Rattle.dh_tree.specs.Scopes.{Binding, bind, Scope, at_end, after_functions, Item, memory_items, function_items, merged, items_of, after_items, entity, first_scope, body_scope, after_function}
 use Rattle.dh_tree.specs.Breaches.{twice, breaches, functions_breaches, items_breaches, breaches_of}
-use Rattle.dh_tree.specs.Resolved.{numbered, resolved_action, resolved_decls, resolved_function, resolved_functions, resolved}
+use Rattle.dh_tree.specs.Resolved.{numbered, resolved_action, resolved_decls, resolved_functions, resolved}
 use Rattle.dh_names.proofs.Again.{end_again, action_alike, action_again, functions_end_again, functions_alike, functions_again}
 
 abbrev item_again : Item → Item

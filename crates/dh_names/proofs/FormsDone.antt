@@ -1,7 +1,6 @@
 -- What a walk over a form does, from what its steps do.
-use Rattle.std.proofs.Common.{◌≡◌, ℕ, ◌+◌, ◌≤◌, ◌^◌, Bool, true, false, List, [], ◌∷◌, ◌++◌, length, map, take, Option, Some, None, option_map, refl, sym, ap, subst, ◌∙◌, arith}
+use Rattle.std.proofs.Common.{◌≡◌, ℕ, ◌+◌, ◌≤◌, ◌^◌, true, false, List, ◌++◌, length, map, take, Option, option_map, refl, sym, ap, subst, ◌∙◌, arith}
 use Rattle.std.proofs.Math.Seq.{take-append_seam}
-use Rattle.std.proofs.lemmas.List.{length-append}
 use Rattle.dh_value.specs.declared.kinds.Kind.{Kind}
 use Rattle.dh_value.specs.declared.operators.Op.{Op}
 use Rattle.dh_base.specs.declared.places.Place.{Place}
@@ -10,13 +9,13 @@ use Rattle.dh_tree.specs.declared.breaches.Breach.{Breach}
 use Rattle.dh_tree.specs.declared.trees.expressions.Ref.{Ref}
 use Rattle.dh_tree.specs.declared.trees.programs.ShapePlaces.{ShapePlaces}
 use Rattle.dh_tree.specs.declared.trees.programs.Sort.TheVariants.{Variable, Iterator, Memory, View}
-use Rattle.dh_tree.specs.PlainTrees.{Term, ViewPlan, Placed, Action, action, ActionForm, lets, lets_memory, views, assigns, stores, reduces, calls, blocks, decides, repeats, counts, MaybeAction, no_action, one_action, Groups}
+use Rattle.dh_tree.specs.PlainTrees.{Term, ViewPlan, Placed, Action, action, ActionForm, lets, lets_memory, views, assigns, stores, reduces, calls, blocks, decides, repeats, counts, MaybeAction, Groups}
 use Rattle.dh_tree.specs.declared.trees.commands.Command.{Command}
 use Rattle.dh_tree.specs.Seen.{action_seen}
 use Rattle.dh_tree.specs.LeastBreach.{least_of}
-use Rattle.dh_tree.specs.Scopes.{Binding, Scope, declare, leave, past, at_end, form_at_end, other_at_end, groups_at_end}
-use Rattle.dh_tree.specs.Breaches.{unknown, twice, term_breaches, list_breaches, value_breaches, plan_breaches, breaches, form_breaches, other_breaches, groups_breaches}
-use Rattle.dh_tree.specs.Resolved.{used, declares, resolved_term, resolved_plan, resolved_action, resolved_form, resolved_other, resolved_groups}
+use Rattle.dh_tree.specs.Scopes.{Binding, Scope, declare, leave, past, at_end, form_at_end, other_at_end}
+use Rattle.dh_tree.specs.Breaches.{unknown, twice, term_breaches, list_breaches, value_breaches, plan_breaches, breaches, form_breaches, other_breaches}
+use Rattle.dh_tree.specs.Resolved.{used, declares, resolved_term, resolved_plan, resolved_action, resolved_other}
 use Rattle.dh_tree.specs.NameCounts.{declared_in, declared_in_form, declared_in_other, declared_in_groups}
 use Rattle.dh_names.specs.Walks.{State, walked, cut, Room, Resolves, ResolvesForm, ResolvesOther, ResolvesInner, ResolvesNext, ResolvesGroups, is_blocks}
 use Rattle.dh_names.proofs.Keeping.{least_then}

@@ -1,26 +1,25 @@
 -- Walks over the parameters of a function, over a function and over the functions of a program.
-use Rattle.std.proofs.Common.{◌≡◌, ℕ, ◌+◌, ◌≤◌, ◌<◌, ◌^◌, List, [], ◌∷◌, ◌++◌, length, map, Vec, Option, Some, refl, sym, ap, subst, ◌∙◌, arith}
+use Rattle.std.proofs.Common.{◌≡◌, ℕ, ◌+◌, ◌≤◌, ◌^◌, List, [], ◌∷◌, ◌++◌, length, map, Vec, refl, sym, ap, subst, ◌∙◌, arith}
 use Rattle.std.proofs.lemmas.List.{append-nil}
 use Rattle.std.specs.Global.{Global}
 use Rattle.std.specs.Vec.{with_items}
-use Rattle.dh_tree.specs.declared.breaches.Breach.{Breach}
 use Rattle.dh_tree.specs.declared.trees.expressions.Ref.{Ref}
 use Rattle.dh_tree.specs.declared.trees.programs.Sort.{Sort}
 use Rattle.dh_tree.specs.declared.trees.programs.Parameter.{Parameter}
 use Rattle.dh_tree.specs.declared.trees.programs.Function.{Function}
 use Rattle.dh_tree.specs.PlainTrees.{Action, Formal, Defined}
-use Rattle.dh_tree.specs.Seen.{formal_seen, defined_seen, action_seen}
+use Rattle.dh_tree.specs.Seen.{formal_seen, defined_seen}
 use Rattle.dh_tree.specs.LeastBreach.{least_of}
 use Rattle.dh_tree.specs.Scopes.{Binding, bind, Scope, declare, at_end, formal_sort, after_formals, body_start, after_function, after_functions}
 use Rattle.dh_tree.specs.Breaches.{twice, breaches, formals_breaches, function_breaches, functions_breaches}
 use Rattle.dh_tree.specs.Resolved.{declares, numbered, resolved_action, resolved_formals, resolved_function, resolved_functions}
 use Rattle.dh_tree.specs.NameCounts.{declared_in, declared_in_functions}
-use Rattle.dh_names.specs.Walks.{State, walked, cut, Room, Resolves}
+use Rattle.dh_names.specs.Walks.{State, walked, Room, Resolves}
 use Rattle.dh_names.specs.Programs.{IsOutside, between, ResolvesFormals, ResolvesFunction, ResolvesFunctions}
 use Rattle.dh_names.proofs.InPlace.{Unvisited, run, made, sum, Fits, FitsSoFar, finish, written}
 use Rattle.dh_names.proofs.Keeping.{least_then}
-use Rattle.dh_names.proofs.Extended.{Further, same, onward, declare_further, further, counted, declare_counted}
-use Rattle.dh_names.proofs.FormsDone.{next_step, room_at, first_room, next_room, cut_is}
+use Rattle.dh_names.proofs.Extended.{Further, same, onward, declare_further, counted, declare_counted}
+use Rattle.dh_names.proofs.FormsDone.{next_step, room_at, first_room, next_room}
 use Rattle.dh_names.proofs.ListsDone.{entity_count}
 
 abbrev pub formal_step : State → Formal → State

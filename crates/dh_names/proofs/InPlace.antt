@@ -1,6 +1,6 @@
 -- A walk over a list in place: each item is made anew, and each leads from a state to the next.
-use Rattle.std.proofs.Common.{◌≡◌, ◌≢◌, ℕ, suc, ◌+◌, ◌<◌, ◌≤◌, List, [], ◌∷◌, ◌++◌, length, map, take, drop, get_or, slice_index_or, slice_set, refl, sym, ap, subst, ◌∙◌, arith, add-one}
-use Rattle.std.proofs.Math.Seq.{drop-cons, drop-length, take-append_seam, take-length}
+use Rattle.std.proofs.Common.{◌≡◌, ℕ, suc, ◌+◌, ◌<◌, ◌≤◌, List, [], ◌∷◌, ◌++◌, length, map, take, drop, get_or, slice_index_or, slice_set, refl, sym, ap, subst, ◌∙◌, arith, add-one}
+use Rattle.std.proofs.Math.Seq.{drop-cons}
 use Rattle.std.proofs.lemmas.List.{get_or-set_other, length-set, append-nil, append_assoc, map-append, take_more_set, take_all, drop_all}
 
 -- items from the index on are as they were

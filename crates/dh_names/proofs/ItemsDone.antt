@@ -1,5 +1,5 @@
 -- Memories from outside and functions in text order, and their entities.
-use Rattle.std.proofs.Common.{◌≡◌, ℕ, suc, ◌+◌, ◌<◌, ◌≤◌, Bool, true, false, List, [], ◌∷◌, ◌++◌, length, map, drop, get_or, Vec, Option, refl, sym, ap, subst, ◌∙◌, arith, if◌then◌else◌, add-one}
+use Rattle.std.proofs.Common.{◌≡◌, ℕ, ◌+◌, ◌<◌, ◌≤◌, true, false, List, [], ◌∷◌, length, map, drop, get_or, Vec, Option, refl, sym, ap, subst, ◌∙◌, arith, if◌then◌else◌, add-one}
 use Rattle.std.specs.Global.{Global}
 use Rattle.std.specs.Vec.{with_items}
 use Rattle.std.proofs.Math.Seq.{drop-cons}
@@ -7,15 +7,14 @@ use Rattle.std.proofs.lemmas.List.{length-drop}
 use Rattle.dh_tree.specs.declared.breaches.Breach.{Breach}
 use Rattle.dh_tree.specs.declared.trees.programs.Decl.{Decl}
 use Rattle.dh_tree.specs.declared.trees.programs.Function.{Function}
-use Rattle.dh_tree.specs.PlainTrees.{Declared, Defined}
+use Rattle.dh_tree.specs.PlainTrees.{Declared}
 use Rattle.dh_tree.specs.Seen.{declared_seen, defined_seen}
-use Rattle.dh_tree.specs.LeastBreach.{is_before, least_of}
-use Rattle.dh_tree.specs.Scopes.{Binding, bind, Item, memory_items, function_items, merged, after_items}
-use Rattle.dh_tree.specs.Breaches.{twice, items_breaches}
+use Rattle.dh_tree.specs.LeastBreach.{least_of}
+use Rattle.dh_tree.specs.Scopes.{Binding, bind, Item, memory_items, function_items, merged}
+use Rattle.dh_tree.specs.Breaches.{twice}
 use Rattle.dh_tree.specs.Resolved.{numbered, resolved_decls}
 use Rattle.dh_names.specs.Programs.{is_function_next, AreLeft, BindsNext}
-use Rattle.dh_names.proofs.InPlace.{Unvisited, run, made, SoFar, finish, written, at_item}
-use Rattle.dh_names.proofs.Keeping.{least_then}
+use Rattle.dh_names.proofs.InPlace.{Unvisited, made, SoFar, finish, written}
 
 abbrev pub decl_step : ℕ → Declared → ℕ
 decl_step n d = n + 1

@@ -1,9 +1,9 @@
 -- Lists of names one after the other, and the least of breaches one after the other.
-use Rattle.std.proofs.Common.{◌≡◌, ℕ, Bool, true, false, List, [], ◌∷◌, ◌++◌, map, Option, Some, None, refl, sym, ap, subst, ◌∙◌, if◌then◌else◌}
+use Rattle.std.proofs.Common.{◌≡◌, ℕ, Bool, true, false, List, [], ◌∷◌, ◌++◌, map, Option, Some, None, refl, ap, if◌then◌else◌}
 use Rattle.std.specs.Option.{is_some}
 use Rattle.std.specs.Str.{bytes_eq}
 use Rattle.dh_tree.specs.declared.breaches.Breach.{Breach}
-use Rattle.dh_tree.specs.PlainTrees.{Term, Terms, term_then}
+use Rattle.dh_tree.specs.PlainTrees.{Term, term_then}
 use Rattle.dh_tree.specs.Seen.{terms}
 use Rattle.dh_tree.specs.LeastBreach.{least_of, lesser}
 use Rattle.dh_tree.specs.Scopes.{Binding, entity_of}

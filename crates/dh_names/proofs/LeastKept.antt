@@ -1,10 +1,10 @@
 -- The breach that is kept is the least.
-use Rattle.std.proofs.Common.{◌≡◌, ◌⊎◌, inl, inr, ℕ, zero, suc, ◌<◌, ◌+◌, Bool, true, false, List, [], ◌∷◌, ◌++◌, length, Option, Some, None, Contains, if◌then◌else◌, ◌==◌, ◌&&◌, ◌||◌, nat_lt, refl, sym, ap, subst, ◌∙◌, arith}
+use Rattle.std.proofs.Common.{◌≡◌, ◌⊎◌, inl, inr, ℕ, zero, suc, ◌<◌, Bool, true, false, List, [], ◌∷◌, Some, None, Contains, if◌then◌else◌, ◌==◌, ◌&&◌, ◌||◌, nat_lt, refl, sym, subst, ◌∙◌, arith}
 use Rattle.std.proofs.lemmas.Bool.Decides.{nat_tests}
 use Rattle.std.proofs.lemmas.List.Elements.{Contains-append_right}
 use Rattle.dh_base.specs.Rules.{number_of}
 use Rattle.dh_tree.specs.declared.breaches.Breach.{Breach}
-use Rattle.dh_tree.specs.LeastBreach.{Precedes, precedes, IsLeast, lesser, least_of}
+use Rattle.dh_tree.specs.LeastBreach.{Precedes, precedes, IsLeast, least_of}
 
 -- the order on three numbers, as a test and as it is said
 abbrev test : ℕ → ℕ → ℕ → ℕ → ℕ → ℕ → Bool

@@ -12,3 +12,4 @@ pub mod LeastKept
 pub mod FunctionsDone
 pub mod ItemsDone
 pub mod ProgramsDone
+pub mod EmptyTrees

@@ -1,12 +1,11 @@
 -- Walks over the commands of a part and over the parts of a block.
-use Rattle.std.proofs.Common.{◌≡◌, ℕ, ◌+◌, ◌≤◌, ◌^◌, List, [], ◌∷◌, ◌++◌, length, map, Vec, refl, sym, ap, subst, ◌∙◌, arith}
+use Rattle.std.proofs.Common.{◌≡◌, ℕ, ◌+◌, ◌≤◌, ◌^◌, List, [], ◌∷◌, length, map, Vec, refl, sym, ap, subst, ◌∙◌, arith}
 use Rattle.std.specs.Global.{Global}
 use Rattle.std.specs.Vec.{with_items}
 use Rattle.dh_tree.specs.declared.trees.commands.Command.{Command}
-use Rattle.dh_tree.specs.declared.breaches.Breach.{Breach}
-use Rattle.dh_tree.specs.PlainTrees.{Action, Actions, action_then, Groups, group_then}
+use Rattle.dh_tree.specs.PlainTrees.{Action, Actions, action_then, group_then}
 use Rattle.dh_tree.specs.Seen.{action_seen, part_seen, actions, groups}
-use Rattle.dh_tree.specs.Scopes.{Scope, past, at_end, actions_at_end, groups_at_end}
+use Rattle.dh_tree.specs.Scopes.{past, at_end, actions_at_end, groups_at_end}
 use Rattle.dh_tree.specs.Breaches.{breaches, actions_breaches, groups_breaches}
 use Rattle.dh_tree.specs.Resolved.{resolved_action, resolved_actions, resolved_groups}
 use Rattle.dh_tree.specs.NameCounts.{declared_in, declared_in_actions, declared_in_groups}

@@ -1,8 +1,7 @@
 -- A walk over the offsets of a view.
-use Rattle.std.proofs.Common.{◌≡◌, ℕ, ◌≤◌, List, [], ◌∷◌, ◌++◌, length, map, refl, sym, ap, ◌∙◌}
-use Rattle.dh_tree.specs.declared.breaches.Breach.{Breach}
+use Rattle.std.proofs.Common.{◌≡◌, ℕ, List, [], ◌∷◌, map, refl, sym, ap, ◌∙◌}
 use Rattle.dh_tree.specs.declared.trees.expressions.Expr.{Expr}
-use Rattle.dh_tree.specs.PlainTrees.{Term, Suffixed}
+use Rattle.dh_tree.specs.PlainTrees.{Suffixed}
 use Rattle.dh_tree.specs.Seen.{term_seen, factor_seen}
 use Rattle.dh_tree.specs.Breaches.{term_breaches, offsets_breaches}
 use Rattle.dh_tree.specs.Resolved.{resolved_term, resolved_offset}

@@ -1,5 +1,5 @@
 -- A walk over a whole program.
-use Rattle.std.proofs.Common.{◌≡◌, ℕ, suc, ◌+◌, ◌<◌, ◌≤◌, ◌^◌, List, [], ◌∷◌, ◌++◌, length, map, drop, Option, Some, None, refl, sym, ap, subst, ◌∙◌, arith}
+use Rattle.std.proofs.Common.{◌≡◌, ℕ, ◌+◌, List, [], ◌∷◌, ◌++◌, length, map, Some, None, sym, ap, subst, ◌∙◌, arith}
 use Rattle.std.proofs.lemmas.List.{length-append, append-nil}
 use Rattle.dh_tree.specs.declared.breaches.Breach.{Breach}
 use Rattle.dh_tree.specs.declared.trees.programs.Decl.{Decl}
@@ -13,9 +13,9 @@ use Rattle.dh_tree.specs.LeastBreach.{least_of, IsLeast}
 use Rattle.dh_tree.specs.Scopes.{Binding, Scope, at_end, after_function, after_functions, memory_items, function_items, merged, items_of, after_items, entity, outer_entities, first_scope, body_scope}
 use Rattle.dh_tree.specs.Breaches.{breaches, functions_breaches, items_breaches, breaches_of, KeepsNames}
 use Rattle.dh_tree.specs.Resolved.{resolved_action, resolved_decls, resolved_functions, resolved, HasEntities}
-use Rattle.dh_tree.specs.NameCounts.{declared_in, declared_in_functions, names_declared, HasFewNames}
-use Rattle.dh_names.specs.Walks.{State, walked, Room, Resolves}
-use Rattle.dh_names.specs.Programs.{between, ResolvesFunctions, left}
+use Rattle.dh_tree.specs.NameCounts.{declared_in, declared_in_functions, HasFewNames}
+use Rattle.dh_names.specs.Walks.{State, Room, Resolves}
+use Rattle.dh_names.specs.Programs.{ResolvesFunctions, left}
 use Rattle.dh_names.proofs.Keeping.{least_then}
 use Rattle.dh_names.proofs.LeastKept.{none_kept, least_kept}
 use Rattle.dh_names.proofs.AgainPrograms.{breaches_again, resolved_again}

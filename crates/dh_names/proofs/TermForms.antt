@@ -1,5 +1,5 @@
 -- Expressions whose parts were given their numbers.
-use Rattle.std.proofs.Common.{◌≡◌, ℕ, List, [], ◌∷◌, ◌++◌, map, length, get_or, take, drop, Option, Vec, refl, sym, ap, ◌∙◌, ◌<◌, ◌≤◌, ◌+◌, slice_set}
+use Rattle.std.proofs.Common.{◌≡◌, ℕ, List, [], ◌∷◌, ◌++◌, map, Option, Vec, refl, sym, ap, ◌∙◌}
 use Rattle.std.specs.Global.{Global, Box}
 use Rattle.std.specs.Box.{with_value}
 use Rattle.dh_base.specs.declared.places.Place.{Place}
@@ -10,15 +10,15 @@ use Rattle.dh_tree.specs.declared.trees.expressions.Ref.{Ref}
 use Rattle.dh_tree.specs.declared.trees.expressions.Expr.{Expr}
 use Rattle.dh_tree.specs.declared.trees.expressions.ExprForm.{ExprForm}
 use Rattle.dh_tree.specs.declared.trees.expressions.ExprForm.TheVariants.{Access, Physical, Binary, Cast}
-use Rattle.dh_tree.specs.PlainTrees.{Term, term, accessed, in_bank, applied, converted}
+use Rattle.dh_tree.specs.PlainTrees.{Term, accessed, in_bank, applied, converted}
 use Rattle.dh_tree.specs.Seen.{form_seen, term_seen, terms}
 use Rattle.dh_tree.specs.LeastBreach.{least_of}
 use Rattle.dh_tree.specs.Scopes.{Binding}
-use Rattle.dh_tree.specs.Breaches.{unknown, term_breaches, term_form_breaches, terms_breaches, list_breaches}
+use Rattle.dh_tree.specs.Breaches.{unknown, term_breaches, term_form_breaches, list_breaches}
 use Rattle.dh_tree.specs.Resolved.{used, resolved_term, resolved_term_form}
 use Rattle.dh_tree.proofs.SeenTerms.{access_is, physical_is, binary_is, cast_is}
 use Rattle.dh_names.proofs.Keeping.{least_then, terms_listed, breaches_listed}
-use Rattle.dh_names.proofs.InPlace.{run, made, SoFar, Unvisited, turn, finish, written}
+use Rattle.dh_names.proofs.InPlace.{run, made}
 
 module _ (bs : List Binding) where
   pub access_done : (form : ExprForm) (r r' : Ref) (v v' : Vec Expr Global) → form ≡ Access r v → r' ≡ used bs r → map term_seen v'.items ≡ map (resolved_term bs) (map term_seen v.items)

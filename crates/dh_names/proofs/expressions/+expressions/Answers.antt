@@ -1,4 +1,4 @@
-use Rattle.std.proofs.Common.{◌≡◌, ◌∙◌, ap, sym, map, refl, length, arith}
+use Rattle.std.proofs.Common.{◌∙◌, ap, sym, map, refl, length, arith}
 use Rattle.dh_tree.specs.Seen.{term_seen}
 use Rattle.dh_tree.specs.LeastBreach.{least_of}
 use Rattle.dh_tree.specs.Breaches.{term_breaches, list_breaches}

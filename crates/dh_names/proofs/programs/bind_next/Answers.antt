@@ -1,6 +1,6 @@
-use Rattle.std.proofs.Common.{◌≡◌, ◌∙◌, sym, ap}
+use Rattle.std.proofs.Common.{◌∙◌, sym}
 use Rattle.dh_names.specs.Visible.{visible}
-use Rattle.dh_names.proofs.ItemsDone.{function_within, memory_within, function_next, memory_next}
+use Rattle.dh_names.proofs.ItemsDone.{memory_within, function_next, memory_next}
 use Rattle.dh_names.proofs.programs.bind_next.Goals as goal
 
 pub bounds-decls-memory : goal.bounds-decls-memory

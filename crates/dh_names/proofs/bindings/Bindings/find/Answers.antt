@@ -1,4 +1,4 @@
-use Rattle.std.proofs.Common.{◌≡◌, ◌∙◌, ap, sym}
+use Rattle.std.proofs.Common.{◌∙◌}
 use Rattle.dh_names.proofs.Entered.{found}
 use Rattle.dh_names.proofs.bindings.Bindings.find.Goals as goal
 

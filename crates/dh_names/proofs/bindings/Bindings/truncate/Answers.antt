@@ -1,4 +1,4 @@
-use Rattle.std.proofs.Common.{◌≡◌, ◌∙◌, ap, sym, take, map}
+use Rattle.std.proofs.Common.{◌∙◌, ap, sym, take, map}
 use Rattle.std.proofs.lemmas.List.{take-map}
 use Rattle.dh_names.specs.Entries.{bound}
 use Rattle.dh_names.proofs.bindings.Bindings.truncate.Goals as goal

@@ -1,4 +1,4 @@
-use Rattle.std.proofs.Common.{◌≡◌, ◌∙◌, ap, sym}
+use Rattle.std.proofs.Common.{◌∙◌, sym}
 use Rattle.dh_names.proofs.Keeping.{found_first, found_next}
 use Rattle.dh_names.proofs.scopes.Names.find.Goals as goal
 

@@ -1,4 +1,4 @@
-use Rattle.std.proofs.Common.{◌≡◌, ◌∙◌, ap, sym, map, option_map, refl, rules, arith, ◌^◌}
+use Rattle.std.proofs.Common.{◌∙◌, ap, sym, map, option_map, arith, ◌^◌}
 use Rattle.std.proofs.lemmas.Result.{on_ok_weaker}
 use Rattle.std.specs.Box.{with_value}
 use Rattle.std.specs.Vec.{with_items}

@@ -1,4 +1,4 @@
-use Rattle.std.proofs.Common.{◌≡◌, ◌∙◌, ap, sym, map, subst, ◌+◌}
+use Rattle.std.proofs.Common.{sym, map, subst, ◌+◌}
 use Rattle.std.proofs.lemmas.Result.{on_ok_weaker}
 use Rattle.dh_tree.specs.NameCounts.{declared_in}
 use Rattle.dh_tree.specs.Seen.{formal_seen, action_seen, defined_seen}

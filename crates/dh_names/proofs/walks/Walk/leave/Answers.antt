@@ -1,9 +1,7 @@
-use Rattle.std.proofs.Common.{◌≡◌, ◌++◌, ap, sym, ◌∙◌}
+use Rattle.std.proofs.Common.{◌++◌, ap, sym, ◌∙◌}
 use Rattle.std.proofs.Math.Seq.{take-append-add}
 use Rattle.dh_names.proofs.FormsDone.{with_visible}
 use Rattle.dh_names.specs.Walks.{state_of}
-use Rattle.dh_names.proofs.AgainPrograms.{resolved_again}
-use Rattle.dh_names.proofs.LeastKept.{least_kept}
 use Rattle.dh_names.proofs.walks.Walk.leave.Goals as goal
 
 pub returns : goal.returns

@@ -1,4 +1,4 @@
-use Rattle.std.proofs.Common.{◌≡◌, ◌∙◌, ap, sym, map, refl, length, get_or, arith}
+use Rattle.std.proofs.Common.{◌∙◌, ap, sym, map, refl, length, get_or, arith}
 use Rattle.dh_tree.specs.Seen.{factor_seen}
 use Rattle.dh_tree.specs.Breaches.{offsets_breaches}
 use Rattle.dh_tree.specs.Resolved.{resolved_offset}

@@ -1,4 +1,4 @@
-use Rattle.std.proofs.Common.{◌≡◌, ◌∙◌, ap, sym, map, refl, length, get_or, ◌^◌, arith}
+use Rattle.std.proofs.Common.{get_or, ◌^◌, arith}
 use Rattle.dh_tree.specs.Seen.{formal_seen}
 use Rattle.dh_names.specs.Walks.{state_of}
 use Rattle.dh_names.proofs.InPlace.{turn_fits}
