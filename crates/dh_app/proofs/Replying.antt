@@ -11,7 +11,13 @@ use Rattle.dh_base.specs.declared.outcomes.Outcome.TheVariants as outcome
 use Rattle.dh_base.specs.declared.statuses.Status.{Status}
 use Rattle.dh_base.specs.declared.statuses.Status.TheVariants as status
 use Rattle.dh_tree.specs.Tables.{Fits}
-use Rattle.dh_tree.specs.declared.thin.Program.{Program}
+use Rattle.dh_tree.specs.Meaning.{table_of}
+use Rattle.dh_tree.specs.PlainTrees.{Program}
+use Rattle.dh_tree.specs.Seen.{program_seen}
+use Rattle.dh_tree.specs.declared.tables.MemEntry.{MemEntry}
+use Rattle.dh_check.specs.Verdicts.{Verdict, accepts, refuses, exceeds, IsVerdict}
+use Rattle.dh_check.specs.declared.accepted.Accepted.{Accepted}
+use Rattle.dh_data.specs.Reports.{report_text}
 use Rattle.dh_net.specs.declared.nets.Net.{Net}
 use Rattle.dh_net.specs.Plays.{IsStuck}
 use Rattle.dh_net.proofs.Reporting.{reports_by}
@@ -21,30 +27,36 @@ use Rattle.serde_json.specs.Data.{Data}
 use Rattle.dh_base.specs.declared.lists.NoMemory.{NoMemory}
 use Rattle.std.specs.declared.alloc.Global.{Global}
 use Rattle.dh_app.specs.Engines.{AnswersTo, AreRuns}
-use Rattle.dh_app.specs.Ends.{most_clocks, Names, NamesLower, NamesProgram, MayRead, IsTooLong, FailsToRead, IsProgram, IsData, IsNoData, status_of, IsReport, Reported, Answers}
+use Rattle.dh_app.specs.Ends.{most_clocks, Names, NamesCheck, NamesLower, NamesProgram, MayRead, IsTooLong, FailsToRead, ComesTo, IsProgram, IsData, IsNoData, status_of, ending_of, IsReport, Reported, Answers, verdict_line, verdict_status}
 use Rattle.dh_app.specs.Lines.{not_json_line}
-use Rattle.dh_app.specs.Replies.{AnswersLine, AnswersWith, Replies, ProgramOf, ProgramRead, DataOf, DataRead, RunReplies, ReportsFirst, LowerReplies}
+use Rattle.dh_app.specs.Replies.{AnswersLine, AnswersWith, Replies, IsRefusal, ProgramOf, ProgramRead, DataOf, DataRead, RunReplies, ReportsFirst, LowerReplies, CheckReplies}
 use Rattle.dh_app.specs.declared.engine.Finish.{Finish}
 use Rattle.dh_app.specs.declared.running.Answer.{Answer}
 use Rattle.dh_app.specs.declared.running.Reply.{Reply}
 use Rattle.dh_app.specs.declared.running.Reply.TheVariants as reply
 
 -- a file that was read, and its text
-pub program_read : (old new : FilesSeen) (name text : List ℕ) (r : Result Program Reply) → MayBe (old.told name) text → length text ≤ greatest_of limit.Source
+pub program_read : (old new : FilesSeen) (name text : List ℕ) (r : Result Accepted Reply) → MayBe (old.told name) text → length text ≤ greatest_of limit.Source
     → ProgramOf text r → ProgramRead old new name r
-program_read old new name text (Ok p) m l h = record { text = text; read = record { contents = m; within = l }; thin = h.0; only = h.1 }
+program_read old new name text (Ok p) m l h = record { text = text; read = record { contents = m; within = l }; verdict = h }
 program_read old new name text (Err (reply.Answer a)) m l h =
-    inr (record { none = record { text = text; read = record { contents = m; within = l }; not_thin = h.not_thin }; status_is = h.status_is; text_is = h.text_is })
+    inr (record {
+      verdict = h.verdict;
+      refuses_it = h.refuses_it;
+      comes = record { text = text; read = record { contents = m; within = l }; verdict = h.answers.verdict };
+      status_is = h.answers.status_is;
+      text_is = h.answers.text_is;
+    })
 program_read old new name text (Err reply.ReadFault) m l h = absurd h
 program_read old new name text (Err reply.NoMemory) m l h = tt
 
-pub data_read : (old new : FilesSeen) (name bytes : List ℕ) (p : Program) (r : Result (List (List ℕ)) Reply) → MayBe (old.told name) bytes → length bytes ≤ greatest_of limit.Data
-    → DataOf bytes p r → DataRead old new name p r
-data_read old new name bytes p (Ok memories) m l h = (record { bytes = bytes; read = record { contents = m; within = l }; holds = h.0; only = h.1.0 }, h.1.1)
-data_read old new name bytes p (Err (reply.Answer a)) m l h =
+pub data_read : (old new : FilesSeen) (name bytes : List ℕ) (table : List MemEntry) (r : Result (List (List ℕ)) Reply) → MayBe (old.told name) bytes → length bytes ≤ greatest_of limit.Data
+    → DataOf bytes table r → DataRead old new name table r
+data_read old new name bytes table (Ok memories) m l h = (record { bytes = bytes; read = record { contents = m; within = l }; holds = h.0; only = h.1.0 }, h.1.1)
+data_read old new name bytes table (Err (reply.Answer a)) m l h =
     inr (record { none = record { bytes = bytes; read = record { contents = m; within = l }; holds_none = h.holds_none }; status_is = h.status_is; text_is = h.text_is })
-data_read old new name bytes p (Err reply.ReadFault) m l h = absurd h
-data_read old new name bytes p (Err reply.NoMemory) m l h = tt
+data_read old new name bytes table (Err reply.ReadFault) m l h = absurd h
+data_read old new name bytes table (Err reply.NoMemory) m l h = tt
 
 -- what is known of a name stays
 told_same : (old mid : FilesSeen) (name : List ℕ) → KeepsFiles old mid → mid.told name ≡ old.told name
@@ -72,11 +84,11 @@ fails_before : (old mid new : FilesSeen) (name : List ℕ) → KeepsFiles old mi
 fails_before old mid new name k (inl r) = inl (rose_before old.faults mid.faults new.faults k.faults r)
 fails_before old mid new name k (inr a) = let P : Told → Type 0 = IsAbsent in inr (subst P (told_same old mid name k) a)
 
-data_before : (old mid : FilesSeen) (name : List ℕ) (p : Program) (memories : List (List ℕ)) → KeepsFiles old mid → IsData mid name p memories → IsData old name p memories
-data_before old mid name p memories k h = record { bytes = h.bytes; read = read_before old mid name limit.Data h.bytes k h.read; holds = h.holds; only = h.only }
+data_before : (old mid : FilesSeen) (name : List ℕ) (table : List MemEntry) (memories : List (List ℕ)) → KeepsFiles old mid → IsData mid name table memories → IsData old name table memories
+data_before old mid name table memories k h = record { bytes = h.bytes; read = read_before old mid name limit.Data h.bytes k h.read; holds = h.holds; only = h.only }
 
-no_data_before : (old mid : FilesSeen) (name : List ℕ) (p : Program) → KeepsFiles old mid → IsNoData mid name p → IsNoData old name p
-no_data_before old mid name p k h = record { bytes = h.bytes; read = read_before old mid name limit.Data h.bytes k h.read; holds_none = h.holds_none }
+no_data_before : (old mid : FilesSeen) (name : List ℕ) (table : List MemEntry) → KeepsFiles old mid → IsNoData mid name table → IsNoData old name table
+no_data_before old mid name table k h = record { bytes = h.bytes; read = read_before old mid name limit.Data h.bytes k h.read; holds_none = h.holds_none }
 
 -- a report's status is that of an outcome
 report_answers : (words : List (List ℕ)) (old new : FilesSeen) (exact : Bool) (answers : List Finish) (o : Outcome) (text : List ℕ) → (IsStuck o → ⊥)
@@ -93,74 +105,98 @@ with_status words old new exact answers a s e h =
     let P : Status → Type 0 = λ x. Answers words old new exact answers x a.text.items in
     subst P (sym e) h
 
+-- a verdict that refuses is answered
+refused : (words : List (List ℕ)) (old new : FilesSeen) (exact : Bool) (answers : List Finish) (file : List ℕ) (a : Answer) (v : Verdict) → IsRefusal v → NamesProgram words file
+    → ComesTo old file v → a.status ≡ verdict_status v → a.text.items ≡ verdict_line v → Replies words old new exact answers (reply.Answer a)
+refused words old new exact answers file a (accepts p) r names comes s t = absurd r
+refused words old new exact answers file a (refuses rule place) r names comes s t =
+    with_status words old new exact answers a status.Refused s (record { file = file; names = names; rule = rule; place = place; comes = comes; text_is = t })
+refused words old new exact answers file a (exceeds excess) r names comes s t =
+    with_status words old new exact answers a status.TooLarge s (inr (inl (record { file = file; names = names; excess = excess; comes = comes; text_is = t })))
+
 -- the program's file gave no program
 pub no_program : (old new : FilesSeen) (file : List ℕ) (exact : Bool) (answers : List Finish) (r : Reply) → ProgramRead old new file (Err r)
     → (words : List (List ℕ)) → NamesProgram words file → Replies words old new exact answers r
 no_program old new file exact answers (reply.Answer a) (inl h) words names =
     with_status words old new exact answers a status.TooLarge h.status_is (inl (record { file = file; names = names; too_long = h.long; text_is = h.text_is }))
 no_program old new file exact answers (reply.Answer a) (inr h) words names =
-    with_status words old new exact answers a status.Refused h.status_is (record { file = file; names = names; no_program = h.none; text_is = h.text_is })
+    refused words old new exact answers file a h.verdict h.refuses_it names h.comes h.status_is h.text_is
 no_program old new file exact answers reply.ReadFault h words names = inl (record { file = file; names = names; fails = h })
 no_program old new file exact answers reply.NoMemory h words names = tt
+
+-- the program was accepted
+pub check_replied : (old new : FilesSeen) (file : List ℕ) (p : Program) (exact : Bool) (answers : List Finish) (r : Reply) → IsProgram old file p → CheckReplies r
+    → (words : List (List ℕ)) → NamesCheck words file → Replies words old new exact answers r
+check_replied old new file p exact answers (reply.Answer a) program h words names =
+    with_status words old new exact answers a status.Done h.status_is
+    (inr (inr (record { file = file; names = names; program = p; is_program = program; text_is = h.text_is })))
+check_replied old new file p exact answers reply.ReadFault program h words names = absurd h
+check_replied old new file p exact answers reply.NoMemory program h words names = tt
 
 -- the program was lowered
 pub net_written : (old new : FilesSeen) (file : List ℕ) (p : Program) (exact : Bool) (answers : List Finish) (r : Reply) → IsProgram old file p → LowerReplies p r
     → (words : List (List ℕ)) → NamesLower words file → Replies words old new exact answers r
 net_written old new file p exact answers (reply.Answer a) program h words names =
     with_status words old new exact answers a status.Done h.status_is
-    (inr (record { file = file; names = names; program = p; is_program = program; net = h.net; plays = h.plays; text_is = h.text_is; alone = h.alone }))
+    (inr (inl (record { file = file; names = names; program = p; is_program = program; net = h.net; plays = h.plays; text_is = h.text_is; alone = h.alone })))
 net_written old new file p exact answers reply.ReadFault program h words names = absurd h
 net_written old new file p exact answers reply.NoMemory program h words names = tt
 
 -- the data file gave no memories
 pub no_memories : (old mid new : FilesSeen) (file data_ : List ℕ) (p : Program) (exact : Bool) (answers : List Finish) (r : Reply) → KeepsFiles old mid → IsProgram old file p
-    → DataRead mid new data_ p (Err r) → (words : List (List ℕ)) → Names words file data_ → Replies words old new exact answers r
+    → DataRead mid new data_ (table_of p) (Err r) → (words : List (List ℕ)) → Names words file data_ → Replies words old new exact answers r
 no_memories old mid new file data_ p exact answers (reply.Answer a) k program (inl h) words names =
     with_status words old new exact answers a status.TooLarge h.status_is
-    (inr (record { file = file; data_ = data_; names = names; program = p; is_program = program; too_long = long_before old mid new data_ limit.Data k h.long; text_is = h.text_is }))
+    (inr (inr (record { file = file; data_ = data_; names = names; program = p; is_program = program; too_long = long_before old mid new data_ limit.Data k h.long; text_is = h.text_is })))
 no_memories old mid new file data_ p exact answers (reply.Answer a) k program (inr h) words names =
     with_status words old new exact answers a status.BadData h.status_is
-    (record { file = file; data_ = data_; names = names; program = p; is_program = program; no_data = no_data_before old mid data_ p k h.none; text_is = h.text_is })
+    (record { file = file; data_ = data_; names = names; program = p; is_program = program; no_data = no_data_before old mid data_ (table_of p) k h.none; text_is = h.text_is })
 no_memories old mid new file data_ p exact answers reply.ReadFault k program h words names =
     inr (record { file = file; data_ = data_; names = names; program = p; is_program = program; fails = fails_before old mid new data_ k h })
 no_memories old mid new file data_ p exact answers reply.NoMemory k program h words names = tt
 
 -- the run was reported
 pub run_replied : (old mid new : FilesSeen) (file data_ : List ℕ) (p : Program) (memories : List (List ℕ)) (exact : Bool) (answers : List Finish) (r : Reply) → KeepsFiles old mid → IsProgram old file p
-    → DataRead mid new data_ p (Ok memories) → RunReplies p memories exact answers r → (words : List (List ℕ)) → Names words file data_ → Replies words old new exact answers r
+    → DataRead mid new data_ (table_of p) (Ok memories) → RunReplies p memories exact answers r → (words : List (List ℕ)) → Names words file data_ → Replies words old new exact answers r
 run_replied old mid new file data_ p memories exact answers (reply.Answer a) k program found h words names =
     let o = h.finish.outcome in
     let P : Status → Type 0 = λ s. IsReport p memories exact answers s a.text.items in
     with_status words old new exact answers a (status_of o) h.status_is
     (report_answers words old new exact answers o a.text.items h.not_stuck
-    (record { file = file; data_ = data_; names = names; program = p; is_program = program; memories = memories; is_data = data_before old mid data_ p memories k found.0; report = subst P h.status_is h }))
+    (record { file = file; data_ = data_; names = names; program = p; is_program = program; memories = memories; is_data = data_before old mid data_ (table_of p) memories k found.0; report = subst P h.status_is h }))
 run_replied old mid new file data_ p memories exact answers reply.ReadFault k program found h words names = absurd h
 run_replied old mid new file data_ p memories exact answers reply.NoMemory k program found h words names = tt
 
 -- the one answer of the engine is reported
-pub one_report : (p : Program) (net : Net) (memories : List (List ℕ)) (exact : Bool) (answers : List Finish) (r : Reply) → PlaysProgram net p → Fits p.table memories
-    → AnswersTo net (memories ∷ []) answers → (exact ≡ true → AreRuns net most_clocks (memories ∷ []) answers) → ReportsFirst p answers r → RunReplies p memories exact answers r
+pub one_report : (p : Program) (net : Net) (memories : List (List ℕ)) (exact : Bool) (answers : List Finish) (r : Reply) → PlaysProgram net p → Fits net.table memories
+    → AnswersTo net (memories ∷ []) answers → (exact ≡ true → AreRuns net most_clocks (memories ∷ []) answers) → ReportsFirst net.table answers r → RunReplies p memories exact answers r
 one_report p net memories exact answers (reply.Answer a) plays fits answered runs h =
     let P : List Finish → Type 0 = λ fs. AnswersTo net (memories ∷ []) fs in
     let Q : List Finish → Type 0 = λ fs. AreRuns net most_clocks (memories ∷ []) fs in
+    let F : List MemEntry → Type 0 = λ t. Fits t memories in
     record {
       finish = h.finish;
       answered = h.answered;
       not_stuck = (subst P h.answered answered).0.not_stuck;
       status_is = h.status_is;
-      text_is = h.text_is;
-      right = λ e. reports_by (plays.plays memories fits) (subst Q h.answered (runs e)).0;
+      text_is = h.text_is ∙ ap (λ t. report_text t h.finish.memories (ending_of h.finish)) plays.table;
+      right = λ e. reports_by (plays.plays memories (subst F plays.table fits)) (subst Q h.answered (runs e)).0;
     }
 one_report p net memories exact answers reply.ReadFault plays fits answered runs h = absurd h
 one_report p net memories exact answers reply.NoMemory plays fits answered runs h = tt
 
 -- one answer to one set of memories
-pub only_answer : (p : Program) (net : Net) (memories : List (List ℕ)) (answers : List Finish) → PlaysProgram net p → AnswersTo net (memories ∷ []) answers
-    → (f : Finish) × ((answers ≡ f ∷ []) × Fits p.table f.memories)
-only_answer p net memories [] plays h = absurd h
-only_answer p net memories (f ∷ []) plays h =
-    (f, (refl, (let P : List _ → Type 0 = λ t. Fits t f.memories in subst P plays.table h.0.fits)))
-only_answer p net memories (f ∷ (g ∷ fs)) plays h = absurd h.1
+pub only_answer : (net : Net) (memories : List (List ℕ)) (answers : List Finish) → AnswersTo net (memories ∷ []) answers
+    → (f : Finish) × ((answers ≡ f ∷ []) × Fits net.table f.memories)
+only_answer net memories [] h = absurd h
+only_answer net memories (f ∷ []) h = (f, (refl, h.0.fits))
+only_answer net memories (f ∷ (g ∷ fs)) h = absurd h.1
+
+-- a text that a verdict refuses
+pub refused_text : (text : List ℕ) (v : Verdict) (r : Reply) → IsRefusal v → IsVerdict text v → AnswersLine (verdict_status v) (verdict_line v) r → ProgramOf text (Err r)
+refused_text text v (reply.Answer a) h k l = record { verdict = v; refuses_it = h; answers = record { verdict = k; status_is = l.0; text_is = l.1 } }
+refused_text text v reply.ReadFault h k l = absurd l
+refused_text text v reply.NoMemory h k l = tt
 
 -- an answer with a line that is this text
 pub with_line : (s : Status) (text : List ℕ) (line : Result (Vec ℕ Global) NoMemory) (r : Reply) → IfOk line (λ v. v.items ≡ text) → AnswersWith s line r → AnswersLine s text r
@@ -172,7 +208,7 @@ with_line s text (Err f) reply.ReadFault e h = absurd h
 with_line s text (Err f) reply.NoMemory e h = tt
 
 -- bytes that hold no memories
-pub bad_bytes : (bytes : List ℕ) (p : Program) (r : Reply) → ((d : Data) (m : List (List ℕ)) → ReadsAs bytes d → IsDataOf p.table d m → ⊥) → AnswersLine status.BadData not_json_line r → DataOf bytes p (Err r)
-bad_bytes bytes p (reply.Answer a) h l = record { holds_none = λ m held. h held.0 m held.1.0 held.1.1; status_is = l.0; text_is = l.1 }
-bad_bytes bytes p reply.ReadFault h l = absurd l
-bad_bytes bytes p reply.NoMemory h l = tt
+pub bad_bytes : (bytes : List ℕ) (table : List MemEntry) (r : Reply) → ((d : Data) (m : List (List ℕ)) → ReadsAs bytes d → IsDataOf table d m → ⊥) → AnswersLine status.BadData not_json_line r → DataOf bytes table (Err r)
+bad_bytes bytes table (reply.Answer a) h l = record { holds_none = λ m held. h held.0 m held.1.0 held.1.1; status_is = l.0; text_is = l.1 }
+bad_bytes bytes table reply.ReadFault h l = absurd l
+bad_bytes bytes table reply.NoMemory h l = tt

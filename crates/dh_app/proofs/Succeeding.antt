@@ -1,55 +1,67 @@
--- A call in whose way nothing stands writes the whole report of the program's run. Each other status is
--- ruled out by its own case: the files are read as they are, there is one program of the text and one
--- list of memories of the data, and the run of a thin program ends within 128 clocks, so it neither
--- faults nor goes on to the limit.
+-- A call in whose way nothing stands writes its whole answer. Each other status is ruled out by its own
+-- case: the words name one job and its files, the files are read as they are, a text comes to one
+-- verdict, and the data hold one list of memories.
 use Rattle.std.proofs.Common.{◌≡◌, ℕ, ◌<◌, ◌≤◌, ◌⊎◌, Bool, List, [], ◌∷◌, length, get_or, Option, Some, None, refl, sym, ap, ◌∙◌, arith, subst, inl, inr}
 use Rattle.dh_base.specs.Limits.{greatest_of}
 use Rattle.dh_base.specs.Outside as outside
 use Rattle.dh_base.specs.Outside.{Told, FilesSeen, SinkSeen, Rose, MayBe, IsAbsent, MayExceed, Grew}
 use Rattle.dh_base.specs.declared.limits.Limit.TheVariants as limit
-use Rattle.dh_base.specs.declared.outcomes.Outcome.{Outcome}
-use Rattle.dh_base.specs.declared.outcomes.Outcome.TheVariants as outcome
 use Rattle.dh_base.specs.declared.statuses.Status.{Status}
 use Rattle.dh_base.specs.declared.statuses.Status.TheVariants as status
-use Rattle.dh_tree.specs.Tables.{Fits}
+use Rattle.dh_tree.specs.Meaning.{table_of}
+use Rattle.dh_tree.specs.PlainTrees.{Program}
 use Rattle.dh_tree.specs.declared.tables.MemEntry.{MemEntry}
-use Rattle.dh_tree.specs.declared.thin.Program.{Program}
-use Rattle.dh_tree.specs.Thin.{IsThinText}
-use Rattle.dh_net.specs.Plays.{EndsAfter, clocks_of}
-use Rattle.dh_net.specs.Reports.{ReportsAs}
-use Rattle.dh_net.proofs.Fits.{no_fault_at_end}
+use Rattle.dh_check.specs.Verdicts.{Verdict, accepts, refuses, exceeds, Judged}
 use Rattle.dh_compile.specs.Compiled.{PlaysProgram}
-use Rattle.dh_compile.specs.ThinRun.{run_of}
 use Rattle.dh_verilog.specs.Ranges.{IsAlone}
-use Rattle.dh_compile.proofs.PlayingPrograms.{ends_soon}
-use Rattle.dh_data.specs.ThinData.{Holds, AreMembers}
-use Rattle.serde_json.specs.Data.{Members}
+use Rattle.dh_data.specs.ThinData.{Holds}
 use Rattle.dh_data.specs.Reports.{report_text}
+use Rattle.dh_app.specs.Words.{job_of}
+use Rattle.dh_app.specs.Lines.{ok_line, refused_line, too_large_line}
 use Rattle.dh_app.specs.declared.engine.Finish.{Finish}
 use Rattle.dh_app.specs.declared.words.Job.{Job}
-use Rattle.dh_app.specs.declared.words.Job.TheVariants.{Lower, Simulate}
-use Rattle.dh_app.specs.Ends.{most_clocks, Names, NamesLower, NamesProgram, Lowered, NothingFailsLower, WritesNet, MayRead, FailsToRead, IsProgram, IsData, status_of, ending_of, IsReport, Reported, ProgramTooLong, DataTooLong, ReadFails, Ends, NothingFails, ReportsRun, Succeeds}
+use Rattle.dh_app.specs.declared.words.Job.TheVariants.{Check, Lower, Simulate}
+use Rattle.dh_app.specs.Ends.{Names, NamesCheck, NamesLower, NamesProgram, MayRead, FailsToRead, ComesTo, IsProgram, IsData, IsReport, Reported, Lowered, IsChecked, IsRefused, IsExceeding, ProgramTooLong, DataTooLong, ReadFails, Ends, NothingFails, ReportsRun, NothingFailsLower, WritesNet, NothingFailsCheck, WritesVerdict, verdict_line, verdict_status, Succeeds}
 
--- two jobs of the same words name the same files
-abbrev first_of : Option Job → ℕ
-first_of None = 0
-first_of (Some (Simulate a b)) = a
-first_of (Some (Lower a)) = a
+-- the places of the files of a job
+abbrev file_place : Option Job → ℕ
+file_place None = 0
+file_place (Some (Check a)) = a
+file_place (Some (Lower a)) = a
+file_place (Some (Simulate a b)) = a
 
-abbrev second_of : Option Job → ℕ
-second_of None = 0
-second_of (Some (Simulate a b)) = b
-second_of (Some (Lower a)) = 0
+abbrev data_place : Option Job → ℕ
+data_place None = 0
+data_place (Some (Check a)) = 0
+data_place (Some (Lower a)) = 0
+data_place (Some (Simulate a b)) = b
 
-file_same : (words : List (List ℕ)) (f d f' d' : List ℕ) → Names words f d → Names words f' d' → f ≡ f'
-file_same words f d f' d' n m =
-    let at : n.file_at ≡ m.file_at = ap first_of (sym n.job ∙ m.job) in
-    sym n.file_is ∙ (ap (λ k. get_or words k []) at ∙ m.file_is)
+file_by : (words : List (List ℕ)) (f : List ℕ) → NamesProgram words f → get_or words (file_place (job_of words)) [] ≡ f
+file_by words f (inl n) = ap (λ j. get_or words (file_place j) []) n.job ∙ n.file_is
+file_by words f (inr (inl n)) = ap (λ j. get_or words (file_place j) []) n.job ∙ n.file_is
+file_by words f (inr (inr (d, n))) = ap (λ j. get_or words (file_place j) []) n.job ∙ n.file_is
+
+file_same : (words : List (List ℕ)) (f g : List ℕ) → NamesProgram words f → NamesProgram words g → f ≡ g
+file_same words f g n m = sym (file_by words f n) ∙ file_by words g m
 
 data_same : (words : List (List ℕ)) (f d f' d' : List ℕ) → Names words f d → Names words f' d' → d ≡ d'
 data_same words f d f' d' n m =
-    let at : n.data_at ≡ m.data_at = ap second_of (sym n.job ∙ m.job) in
-    sym n.data_is ∙ (ap (λ k. get_or words k []) at ∙ m.data_is)
+    sym (ap (λ j. get_or words (data_place j) []) n.job ∙ n.data_is) ∙ (ap (λ j. get_or words (data_place j) []) m.job ∙ m.data_is)
+
+-- the words name one job
+check_or_lower : (words : List (List ℕ)) (f g : List ℕ) → NamesCheck words f → NamesLower words g → ⊥
+check_or_lower words f g n m = let both : Some (Check n.file_at) ≡ Some (Lower m.file_at) = sym n.job ∙ m.job in cc
+
+check_or_simulate : (words : List (List ℕ)) (f g d : List ℕ) → NamesCheck words f → Names words g d → ⊥
+check_or_simulate words f g d n m = let both : Some (Check n.file_at) ≡ Some (Simulate m.file_at m.data_at) = sym n.job ∙ m.job in cc
+
+lower_or_simulate : (words : List (List ℕ)) (f g d : List ℕ) → NamesLower words f → Names words g d → ⊥
+lower_or_simulate words f g d n m = let both : Some (Lower n.file_at) ≡ Some (Simulate m.file_at m.data_at) = sym n.job ∙ m.job in cc
+
+no_job : (words : List (List ℕ)) (f : List ℕ) → NamesProgram words f → job_of words ≡ None → ⊥
+no_job words f (inl n) e = let both : None ≡ Some (Check n.file_at) = sym e ∙ n.job in cc
+no_job words f (inr (inl n)) e = let both : None ≡ Some (Lower n.file_at) = sym e ∙ n.job in cc
+no_job words f (inr (inr (d, n))) e = let both : None ≡ Some (Simulate n.file_at n.data_at) = sym e ∙ n.job in cc
 
 -- what a told file may hold
 told_bytes : (t : Told) (held bytes : List ℕ) → t ≡ outside.Holds held → MayBe t bytes → held ≡ bytes
@@ -61,66 +73,60 @@ told_there t held e h = let P : Told → Type 0 = IsAbsent in subst P e h
 told_long : (t : Told) (held : List ℕ) (most : ℕ) → t ≡ outside.Holds held → MayExceed t most → most < length held
 told_long t held most e h = let P : Told → Type 0 = λ x. MayExceed x most in subst P e h
 
--- the memories of a data file fit
-members_fit : (ms : Members) (table : List MemEntry) (memories : List (List ℕ)) → AreMembers ms table memories → Fits table memories
-members_fit ms [] [] h = tt
-members_fit ms [] (m ∷ more) h = absurd h
-members_fit ms (e ∷ es) [] h = absurd h
-members_fit ms (e ∷ es) (m ∷ more) h = (h.0.fits, members_fit ms es more h.1)
+-- a job whose program's file holds this text, which comes to this verdict
+module _ (words : List (List ℕ)) (old : FilesSeen) (file text : List ℕ) (v : Verdict) (names : NamesProgram words file)
+    (told : old.told file ≡ outside.Holds text) (within : length text ≤ greatest_of limit.Source) (judged : Judged text v) where
+  told_at : (f : List ℕ) → NamesProgram words f → old.told f ≡ outside.Holds text
+  told_at f n = let P : List ℕ → Type 0 = λ x. old.told x ≡ outside.Holds text in subst P (file_same words file f names n) told
 
-pub held_fits : (table : List MemEntry) (bytes : List ℕ) (memories : List (List ℕ)) → Holds table bytes memories → Fits table memories
-held_fits table bytes memories h = members_fit h.1.1.members table memories h.1.1.each
+  verdict_is : (f : List ℕ) → NamesProgram words f → (w : Verdict) → ComesTo old f w → v ≡ w
+  verdict_is f n w h =
+      let same : text ≡ h.text = told_bytes (old.told f) text h.text (told_at f n) h.read.contents in
+      let Q : List ℕ → Type 0 = λ x. Judged x v in
+      h.verdict.only v (subst Q same judged)
 
--- which outcome a status reports
-is_ended : (o : Outcome) → status.Done ≡ status_of o → o ≡ outcome.Ended
-is_ended outcome.Going e = cc
-is_ended outcome.Ended e = refl
-is_ended (outcome.Faulted kind place) e = cc
-is_ended (outcome.Stuck memory bank place) e = cc
+  not_long : (new : FilesSeen) (t : List ℕ) → ProgramTooLong words old new t → ⊥
+  not_long new t a =
+      let long = told_long (old.told a.file) text (greatest_of limit.Source) (told_at a.file a.names) a.too_long.longer in
+      omega (arith, long, within)
 
+  is_read : (new : FilesSeen) (f : List ℕ) → NamesProgram words f → (Rose old.faults new.faults → ⊥) → FailsToRead old new f → ⊥
+  is_read new f n reads (inl rose) = reads rose
+  is_read new f n reads (inr absent) = told_there (old.told f) text (told_at f n) absent
+
+accepted_same : (p q : Program) → accepts p ≡ accepts q → p ≡ q
+accepted_same p q e = cc
+
+accepts_or_refuses : (p : Program) (rule place : _) → accepts p ≡ refuses rule place → ⊥
+accepts_or_refuses p rule place e = cc
+
+accepts_or_exceeds : (p : Program) (excess : _) → accepts p ≡ exceeds excess → ⊥
+accepts_or_exceeds p excess e = cc
+
+-- a call that simulates an accepted program from memories that fit it
 module _ (words : List (List ℕ)) (old new : FilesSeen) (before after : SinkSeen) (exact : Bool) (answers : List Finish) (p : Program) (memories : List (List ℕ))
     (n : NothingFails words old new before after exact p memories) where
-  fits : Fits p.table memories
-  fits = held_fits p.table n.bytes memories n.holds
+  simulated : NamesProgram words n.file
+  simulated = inr (inr (n.data_, n.names))
 
-  ends : EndsAfter (run_of p memories) (length p.groups)
-  ends = (ends_soon p n.thin.parsed.thin).ends memories fits
+  comes_to : (f : List ℕ) → NamesProgram words f → (w : Verdict) → ComesTo old f w → accepts p ≡ w
+  comes_to = verdict_is words old n.file n.text (accepts p) simulated n.text_told n.text_within n.judged
 
-  soon : clocks_of (run_of p memories) (length p.groups) ≤ most_clocks
-  soon = let w = (ends_soon p n.thin.parsed.thin).within memories fits in omega arith
+  program_is : (f d : List ℕ) → Names words f d → (q : Program) → IsProgram old f q → p ≡ q
+  program_is f d names q h = accepted_same p q (comes_to f (inr (inr (d, names))) (accepts q) h)
 
-  -- the words are not to lower a program
-  no_lower : (f : List ℕ) → NamesLower words f → ⊥
-  no_lower f names = let both : Some (Simulate n.names.file_at n.names.data_at) ≡ Some (Lower names.file_at) = sym n.names.job ∙ names.job in cc
-
-  -- the file of the program
-  file_is : (f : List ℕ) → NamesProgram words f → n.file ≡ f
-  file_is f (inl names) = absurd (no_lower f names)
-  file_is f (inr names) = file_same words n.file n.data_ f names.0 n.names names.1
-
-  -- the one program of the file
-  program_is : (f d : List ℕ) → Names words f d → (q : Program) → IsProgram old f q → q ≡ p
-  program_is f d names q h =
-      let same = file_same words n.file n.data_ f d n.names names in
-      let P : List ℕ → Type 0 = λ x. old.told x ≡ outside.Holds n.text in
-      let text : n.text ≡ h.text = told_bytes (old.told f) n.text h.text (subst P same n.text_told) h.read.contents in
-      let Q : List ℕ → Type 0 = λ x. IsThinText x p in
-      sym (h.only p (subst Q text n.thin))
-
-  -- the data file holds the memories
   bytes_is : (f d : List ℕ) → Names words f d → (bytes : List ℕ) → MayRead old d limit.Data bytes → n.bytes ≡ bytes
   bytes_is f d names bytes h =
-      let same = data_same words n.file n.data_ f d n.names names in
       let P : List ℕ → Type 0 = λ x. old.told x ≡ outside.Holds n.bytes in
-      told_bytes (old.told d) n.bytes bytes (subst P same n.bytes_told) h.contents
+      told_bytes (old.told d) n.bytes bytes (subst P (data_same words n.file n.data_ f d n.names names) n.bytes_told) h.contents
 
-  held_by : (q : Program) (bytes : List ℕ) → q ≡ p → n.bytes ≡ bytes → Holds q.table bytes memories
+  held_by : (q : Program) (bytes : List ℕ) → p ≡ q → n.bytes ≡ bytes → Holds (table_of q) bytes memories
   held_by q bytes e b =
-      let P : List ℕ → Type 0 = λ x. Holds p.table x memories in
-      let Q : Program → Type 0 = λ x. Holds x.table bytes memories in
-      subst Q (sym e) (subst P b n.holds)
+      let P : List ℕ → Type 0 = λ x. Holds (table_of p) x memories in
+      let Q : Program → Type 0 = λ x. Holds (table_of x) bytes memories in
+      subst Q e (subst P b n.holds)
 
-  memories_is : (f d : List ℕ) → Names words f d → (q : Program) → q ≡ p → (m : List (List ℕ)) → IsData old d q m → m ≡ memories
+  memories_is : (f d : List ℕ) → Names words f d → (q : Program) → p ≡ q → (m : List (List ℕ)) → IsData old d (table_of q) m → m ≡ memories
   memories_is f d names q e m h = sym (h.only memories (held_by q h.bytes e (bytes_is f d names h.bytes h.read)))
 
   -- the report of a call is that of this program from these memories
@@ -128,171 +134,151 @@ module _ (words : List (List ℕ)) (old new : FilesSeen) (before after : SinkSee
   report_is s text r =
       let e = program_is r.file r.data_ r.names r.program r.is_program in
       let m = memories_is r.file r.data_ r.names r.program e r.memories r.is_data in
-      let P : Program → Type 0 = λ q. IsReport q memories exact answers s text in
-      let Q : List (List ℕ) → Type 0 = λ x. IsReport r.program x exact answers s text in
-      subst P e (subst Q m r.report)
+      let P : List (List ℕ) → Type 0 = λ x. IsReport r.program x exact answers s text in
+      let Q : Program → Type 0 = λ x. IsReport x memories exact answers s text in
+      subst Q (sym e) (subst P m r.report)
 
-  done : (text : List ℕ) → IsReport p memories exact answers status.Done text → Grew before after text → ReportsRun p memories before after status.Done
-  done text h grew =
-      let f = h.finish in
-      let o = is_ended f.outcome h.status_is in
-      let right = h.right n.exact_is in
-      let P : Outcome → Type 0 = λ x. ReportsAs (run_of p memories) most_clocks x f.steps f.clocks in
-      let stands = subst P o right.stands in
+  reported : (s : Status) (text : List ℕ) → Reported words old exact answers s text → Grew before after text → ReportsRun p memories before after s
+  reported s text r grew =
+      let h = report_is s text r in
       let T : List ℕ → Type 0 = λ t. Grew before after t in
-      let at : text ≡ report_text p.table ((run_of p memories).memories f.steps) (record { outcome = outcome.Ended; steps = f.steps; clocks = Some (clocks_of (run_of p memories) f.steps) }) =
-      h.text_is
-      ∙ (ap (λ ms. report_text p.table ms (ending_of f)) right.contents
-      ∙ (ap (λ x. report_text p.table ((run_of p memories).memories f.steps) (record { outcome = x; steps = f.steps; clocks = Some f.clocks })) o
-      ∙ ap (λ c. report_text p.table ((run_of p memories).memories f.steps) (record { outcome = outcome.Ended; steps = f.steps; clocks = Some c })) stands.at_end)) in
-      record { done = refl; steps = f.steps; ends = stands.ends; grew = subst T at grew }
+      record { finish = h.finish; right = h.right n.exact_is; status_is = h.status_is; grew = subst T h.text_is grew }
 
-  -- the run neither faults nor goes on
-  never_faults : (o : Outcome) (steps clocks : ℕ) → status.Faulted ≡ status_of o → ReportsAs (run_of p memories) most_clocks o steps clocks → ⊥
-  never_faults outcome.Going steps clocks e h = cc
-  never_faults outcome.Ended steps clocks e h = cc
-  never_faults (outcome.Faulted kind place) steps clocks e h = no_fault_at_end (run_of p memories) (length p.groups) steps kind place ends h.faults
-  never_faults (outcome.Stuck memory bank place) steps clocks e h = h
+  done : (text : List ℕ) → Reported words old exact answers status.Done text ⊎ (Lowered words old text ⊎ IsChecked words old text) → Grew before after text
+      → ReportsRun p memories before after status.Done
+  done text (inl r) grew = reported status.Done text r grew
+  done text (inr (inl a)) grew = absurd (lower_or_simulate words a.file n.file n.data_ a.names n.names)
+  done text (inr (inr a)) grew = absurd (check_or_simulate words a.file n.file n.data_ a.names n.names)
 
-  never_going : (o : Outcome) (steps clocks : ℕ) → status.Going ≡ status_of o → ReportsAs (run_of p memories) most_clocks o steps clocks → ⊥
-  never_going outcome.Going steps clocks e h = h.not_ended (length p.groups) ends soon
-  never_going outcome.Ended steps clocks e h = cc
-  never_going (outcome.Faulted kind place) steps clocks e h = cc
-  never_going (outcome.Stuck memory bank place) steps clocks e h = h
+  too_large : (text : List ℕ) → ProgramTooLong words old new text ⊎ (IsExceeding words old text ⊎ DataTooLong words old new text) → ⊥
+  too_large text (inl a) = not_long words old n.file n.text (accepts p) simulated n.text_told n.text_within n.judged new text a
+  too_large text (inr (inl a)) = accepts_or_exceeds p a.excess (comes_to a.file a.names (exceeds a.excess) a.comes)
+  too_large text (inr (inr a)) =
+      let P : List ℕ → Type 0 = λ x. old.told x ≡ outside.Holds n.bytes in
+      let told = subst P (data_same words n.file n.data_ a.file a.data_ n.names a.names) n.bytes_told in
+      let long = told_long (old.told a.data_) n.bytes (greatest_of limit.Data) told a.too_long.longer in
+      let within = n.bytes_within in
+      omega (arith, long, within)
 
   read_fails : ReadFails words old new → ⊥
-  read_fails (inl r) = by r.fails
-    where
-      told : old.told r.file ≡ outside.Holds n.text
-      told = let P : List ℕ → Type 0 = λ x. old.told x ≡ outside.Holds n.text in subst P (file_is r.file r.names) n.text_told
-
-      by : FailsToRead old new r.file → ⊥
-      by (inl rose) = n.reads rose
-      by (inr absent) = told_there (old.told r.file) n.text told absent
+  read_fails (inl r) = is_read words old n.file n.text (accepts p) simulated n.text_told n.text_within n.judged new r.file r.names n.reads r.fails
   read_fails (inr r) = by r.fails
     where
-      told : old.told r.data_ ≡ outside.Holds n.bytes
-      told = let P : List ℕ → Type 0 = λ x. old.told x ≡ outside.Holds n.bytes in subst P (data_same words n.file n.data_ r.file r.data_ n.names r.names) n.bytes_told
-
       by : FailsToRead old new r.data_ → ⊥
       by (inl rose) = n.reads rose
-      by (inr absent) = told_there (old.told r.data_) n.bytes told absent
+      by (inr absent) =
+          let P : List ℕ → Type 0 = λ x. old.told x ≡ outside.Holds n.bytes in
+          told_there (old.told r.data_) n.bytes (subst P (data_same words n.file n.data_ r.file r.data_ n.names r.names) n.bytes_told) absent
 
   pub whole : (s : Status) → Ends words old new before after exact answers s → ReportsRun p memories before after s ⊎ (s ≡ status.NoMemory)
-  whole status.Done w = by w.answer
-    where
-      by : Reported words old exact answers status.Done w.text ⊎ Lowered words old w.text → ReportsRun p memories before after status.Done ⊎ (status.Done ≡ status.NoMemory)
-      by (inl a) = inl (done w.text (report_is status.Done w.text a) w.grew)
-      by (inr a) = absurd (no_lower a.file a.names)
-  whole status.Refused w =
-      let a = w.answer in
-      let same = file_is a.file a.names in
-      let P : List ℕ → Type 0 = λ x. old.told x ≡ outside.Holds n.text in
-      let text = told_bytes (old.told a.file) n.text a.no_program.text (subst P same n.text_told) a.no_program.read.contents in
-      let Q : List ℕ → Type 0 = λ x. IsThinText x p in
-      absurd (a.no_program.not_thin p (subst Q text n.thin))
-  whole status.Usage w = let both : None ≡ Some (Simulate n.names.file_at n.names.data_at) = sym w.answer.0 ∙ n.names.job in cc
-  whole status.Faulted w =
-      let h = report_is status.Faulted w.text w.answer in
-      absurd (never_faults h.finish.outcome h.finish.steps h.finish.clocks h.status_is (h.right n.exact_is).stands)
+  whole status.Done w = inl (done w.text w.answer w.grew)
+  whole status.Refused w = let a = w.answer in absurd (accepts_or_refuses p a.rule a.place (comes_to a.file a.names (refuses a.rule a.place) a.comes))
+  whole status.Usage w = absurd (no_job words n.file simulated w.answer.0)
+  whole status.Faulted w = inl (reported status.Faulted w.text w.answer w.grew)
   whole status.Stuck w = absurd w
-  whole status.Going w =
-      let h = report_is status.Going w.text w.answer in
-      absurd (never_going h.finish.outcome h.finish.steps h.finish.clocks h.status_is (h.right n.exact_is).stands)
+  whole status.Going w = inl (reported status.Going w.text w.answer w.grew)
   whole status.BadData w =
       let a = w.answer in
       let e = program_is a.file a.data_ a.names a.program a.is_program in
       absurd (a.no_data.holds_none memories (held_by a.program a.no_data.bytes e (bytes_is a.file a.data_ a.names a.no_data.bytes a.no_data.read)))
-  whole status.TooLarge w = absurd (by w.answer)
-    where
-      by : ProgramTooLong words old new w.text ⊎ DataTooLong words old new w.text → ⊥
-      by (inl a) =
-          let P : List ℕ → Type 0 = λ x. old.told x ≡ outside.Holds n.text in
-          let told = subst P (file_is a.file a.names) n.text_told in
-          let long = told_long (old.told a.file) n.text (greatest_of limit.Source) told a.too_long.longer in
-          let within = n.text_within in
-          omega arith
-      by (inr a) =
-          let P : List ℕ → Type 0 = λ x. old.told x ≡ outside.Holds n.bytes in
-          let told = subst P (data_same words n.file n.data_ a.file a.data_ n.names a.names) n.bytes_told in
-          let long = told_long (old.told a.data_) n.bytes (greatest_of limit.Data) told a.too_long.longer in
-          let within = n.bytes_within in
-          omega arith
+  whole status.TooLarge w = absurd (too_large w.text w.answer)
   whole status.ReadFault w = absurd (read_fails w.0)
   whole status.WriteFault w = absurd (n.writes w.1)
   whole status.NoMemory w = inr refl
 
--- the same of a call that lowers a program
+-- a call that lowers an accepted program
 module _ (words : List (List ℕ)) (old new : FilesSeen) (before after : SinkSeen) (exact : Bool) (answers : List Finish) (p : Program)
     (n : NothingFailsLower words old new before after p) where
-  no_simulate : (f d : List ℕ) → Names words f d → ⊥
-  no_simulate f d names = let both : Some (Lower n.names.file_at) ≡ Some (Simulate names.file_at names.data_at) = sym n.names.job ∙ names.job in cc
+  lowered : NamesProgram words n.file
+  lowered = inr (inl n.names)
 
-  lowered_file : (f : List ℕ) → NamesLower words f → n.file ≡ f
-  lowered_file f names =
-      let at : n.names.file_at ≡ names.file_at = ap first_of (sym n.names.job ∙ names.job) in
-      sym n.names.file_is ∙ (ap (λ k. get_or words k []) at ∙ names.file_is)
-
-  lower_file : (f : List ℕ) → NamesProgram words f → n.file ≡ f
-  lower_file f (inl names) = lowered_file f names
-  lower_file f (inr names) = absurd (no_simulate f names.0 names.1)
-
-  lower_told : (f : List ℕ) → n.file ≡ f → old.told f ≡ outside.Holds n.text
-  lower_told f same = let P : List ℕ → Type 0 = λ x. old.told x ≡ outside.Holds n.text in subst P same n.text_told
-
-  lower_program : (f : List ℕ) → n.file ≡ f → (q : Program) → IsProgram old f q → q ≡ p
-  lower_program f same q h =
-      let text : n.text ≡ h.text = told_bytes (old.told f) n.text h.text (lower_told f same) h.read.contents in
-      let Q : List ℕ → Type 0 = λ x. IsThinText x p in
-      sym (h.only p (subst Q text n.thin))
+  lowers_to : (f : List ℕ) → NamesProgram words f → (w : Verdict) → ComesTo old f w → accepts p ≡ w
+  lowers_to = verdict_is words old n.file n.text (accepts p) lowered n.text_told n.text_within n.judged
 
   written : (text : List ℕ) → Lowered words old text → Grew before after text → WritesNet p before after status.Done
   written text a grew =
-      let e = lower_program a.file (lowered_file a.file a.names) a.program a.is_program in
+      let e = accepted_same p a.program (lowers_to a.file (inr (inl a.names)) (accepts a.program) a.is_program) in
       let P : Program → Type 0 = λ q. PlaysProgram a.net q in
       let T : List ℕ → Type 0 = λ t. Grew before after t in
       let A : List ℕ → Type 0 = λ t. IsAlone t a.net in
-      record { done = refl; net = a.net; plays = subst P e a.plays; alone = subst A a.text_is a.alone; grew = subst T a.text_is grew }
+      record { done = refl; net = a.net; plays = subst P (sym e) a.plays; alone = subst A a.text_is a.alone; grew = subst T a.text_is grew }
 
-  no_read_fails : ReadFails words old new → ⊥
-  no_read_fails (inl r) = by r.fails
-    where
-      by : FailsToRead old new r.file → ⊥
-      by (inl rose) = n.reads rose
-      by (inr absent) = told_there (old.told r.file) n.text (lower_told r.file (lower_file r.file r.names)) absent
-  no_read_fails (inr r) = no_simulate r.file r.data_ r.names
+  done_net : (text : List ℕ) → Reported words old exact answers status.Done text ⊎ (Lowered words old text ⊎ IsChecked words old text) → Grew before after text
+      → WritesNet p before after status.Done
+  done_net text (inl r) grew = absurd (lower_or_simulate words n.file r.file r.data_ n.names r.names)
+  done_net text (inr (inl a)) grew = written text a grew
+  done_net text (inr (inr a)) grew = absurd (check_or_lower words a.file n.file a.names n.names)
 
-  pub whole_text : (s : Status) → Ends words old new before after exact answers s → WritesNet p before after s ⊎ (s ≡ status.NoMemory)
-  whole_text status.Done w = by w.answer
-    where
-      by : Reported words old exact answers status.Done w.text ⊎ Lowered words old w.text → WritesNet p before after status.Done ⊎ (status.Done ≡ status.NoMemory)
-      by (inl a) = absurd (no_simulate a.file a.data_ a.names)
-      by (inr a) = inl (written w.text a w.grew)
-  whole_text status.Refused w =
-      let a = w.answer in
-      let text = told_bytes (old.told a.file) n.text a.no_program.text (lower_told a.file (lower_file a.file a.names)) a.no_program.read.contents in
-      let Q : List ℕ → Type 0 = λ x. IsThinText x p in
-      absurd (a.no_program.not_thin p (subst Q text n.thin))
-  whole_text status.Usage w = let both : None ≡ Some (Lower n.names.file_at) = sym w.answer.0 ∙ n.names.job in cc
-  whole_text status.Faulted w = absurd (no_simulate w.answer.file w.answer.data_ w.answer.names)
-  whole_text status.Stuck w = absurd w
-  whole_text status.Going w = absurd (no_simulate w.answer.file w.answer.data_ w.answer.names)
-  whole_text status.BadData w = absurd (no_simulate w.answer.file w.answer.data_ w.answer.names)
-  whole_text status.TooLarge w = absurd (by w.answer)
-    where
-      by : ProgramTooLong words old new w.text ⊎ DataTooLong words old new w.text → ⊥
-      by (inl a) =
-          let long = told_long (old.told a.file) n.text (greatest_of limit.Source) (lower_told a.file (lower_file a.file a.names)) a.too_long.longer in
-          let within = n.text_within in
-          omega arith
-      by (inr a) = no_simulate a.file a.data_ a.names
-  whole_text status.ReadFault w = absurd (no_read_fails w.0)
-  whole_text status.WriteFault w = absurd (n.writes w.1)
-  whole_text status.NoMemory w = inr refl
+  no_net_too_large : (text : List ℕ) → ProgramTooLong words old new text ⊎ (IsExceeding words old text ⊎ DataTooLong words old new text) → ⊥
+  no_net_too_large text (inl a) = not_long words old n.file n.text (accepts p) lowered n.text_told n.text_within n.judged new text a
+  no_net_too_large text (inr (inl a)) = accepts_or_exceeds p a.excess (lowers_to a.file a.names (exceeds a.excess) a.comes)
+  no_net_too_large text (inr (inr a)) = lower_or_simulate words n.file a.file a.data_ n.names a.names
+
+  net_read_fails : ReadFails words old new → ⊥
+  net_read_fails (inl r) = is_read words old n.file n.text (accepts p) lowered n.text_told n.text_within n.judged new r.file r.names n.reads r.fails
+  net_read_fails (inr r) = lower_or_simulate words n.file r.file r.data_ n.names r.names
+
+  pub whole_net : (s : Status) → Ends words old new before after exact answers s → WritesNet p before after s ⊎ (s ≡ status.NoMemory)
+  whole_net status.Done w = inl (done_net w.text w.answer w.grew)
+  whole_net status.Refused w = let a = w.answer in absurd (accepts_or_refuses p a.rule a.place (lowers_to a.file a.names (refuses a.rule a.place) a.comes))
+  whole_net status.Usage w = absurd (no_job words n.file lowered w.answer.0)
+  whole_net status.Faulted w = let r = w.answer in absurd (lower_or_simulate words n.file r.file r.data_ n.names r.names)
+  whole_net status.Stuck w = absurd w
+  whole_net status.Going w = let r = w.answer in absurd (lower_or_simulate words n.file r.file r.data_ n.names r.names)
+  whole_net status.BadData w = let r = w.answer in absurd (lower_or_simulate words n.file r.file r.data_ n.names r.names)
+  whole_net status.TooLarge w = absurd (no_net_too_large w.text w.answer)
+  whole_net status.ReadFault w = absurd (net_read_fails w.0)
+  whole_net status.WriteFault w = absurd (n.writes w.1)
+  whole_net status.NoMemory w = inr refl
+
+-- a call that checks a program
+module _ (words : List (List ℕ)) (old new : FilesSeen) (before after : SinkSeen) (exact : Bool) (answers : List Finish) (v : Verdict)
+    (n : NothingFailsCheck words old new before after v) where
+  checked : NamesProgram words n.file
+  checked = inl n.names
+
+  checks_to : (f : List ℕ) → NamesProgram words f → (w : Verdict) → ComesTo old f w → v ≡ w
+  checks_to = verdict_is words old n.file n.text v checked n.text_told n.text_within n.judged
+
+  -- the line of this verdict
+  line_is : (w : Verdict) (text : List ℕ) → v ≡ w → text ≡ verdict_line w → Grew before after text → WritesVerdict v before after (verdict_status w)
+  line_is w text e t grew =
+      let T : List ℕ → Type 0 = λ x. Grew before after x in
+      record { status_is = ap verdict_status (sym e); grew = subst T (t ∙ ap verdict_line (sym e)) grew }
+
+  done_check : (text : List ℕ) → Reported words old exact answers status.Done text ⊎ (Lowered words old text ⊎ IsChecked words old text) → Grew before after text
+      → WritesVerdict v before after status.Done
+  done_check text (inl r) grew = absurd (check_or_simulate words n.file r.file r.data_ n.names r.names)
+  done_check text (inr (inl a)) grew = absurd (check_or_lower words n.file a.file n.names a.names)
+  done_check text (inr (inr a)) grew = line_is (accepts a.program) text (checks_to a.file (inl a.names) (accepts a.program) a.is_program) a.text_is grew
+
+  check_too_large : (text : List ℕ) → ProgramTooLong words old new text ⊎ (IsExceeding words old text ⊎ DataTooLong words old new text) → Grew before after text
+      → WritesVerdict v before after status.TooLarge
+  check_too_large text (inl a) grew = absurd (not_long words old n.file n.text v checked n.text_told n.text_within n.judged new text a)
+  check_too_large text (inr (inl a)) grew = line_is (exceeds a.excess) text (checks_to a.file a.names (exceeds a.excess) a.comes) a.text_is grew
+  check_too_large text (inr (inr a)) grew = absurd (check_or_simulate words n.file a.file a.data_ n.names a.names)
+
+  check_read_fails : ReadFails words old new → ⊥
+  check_read_fails (inl r) = is_read words old n.file n.text v checked n.text_told n.text_within n.judged new r.file r.names n.reads r.fails
+  check_read_fails (inr r) = check_or_simulate words n.file r.file r.data_ n.names r.names
+
+  pub whole_check : (s : Status) → Ends words old new before after exact answers s → WritesVerdict v before after s ⊎ (s ≡ status.NoMemory)
+  whole_check status.Done w = inl (done_check w.text w.answer w.grew)
+  whole_check status.Refused w = let a = w.answer in inl (line_is (refuses a.rule a.place) w.text (checks_to a.file a.names (refuses a.rule a.place) a.comes) a.text_is w.grew)
+  whole_check status.Usage w = absurd (no_job words n.file checked w.answer.0)
+  whole_check status.Faulted w = let r = w.answer in absurd (check_or_simulate words n.file r.file r.data_ n.names r.names)
+  whole_check status.Stuck w = absurd w
+  whole_check status.Going w = let r = w.answer in absurd (check_or_simulate words n.file r.file r.data_ n.names r.names)
+  whole_check status.BadData w = let r = w.answer in absurd (check_or_simulate words n.file r.file r.data_ n.names r.names)
+  whole_check status.TooLarge w = inl (check_too_large w.text w.answer w.grew)
+  whole_check status.ReadFault w = absurd (check_read_fails w.0)
+  whole_check status.WriteFault w = absurd (n.writes w.1)
+  whole_check status.NoMemory w = inr refl
 
 pub succeeds : (words : List (List ℕ)) (old new : FilesSeen) (before after : SinkSeen) (exact : Bool) (answers : List Finish) (s : Status)
     → Ends words old new before after exact answers s → Succeeds words old new before after exact s
 succeeds words old new before after exact answers s e = record {
   reports = λ p memories n. whole words old new before after exact answers p memories n s e;
-  lowers = λ p n. whole_text words old new before after exact answers p n s e;
+  lowers = λ p n. whole_net words old new before after exact answers p n s e;
+  checks = λ v n. whole_check words old new before after exact answers v n s e;
 }

@@ -10,25 +10,27 @@ use Rattle.dh_base.specs.declared.limits.Limit.TheVariants as limit
 use Rattle.dh_base.specs.declared.outcomes.Outcome.{Outcome}
 use Rattle.dh_base.specs.declared.outcomes.Outcome.TheVariants as outcome
 use Rattle.dh_base.specs.declared.places.Place.{Place}
-use Rattle.dh_base.specs.declared.rules.Rule.TheVariants.{Unsupported}
+use Rattle.dh_base.specs.declared.limits.Excess.{Excess}
+use Rattle.dh_base.specs.declared.rules.Rule.{Rule}
 use Rattle.dh_base.specs.declared.statuses.Status.{Status}
 use Rattle.dh_base.specs.declared.statuses.Status.TheVariants as status
-use Rattle.dh_tree.specs.declared.thin.Program.{Program}
-use Rattle.dh_tree.specs.Thin.{IsThinText}
-use Rattle.dh_net.specs.Plays.{IsStuck, EndsAfter, clocks_of}
+use Rattle.dh_tree.specs.Meaning.{table_of}
+use Rattle.dh_tree.specs.declared.tables.MemEntry.{MemEntry}
+use Rattle.dh_tree.specs.PlainTrees.{Program}
+use Rattle.dh_check.specs.Verdicts.{Verdict, accepts, refuses, exceeds, Judged, IsVerdict}
+use Rattle.dh_net.specs.Plays.{IsStuck}
 use Rattle.dh_net.specs.Reports.{Reports}
 use Rattle.dh_net.specs.declared.nets.Net.{Net}
-use Rattle.dh_compile.specs.Compiled.{PlaysProgram}
-use Rattle.dh_compile.specs.ThinRun.{run_of}
+use Rattle.dh_compile.specs.Compiled.{PlaysProgram, run_of}
 use Rattle.dh_verilog.specs.Ranges.{IsAlone}
 use Rattle.dh_verilog.specs.Text.{text_of}
 use Rattle.dh_data.specs.ThinData.{Holds}
 use Rattle.dh_data.specs.Reports.{report_text}
 use Rattle.dh_data.specs.declared.reports.Ending.{Ending}
 use Rattle.dh_app.specs.Words.{job_of}
-use Rattle.dh_app.specs.Lines.{usage_line, refused_line, too_large_line, not_json_line}
+use Rattle.dh_app.specs.Lines.{usage_line, ok_line, refused_line, too_large_line, not_json_line}
 use Rattle.dh_app.specs.declared.engine.Finish.{Finish}
-use Rattle.dh_app.specs.declared.words.Job.TheVariants.{Lower, Simulate}
+use Rattle.dh_app.specs.declared.words.Job.TheVariants.{Check, Lower, Simulate}
 
 -- the clocks that a run may take
 abbrev pub most_clocks : ℕ
@@ -42,6 +44,12 @@ pub record Names (words : List (List ℕ)) (file data_ : List ℕ) : Type 0 wher
   pub file_is : slice_index_or words file_at [] ≡ file
   pub data_is : slice_index_or words data_at [] ≡ data_
 
+-- the words are to check the program of this file
+pub record NamesCheck (words : List (List ℕ)) (file : List ℕ) : Type 0 where
+  pub file_at : ℕ
+  pub job : job_of words ≡ Some (Check file_at)
+  pub file_is : slice_index_or words file_at [] ≡ file
+
 -- the words are to lower the program of this file
 pub record NamesLower (words : List (List ℕ)) (file : List ℕ) : Type 0 where
   pub file_at : ℕ
@@ -50,7 +58,7 @@ pub record NamesLower (words : List (List ℕ)) (file : List ℕ) : Type 0 where
 
 -- the words are a job over the program of this file
 abbrev pub NamesProgram : List (List ℕ) → List ℕ → Type 0
-NamesProgram words file = NamesLower words file ⊎ ((data_ : List ℕ) × Names words file data_)
+NamesProgram words file = NamesCheck words file ⊎ (NamesLower words file ⊎ ((data_ : List ℕ) × Names words file data_))
 
 -- the contents of a file under a limit may be these
 pub record MayRead (files : FilesSeen) (name : List ℕ) (l : Limit) (bytes : List ℕ) : Type 0 where
@@ -66,31 +74,28 @@ pub record IsTooLong (old new : FilesSeen) (name : List ℕ) (l : Limit) : Type 
 abbrev pub FailsToRead : (old new : FilesSeen) → (name : List ℕ) → Type 0
 FailsToRead old new name = Rose old.faults new.faults ⊎ IsAbsent (old.told name)
 
--- the file is the text of this program, and of no other
-pub record IsProgram (files : FilesSeen) (file : List ℕ) (p : Program) : Type 0 where
+-- the text of the file comes to this verdict, and to no other
+pub record ComesTo (files : FilesSeen) (file : List ℕ) (v : Verdict) : Type 0 where
   pub text : List ℕ
   pub read : MayRead files file limit.Source text
-  pub thin : IsThinText text p
-  pub only : (q : Program) → IsThinText text q → q ≡ p
+  pub verdict : IsVerdict text v
 
--- the file is the text of no thin program
-pub record IsNoProgram (files : FilesSeen) (file : List ℕ) : Type 0 where
-  pub text : List ℕ
-  pub read : MayRead files file limit.Source text
-  pub not_thin : (p : Program) → IsThinText text p → ⊥
+-- the file is the text of this accepted program
+abbrev pub IsProgram : FilesSeen → (file : List ℕ) → Program → Type 0
+IsProgram files file p = ComesTo files file (accepts p)
 
--- the file holds these memories of the program, and no others
-pub record IsData (files : FilesSeen) (data_ : List ℕ) (p : Program) (memories : List (List ℕ)) : Type 0 where
+-- the file holds these memories of a table, and no others
+pub record IsData (files : FilesSeen) (data_ : List ℕ) (table : List MemEntry) (memories : List (List ℕ)) : Type 0 where
   pub bytes : List ℕ
   pub read : MayRead files data_ limit.Data bytes
-  pub holds : Holds p.table bytes memories
-  pub only : (others : List (List ℕ)) → Holds p.table bytes others → others ≡ memories
+  pub holds : Holds table bytes memories
+  pub only : (others : List (List ℕ)) → Holds table bytes others → others ≡ memories
 
--- the file holds no memories of the program
-pub record IsNoData (files : FilesSeen) (data_ : List ℕ) (p : Program) : Type 0 where
+-- the file holds no memories of the table
+pub record IsNoData (files : FilesSeen) (data_ : List ℕ) (table : List MemEntry) : Type 0 where
   pub bytes : List ℕ
   pub read : MayRead files data_ limit.Data bytes
-  pub holds_none : (memories : List (List ℕ)) → Holds p.table bytes memories → ⊥
+  pub holds_none : (memories : List (List ℕ)) → Holds table bytes memories → ⊥
 
 abbrev pub status_of : Outcome → Status
 status_of outcome.Going = status.Going
@@ -108,7 +113,7 @@ pub record IsReport (p : Program) (memories : List (List ℕ)) (exact : Bool) (a
   pub answered : answers ≡ finish ∷ []
   pub not_stuck : IsStuck finish.outcome → ⊥
   pub status_is : s ≡ status_of finish.outcome
-  pub text_is : text ≡ report_text p.table finish.memories (ending_of finish)
+  pub text_is : text ≡ report_text (table_of p) finish.memories (ending_of finish)
   pub right : exact ≡ true → Reports (run_of p memories) most_clocks finish.outcome finish.steps finish.clocks finish.memories
 
 pub record Reported (words : List (List ℕ)) (files : FilesSeen) (exact : Bool) (answers : List Finish) (s : Status) (text : List ℕ) : Type 0 where
@@ -118,7 +123,7 @@ pub record Reported (words : List (List ℕ)) (files : FilesSeen) (exact : Bool)
   pub program : Program
   pub is_program : IsProgram files file program
   pub memories : List (List ℕ)
-  pub is_data : IsData files data_ program memories
+  pub is_data : IsData files data_ (table_of program) memories
   pub report : IsReport program memories exact answers s text
 
 -- the program of the job is lowered: the text is that of a net that plays the program from all fitting
@@ -149,15 +154,30 @@ pub record DataTooLong (words : List (List ℕ)) (old new : FilesSeen) (text : L
   pub too_long : IsTooLong old new data_ limit.Data
   pub text_is : text ≡ too_large_line limit.Data (greatest_of limit.Data + 1)
 
--- a text that is not thin is refused as a whole
-abbrev pub first_place : Place
-first_place = record { line = 1; column = 1 }
-
+-- the program breaks a rule
 pub record IsRefused (words : List (List ℕ)) (files : FilesSeen) (text : List ℕ) : Type 0 where
   pub file : List ℕ
   pub names : NamesProgram words file
-  pub no_program : IsNoProgram files file
-  pub text_is : text ≡ refused_line Unsupported first_place
+  pub rule : Rule
+  pub place : Place
+  pub comes : ComesTo files file (refuses rule place)
+  pub text_is : text ≡ refused_line rule place
+
+-- the program exceeds a limit
+pub record IsExceeding (words : List (List ℕ)) (files : FilesSeen) (text : List ℕ) : Type 0 where
+  pub file : List ℕ
+  pub names : NamesProgram words file
+  pub excess : Excess
+  pub comes : ComesTo files file (exceeds excess)
+  pub text_is : text ≡ too_large_line excess.limit excess.count
+
+-- the program of the job is accepted
+pub record IsChecked (words : List (List ℕ)) (files : FilesSeen) (text : List ℕ) : Type 0 where
+  pub file : List ℕ
+  pub names : NamesCheck words file
+  pub program : Program
+  pub is_program : IsProgram files file program
+  pub text_is : text ≡ ok_line
 
 pub record HasBadData (words : List (List ℕ)) (files : FilesSeen) (text : List ℕ) : Type 0 where
   pub file : List ℕ
@@ -165,19 +185,19 @@ pub record HasBadData (words : List (List ℕ)) (files : FilesSeen) (text : List
   pub names : Names words file data_
   pub program : Program
   pub is_program : IsProgram files file program
-  pub no_data : IsNoData files data_ program
+  pub no_data : IsNoData files data_ (table_of program)
   pub text_is : text ≡ not_json_line
 
 -- this status and this text answer the words
 abbrev pub Answers : List (List ℕ) → (old new : FilesSeen) → (exact : Bool) → List Finish → Status → List ℕ → Type 0
-Answers words old new exact answers status.Done text = Reported words old exact answers status.Done text ⊎ Lowered words old text
+Answers words old new exact answers status.Done text = Reported words old exact answers status.Done text ⊎ (Lowered words old text ⊎ IsChecked words old text)
 Answers words old new exact answers status.Refused text = IsRefused words old text
 Answers words old new exact answers status.Usage text = (job_of words ≡ None) × (text ≡ usage_line)
 Answers words old new exact answers status.Faulted text = Reported words old exact answers status.Faulted text
 Answers words old new exact answers status.Stuck text = ⊥
 Answers words old new exact answers status.Going text = Reported words old exact answers status.Going text
 Answers words old new exact answers status.BadData text = HasBadData words old text
-Answers words old new exact answers status.TooLarge text = ProgramTooLong words old new text ⊎ DataTooLong words old new text
+Answers words old new exact answers status.TooLarge text = ProgramTooLong words old new text ⊎ (IsExceeding words old text ⊎ DataTooLong words old new text)
 Answers words old new exact answers status.ReadFault text = ⊥
 Answers words old new exact answers status.WriteFault text = ⊥
 Answers words old new exact answers status.NoMemory text = ⊥
@@ -227,8 +247,8 @@ Ends words old new before after exact answers status.ReadFault = ReadFails words
 Ends words old new before after exact answers status.WriteFault = WritesPart words old new before after exact answers × Rose before.faults after.faults
 Ends words old new before after exact answers status.NoMemory = (after.bytes ≡ before.bytes) ⊎ WritesPart words old new before after exact answers
 
--- nothing stands in the way: the words name two files that are there, a thin program and memories of
--- it within the limits, the engine is exact, and no fault was counted
+-- nothing stands in the way: the words name two files that are there, an accepted program and memories
+-- of it within the limits, the engine is exact, and no fault was counted
 pub record NothingFails (words : List (List ℕ)) (old new : FilesSeen) (before after : SinkSeen) (exact : Bool) (p : Program) (memories : List (List ℕ)) : Type 0 where
   pub file : List ℕ
   pub data_ : List ℕ
@@ -236,23 +256,22 @@ pub record NothingFails (words : List (List ℕ)) (old new : FilesSeen) (before 
   pub text : List ℕ
   pub text_told : old.told file ≡ outside.Holds text
   pub text_within : length text ≤ greatest_of limit.Source
-  pub thin : IsThinText text p
+  pub judged : Judged text (accepts p)
   pub bytes : List ℕ
   pub bytes_told : old.told data_ ≡ outside.Holds bytes
   pub bytes_within : length bytes ≤ greatest_of limit.Data
-  pub holds : Holds p.table bytes memories
+  pub holds : Holds (table_of p) bytes memories
   pub exact_is : exact ≡ true
   pub reads : Rose old.faults new.faults → ⊥
   pub writes : Rose before.faults after.faults → ⊥
 
--- the whole report of the program's run was written: it ended after its last step, with the memories
--- and at the clock of the checked run
+-- the whole report of the program's run was written: what the checked run comes to within the limit of
+-- clocks, with its outcome, steps, clocks and memories
 pub record ReportsRun (p : Program) (memories : List (List ℕ)) (before after : SinkSeen) (s : Status) : Type 0 where
-  pub done : s ≡ status.Done
-  pub steps : ℕ
-  pub ends : EndsAfter (run_of p memories) steps
-  pub grew : Grew before after (report_text p.table ((run_of p memories).memories steps)
-      (record { outcome = outcome.Ended; steps = steps; clocks = Some (clocks_of (run_of p memories) steps) }))
+  pub finish : Finish
+  pub right : Reports (run_of p memories) most_clocks finish.outcome finish.steps finish.clocks finish.memories
+  pub status_is : s ≡ status_of finish.outcome
+  pub grew : Grew before after (report_text (table_of p) finish.memories (ending_of finish))
 
 -- the same of a call that lowers
 pub record NothingFailsLower (words : List (List ℕ)) (old new : FilesSeen) (before after : SinkSeen) (p : Program) : Type 0 where
@@ -261,7 +280,7 @@ pub record NothingFailsLower (words : List (List ℕ)) (old new : FilesSeen) (be
   pub text : List ℕ
   pub text_told : old.told file ≡ outside.Holds text
   pub text_within : length text ≤ greatest_of limit.Source
-  pub thin : IsThinText text p
+  pub judged : Judged text (accepts p)
   pub reads : Rose old.faults new.faults → ⊥
   pub writes : Rose before.faults after.faults → ⊥
 
@@ -273,7 +292,35 @@ pub record WritesNet (p : Program) (before after : SinkSeen) (s : Status) : Type
   pub alone : IsAlone (text_of net) net
   pub grew : Grew before after (text_of net)
 
+-- the same of a call that checks: its text comes to this verdict
+pub record NothingFailsCheck (words : List (List ℕ)) (old new : FilesSeen) (before after : SinkSeen) (v : Verdict) : Type 0 where
+  pub file : List ℕ
+  pub names : NamesCheck words file
+  pub text : List ℕ
+  pub text_told : old.told file ≡ outside.Holds text
+  pub text_within : length text ≤ greatest_of limit.Source
+  pub judged : Judged text v
+  pub reads : Rose old.faults new.faults → ⊥
+  pub writes : Rose before.faults after.faults → ⊥
+
+-- the line of a verdict
+abbrev pub verdict_line : Verdict → List ℕ
+verdict_line (accepts p) = ok_line
+verdict_line (refuses rule place) = refused_line rule place
+verdict_line (exceeds excess) = too_large_line excess.limit excess.count
+
+abbrev pub verdict_status : Verdict → Status
+verdict_status (accepts p) = status.Done
+verdict_status (refuses rule place) = status.Refused
+verdict_status (exceeds excess) = status.TooLarge
+
+-- the line of the verdict was written
+pub record WritesVerdict (v : Verdict) (before after : SinkSeen) (s : Status) : Type 0 where
+  pub status_is : s ≡ verdict_status v
+  pub grew : Grew before after (verdict_line v)
+
 -- so the call succeeds, or memory was refused
 pub record Succeeds (words : List (List ℕ)) (old new : FilesSeen) (before after : SinkSeen) (exact : Bool) (s : Status) : Type 0 where
   pub reports : (p : Program) (memories : List (List ℕ)) → NothingFails words old new before after exact p memories → ReportsRun p memories before after s ⊎ (s ≡ status.NoMemory)
   pub lowers : (p : Program) → NothingFailsLower words old new before after p → WritesNet p before after s ⊎ (s ≡ status.NoMemory)
+  pub checks : (v : Verdict) → NothingFailsCheck words old new before after v → WritesVerdict v before after s ⊎ (s ≡ status.NoMemory)

@@ -19,6 +19,10 @@ refused_line rule place =
 abbrev pub too_large_line : Limit → ℕ → List ℕ
 too_large_line limit count = codes "too large " ++ (printed_name limit ++ (codes " " ++ (decimal count ++ codes "\n")))
 
+-- no rule is broken
+abbrev pub ok_line : List ℕ
+ok_line = codes "ok\n"
+
 -- the data file does not fit the program
 abbrev pub not_json_line : List ℕ
 not_json_line = codes "bad data NotJson\n"

@@ -6,20 +6,23 @@ use Rattle.dh_base.specs.Outside.{FilesSeen, SinkSeen, Rose, Grew, GrewByPart}
 use Rattle.dh_base.specs.declared.limits.Limit.{Limit}
 use Rattle.dh_base.specs.declared.limits.Limit.TheVariants as limit
 use Rattle.dh_base.specs.declared.lists.NoMemory.{NoMemory}
-use Rattle.dh_base.specs.declared.rules.Rule.TheVariants.{Unsupported}
 use Rattle.dh_base.specs.declared.statuses.Status.{Status}
 use Rattle.dh_base.specs.declared.statuses.Status.TheVariants as status
 use Rattle.dh_tree.specs.Tables.{Fits}
-use Rattle.dh_tree.specs.Thin.{IsThinText}
-use Rattle.dh_tree.specs.declared.thin.Program.{Program}
+use Rattle.dh_tree.specs.Meaning.{table_of}
+use Rattle.dh_tree.specs.declared.tables.MemEntry.{MemEntry}
+use Rattle.dh_tree.specs.PlainTrees.{Program}
+use Rattle.dh_tree.specs.Seen.{program_seen}
+use Rattle.dh_check.specs.Verdicts.{Verdict, accepts, refuses, exceeds, IsVerdict}
+use Rattle.dh_check.specs.declared.accepted.Accepted.{Accepted}
 use Rattle.dh_net.specs.declared.nets.Net.{Net}
 use Rattle.dh_compile.specs.Compiled.{PlaysProgram}
 use Rattle.dh_verilog.specs.Ranges.{IsAlone}
 use Rattle.dh_verilog.specs.Text.{text_of}
 use Rattle.dh_data.specs.ThinData.{Holds}
 use Rattle.dh_data.specs.Reports.{report_text}
-use Rattle.dh_app.specs.Ends.{IsTooLong, FailsToRead, IsProgram, IsNoProgram, IsData, IsNoData, IsReport, ReadFails, Answers, first_place, status_of, ending_of}
-use Rattle.dh_app.specs.Lines.{too_large_line, refused_line, not_json_line}
+use Rattle.dh_app.specs.Ends.{IsTooLong, FailsToRead, ComesTo, IsProgram, IsData, IsNoData, IsReport, ReadFails, Answers, status_of, ending_of, verdict_line, verdict_status}
+use Rattle.dh_app.specs.Lines.{ok_line, too_large_line, not_json_line}
 use Rattle.dh_app.specs.declared.engine.Finish.{Finish}
 use Rattle.dh_app.specs.declared.running.Answer.{Answer}
 use Rattle.dh_app.specs.declared.running.Reply.{Reply}
@@ -51,15 +54,27 @@ Replies words old new exact answers (reply.Answer a) = Answers words old new exa
 Replies words old new exact answers reply.ReadFault = ReadFails words old new
 Replies words old new exact answers reply.NoMemory = Unit {0}
 
--- a text is refused
-pub record RefusedText (text : List ℕ) (a : Answer) : Type 0 where
-  pub not_thin : (p : Program) → IsThinText text p → ⊥
-  pub status_is : a.status ≡ status.Refused
-  pub text_is : a.text.items ≡ refused_line Unsupported first_place
+-- a verdict that does not accept
+abbrev pub IsRefusal : Verdict → Type 0
+IsRefusal (accepts p) = ⊥
+IsRefusal (refuses rule place) = Unit {0}
+IsRefusal (exceeds excess) = Unit {0}
 
-abbrev pub ProgramOf : List ℕ → Result Program Reply → Type 0
-ProgramOf text (Ok p) = IsThinText text p × ((q : Program) → IsThinText text q → q ≡ p)
-ProgramOf text (Err (reply.Answer a)) = RefusedText text a
+-- a text comes to a verdict, whose line is the answer
+pub record VerdictOf (text : List ℕ) (v : Verdict) (a : Answer) : Type 0 where
+  pub verdict : IsVerdict text v
+  pub status_is : a.status ≡ verdict_status v
+  pub text_is : a.text.items ≡ verdict_line v
+
+-- the verdict refuses
+pub record RefusalOf (text : List ℕ) (a : Answer) : Type 0 where
+  pub verdict : Verdict
+  pub refuses_it : IsRefusal verdict
+  pub answers : VerdictOf text verdict a
+
+abbrev pub ProgramOf : List ℕ → Result Accepted Reply → Type 0
+ProgramOf text (Ok p) = IsVerdict text (accepts (program_seen p))
+ProgramOf text (Err (reply.Answer a)) = RefusalOf text a
 ProgramOf text (Err reply.ReadFault) = ⊥
 ProgramOf text (Err reply.NoMemory) = Unit {0}
 
@@ -69,41 +84,43 @@ pub record LongFile (old new : FilesSeen) (name : List ℕ) (l : Limit) (a : Ans
   pub status_is : a.status ≡ status.TooLarge
   pub text_is : a.text.items ≡ too_large_line l (greatest_of l + 1)
 
--- a file is the text of no program
+-- a file comes to a verdict that refuses it, whose line is the answer
 pub record RefusedFile (old : FilesSeen) (name : List ℕ) (a : Answer) : Type 0 where
-  pub none : IsNoProgram old name
-  pub status_is : a.status ≡ status.Refused
-  pub text_is : a.text.items ≡ refused_line Unsupported first_place
+  pub verdict : Verdict
+  pub refuses_it : IsRefusal verdict
+  pub comes : ComesTo old name verdict
+  pub status_is : a.status ≡ verdict_status verdict
+  pub text_is : a.text.items ≡ verdict_line verdict
 
-abbrev pub ProgramRead : (old new : FilesSeen) → (name : List ℕ) → Result Program Reply → Type 0
-ProgramRead old new name (Ok p) = IsProgram old name p
+abbrev pub ProgramRead : (old new : FilesSeen) → (name : List ℕ) → Result Accepted Reply → Type 0
+ProgramRead old new name (Ok p) = IsProgram old name (program_seen p)
 ProgramRead old new name (Err (reply.Answer a)) = LongFile old new name limit.Source a ⊎ RefusedFile old name a
 ProgramRead old new name (Err reply.ReadFault) = FailsToRead old new name
 ProgramRead old new name (Err reply.NoMemory) = Unit {0}
 
--- bytes hold no memories of a program
-pub record BadBytes (bytes : List ℕ) (p : Program) (a : Answer) : Type 0 where
-  pub holds_none : (memories : List (List ℕ)) → Holds p.table bytes memories → ⊥
+-- bytes hold no memories of a table
+pub record BadBytes (bytes : List ℕ) (table : List MemEntry) (a : Answer) : Type 0 where
+  pub holds_none : (memories : List (List ℕ)) → Holds table bytes memories → ⊥
   pub status_is : a.status ≡ status.BadData
   pub text_is : a.text.items ≡ not_json_line
 
-abbrev pub DataOf : List ℕ → Program → Result (List (List ℕ)) Reply → Type 0
-DataOf bytes p (Ok m) = Holds p.table bytes m × (((others : List (List ℕ)) → Holds p.table bytes others → others ≡ m) × Fits p.table m)
-DataOf bytes p (Err (reply.Answer a)) = BadBytes bytes p a
-DataOf bytes p (Err reply.ReadFault) = ⊥
-DataOf bytes p (Err reply.NoMemory) = Unit {0}
+abbrev pub DataOf : List ℕ → List MemEntry → Result (List (List ℕ)) Reply → Type 0
+DataOf bytes table (Ok m) = Holds table bytes m × (((others : List (List ℕ)) → Holds table bytes others → others ≡ m) × Fits table m)
+DataOf bytes table (Err (reply.Answer a)) = BadBytes bytes table a
+DataOf bytes table (Err reply.ReadFault) = ⊥
+DataOf bytes table (Err reply.NoMemory) = Unit {0}
 
--- a file holds no memories of a program
-pub record BadFile (old : FilesSeen) (name : List ℕ) (p : Program) (a : Answer) : Type 0 where
-  pub none : IsNoData old name p
+-- a file holds no memories of a table
+pub record BadFile (old : FilesSeen) (name : List ℕ) (table : List MemEntry) (a : Answer) : Type 0 where
+  pub none : IsNoData old name table
   pub status_is : a.status ≡ status.BadData
   pub text_is : a.text.items ≡ not_json_line
 
-abbrev pub DataRead : (old new : FilesSeen) → (name : List ℕ) → Program → Result (List (List ℕ)) Reply → Type 0
-DataRead old new name p (Ok m) = IsData old name p m × Fits p.table m
-DataRead old new name p (Err (reply.Answer a)) = LongFile old new name limit.Data a ⊎ BadFile old name p a
-DataRead old new name p (Err reply.ReadFault) = FailsToRead old new name
-DataRead old new name p (Err reply.NoMemory) = Unit {0}
+abbrev pub DataRead : (old new : FilesSeen) → (name : List ℕ) → List MemEntry → Result (List (List ℕ)) Reply → Type 0
+DataRead old new name table (Ok m) = IsData old name table m × Fits table m
+DataRead old new name table (Err (reply.Answer a)) = LongFile old new name limit.Data a ⊎ BadFile old name table a
+DataRead old new name table (Err reply.ReadFault) = FailsToRead old new name
+DataRead old new name table (Err reply.NoMemory) = Unit {0}
 
 -- the run of a program from these memories is reported
 abbrev pub RunReplies : Program → List (List ℕ) → (exact : Bool) → List Finish → Reply → Type 0
@@ -112,16 +129,16 @@ RunReplies p memories exact answers reply.ReadFault = ⊥
 RunReplies p memories exact answers reply.NoMemory = Unit {0}
 
 -- the one answer is reported
-pub record ReportOf (p : Program) (answers : List Finish) (a : Answer) : Type 0 where
+pub record ReportOf (table : List MemEntry) (answers : List Finish) (a : Answer) : Type 0 where
   pub finish : Finish
   pub answered : answers ≡ finish ∷ []
   pub status_is : a.status ≡ status_of finish.outcome
-  pub text_is : a.text.items ≡ report_text p.table finish.memories (ending_of finish)
+  pub text_is : a.text.items ≡ report_text table finish.memories (ending_of finish)
 
-abbrev pub ReportsFirst : Program → List Finish → Reply → Type 0
-ReportsFirst p answers (reply.Answer a) = ReportOf p answers a
-ReportsFirst p answers reply.ReadFault = ⊥
-ReportsFirst p answers reply.NoMemory = Unit {0}
+abbrev pub ReportsFirst : List MemEntry → List Finish → Reply → Type 0
+ReportsFirst table answers (reply.Answer a) = ReportOf table answers a
+ReportsFirst table answers reply.ReadFault = ⊥
+ReportsFirst table answers reply.NoMemory = Unit {0}
 
 -- the net of a program is written
 pub record NetText (p : Program) (a : Answer) : Type 0 where
@@ -135,3 +152,13 @@ abbrev pub LowerReplies : Program → Reply → Type 0
 LowerReplies p (reply.Answer a) = NetText p a
 LowerReplies p reply.ReadFault = ⊥
 LowerReplies p reply.NoMemory = Unit {0}
+
+-- the program is accepted, and the answer says so
+pub record OkText (a : Answer) : Type 0 where
+  pub status_is : a.status ≡ status.Done
+  pub text_is : a.text.items ≡ ok_line
+
+abbrev pub CheckReplies : Reply → Type 0
+CheckReplies (reply.Answer a) = OkText a
+CheckReplies reply.ReadFault = ⊥
+CheckReplies reply.NoMemory = Unit {0}

@@ -48,6 +48,13 @@ fn too_large_text(alloc: Global, excess: Excess) -> Result<String, AllocError>
     format!(in alloc; "too large {name} {count}\n")
 }
 
+/// That the program breaks no rule.
+pub fn ok_line(alloc: Global) -> Result<Vec<u8>, NoMemory>
+    ensures { IfOk result (λ v. v.items ≡ lines.ok_line) }
+{
+    Ok(Vec::from_slice(alloc, b"ok\n")?)
+}
+
 /// That the data file does not fit the program.
 pub fn not_json_line(alloc: Global) -> Result<Vec<u8>, NoMemory>
     ensures { IfOk result (λ v. v.items ≡ lines.not_json_line) }

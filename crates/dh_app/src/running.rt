@@ -1,25 +1,31 @@
 //! The top call: from the words to the status.
 
-ghost use Rattle.std.specs.Prelude.{◌≡◌, ◌+◌, [], ◌∷◌, map, string_bytes, Bool, List, ℕ, IfOk};
+ghost use Rattle.std.specs.Prelude.{◌≡◌, ◌+◌, ◌≤◌, [], ◌∷◌, length, map, string_bytes, Bool, List, ℕ, IfOk};
 ghost use Rattle.dh_base.specs.Outside.{KeepsFiles, KeepsSink};
 ghost use Rattle.dh_tree.specs.Tables.{Fits, IsTable};
-ghost use Rattle.dh_tree.specs.Thin.{IsThin};
-ghost use Rattle.dh_app.specs.Ends.{Names, NamesLower, Ends, Succeeds, status_of as status_of_lem};
+ghost use Rattle.dh_tree.specs.Meaning.{table_of};
+ghost use Rattle.dh_tree.specs.PlainTrees.{Program};
+ghost use Rattle.dh_tree.specs.Seen.{program_seen};
+ghost use Rattle.dh_net.specs.Valid.{IsValid};
+ghost use Rattle.dh_compile.specs.Compiled.{PlaysProgram};
+ghost use Rattle.dh_app.specs.Ends.{Names, NamesCheck, NamesLower, Ends, Succeeds, status_of as status_of_lem};
 ghost use Rattle.dh_app.specs.declared.engine.Finish.{Finish};
-ghost use Rattle.dh_app.specs.Replies.{AnswersLine, AnswersWith, Written, Replies, ProgramRead, ProgramOf, DataRead, DataOf, RunReplies, ReportsFirst, LowerReplies};
+ghost use Rattle.dh_app.specs.Replies.{AnswersLine, AnswersWith, Written, Replies, ProgramRead, ProgramOf, DataRead, DataOf, RunReplies, ReportsFirst, LowerReplies, CheckReplies};
 ghost use Rattle.dh_app.specs.Lines as lines;
 ghost use Rattle.dh_base.specs.Limits.{greatest_of};
 ghost use Rattle.dh_base.specs.declared.statuses.Status.TheVariants as status;
 
 use crate::engine::{Engine, Finish};
-use crate::lines::{not_json_line, refused_line, too_large_line, usage_line};
+use crate::lines::{not_json_line, ok_line, refused_line, too_large_line, usage_line};
 use crate::words::Job;
 use dh_base::{
-    Excess, FileFault, Files, Limit, NoMemory, Outcome, Place, Rule, Sink, SinkFault, Status,
+    Excess, FileFault, Files, Limit, NoMemory, Outcome, Sink, SinkFault, Status,
 };
+use dh_check::{Accepted, CheckFault, Forms, check};
 use dh_compile::compile;
 use dh_data::{DataFault, Ending, report};
-use dh_tree::{Memories, Program, read_thin};
+use dh_net::Net;
+use dh_tree::{MemTable, Memories};
 use std::alloc::Global;
 
 /// The clocks that a run may take.
@@ -43,7 +49,8 @@ pub enum Reply {
     NoMemory,
 }
 
-/// Does all that the program does. `lower FILE` compiles the program of a file and writes the Verilog
+/// Does all that the program does. `check FILE` says whether the program of a file breaks a rule or
+/// exceeds a limit, and which and where. `lower FILE` compiles the program of a file and writes the Verilog
 /// text of its net: the text of a net that plays the program from all fitting memories, and of no
 /// other net. `simulate FILE DATA` compiles the program of the one file, has the engine run the net
 /// from the memories of the other, and writes the report of the engine's answer. `Ends` says for each
@@ -107,6 +114,7 @@ fn reply_to<F: Files, E: Engine>(
 {
     match Job::of(words) {
         None => answer_with(Status::Usage, usage_line(alloc)),
+        Some(Job::Check { file }) => check_file(alloc, words[file as usize].as_str(), files),
         Some(Job::Lower { file }) => lower(alloc, words[file as usize].as_str(), files),
         Some(Job::Simulate { file, data_ }) => {
             let file = words[file as usize].as_str();
@@ -126,23 +134,40 @@ fn answer_with(status: Status, line: Result<Vec<u8>, NoMemory>) -> Reply
     }
 }
 
+/// Says whether the program of a file breaks a rule or exceeds a limit.
+fn check_file<F: Files>(alloc: Global, file: &str, files: &mut F) -> Reply
+    ensures files { KeepsFiles (F.seen files.old) (F.seen files.new) }
+    ensures replies { (words : List (List ℕ)) (exact : Bool) (answers : List Finish) → NamesCheck words file.now → Replies words (F.seen files.old) (F.seen files.new) exact answers result }
+{
+    match read_program(alloc, file, files, Forms::Checked) {
+        Ok(_) => ok_reply(alloc),
+        Err(reply) => reply,
+    }
+}
+
+/// That the program breaks no rule.
+fn ok_reply(alloc: Global) -> Reply
+    ensures { CheckReplies result }
+{
+    answer_with(Status::Done, ok_line(alloc))
+}
+
 /// Compiles the program of a file and writes the text of its net.
 fn lower<F: Files>(alloc: Global, file: &str, files: &mut F) -> Reply
     ensures files { KeepsFiles (F.seen files.old) (F.seen files.new) }
     ensures replies { (words : List (List ℕ)) (exact : Bool) (answers : List Finish) → NamesLower words file.now → Replies words (F.seen files.old) (F.seen files.new) exact answers result }
 {
-    match read_program(alloc, file, files) {
-        Ok(program) => net_text(alloc, &program),
+    match read_program(alloc, file, files, Forms::Compiled) {
+        Ok(accepted) => net_text(alloc, &accepted),
         Err(reply) => reply,
     }
 }
 
 /// The text of the net of a program.
-fn net_text(alloc: Global, program: &Program) -> Reply
-    requires { IsThin program.now }
-    ensures { LowerReplies program.now result }
+fn net_text(alloc: Global, accepted: &Accepted) -> Reply
+    ensures { LowerReplies (program_seen accepted.now) result }
 {
-    let Ok(net) = compile(alloc, program) else {
+    let Ok(net) = compile(alloc, accepted) else {
         return Reply::NoMemory;
     };
     match dh_verilog::write(alloc, &net) {
@@ -165,38 +190,53 @@ fn simulate<F: Files, E: Engine>(
     ensures engine { E.exact engine.new ≡ E.exact engine.old }
     ensures replies { (words : List (List ℕ)) → Names words file.now data_.now → Replies words (F.seen files.old) (F.seen files.new) (E.exact engine.old) (E.given engine.new) result }
 {
-    match read_program(alloc, file, files) {
-        Ok(program) => match read_memories(alloc, data_, &program, files) {
-            Ok(memories) => report_run(alloc, &program, memories, engine),
-            Err(reply) => reply,
-        },
+    let accepted = match read_program(alloc, file, files, Forms::Compiled) {
+        Ok(accepted) => accepted,
+        Err(reply) => return reply,
+    };
+    let Ok(net) = compile(alloc, &accepted) else {
+        return Reply::NoMemory;
+    };
+    match read_memories(alloc, data_, &net.table, files) {
+        Ok(memories) => report_run(alloc, &net, memories, engine),
         Err(reply) => reply,
     }
 }
 
 /// The program of a file.
-fn read_program<F: Files>(alloc: Global, name: &str, files: &mut F) -> Result<Program, Reply>
+fn read_program<F: Files>(
+    alloc: Global,
+    name: &str,
+    files: &mut F,
+    forms: Forms,
+) -> Result<Accepted, Reply>
     ensures files { KeepsFiles (F.seen files.old) (F.seen files.new) }
     ensures read { ProgramRead (F.seen files.old) (F.seen files.new) name.now result }
 {
     match files.read(alloc, name, Limit::Source.greatest()) {
-        Ok(text) => program_of(alloc, text.as_slice()),
+        Ok(text) => program_of(alloc, text.as_slice(), forms),
         Err(FileFault::Failed) => Err(Reply::ReadFault),
         Err(FileFault::TooLong) => Err(too_large(alloc, Limit::Source)),
         Err(FileFault::NoMemory) => Err(Reply::NoMemory),
     }
 }
 
-fn program_of(alloc: Global, text: &[u8]) -> Result<Program, Reply>
+/// The program of a text, or the line of its verdict.
+fn program_of(alloc: Global, text: &[u8], forms: Forms) -> Result<Accepted, Reply>
+    requires { length text.now ≤ 1048576 }
     ensures { ProgramOf text.now result }
 {
-    match read_thin(alloc, text) {
-        Ok(Some(program)) => Ok(program),
-        Ok(None) => Err(answer_with(
+    match check(alloc, text, forms) {
+        Ok(accepted) => Ok(accepted),
+        Err(CheckFault::Refused { rule, place }) => Err(answer_with(
             Status::Refused,
-            refused_line(alloc, Rule::Unsupported, Place { line: 1, column: 1 }),
+            refused_line(alloc, rule, place),
         )),
-        Err(NoMemory) => Err(Reply::NoMemory),
+        Err(CheckFault::TooLarge { excess }) => Err(answer_with(
+            Status::TooLarge,
+            too_large_line(alloc, excess),
+        )),
+        Err(CheckFault::NoMemory) => Err(Reply::NoMemory),
     }
 }
 
@@ -215,54 +255,46 @@ fn too_large(alloc: Global, limit: Limit) -> Reply
 fn read_memories<F: Files>(
     alloc: Global,
     name: &str,
-    program: &Program,
+    table: &MemTable,
     files: &mut F,
 ) -> Result<Memories, Reply>
-    requires { IsThin program.now }
+    requires { IsTable table.now }
     ensures files { KeepsFiles (F.seen files.old) (F.seen files.new) }
-    ensures read { DataRead (F.seen files.old) (F.seen files.new) name.now program.now result }
+    ensures read { DataRead (F.seen files.old) (F.seen files.new) name.now table.now result }
 {
     match files.read(alloc, name, Limit::Data.greatest()) {
-        Ok(bytes) => memories_of(alloc, program, bytes.as_slice()),
+        Ok(bytes) => memories_of(alloc, table, bytes.as_slice()),
         Err(FileFault::Failed) => Err(Reply::ReadFault),
         Err(FileFault::TooLong) => Err(too_large(alloc, Limit::Data)),
         Err(FileFault::NoMemory) => Err(Reply::NoMemory),
     }
 }
 
-fn memories_of(alloc: Global, program: &Program, bytes: &[u8]) -> Result<Memories, Reply>
-    requires { IsThin program.now }
-    ensures { DataOf bytes.now program.now result }
+fn memories_of(alloc: Global, table: &MemTable, bytes: &[u8]) -> Result<Memories, Reply>
+    requires { IsTable table.now }
+    ensures { DataOf bytes.now table.now result }
 {
-    match dh_data::read(alloc, &program.table, bytes) {
+    match dh_data::read(alloc, table, bytes) {
         Ok(memories) => Ok(memories),
         Err(DataFault::NotJson) => Err(answer_with(Status::BadData, not_json_line(alloc))),
         Err(DataFault::NoMemory) => Err(Reply::NoMemory),
     }
 }
 
-/// Compiles a program, has the engine run its net, and reports the engine's answer.
-fn report_run<E: Engine>(
-    alloc: Global,
-    program: &Program,
-    memories: Memories,
-    engine: &mut E,
-) -> Reply
-    requires thin { IsThin program.now }
-    requires fits { Fits program.now.table memories }
+/// Has the engine run a net, and reports the engine's answer.
+fn report_run<E: Engine>(alloc: Global, net: &Net, memories: Memories, engine: &mut E) -> Reply
+    requires valid { IsValid net.now }
+    requires fits { Fits net.now.table memories }
     ensures engine { E.exact engine.new ≡ E.exact engine.old }
-    ensures replies { RunReplies program.now memories (E.exact engine.old) (E.given engine.new) result }
+    ensures replies { (p : Program) → PlaysProgram net.now p → RunReplies p memories (E.exact engine.old) (E.given engine.new) result }
 {
-    let Ok(net) = compile(alloc, program) else {
-        return Reply::NoMemory;
-    };
     let Ok(sets) = only(alloc, memories) else {
         return Reply::NoMemory;
     };
-    let Ok(()) = engine.finish(&net, sets, MOST_CLOCKS) else {
+    let Ok(()) = engine.finish(net, sets, MOST_CLOCKS) else {
         return Reply::NoMemory;
     };
-    report_first(alloc, program, engine.answers())
+    report_first(alloc, &net.table, engine.answers())
 }
 
 /// The list of one item.
@@ -275,10 +307,10 @@ fn only(alloc: Global, memories: Memories) -> Result<Vec<Memories>, NoMemory>
 }
 
 /// Reports the first of an engine's answers.
-fn report_first(alloc: Global, program: &Program, answers: &[Finish]) -> Reply
-    requires answers { (finish : Finish) × ((answers.now ≡ finish ∷ []) × Fits program.now.table finish.memories) }
-    requires table { IsTable program.now.table }
-    ensures { ReportsFirst program.now answers.now result }
+fn report_first(alloc: Global, table: &MemTable, answers: &[Finish]) -> Reply
+    requires answers { (finish : Finish) × ((answers.now ≡ finish ∷ []) × Fits table.now finish.memories) }
+    requires table { IsTable table.now }
+    ensures { ReportsFirst table.now answers.now result }
 {
     let finish = &answers[0];
     let ending = Ending {
@@ -286,7 +318,7 @@ fn report_first(alloc: Global, program: &Program, answers: &[Finish]) -> Reply
         steps: finish.steps,
         clocks: Some(finish.clocks),
     };
-    match report(alloc, &program.table, &finish.memories, &ending) {
+    match report(alloc, table, &finish.memories, &ending) {
         Ok(text) => Reply::Answer(Answer {
             status: status_of(finish.outcome),
             text,

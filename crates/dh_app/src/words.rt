@@ -6,6 +6,8 @@ ghost use Rattle.dh_app.specs.Words.{job_of, is_file_word};
 /// What a call of the program is to do. A file goes by the position of its word, from 0.
 #[derive(Clone, Copy, Debug, PartialEq, Eq)]
 pub enum Job {
+    /// Check the program of a file.
+    Check { file: u32 },
     /// Compile the program of a file, and write the Verilog text of its net.
     Lower { file: u32 },
     /// Compile the program of a file, run its net from the memories of another, and report.
@@ -20,7 +22,7 @@ impl Job {
         ensures { result ≡ job_of (map string_bytes words.now) }
     {
         match words.len() {
-            2 => lower_of(words[0].as_str(), words[1].as_str()),
+            2 => over_file(words[0].as_str(), words[1].as_str()),
             3 => simulate_of(words[0].as_str(), words[1].as_str(), words[2].as_str()),
             _ => None,
         }
@@ -28,10 +30,14 @@ impl Job {
 }
 
 /// The job of two words.
-fn lower_of(command: &str, file: &str) -> Option<Job>
+fn over_file(command: &str, file: &str) -> Option<Job>
     ensures { result ≡ job_of (command.now ∷ (file.now ∷ [])) }
 {
-    if command == "lower" && is_file_word(file) {
+    if !is_file_word(file) {
+        None
+    } else if command == "check" {
+        Some(Job::Check { file: 1 })
+    } else if command == "lower" {
         Some(Job::Lower { file: 1 })
     } else {
         None

@@ -101,9 +101,9 @@ further_free : (id : ℕ) (ts : Terms) → further_indices ts ≡ [] → terms_a
 further_free id no_terms e = refl
 further_free id (term_then (term place kind form) rest) e = cc
 
-indices_free : (id : ℕ) (ts : Terms) → unbuilt_indices ts ≡ [] → terms_accesses id ts ≡ []
-indices_free id no_terms e = refl
-indices_free id (term_then t rest) e =
+indices_free : (id : ℕ) (at : Place) (ts : Terms) → unbuilt_indices at ts ≡ [] → terms_accesses id ts ≡ []
+indices_free id at no_terms e = refl
+indices_free id at (term_then t rest) e =
     let b = both_none (unbuilt_index t) (further_indices rest) e in
     ap (λ l. l ++ terms_accesses id rest) (index_free id t b.0) ∙ further_free id rest b.1
 
@@ -111,7 +111,7 @@ one_alone : (xs : List Access) (a : Access) → xs ≡ [] → length (xs ++ a �
 one_alone xs a e = let n = ap (λ l. length (l ++ a ∷ [])) e in omega (arith, n)
 
 target_short : (id : ℕ) (t : Term) → unbuilt_access t ≡ [] → length (target_accesses id t) ≤ 1
-target_short id (term place kind (accessed r indices)) e = one_alone (terms_accesses id indices) _ (indices_free id indices e)
+target_short id (term place kind (accessed r indices)) e = one_alone (terms_accesses id indices) _ (indices_free id place indices e)
 target_short id (term place kind (number negative n)) e = omega arith
 target_short id (term place kind (truth_value value)) e = omega arith
 target_short id (term place kind (named r)) e = omega arith
@@ -120,7 +120,7 @@ target_short id (term place kind (applied o left right)) e = omega arith
 target_short id (term place kind (converted inner to)) e = omega arith
 
 element_short : (id : ℕ) (t : Term) → unbuilt_access t ≡ [] → length (term_accesses id t) ≤ 1
-element_short id (term place kind (accessed r indices)) e = one_alone (terms_accesses id indices) _ (indices_free id indices e)
+element_short id (term place kind (accessed r indices)) e = one_alone (terms_accesses id indices) _ (indices_free id place indices e)
 element_short id (term place kind (number negative n)) e = omega arith
 element_short id (term place kind (truth_value value)) e = omega arith
 element_short id (term place kind (named r)) e = omega arith

@@ -38,9 +38,9 @@ further_kept : (bs : List Binding) (ts : Terms) → further_indices (resolved_te
 further_kept bs no_terms = refl
 further_kept bs (term_then (term place kind form) rest) = ap (λ l. unbuilt place ++ l) (further_kept bs rest)
 
-indices_kept : (bs : List Binding) (ts : Terms) → unbuilt_indices (resolved_terms bs ts) ≡ unbuilt_indices ts
-indices_kept bs no_terms = refl
-indices_kept bs (term_then (term place kind form) rest) =
+indices_kept : (bs : List Binding) (at : Place) (ts : Terms) → unbuilt_indices at (resolved_terms bs ts) ≡ unbuilt_indices at ts
+indices_kept bs at no_terms = refl
+indices_kept bs at (term_then (term place kind form) rest) =
     ap (λ m. (if is_some m then [] else unbuilt place) ++ further_indices (resolved_terms bs rest)) (number_kept bs form)
     ∙ ap (λ l. (if is_some (plain_number form) then [] else unbuilt place) ++ l) (further_kept bs rest)
 
@@ -48,7 +48,7 @@ access_kept : (bs : List Binding) (t : Term) → unbuilt_access (resolved_term b
 access_kept bs (term place kind (number negative n)) = refl
 access_kept bs (term place kind (truth_value value)) = refl
 access_kept bs (term place kind (named r)) = refl
-access_kept bs (term place kind (accessed r indices)) = indices_kept bs indices
+access_kept bs (term place kind (accessed r indices)) = indices_kept bs place indices
 access_kept bs (term place kind (in_bank r bank bank_place row)) = refl
 access_kept bs (term place kind (applied o left right)) = refl
 access_kept bs (term place kind (converted inner to)) = refl

@@ -1,8 +1,15 @@
 -- The words that the job names are those that are read.
 use Rattle.std.proofs.Common.{◌∙◌, map, string_bytes, Some, sym, ap, subst, List, ℕ}
-use Rattle.dh_app.specs.Ends.{Names, NamesLower}
-use Rattle.dh_app.proofs.Naming.{names_lower, names_simulate}
+use Rattle.dh_app.specs.Ends.{Names, NamesCheck, NamesLower}
+use Rattle.dh_app.proofs.Naming.{names_check, names_lower, names_simulate}
 use Rattle.dh_app.proofs.running.reply_to.Goals as goal
+
+pub returns-in-Some-Check-clause-replies : goal.returns-in-Some-Check-clause-replies
+returns-in-Some-Check-clause-replies g c =
+    let job = sym c.of.ensures ∙ (c.in-Some-Check.is ∙ ap Some c.in-Some-Check.field-0-is) in
+    let P : List ℕ → Type 0 = λ x. NamesCheck (map string_bytes c.args.words.now) x in
+    c.check_file.ensures.replies (map string_bytes c.args.words.now) (g.E.Engine.exact c.args.engine.now) (g.E.Engine.given c.args.engine.now)
+    (subst P (sym c.as_str.ensures.value) (names_check string_bytes c.args.words.now c.in-Some-Check.file c.index-words-file.result job c.index-words-file.is))
 
 pub returns-in-Some-Lower-clause-replies : goal.returns-in-Some-Lower-clause-replies
 returns-in-Some-Lower-clause-replies g c =
