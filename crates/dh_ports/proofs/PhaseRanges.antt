@@ -77,7 +77,7 @@ joined_ranged lo n hi cs ((straight ds ∷ []) ∷ parts) e w (mid, ((k, (le, (v
     joined_ranged lo mid hi (cs ++ ds) parts (le_trans lo n mid e (le_trans n k mid le r)) (within_append lo n mid cs ds e (le_trans n k mid le r) w (within_wider n k mid ds r v)) s
 joined_ranged lo n hi cs ((x ∷ (y ∷ ps)) ∷ parts) e w (mid, (r, s)) =
     ranged_append lo n hi (one_straight cs) ((x ∷ (y ∷ ps)) ++ joined [] parts) (one_ranged lo n cs e w)
-      (ranged_append n mid hi (x ∷ (y ∷ ps)) (joined [] parts) r (joined_ranged mid mid hi [] parts (le_self mid) (within_none mid mid) s))
+    (ranged_append n mid hi (x ∷ (y ∷ ps)) (joined [] parts) r (joined_ranged mid mid hi [] parts (le_self mid) (within_none mid mid) s))
   where
     le_self : (n : ℕ) → n ≤ n
     le_self n = omega arith
@@ -94,8 +94,10 @@ mutual
     where
       le_self : (k : ℕ) → k ≤ k
       le_self k = omega arith
+
       at_n : (i : ℕ) → n ≡ i → (n ≤ i) × (i < n + 1)
       at_n i f = (omega (arith, f), omega (arith, f))
+
       only : (i : ℕ) → ((id == i) ≡ true) ⊎ (false ≡ true) → (n ≤ i) × (i < n + 1)
       only i (inl x) = at_n i (sym e ∙ eqb-true id i x)
       only i (inr x) = cc

@@ -106,9 +106,9 @@ module _ (tree : Tree) (forms : HasFirstForms (program_seen tree)) (left : List 
   pub told_kept : ((c : ℕ → ℕ) (t : Meets) → Distinct t → IsLargest c t (load c t)) → (new : ℕ → ℕ) → Fits (w ++ []) (slice_index left) new (meets 0 p.body) → KeepsPorts p
   told_kept law new f chosen together m =
       subst (λ (n : ℕ). total (charge p m) chosen (meets 0 p.body) ≤ n) (left_at m)
-        (within_ports _ (total (charges (w ++ []) m) chosen (meets 0 p.body)) (load (charges (w ++ []) m) (meets 0 p.body)) (new m) (slice_index left m)
-          (sym (total_agrees (charges (w ++ []) m) (charge p m) chosen (meets 0 p.body) (agrees m)))
-          ((law (charges (w ++ []) m) (meets 0 p.body) distinct).most chosen together) (f.rest m))
+      (within_ports _ (total (charges (w ++ []) m) chosen (meets 0 p.body)) (load (charges (w ++ []) m) (meets 0 p.body)) (new m) (slice_index left m)
+      (sym (total_agrees (charges (w ++ []) m) (charge p m) chosen (meets 0 p.body) (agrees m)))
+      ((law (charges (w ++ []) m) (meets 0 p.body) distinct).most chosen together) (f.rest m))
 
   stands_at : (k : ℕ) (place : Place) → option_map (λ (a : Tagged). a.access.place) (slice_get (w ++ []) k) ≡ Some place → option_map (λ (a : Access). a.place) (slice_get (accesses p.body) k) ≡ Some place
   stands_at k place e =
@@ -132,21 +132,26 @@ module _ (tree : Tree) (forms : HasFirstForms (program_seen tree)) (left : List 
         number = b.number;
         stands = stands_at b.number place b.stands;
         spent = record {
-          memory = b.memory; chosen = reached.0; completes = reached.1.0;
+          memory = b.memory;
+          chosen = reached.0;
+          completes = reached.1.0;
           beyond = beyond_ports (slice_index left b.memory) _ (upto (charges (w ++ []) b.memory) b.number (meets 0 p.body)) _ (left_at b.memory) b.beyond
-            (sym (total_agrees (charges (w ++ []) b.memory) (charge p b.memory) reached.0 (meets 0 p.body) (agrees b.memory)) ∙ reached.1.1) };
+              (sym (total_agrees (charges (w ++ []) b.memory) (charge p b.memory) reached.0 (meets 0 p.body) (agrees b.memory)) ∙ reached.1.1);
+        };
         first = λ x before o. never (ports_of p o.memory) (total (charge p o.memory) o.chosen (meets 0 p.body)) (total (charges (w ++ []) o.memory) o.chosen (meets 0 p.body)) (upto (charges (w ++ []) o.memory) x (meets 0 p.body)) (slice_index left o.memory)
-          o.beyond (sym (total_agrees (charges (w ++ []) o.memory) (charge p o.memory) o.chosen (meets 0 p.body) (agrees o.memory)))
-          ((law (charges (w ++ []) o.memory) (meets 0 p.body) x distinct (before_left (meets 0 p.body) x b.number before)).most o.chosen o.completes)
-          (b.earlier o.memory x before) (left_at o.memory) }
+            o.beyond (sym (total_agrees (charges (w ++ []) o.memory) (charge p o.memory) o.chosen (meets 0 p.body) (agrees o.memory)))
+            ((law (charges (w ++ []) o.memory) (meets 0 p.body) x distinct (before_left (meets 0 p.body) x b.number before)).most o.chosen o.completes)
+            (b.earlier o.memory x before) (left_at o.memory);
+      }
 
 -- before the first access nothing is recalled
 pub none_recalled : (recents : List Recent) (n : ℕ) → ((i : ℕ) (r : Recent) → slice_get recents i ≡ Some r → r.phase ≡ None) → Remembers [] recents None n
 none_recalled recents n empty = record {
-    current = λ phase a e is at read within. cc;
-    new_reads = λ phase a later. refl;
-    new_known = λ m phase index later. unknown (slice_get recents m) phase index (λ r e. empty m r e);
-    old = λ phase is. cc }
+  current = λ phase a e is at read within. cc;
+  new_reads = λ phase a later. refl;
+  new_known = λ m phase index later. unknown (slice_get recents m) phase index (λ r e. empty m r e);
+  old = λ phase is. cc;
+}
   where
     unknown : (o : Option Recent) (phase : ℕ) (index : Literal) → ((r : Recent) → o ≡ Some r → r.phase ≡ None) → known o phase index ≡ false
     unknown None phase index none = refl

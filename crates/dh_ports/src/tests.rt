@@ -66,7 +66,7 @@ type At = (u32, u64);
 
 /// A store at ten times its number, whose read stands five columns later.
 fn store(alloc: Global, id: u32, target: At, read: Option<At>) -> Result<Command, NoMemory> {
-    let column = id * 10;
+    let column = id.saturating_mul(10);
     let value = match read {
         None => number(7),
         Some((memory, index)) => Expr {
@@ -74,7 +74,10 @@ fn store(alloc: Global, id: u32, target: At, read: Option<At>) -> Result<Command
             kind: None,
             form: ExprForm::Binary {
                 op: Op::Add,
-                left: Box::new(alloc, access(alloc, column + 5, memory, index)?)?,
+                left: Box::new(
+                    alloc,
+                    access(alloc, column.saturating_add(5), memory, index)?,
+                )?,
                 right: Box::new(alloc, number(1))?,
             },
         },
@@ -151,8 +154,17 @@ fn program(alloc: Global, items: &[Item]) -> Result<Tree, NoMemory> {
                 now = open_part(alloc, id);
             }
             Next => {
-                now.done.push(now.commands)?;
-                now.commands = Vec::new(alloc);
+                let Part {
+                    id: block_id,
+                    mut done,
+                    commands,
+                } = now;
+                done.push(commands)?;
+                now = Part {
+                    id: block_id,
+                    done,
+                    commands: Vec::new(alloc),
+                };
             }
             Close => {
                 let closed = block(now)?;
