@@ -11,3 +11,5 @@ pub mod AgainExpressions
 pub mod AgainSimple
 pub mod AgainCommands
 pub mod AgainPrograms
+pub mod AlikeExpressions
+pub mod AlikeBlocks

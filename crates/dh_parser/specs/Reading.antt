@@ -248,8 +248,12 @@ read (suc d) k ts = bind (operand (read d) ts) λ e r. chain (read d) (suc (leng
 abbrev pub steps : List Token → ℕ
 steps ts = suc (length ts)
 
+-- an expression of operators of at least this level, with steps enough
+unfoldable pub expression : Reads
+expression k ts = read (steps ts) k ts
+
 abbrev pub the_expression : List Token → Outcome ExprText
-the_expression ts = read (steps ts) 0 ts
+the_expression ts = expression 0 ts
 
 abbrev pub more_arguments : ℕ → List Token → Outcome MoreArgumentsText
 more_arguments zero ts = deep
@@ -559,8 +563,23 @@ read_block (suc d) ts =
     bind (the mark.CloseBrace r) λ closer r.
     good (block opener parts closer) r
 
-abbrev pub the_block : Blocks
+-- a block, with steps enough
+unfoldable pub the_block : Blocks
 the_block ts = read_block (steps ts) ts
+
+-- an `if`, with steps enough
+unfoldable pub whole_if : List Token → Outcome IfText
+whole_if ts = the_if the_block (steps ts) ts
+
+-- what follows the block of an `if`
+abbrev pub whole_else : List Token → Outcome ElseText
+whole_else ts =
+    if comes mark.Else ts
+    then (bind (the mark.Else ts) λ else_word r.
+    if comes mark.If r
+    then (bind (whole_if r) λ i r. good (else_if else_word i) r)
+    else (bind (the_block r) λ b r. good (else_block else_word b) r))
+    else good no_else ts
 
 abbrev pub parameter_text : NameText → Place → TypeText → ParameterText
 parameter_text n colon t = record { name = n; colon = colon; written = t }
