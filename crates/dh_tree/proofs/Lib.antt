@@ -8,3 +8,5 @@ pub mod GroupReading
 pub mod TableReading
 pub mod Parsed
 pub mod ThinTexts
+pub mod SeenTerms
+pub mod SeenActions

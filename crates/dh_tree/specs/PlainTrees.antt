@@ -6,7 +6,6 @@ use Rattle.dh_value.specs.declared.kinds.Kind.{Kind}
 use Rattle.dh_tree.specs.declared.tables.Shape.{Shape}
 use Rattle.dh_value.specs.declared.operators.Op.{Op}
 use Rattle.dh_tree.specs.declared.trees.expressions.Ref.{Ref}
-use Rattle.dh_tree.specs.declared.trees.programs.DimPlaces.{DimPlaces}
 use Rattle.dh_tree.specs.declared.trees.programs.ShapePlaces.{ShapePlaces}
 use Rattle.dh_tree.specs.declared.trees.programs.Entity.{Entity}
 
@@ -29,7 +28,7 @@ mutual
     term_then : Term → Terms → Terms
 
 -- a factor of a view and its offset
-pub record Suffix : Type 0 where
+pub record Suffixed : Type 0 where
   pub factor : ℕ
   pub offset : Term
 
@@ -37,7 +36,7 @@ pub record Suffix : Type 0 where
 pub data ViewPlan : Type 0 where
   shrinks : (by : List ℕ) → (by_place : List Place) → ViewPlan
   splits : (by : List ℕ) → (by_place : List Place) → ViewPlan
-  suffixes : (by : List Suffix) → (by_place : List Place) → ViewPlan
+  suffixes : (by : List Suffixed) → (by_place : List Place) → ViewPlan
   shifts : (by : List Term) → ViewPlan
 
 -- a number where it stands

@@ -4,6 +4,7 @@
 #![tactic(auto)]
 
 mod contents;
+mod laws;
 mod names;
 mod tables;
 mod thin;
@@ -11,6 +12,7 @@ mod trees;
 
 pub use contents::Memories;
 pub use dh_value::Kind;
+pub use laws::lists_are_seen_in_order;
 pub use tables::{Dim, MemEntry, MemTable, Name, Shape, copy_table, element_count, is_table};
 pub use thin::{Operand, Program, Store, Token, read_thin};
 pub use trees::{

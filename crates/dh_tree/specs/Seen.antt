@@ -1,0 +1,115 @@
+-- What clauses see of a tree of the code: the plain tree that it stands for.
+use Rattle.std.specs.Prelude.{ℕ, List, [], ◌∷◌, map, Option, Some, None, option_map, Vec}
+use Rattle.std.specs.Global.{Global}
+use Rattle.dh_base.specs.declared.places.Place.{Place}
+use Rattle.dh_tree.specs.declared.trees.expressions.Expr.{Expr}
+use Rattle.dh_tree.specs.declared.trees.expressions.ExprForm.{ExprForm}
+use Rattle.dh_tree.specs.declared.trees.expressions.ExprForm.TheVariants.{Number, Truth, Variable, Access', Physical', Binary', Cast'}
+use Rattle.dh_tree.specs.declared.trees.expressions.ExprForm.TheBlock.{Row_of-Expr, end_of-Expr, more_of-Expr}
+use Rattle.dh_tree.specs.declared.trees.commands.Command.{Command}
+use Rattle.dh_tree.specs.declared.trees.commands.CommandForm.{CommandForm}
+use Rattle.dh_tree.specs.declared.trees.commands.CommandForm.TheVariants.{Let, LetMemory, View, Assign, Store, Reduce, Call, Block', If', While', For'}
+use Rattle.dh_tree.specs.declared.trees.commands.CommandForm.TheBlock as block
+use Rattle.dh_tree.specs.declared.trees.commands.ViewForm.{ViewForm}
+use Rattle.dh_tree.specs.declared.trees.commands.ViewForm.TheVariants.{Shrink, Split, Suffix, Shift}
+use Rattle.dh_tree.specs.declared.trees.programs.Decl.{Decl}
+use Rattle.dh_tree.specs.declared.trees.programs.Parameter.{Parameter}
+use Rattle.dh_tree.specs.declared.trees.programs.Function.{Function}
+use Rattle.dh_tree.specs.declared.trees.programs.Tree.{Tree}
+use Rattle.dh_tree.specs.PlainTrees.{Term, term, TermForm, number, truth_value, named, accessed, in_bank, applied, converted, Terms, no_terms, term_then, Suffixed, ViewPlan, shrinks, splits, suffixes, shifts, Placed, Action, action, ActionForm, lets, lets_memory, views, assigns, stores, reduces, calls, blocks, decides, repeats, counts, MaybeAction, no_action, one_action, Actions, no_actions, action_then, Groups, no_groups, group_then, Declared, Formal, Defined, Program}
+
+unfoldable mutual
+  pub form_seen : ExprForm → TermForm
+  form_seen (Number negative value) = number negative value
+  form_seen (Truth value) = truth_value value
+  form_seen (Variable of) = named of
+  form_seen (Access' of shape row) = accessed of (row_seen row)
+  form_seen (Physical' of bank bank_place p place kind form) = in_bank of bank bank_place (term place kind (form_seen form))
+  form_seen (Binary' op p place kind left q place' kind' right) = applied op (term place kind (form_seen left)) (term place' kind' (form_seen right))
+  form_seen (Cast' p place kind inner to) = converted (term place kind (form_seen inner)) to
+
+  pub row_seen : {m : _} → Row_of-Expr m → Terms
+  row_seen end_of-Expr = no_terms
+  row_seen (more_of-Expr place kind form rest) = term_then (term place kind (form_seen form)) (row_seen rest)
+
+abbrev pub term_seen : Expr → Term
+term_seen e = term e.place e.kind (form_seen e.form)
+
+-- terms in order, as the plain trees hold them
+abbrev pub terms : List Term → Terms
+terms [] = no_terms
+terms (t ∷ ts) = term_then t (terms ts)
+
+abbrev pub factor_seen : ℕ × Expr → Suffixed
+factor_seen (n, e) = record { factor = n; offset = term_seen e }
+
+-- how a view shows its parent
+abbrev pub plan_seen : ViewForm → ViewPlan
+plan_seen (Shrink by by_place) = shrinks by.items by_place.items
+plan_seen (Split by by_place) = splits by.items by_place.items
+plan_seen (Suffix by by_place) = suffixes (map factor_seen by.items) by_place.items
+plan_seen (Shift by) = shifts (map term_seen by.items)
+
+abbrev pub placed : ℕ → Place → Placed
+placed value place = record { value = value; place = place }
+
+unfoldable mutual
+  pub action_form_seen : CommandForm → ActionForm
+  action_form_seen (Let name declared value) = lets name declared (option_map term_seen value)
+  action_form_seen (LetMemory name shape shape_places value) = lets_memory name shape shape_places (option_map term_seen value)
+  action_form_seen (View name parent form) = views name parent (plan_seen form)
+  action_form_seen (Assign target value) = assigns target (term_seen value)
+  action_form_seen (Store target value) = stores (term_seen target) (term_seen value)
+  action_form_seen (Reduce target op value) = reduces target op (term_seen value)
+  action_form_seen (Call function arguments) = calls function (map term_seen arguments.items)
+  action_form_seen (Block' shape rows) = blocks (rows_seen rows)
+  action_form_seen (If' test p id place form other) = decides (term_seen test) (action id place (action_form_seen form)) (other_seen other)
+  action_form_seen (While' test p id place form) = repeats (term_seen test) (action id place (action_form_seen form))
+  action_form_seen (For' iterator declared low low_place high high_place factor factor_place p id place form combine combine_place) =
+      counts iterator declared (placed low low_place) (placed high high_place) (placed factor factor_place) (action id place (action_form_seen form)) (other_seen combine) combine_place
+
+  pub other_seen : block.Held-CommandForm-If-2 → MaybeAction
+  other_seen block.None' = no_action
+  other_seen (block.Some' p id place form) = one_action (action id place (action_form_seen form))
+
+  pub rows_seen : {m : _} → block.Row_of-CommandForm-Block-0-1 m → Groups
+  rows_seen block.end_of-CommandForm-Block-0-1 = no_groups
+  rows_seen (block.more_of-CommandForm-Block-0-1 shape row rest) = group_then (commands_seen row) (rows_seen rest)
+
+  pub commands_seen : {m : _} → block.Row_of-Command m → Actions
+  commands_seen block.end_of-Command = no_actions
+  commands_seen (block.more_of-Command id place form rest) = action_then (action id place (action_form_seen form)) (commands_seen rest)
+
+abbrev pub action_seen : Command → Action
+action_seen c = action c.id c.place (action_form_seen c.form)
+
+-- commands in order, as the plain trees hold them
+abbrev pub actions : List Action → Actions
+actions [] = no_actions
+actions (a ∷ rest) = action_then a (actions rest)
+
+-- the commands of a part
+abbrev pub part_seen : Vec Command Global → Actions
+part_seen part = actions (map action_seen part.items)
+
+-- parts in order, as the plain trees hold them
+abbrev pub groups : List Actions → Groups
+groups [] = no_groups
+groups (g ∷ rest) = group_then g (groups rest)
+
+-- a block that may lack
+abbrev pub maybe_seen : Option Action → MaybeAction
+maybe_seen None = no_action
+maybe_seen (Some a) = one_action a
+
+abbrev pub declared_seen : Decl → Declared
+declared_seen d = record { name = d.name; shape = d.shape; shape_places = d.shape_places }
+
+abbrev pub formal_seen : Parameter → Formal
+formal_seen p = record { name = p.name; shape = p.shape; shape_places = p.shape_places; kind = p.kind }
+
+abbrev pub defined_seen : Function → Defined
+defined_seen f = record { name = f.name; parameters = map formal_seen f.parameters.items; body = action_seen f.body }
+
+abbrev pub program_seen : Tree → Program
+program_seen t = record { decls = map declared_seen t.decls.items; functions = map defined_seen t.functions.items; body = action_seen t.body; entities = t.entities.items }
