@@ -13,3 +13,5 @@ pub mod AgainCommands
 pub mod AgainPrograms
 pub mod AlikeExpressions
 pub mod AlikeBlocks
+pub mod FirstTokens
+pub mod Going

@@ -1,21 +1,31 @@
 -- How a parser of the code answers, beside the reader of lists: what it gives stands for what is read,
 -- and the tokens to come are those that are left.
-use Rattle.std.specs.Prelude.{◌≡◌, Bool, true, false, List, [], ◌∷◌, Result, Ok, Err}
+use Rattle.std.specs.Prelude.{◌≡◌, ℕ, Bool, true, false, List, [], ◌∷◌, Option, Some, None, Result, Ok, Err}
 use Rattle.dh_base.specs.declared.places.Place.{Place}
 use Rattle.dh_lexer.specs.declared.tokens.Token.{Token}
+use Rattle.dh_value.specs.declared.operators.Op.{Op}
+use Rattle.dh_tree.specs.PlainTrees.{Placed}
 use Rattle.dh_parser.specs.declared.parsing.reading.Stop.{Stop}
 use Rattle.dh_parser.specs.declared.parsing.reading.Stop.TheVariants as stop
 use Rattle.dh_parser.specs.declared.parsing.reading.Mark.{Mark}
 use Rattle.dh_parser.specs.declared.parsing.reading.Numeral.{Numeral}
-use Rattle.dh_tree.specs.PlainTrees.{Placed}
+use Rattle.dh_parser.specs.declared.parsing.types.WrittenType.{WrittenType}
+use Rattle.dh_parser.specs.declared.parsing.types.WrittenDim.{WrittenDim}
+use Rattle.dh_parser.specs.declared.parsing.loops.LoopHead.{LoopHead}
+use Rattle.dh_parser.specs.Grammar.{PortsText, no_ports, some_ports, DimsText, dim_then, TypeText, HeadText}
 use Rattle.dh_parser.specs.Marks.{comes}
-use Rattle.dh_parser.specs.Reading.{Outcome, good, bad, deep, the}
+use Rattle.dh_parser.specs.TreesOfTexts.{placed_of, ref_of, dims_of, places_of, shape_of, shape_places_of, is_memory_type, declared_of, factor_of}
+use Rattle.dh_parser.specs.Reading.{Outcome, good, bad, deep, the, Sign, sign_text, sign_at}
 
-abbrev pub Answers : {A B : Type 0} → (B → A → Type 0) → Result B Stop → List Token → Outcome A → Type 0
-Answers same (Ok v) rest (good a r) = same v a × (rest ≡ r)
-Answers same (Err stop.Here) rest (bad r) = rest ≡ r
-Answers same (Err stop.NoMemory) rest o = Unit {0}
-Answers same _ rest o = ⊥
+abbrev pub AnswersBy : {A B : Type 0} → (B → A → Type 0) → Result B Stop → List Token → Outcome A → Type 0
+AnswersBy same (Ok v) rest (good a r) = same v a × (rest ≡ r)
+AnswersBy same (Err stop.Here) rest (bad r) = rest ≡ r
+AnswersBy same (Err stop.NoMemory) rest o = Unit {0}
+AnswersBy same _ rest o = ⊥
+
+-- what is given, with the tokens to come, answers as the outcome says
+pub record Answers {A B : Type 0} (same : B → A → Type 0) (given : Result B Stop) (rest : List Token) (o : Outcome A) : Type 0 where
+  pub holds : AnswersBy same given rest o
 
 -- the tokens after a mark, if it came next, and whether it did
 abbrev pub Took : Mark → Bool → List Token → List Token → Type 0
@@ -31,3 +41,31 @@ StandsAt _ _ = ⊥
 -- a number where it stands, in the code and beside it
 abbrev pub SameNumber : Numeral → Placed → Type 0
 SameNumber n p = (n.value ≡ p.value) × (n.place ≡ p.place)
+
+-- the number of ports, where it is written
+abbrev pub SamePorts : Option Numeral → PortsText → Type 0
+SamePorts None no_ports = Unit {0}
+SamePorts (Some n) (some_ports opener ports closer) = SameNumber n (placed_of ports)
+SamePorts _ _ = ⊥
+
+-- a dimension, as what it is put in front of others
+abbrev pub SameDim : WrittenDim → (DimsText → DimsText) → Type 0
+SameDim d put = (more : DimsText) → (dims_of (put more) ≡ d.dim ∷ dims_of more) × (places_of (put more) ≡ d.places ∷ places_of more)
+
+pub record SameType (w : WrittenType) (t : TypeText) : Type 0 where
+  pub shape : w.shape ≡ shape_of t
+  pub places : w.places ≡ shape_places_of t
+  pub memory : w.is_memory ≡ is_memory_type t.ports t.dims
+
+pub record SameHead (h : LoopHead) (t : HeadText) : Type 0 where
+  pub place : h.place ≡ t.word
+  pub iterator : h.iterator ≡ ref_of t.iterator
+  pub declared : h.declared ≡ declared_of t.declared
+  pub low : SameNumber h.low (placed_of t.low)
+  pub high : SameNumber h.high (placed_of t.high)
+  pub factor : SameNumber h.factor (factor_of t.word t.unroll)
+
+-- an operator of at least this level, if one came next
+abbrev pub TookOperator : ℕ → Option Op → List Token → List Token → Type 0
+TookOperator k None old new = (sign_at k old ≡ None) × (new ≡ old)
+TookOperator k (Some op) old new = (p : Place) × (sign_at k old ≡ Some (sign_text op p new))

@@ -100,6 +100,15 @@ the_banks ts =
     good (some_banks word banks) r)
     else good no_banks ts
 
+-- a dimension, as what it is put in front of others
+abbrev pub the_dim : List Token → Outcome (DimsText → DimsText)
+the_dim ts =
+    bind (the mark.OpenBracket ts) λ opener r.
+    bind (the_number r) λ size r.
+    bind (the_banks r) λ banks r.
+    bind (the mark.CloseBracket r) λ closer r.
+    good (λ more. dim_then opener size banks closer more) r
+
 abbrev pub the_dims : ℕ → List Token → Outcome DimsText
 the_dims zero ts = deep
 the_dims (suc n) ts =
@@ -365,6 +374,13 @@ view_command_from word ts =
     bind (the mark.Assign r) λ equal r.
     bind (the_view r) λ v r.
     good (view word n equal v) r
+
+-- the sign of a reducer that a token is
+abbrev pub reducer_from : TokenKind → Option ReducerText
+reducer_from kind.PlusAssign = Some adds
+reducer_from kind.MinusAssign = Some subtracts
+reducer_from kind.StarAssign = Some multiplies
+reducer_from _ = None
 
 abbrev pub reduce_from : NameText → ReducerText → Place → List Token → Outcome SimpleText
 reduce_from n sign place ts = bind (the_expression ts) λ e r. good (reduce n sign place e) r

@@ -1,7 +1,7 @@
 //! Commands, and the blocks that hold them.
 
 use crate::parsing::expressions::{read_access, read_arguments, read_expression};
-use crate::parsing::loops::{LoopHead, read_factor, read_loop_head};
+use crate::parsing::loops::{LoopHead, read_loop_head};
 use crate::parsing::operators::reducer_of;
 use crate::parsing::reading::{Mark, Reader, Stop};
 use crate::parsing::types::read_type;
@@ -155,18 +155,19 @@ fn read_while(reader: &mut Reader<'_>) -> Result<Command, Stop> {
 /// `for (let ..) { .. }` with its combine block, if one follows.
 #[cycle(command)]
 fn read_for(reader: &mut Reader<'_>) -> Result<Command, Stop> {
-    let place = reader.skip(Mark::For)?;
+    let head = read_loop_head(reader)?;
     let id = reader.begin();
+    let body = read_block(reader)?;
+    let body = Box::new(reader.alloc, body)?;
+    let (combine, combine_place) = read_combine(reader, head.place)?;
     let LoopHead {
+        place,
         iterator,
         declared,
         low,
         high,
-    } = read_loop_head(reader)?;
-    let factor = read_factor(reader, place)?;
-    let body = read_block(reader)?;
-    let body = Box::new(reader.alloc, body)?;
-    let (combine, combine_place) = read_combine(reader, place)?;
+        factor,
+    } = head;
     let form = CommandForm::For {
         iterator,
         declared,

@@ -1,8 +1,10 @@
 //! The operators and how tightly they bind.
 
-ghost use Rattle.std.specs.Prelude.{◌≡◌};
+ghost use Rattle.std.specs.Prelude.{◌≡◌, ◌<◌, ◌≤◌, length, IfSome, option_map};
 ghost use Rattle.dh_parser.specs.Allowed.{level};
-ghost use Rattle.dh_parser.specs.Reading.{op_from};
+ghost use Rattle.dh_parser.specs.Answers.{TookOperator};
+ghost use Rattle.dh_parser.specs.Reading.{op_from, reducer_from};
+ghost use Rattle.dh_parser.specs.TreesOfTexts.{reducer_op};
 
 use crate::parsing::reading::Reader;
 use dh_lexer::TokenKind;
@@ -52,7 +54,12 @@ pub(crate) fn operator_of(kind: &TokenKind) -> Option<Op>
 }
 
 /// Takes an operator that binds at least as tightly as `level`, if one comes next.
-pub(crate) fn take_operator(reader: &mut Reader<'_>, level: u8) -> Option<Op> {
+pub(crate) fn take_operator(reader: &mut Reader<'_>, level: u8) -> Option<Op>
+    ensures took { TookOperator level result reader.old.rest.now reader.new.rest.now }
+    ensures commands { reader.new.commands ≡ reader.old.commands }
+    ensures shorter { length reader.new.rest.now ≤ length reader.old.rest.now }
+    ensures taken { IfSome result (λ _. length reader.new.rest.now < length reader.old.rest.now) }
+{
     let [token, after @ ..] = reader.rest else {
         return None;
     };
@@ -65,7 +72,9 @@ pub(crate) fn take_operator(reader: &mut Reader<'_>, level: u8) -> Option<Op> {
 }
 
 /// The operator of a reducer.
-pub(crate) fn reducer_of(kind: &TokenKind) -> Option<Op> {
+pub(crate) fn reducer_of(kind: &TokenKind) -> Option<Op>
+    ensures { result ≡ option_map reducer_op (reducer_from kind.now) }
+{
     match kind {
         TokenKind::PlusAssign => Some(Op::Add),
         TokenKind::MinusAssign => Some(Op::Sub),

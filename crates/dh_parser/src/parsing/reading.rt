@@ -1,6 +1,6 @@
 //! Where the parser stands, and the single tokens that it takes.
 
-ghost use Rattle.std.specs.Prelude.{◌≡◌, ◌<◌, ◌≤◌, ◌+◌, length, IfOk};
+ghost use Rattle.std.specs.Prelude.{◌≡◌, ◌<◌, ◌≤◌, ◌+◌, ◌^◌, length, IfOk};
 ghost use Rattle.dh_parser.specs.Answers.{Answers, SameNumber, StandsAt, Took};
 ghost use Rattle.dh_parser.specs.Marks as marks;
 ghost use Rattle.dh_parser.specs.Marks.{comes};
@@ -266,7 +266,12 @@ impl Reader<'_> {
     }
 
     /// The number of a command that begins here.
-    pub fn begin(&mut self) -> u32 {
+    pub fn begin(&mut self) -> u32
+        requires { self.old.commands < 2 ^ 32 }
+        ensures id { result ≡ self.old.commands }
+        ensures commands { self.new.commands ≡ self.old.commands + 1 }
+        ensures rest { self.new.rest.now ≡ self.old.rest.now }
+    {
         let id = self.commands as u32;
         self.commands += 1;
         id

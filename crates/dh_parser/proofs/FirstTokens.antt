@@ -1,0 +1,33 @@
+-- What the first of the tokens to come says of a reader of lists.
+use Rattle.std.proofs.Common.{◌≡◌, ℕ, suc, ◌≤◌, ◌-◌, Bool, true, false, if◌then◌else◌, List, [], ◌∷◌, length, take, drop, get_or, refl, ap, sym, ◌∙◌, arith}
+use Rattle.std.proofs.lemmas.List.{take_all}
+use Rattle.dh_base.specs.declared.places.Place.{Place}
+use Rattle.dh_lexer.specs.declared.tokens.Token.{Token}
+use Rattle.dh_lexer.specs.declared.tokens.TokenKind.{TokenKind}
+use Rattle.dh_parser.specs.declared.parsing.reading.Mark.{Mark}
+use Rattle.dh_parser.specs.Marks.{is_mark, comes}
+use Rattle.dh_parser.specs.Answers.{Took}
+use Rattle.dh_parser.specs.Grammar.{KindText}
+use Rattle.dh_parser.specs.Reading.{Outcome, good, bad, the, kind_from, the_kind}
+
+none_first : (A : Type 0) → 1 ≤ length {A = A} [] → ⊥
+none_first A h = omega arith
+
+pub first_is : (all : List Token) (t : Token) → 1 ≤ length all → t ≡ get_or all 0 t → all ≡ t ∷ take (length all - 1) (drop 1 all)
+first_is [] t h e = absurd (none_first Token h)
+first_is (u ∷ ts) t h e =
+    let few : length ts ≤ length (u ∷ ts) - 1 = omega arith in
+    ap (λ v. v ∷ ts) (sym e) ∙ ap (λ l. t ∷ l) (sym (take_all (length (u ∷ ts) - 1) ts few))
+
+the_by : (b : Bool) (t : Token) (ts : List Token) → b ≡ true → (if b then good t.place ts else bad (t ∷ ts)) ≡ good t.place ts
+the_by true t ts e = refl
+the_by false t ts e = cc
+
+took_by : (m : Mark) (t : Token) (ts : List Token) → is_mark t.kind m ≡ true → Took m true (t ∷ ts) ts
+took_by m t ts f = (f, (t.place, the_by (is_mark t.kind m) t ts f))
+
+pub took_first : (m : Mark) (all ts : List Token) (t : Token) → all ≡ t ∷ ts → is_mark t.kind m ≡ true → Took m true all ts
+took_first m all ts t e f = rw e (took_by m t ts f)
+
+pub kind_at : (all ts : List Token) (t : Token) (k : TokenKind) → all ≡ t ∷ ts → t.kind ≡ k → the_kind all ≡ kind_from k t ts
+kind_at all ts t k e f = ap the_kind e ∙ ap (λ x. kind_from x t ts) f
