@@ -1,14 +1,18 @@
 -- What the first of the tokens to come says of a reader of lists.
-use Rattle.std.proofs.Common.{◌≡◌, ℕ, suc, ◌≤◌, ◌-◌, Bool, true, false, if◌then◌else◌, List, [], ◌∷◌, length, take, drop, get_or, refl, ap, sym, ◌∙◌, arith}
+use Rattle.std.proofs.Common.{◌≡◌, ℕ, suc, ◌≤◌, ◌-◌, Bool, true, false, if◌then◌else◌, List, [], ◌∷◌, Ok, length, take, drop, get_or, refl, ap, sym, ◌∙◌, arith}
 use Rattle.std.proofs.lemmas.List.{take_all}
 use Rattle.dh_base.specs.declared.places.Place.{Place}
 use Rattle.dh_lexer.specs.declared.tokens.Token.{Token}
 use Rattle.dh_lexer.specs.declared.tokens.TokenKind.{TokenKind}
+use Rattle.dh_lexer.specs.declared.tokens.TokenKind.TheVariants as kind
 use Rattle.dh_parser.specs.declared.parsing.reading.Mark.{Mark}
+use Rattle.dh_parser.specs.declared.parsing.reading.Mark.TheVariants as mark
 use Rattle.dh_parser.specs.Marks.{is_mark, comes}
-use Rattle.dh_parser.specs.Answers.{Took}
-use Rattle.dh_parser.specs.Grammar.{KindText}
-use Rattle.dh_parser.specs.Reading.{Outcome, good, bad, the, kind_from, the_kind}
+use Rattle.dh_parser.specs.Answers.{Took, StandsAt}
+use Rattle.dh_parser.specs.Grammar.{KindText, NumberText, bit_kind, ubit_kind}
+use Rattle.dh_parser.specs.Reading.{Outcome, good, bad, the, kind_from, the_kind, the_width, width_then}
+use Rattle.dh_parser.specs.TreesOfTexts.{kind_place}
+use Rattle.dh_parser.proofs.Going.{AllOf, all_then}
 
 none_first : (A : Type 0) → 1 ≤ length {A = A} [] → ⊥
 none_first A h = omega arith
@@ -31,3 +35,22 @@ took_first m all ts t e f = rw e (took_by m t ts f)
 
 pub kind_at : (all ts : List Token) (t : Token) (k : TokenKind) → all ≡ t ∷ ts → t.kind ≡ k → the_kind all ≡ kind_from k t ts
 kind_at all ts t k e f = ap the_kind e ∙ ap (λ x. kind_from x t ts) f
+
+width_starts : (p q : Place) (make : Place → NumberText → Place → KindText) (ts : List Token) → ((l : Place) (w : NumberText) (g : Place) → kind_place (make l w g) ≡ q) → q ≡ p
+    → AllOf (λ k. kind_place k ≡ p) (width_then make ts)
+width_starts p q make ts h e =
+    all_then (λ k. kind_place k ≡ p) (the mark.Less ts) _ λ less r0.
+    all_then (λ k. kind_place k ≡ p) (the_width r0) _ λ width r1.
+    all_then (λ k. kind_place k ≡ p) (the mark.Greater r1) _ λ greater r2.
+    (h less width greater ∙ e)
+
+kind_starts_from : (p : Place) (k : TokenKind) (t : Token) (ts : List Token) → t.place ≡ p → AllOf (λ x. kind_place x ≡ p) (kind_from k t ts)
+kind_starts_from p kind.Bool t ts e = e
+kind_starts_from p kind.Bit t ts e = width_starts p t.place (bit_kind t.place) ts (λ l w g. refl) e
+kind_starts_from p kind.Ubit t ts e = width_starts p t.place (ubit_kind t.place) ts (λ l w g. refl) e
+kind_starts_from p _ t ts e = tt
+
+-- a kind begins at the first token
+pub kind_starts : (p : Place) (ts : List Token) → StandsAt (Ok p) ts → AllOf (λ k. kind_place k ≡ p) (the_kind ts)
+kind_starts p [] h = tt
+kind_starts p (t ∷ ts) h = kind_starts_from p t.kind t ts (sym h)

@@ -1,5 +1,5 @@
 -- How what a parser of the code calls answers for it, beside readers of lists that go on with one another.
-use Rattle.std.proofs.Common.{◌≡◌, List, Result, Ok, Err, IsErr, refl, ap, sym, ◌∙◌}
+use Rattle.std.proofs.Common.{◌≡◌, Bool, true, false, if◌then◌else◌, List, Result, Ok, Err, IsErr, refl, ap, sym, ◌∙◌}
 use Rattle.std.specs.Result.{IsErrAnd}
 use Rattle.dh_lexer.specs.declared.tokens.Token.{Token}
 use Rattle.dh_parser.specs.declared.parsing.reading.Stop.{Stop}
@@ -29,9 +29,9 @@ err_by s t stop.Here rest deep go h = h
 err_by s t stop.NoMemory rest o go h = h
 
 -- a refusal by the first is one of the whole
-pub err_then : {A B C D : Type 0} {s : B → A → Type 0} {t : C → D → Type 0} {e : Stop} {rest : List Token} {o : Outcome A} {go : A → List Token → Outcome D}
+pub err_then : {A B C D : Type 0} {s : B → A → Type 0} {t : C → D → Type 0} {e : Stop} {rest : List Token} {o : Outcome A} (go : A → List Token → Outcome D)
     → Answers s (Err e) rest o → Answers t (Err e) rest (bind o go)
-err_then {s = s} {t = t} {e = e} {rest = rest} {o = o} {go = go} h = record { holds = err_by s t e rest o go h.holds }
+err_then {s = s} {t = t} {e = e} {rest = rest} {o = o} go h = record { holds = err_by s t e rest o go h.holds }
 
 then_by : {A B C D : Type 0} (s : B → A → Type 0) (t : C → D → Type 0) (v : B) (x : Result C Stop) (mid rest : List Token) (o : Outcome A) (go : A → List Token → Outcome D)
     → AnswersBy s (Ok v) mid o → ((a : A) → s v a → Answers t x rest (go a mid)) → Answers t x rest (bind o go)
@@ -44,9 +44,49 @@ pub ok_then : {A B C D : Type 0} {s : B → A → Type 0} {t : C → D → Type 
     → Answers s (Ok v) mid o → ((a : A) → s v a → Answers t x rest (go a mid)) → Answers t x rest (bind o go)
 ok_then {s = s} {t = t} {v = v} {x = x} {mid = mid} {rest = rest} {o = o} go h k = then_by s t v x mid rest o go h.holds k
 
-given_by : {A B C : Type 0} (s : B → A → Type 0) (t : C → A → Type 0) (e : Stop) (rest : List Token) (o : Outcome A)
-    → AnswersBy s (Err e) rest o → AnswersBy t (Err e) rest o
-given_by s t stop.Here rest (good a r) h = h
-given_by s t stop.Here rest (bad r) h = h
-given_by s t stop.Here rest deep h = h
-given_by s t stop.NoMemory rest o h = h
+-- what `?` hands on
+pub given : {C : Type 0} {x : Result C Stop} {e : Stop} → IsErr x × IsErrAnd x (λ f. f ≡ e) → x ≡ Err e
+given {x = Ok v} h = cc h.0
+given {x = Err f} {e = e} h = ap (λ g. Err g) h.1
+
+pub assoc : {A B C : Type 0} (o : Outcome A) (f : A → List Token → Outcome B) (g : B → List Token → Outcome C) → bind (bind o f) g ≡ bind o (λ a r. bind (f a r) g)
+assoc (good a r) f g = refl
+assoc (bad r) f g = refl
+assoc deep f g = refl
+
+pub same_bind : {A B : Type 0} (o : Outcome A) (go went : A → List Token → Outcome B) → ((a : A) (r : List Token) → go a r ≡ went a r) → bind o go ≡ bind o went
+same_bind (good a r) go went h = h a r
+same_bind (bad r) go went h = refl
+same_bind deep go went h = refl
+
+pub bind_good : {A : Type 0} (o : Outcome A) → o ≡ bind o (λ a r. good a r)
+bind_good (good a r) = refl
+bind_good (bad r) = refl
+bind_good deep = refl
+
+pub if_true : {A : Type 0} (b : Bool) (x y : A) → b ≡ true → (if b then x else y) ≡ x
+if_true true x y e = refl
+if_true false x y e = cc
+
+pub if_false : {A : Type 0} (b : Bool) (x y : A) → b ≡ false → (if b then x else y) ≡ y
+if_false true x y e = cc
+if_false false x y e = refl
+
+-- what is so of each text that is read
+abbrev pub AllOf : {A : Type 0} → (A → Type 0) → Outcome A → Type 0
+AllOf P (good a r) = P a
+AllOf P (bad r) = Unit {0}
+AllOf P deep = Unit {0}
+
+pub all_then : {A B : Type 0} (P : B → Type 0) (o : Outcome A) (go : A → List Token → Outcome B) → ((a : A) (r : List Token) → AllOf P (go a r)) → AllOf P (bind o go)
+all_then P (good a r) go h = h a r
+all_then P (bad r) go h = tt
+all_then P deep go h = tt
+
+also_by : {A B : Type 0} (s : B → A → Type 0) (P : A → Type 0) (v : B) (rest : List Token) (o : Outcome A) → AnswersBy s (Ok v) rest o → AllOf P o → AnswersBy (λ w a. s w a × P a) (Ok v) rest o
+also_by s P v rest (good a r) h p = ((h.0, p), h.1)
+also_by s P v rest (bad r) h p = h
+also_by s P v rest deep h p = h
+
+pub also : {A B : Type 0} {s : B → A → Type 0} {v : B} {rest : List Token} {o : Outcome A} (P : A → Type 0) → Answers s (Ok v) rest o → AllOf P o → Answers (λ w a. s w a × P a) (Ok v) rest o
+also {s = s} {v = v} {rest = rest} {o = o} P h p = record { holds = also_by s P v rest o h.holds p }

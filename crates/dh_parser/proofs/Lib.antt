@@ -15,3 +15,5 @@ pub mod AlikeExpressions
 pub mod AlikeBlocks
 pub mod FirstTokens
 pub mod Going
+pub mod Loops
+pub mod DimLoops

@@ -4,9 +4,9 @@ ghost use Rattle.std.specs.Prelude.{◌≡◌, ◌<◌, ◌≤◌, length, IfOk}
 ghost use Rattle.dh_base.specs.declared.places.Place.{Place};
 ghost use Rattle.dh_value.specs.declared.kinds.Kind.TheVariants as kinds;
 ghost use Rattle.dh_parser.specs.Answers.{Answers, SameNumber, SamePorts, SameDim, SameType};
-ghost use Rattle.dh_parser.specs.Grammar.{bit_kind, ubit_kind};
+ghost use Rattle.dh_parser.specs.Grammar.{TypeText, bit_kind, ubit_kind};
 ghost use Rattle.dh_parser.specs.Reading.{width_then, the_kind, the_ports, the_banks, the_dim, the_dims, the_type, steps};
-ghost use Rattle.dh_parser.specs.TreesOfTexts.{kind_of, banks_of, dims_of, places_of};
+ghost use Rattle.dh_parser.specs.TreesOfTexts.{kind_of, kind_place, banks_of, dims_of, places_of};
 
 use crate::parsing::reading::{Mark, Numeral, Reader, Stop};
 use dh_tree::{DimPlaces, ShapePlaces};
@@ -100,20 +100,36 @@ pub(crate) fn read_type(reader: &mut Reader<'_>) -> Result<WrittenType, Stop>
     let kind = read_kind(reader)?;
     let ports = read_ports(reader)?;
     let (dims, places) = read_dims(reader)?;
-    let is_memory = ports.is_some() || !dims.is_empty();
-    let ports = ports.unwrap_or(Numeral { value: 1, place });
-    Ok(WrittenType {
+    Ok(written_type(place, kind, ports, dims, places))
+}
+
+/// The type of these parts, that begins at this place.
+fn written_type(
+    place: Place,
+    kind: Kind,
+    ports: Option<Numeral>,
+    dims: Items<Dim>,
+    places: Items<DimPlaces>,
+) -> WrittenType
+    ensures { (t : TypeText) → kind ≡ kind_of t.kind → kind_place t.kind ≡ place → SamePorts ports t.ports
+        → (dims ≡ dims_of t.dims) × (places ≡ places_of t.dims) → SameType result t }
+{
+    let (number, is_memory) = match ports {
+        Some(number) => (number, true),
+        None => (Numeral { value: 1, place }, !dims.is_empty()),
+    };
+    WrittenType {
         shape: Shape {
             kind,
-            ports: ports.value,
+            ports: number.value,
             dims,
         },
         places: ShapePlaces {
-            ports_place: ports.place,
+            ports_place: number.place,
             dims: places,
         },
         is_memory,
-    })
+    }
 }
 
 /// A number of ports in braces, if a brace comes next.
