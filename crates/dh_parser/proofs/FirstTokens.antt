@@ -1,6 +1,10 @@
 -- What the first of the tokens to come says of a reader of lists.
-use Rattle.std.proofs.Common.{◌≡◌, ℕ, suc, ◌≤◌, ◌-◌, Bool, true, false, if◌then◌else◌, List, [], ◌∷◌, Ok, length, take, drop, get_or, refl, ap, sym, ◌∙◌, arith}
+use Rattle.std.proofs.Common.{◌≡◌, ℕ, suc, ◌≤◌, ◌-◌, Bool, true, false, if◌then◌else◌, List, [], ◌∷◌, Ok, Option, Some, None, nat_le, length, take, drop, get_or, refl, ap, sym, ◌∙◌, arith}
 use Rattle.std.proofs.lemmas.List.{take_all}
+use Rattle.std.proofs.lemmas.Bool.Decides.{nat_tests}
+use Rattle.dh_value.specs.declared.operators.Op.{Op}
+use Rattle.dh_parser.specs.Allowed.{level}
+use Rattle.dh_parser.specs.declared.parsing.loops.LoopHead.{LoopHead}
 use Rattle.dh_base.specs.declared.places.Place.{Place}
 use Rattle.dh_lexer.specs.declared.tokens.Token.{Token}
 use Rattle.dh_lexer.specs.declared.tokens.TokenKind.{TokenKind}
@@ -8,10 +12,10 @@ use Rattle.dh_lexer.specs.declared.tokens.TokenKind.TheVariants as kind
 use Rattle.dh_parser.specs.declared.parsing.reading.Mark.{Mark}
 use Rattle.dh_parser.specs.declared.parsing.reading.Mark.TheVariants as mark
 use Rattle.dh_parser.specs.Marks.{is_mark, comes}
-use Rattle.dh_parser.specs.Answers.{Took, StandsAt}
-use Rattle.dh_parser.specs.Grammar.{KindText, NumberText, bit_kind, ubit_kind}
-use Rattle.dh_parser.specs.Reading.{Outcome, good, bad, the, kind_from, the_kind, the_width, width_then}
-use Rattle.dh_parser.specs.TreesOfTexts.{kind_place}
+use Rattle.dh_parser.specs.Answers.{Took, StandsAt, SameNumber, SameHead}
+use Rattle.dh_parser.specs.Grammar.{KindText, NumberText, HeadText, bit_kind, ubit_kind}
+use Rattle.dh_parser.specs.Reading.{Outcome, good, bad, the, kind_from, the_kind, the_width, width_then, Sign, op_from, sign_text, sign_from, sign_at}
+use Rattle.dh_parser.specs.TreesOfTexts.{kind_place, ref_of, placed_of, declared_of, factor_of}
 use Rattle.dh_parser.proofs.Going.{AllOf, all_then}
 
 none_first : (A : Type 0) → 1 ≤ length {A = A} [] → ⊥
@@ -54,3 +58,16 @@ kind_starts_from p _ t ts e = tt
 pub kind_starts : (p : Place) (ts : List Token) → StandsAt (Ok p) ts → AllOf (λ k. kind_place k ≡ p) (the_kind ts)
 kind_starts p [] h = tt
 kind_starts p (t ∷ ts) h = kind_starts_from p t.kind t ts (sym h)
+
+tightly : (k : ℕ) (o : Op) (x y : Option Sign) → k ≤ level o → (if nat_le k (level o) then x else y) ≡ x
+tightly k o x y h = grind (arith, nat_tests)
+
+-- an operator that binds tightly enough
+pub sign_is : (k : ℕ) (all ts : List Token) (t : Token) (o : Op) → all ≡ t ∷ ts → op_from t.kind ≡ Some o → k ≤ level o → sign_at k all ≡ Some (sign_text o t.place ts)
+sign_is k all ts t o e f h =
+    ap (λ l. sign_at k l) e ∙ (ap (λ x. sign_from k x t ts) f ∙ tightly k o (Some (sign_text o t.place ts)) None h)
+
+-- the head of a loop, part by part
+pub same_head : (h : LoopHead) (t : HeadText) → h.place ≡ t.word → h.iterator ≡ ref_of t.iterator → h.declared ≡ declared_of t.declared
+    → SameNumber h.low (placed_of t.low) → SameNumber h.high (placed_of t.high) → SameNumber h.factor (factor_of h.place t.unroll) → SameHead h t
+same_head h t p i d l g f = record { place = p; iterator = i; declared = d; low = l; high = g; factor = rw (← p) f }
