@@ -90,3 +90,11 @@ also_by s P v rest deep h p = h
 
 pub also : {A B : Type 0} {s : B → A → Type 0} {v : B} {rest : List Token} {o : Outcome A} (P : A → Type 0) → Answers s (Ok v) rest o → AllOf P o → Answers (λ w a. s w a × P a) (Ok v) rest o
 also {s = s} {v = v} {rest = rest} {o = o} P h p = record { holds = also_by s P v rest o h.holds p }
+
+pub when_true : {A C : Type 0} {t : C → A → Type 0} {x : Result C Stop} {rest : List Token} {o : Outcome A} (b : Bool) (p : Outcome A) → b ≡ true → Answers t x rest o → Answers t x rest (if b then o else p)
+when_true true p e h = h
+when_true false p e h = absurd (cc e)
+
+pub when_false : {A C : Type 0} {t : C → A → Type 0} {x : Result C Stop} {rest : List Token} {o : Outcome A} (b : Bool) (p : Outcome A) → b ≡ false → Answers t x rest o → Answers t x rest (if b then p else o)
+when_false true p e h = absurd (cc e)
+when_false false p e h = h

@@ -17,3 +17,6 @@ pub mod FirstTokens
 pub mod Going
 pub mod Loops
 pub mod DimLoops
+pub mod OperatorLoops
+pub mod TermLoops
+pub mod TermForms

@@ -86,3 +86,16 @@ listed {n = n} {b = b} {m = m} {x = x} a e f g = e ∙ (ap (λ l. a ++ l) f ∙ 
 -- none is left
 pub all_listed : {X : Type 0} {w : List X} (a : List X) → w ≡ a ++ [] → a ≡ w
 all_listed a e = sym (e ∙ append-nil a)
+
+after_by : {A B M T : Type 0} (loop : ℕ → List Token → Outcome M) (one : Outcome A) (make : A → M → T) (rest : List Token) (P : (M → T) → Type 0) (s : B → A → Type 0) (v : B)
+    → Answers s (Ok v) rest one → ((a : A) → s v a → P (make a)) → Loops loop rest (bind one (λ a r. bind (loop (suc (length r)) r) (λ m q. good (make a m) q))) P
+after_by loop (good a r) make rest P s v h k =
+    looping loop rest (bind (loop (suc (length r)) r) (λ m q. good (make a m) q)) P (suc (length rest)) (make a) (omega arith)
+    (ap (λ l. bind (loop (suc (length l)) l) (λ m q. good (make a m) q)) (sym h.holds.1)) (k a h.holds.0)
+after_by loop (bad r) make rest P s v h k = absurd h.holds
+after_by loop deep make rest P s v h k = absurd h.holds
+
+-- the loop begins after a first part
+pub loop_after : {A B M T : Type 0} {one : Outcome A} {rest : List Token} {P : (M → T) → Type 0} {s : B → A → Type 0} {v : B} (loop : ℕ → List Token → Outcome M) (make : A → M → T)
+    → Answers s (Ok v) rest one → ((a : A) → s v a → P (make a)) → Loops loop rest (bind one (λ a r. bind (loop (suc (length r)) r) (λ m q. good (make a m) q))) P
+loop_after {one = one} {rest = rest} {P = P} {s = s} {v = v} loop make h k = after_by loop one make rest P s v h k

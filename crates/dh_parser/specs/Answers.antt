@@ -1,10 +1,12 @@
 -- How a parser of the code answers, beside the reader of lists: what it gives stands for what is read,
 -- and the tokens to come are those that are left.
-use Rattle.std.specs.Prelude.{◌≡◌, ℕ, Bool, true, false, List, [], ◌∷◌, Option, Some, None, Result, Ok, Err}
+use Rattle.std.specs.Prelude.{◌≡◌, ℕ, Bool, true, false, List, [], ◌∷◌, map, Option, Some, None, Result, Ok, Err}
 use Rattle.dh_base.specs.declared.places.Place.{Place}
 use Rattle.dh_lexer.specs.declared.tokens.Token.{Token}
 use Rattle.dh_value.specs.declared.operators.Op.{Op}
-use Rattle.dh_tree.specs.PlainTrees.{Placed}
+use Rattle.dh_tree.specs.declared.trees.expressions.Expr.{Expr}
+use Rattle.dh_tree.specs.PlainTrees.{Placed, term_then}
+use Rattle.dh_tree.specs.Seen.{term_seen, terms}
 use Rattle.dh_parser.specs.declared.parsing.reading.Stop.{Stop}
 use Rattle.dh_parser.specs.declared.parsing.reading.Stop.TheVariants as stop
 use Rattle.dh_parser.specs.declared.parsing.reading.Mark.{Mark}
@@ -12,9 +14,9 @@ use Rattle.dh_parser.specs.declared.parsing.reading.Numeral.{Numeral}
 use Rattle.dh_parser.specs.declared.parsing.types.WrittenType.{WrittenType}
 use Rattle.dh_parser.specs.declared.parsing.types.WrittenDim.{WrittenDim}
 use Rattle.dh_parser.specs.declared.parsing.loops.LoopHead.{LoopHead}
-use Rattle.dh_parser.specs.Grammar.{PortsText, no_ports, some_ports, DimsText, dim_then, TypeText, HeadText}
+use Rattle.dh_parser.specs.Grammar.{ExprText, IndexText, MoreIndicesText, PortsText, no_ports, some_ports, DimsText, dim_then, TypeText, HeadText}
 use Rattle.dh_parser.specs.Marks.{comes}
-use Rattle.dh_parser.specs.TreesOfTexts.{placed_of, ref_of, dims_of, places_of, shape_of, shape_places_of, is_memory_type, declared_of, factor_of}
+use Rattle.dh_parser.specs.TreesOfTexts.{placed_of, ref_of, dims_of, places_of, shape_of, shape_places_of, is_memory_type, declared_of, factor_of, term_of, index_of, indices_of}
 use Rattle.dh_parser.specs.Reading.{Outcome, good, bad, deep, the, Sign, sign_text, sign_at}
 
 abbrev pub AnswersBy : {A B : Type 0} → (B → A → Type 0) → Result B Stop → List Token → Outcome A → Type 0
@@ -69,3 +71,17 @@ pub record SameHead (h : LoopHead) (t : HeadText) : Type 0 where
 abbrev pub TookOperator : ℕ → Option Op → List Token → List Token → Type 0
 TookOperator k None old new = (sign_at k old ≡ None) × (new ≡ old)
 TookOperator k (Some op) old new = (p : Place) × (sign_at k old ≡ Some (sign_text op p new))
+
+-- what is made, where memory suffices
+abbrev pub Made : {B : Type 0} → (B → Type 0) → Result B Stop → Type 0
+Made P (Ok v) = P v
+Made P (Err stop.NoMemory) = Unit {0}
+Made P (Err stop.Here) = ⊥
+
+-- an expression stands for the tree of its text
+abbrev pub SameTerm : Expr → ExprText → Type 0
+SameTerm e t = term_seen e ≡ term_of t
+
+-- indices, of which there is one at least
+abbrev pub SameIndices : List Expr → IndexText × MoreIndicesText → Type 0
+SameIndices es t = terms (map term_seen es) ≡ term_then (index_of t.0) (indices_of t.1)

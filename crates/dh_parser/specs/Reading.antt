@@ -189,6 +189,13 @@ more_indices read (suc n) ts =
     good (index_then i more) r)
     else good no_indices ts
 
+-- indices, of which there is one at least
+abbrev pub all_indices : Reads → List Token → Outcome (IndexText × MoreIndicesText)
+all_indices read ts =
+    bind (the_index read ts) λ i r.
+    bind (more_indices read (suc (length r)) r) λ more r.
+    good (i, more) r
+
 -- what follows the name of an access
 abbrev pub access_from : Reads → NameText → List Token → Outcome AccessText
 access_from read n ts =

@@ -1,6 +1,6 @@
 //! The operators and how tightly they bind.
 
-ghost use Rattle.std.specs.Prelude.{◌≡◌, ◌<◌, ◌≤◌, length, IfSome, option_map};
+ghost use Rattle.std.specs.Prelude.{◌≡◌, suc, ◌<◌, ◌≤◌, length, IfSome, option_map};
 ghost use Rattle.dh_parser.specs.Allowed.{level};
 ghost use Rattle.dh_parser.specs.Answers.{TookOperator};
 ghost use Rattle.dh_parser.specs.Reading.{op_from, reducer_from};
@@ -11,8 +11,9 @@ use dh_lexer::TokenKind;
 use dh_value::Op;
 
 /// How tightly an operator binds, from 0 for `||` to 9 for `*`.
-pub(crate) fn level_of(op: Op) -> u8
-    ensures { result ≡ level op }
+fn level_of(op: Op) -> u8
+    ensures level { result ≡ level op }
+    ensures bound { result < 10 }
 {
     match op {
         Op::Either => 0,
@@ -26,6 +27,13 @@ pub(crate) fn level_of(op: Op) -> u8
         Op::Add | Op::Sub => 8,
         Op::Mul => 9,
     }
+}
+
+/// The level of what may stand at the right of an operator: what binds more tightly than it.
+pub(crate) fn level_above(op: Op) -> u8
+    ensures { result ≡ suc (level op) }
+{
+    level_of(op) + 1
 }
 
 /// The operator that a token is.

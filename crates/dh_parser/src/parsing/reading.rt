@@ -4,7 +4,7 @@ ghost use Rattle.std.specs.Prelude.{◌≡◌, ◌<◌, ◌≤◌, ◌+◌, ◌^
 ghost use Rattle.dh_parser.specs.Answers.{Answers, SameNumber, StandsAt, Took};
 ghost use Rattle.dh_parser.specs.Marks as marks;
 ghost use Rattle.dh_parser.specs.Marks.{comes};
-ghost use Rattle.dh_parser.specs.Reading.{the, the_number, the_name};
+ghost use Rattle.dh_parser.specs.Reading.{the, the_number, the_name, goes_on};
 ghost use Rattle.dh_parser.specs.TreesOfTexts.{ref_of, placed_of};
 ghost use Rattle.dh_parser.specs.declared.parsing.reading.Stop.TheVariants as stop;
 
@@ -180,6 +180,13 @@ impl Reader<'_> {
             [token, ..] => is_mark(&token.kind, mark),
             [] => false,
         }
+    }
+
+    /// Whether an access goes on here, after its name.
+    pub fn goes_on(&self) -> bool
+        ensures { result ≡ goes_on self.now.rest.now }
+    {
+        self.is_next(Mark::OpenBracket) || self.is_next(Mark::OpenBrace)
     }
 
     /// Takes this, if it comes next, and says whether it did.
