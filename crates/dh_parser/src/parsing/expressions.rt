@@ -1,7 +1,7 @@
 //! Expressions: operands joined by operators, of which the tighter take their operands first.
 
 ghost use Rattle.std.specs.Prelude.{◌≡◌, ◌<◌, ◌≤◌, length, map, IfOk, None};
-ghost use Rattle.dh_tree.specs.PlainTrees.{term, number};
+ghost use Rattle.dh_tree.specs.PlainTrees.{term, number, truth_value};
 ghost use Rattle.dh_tree.specs.Seen.{form_seen, term_seen};
 ghost use Rattle.dh_parser.specs.Answers.{Answers, Made, SameTerm, SameIndices};
 ghost use Rattle.dh_parser.specs.Grammar.{NameText};
@@ -34,7 +34,6 @@ pub(crate) fn read_expression(reader: &mut Reader<'_>, level: u8) -> Result<Expr
 }
 
 /// An operand: a literal, a name, an access, or something in parentheses.
-#[tactic(auto, using(dh_tree::proofs::SeenTerms::terms_are))]
 #[cycle(expression)]
 pub(crate) fn read_operand(reader: &mut Reader<'_>) -> Result<Expr, Stop>
     ensures answer { Answers (λ e t. SameTerm e t) result reader.new.rest.now (operand expression reader.old.rest.now) }
@@ -57,11 +56,11 @@ pub(crate) fn read_operand(reader: &mut Reader<'_>) -> Result<Expr, Stop>
         }
         TokenKind::True => {
             reader.rest = after;
-            Ok(plain(token.place, ExprForm::Truth { value: true }))
+            Ok(truth(token.place, true))
         }
         TokenKind::False => {
             reader.rest = after;
-            Ok(plain(token.place, ExprForm::Truth { value: false }))
+            Ok(truth(token.place, false))
         }
         TokenKind::Name(_) => {
             let of = reader.name()?;
@@ -204,6 +203,14 @@ fn literal(place: Place, negative: bool, value: u64) -> Expr
     ensures { term_seen result ≡ term place None (number negative value) }
 {
     plain(place, ExprForm::Number { negative, value })
+}
+
+/// `true` or `false`.
+#[tactic(auto, using(dh_tree::proofs::SeenTerms::terms_are))]
+fn truth(place: Place, value: bool) -> Expr
+    ensures { term_seen result ≡ term place None (truth_value value) }
+{
+    plain(place, ExprForm::Truth { value })
 }
 
 /// `left op right`
