@@ -4,7 +4,8 @@ use Rattle.std.proofs.Common.{◌≡◌, ℕ, zero, suc, ◌<◌, ◌≤◌, ◌
 use Rattle.dh_lexer.specs.declared.tokens.Token.{Token}
 use Rattle.dh_parser.specs.declared.parsing.reading.Stop.{Stop}
 use Rattle.dh_parser.specs.Reading.{Outcome, good, bad, deep, bind}
-use Rattle.dh_parser.specs.Answers.{Answers}
+use Rattle.dh_parser.specs.declared.parsing.reading.Stop.TheVariants as stop
+use Rattle.dh_parser.specs.Answers.{AnswersBy, Answers}
 use Rattle.dh_parser.proofs.StepsOfExpressions.{none_below}
 use Rattle.dh_parser.proofs.Going.{err_then, assoc, bind_good}
 
@@ -99,3 +100,27 @@ after_by loop deep make rest P s v h k = absurd h.holds
 pub loop_after : {A B M T : Type 0} {one : Outcome A} {rest : List Token} {P : (M → T) → Type 0} {s : B → A → Type 0} {v : B} (loop : ℕ → List Token → Outcome M) (make : A → M → T)
     → Answers s (Ok v) rest one → ((a : A) → s v a → P (make a)) → Loops loop rest (bind one (λ a r. bind (loop (suc (length r)) r) (λ m q. good (make a m) q))) P
 loop_after {one = one} {rest = rest} {P = P} {s = s} {v = v} loop make h k = after_by loop one make rest P s v h k
+
+put_by : {C M T : Type 0} (s : C → M → Type 0) (t : C → T → Type 0) (x : Result C Stop) (rest : List Token) (put : M → T) (o : Outcome M) → ((v : C) (m : M) → s v m → t v (put m))
+    → AnswersBy s x rest o → AnswersBy t x rest (bind o (λ m r. good (put m) r))
+put_by s t (Ok v) rest put (good m r) k h = (k v m h.0, h.1)
+put_by s t (Ok v) rest put (bad r) k h = h
+put_by s t (Ok v) rest put deep k h = h
+put_by s t (Err stop.Here) rest put (good m r) k h = h
+put_by s t (Err stop.Here) rest put (bad r) k h = h
+put_by s t (Err stop.Here) rest put deep k h = h
+put_by s t (Err stop.NoMemory) rest put o k h = h
+
+last_by : {C M T : Type 0} (loop : ℕ → List Token → Outcome M) (rest new : List Token) (whole : Outcome T) (P : (M → T) → Type 0) (t : C → T → Type 0) (x : Result C Stop) (end : Outcome M)
+    → (n : ℕ) (put : M → T) → length rest < n → whole ≡ bind (loop n rest) (λ m r. good (put m) r) → P put
+    → ((k : ℕ) → loop (suc k) rest ≡ end) → Answers (λ v m. (put : M → T) → P put → t v (put m)) x new end → Answers t x new whole
+last_by loop rest new whole P t x end zero put few f p stops h = absurd (none_below (length rest) few)
+last_by loop rest new whole P t x end (suc n) put few f p stops h =
+    rw (f ∙ ap (λ x. bind x (λ m q. good (put m) q)) (stops n))
+    (record { holds = put_by (λ v m. (put : _) → P put → t v (put m)) t x new put end (λ v m k. k put p) h.holds })
+
+-- the loop ends with an answer of its own
+pub loop_last : {C M T : Type 0} {loop : ℕ → List Token → Outcome M} {rest new : List Token} {whole : Outcome T} {P : (M → T) → Type 0} {t : C → T → Type 0} {x : Result C Stop}
+    (end : Outcome M) → Loops loop rest whole P → ((k : ℕ) → loop (suc k) rest ≡ end) → Answers (λ v m. (put : M → T) → P put → t v (put m)) x new end → Answers t x new whole
+loop_last {loop = loop} {rest = rest} {new = new} {whole = whole} {P = P} {t = t} {x = x} end w stops h =
+    last_by loop rest new whole P t x end w.left w.put w.few w.whole_is w.is_so stops h

@@ -1,5 +1,5 @@
 -- Loops that read expressions one after another.
-use Rattle.std.proofs.Common.{◌≡◌, ℕ, zero, suc, ◌<◌, ◌≤◌, ◌+◌, Bool, true, false, if◌then◌else◌, List, [], ◌∷◌, ◌++◌, map, length, Option, Some, None, Result, Ok, Err, append_assoc, refl, ap, sym, ◌∙◌, arith}
+use Rattle.std.proofs.Common.{◌≡◌, ℕ, zero, suc, ◌<◌, ◌≤◌, ◌+◌, Bool, true, false, if◌then◌else◌, List, [], ◌∷◌, ◌++◌, map, length, Option, Some, None, Result, Ok, Err, append_assoc, append-nil, refl, ap, sym, ◌∙◌, arith}
 use Rattle.dh_base.specs.declared.places.Place.{Place}
 use Rattle.dh_lexer.specs.declared.tokens.Token.{Token}
 use Rattle.dh_value.specs.declared.operators.Op.{Op}
@@ -10,9 +10,9 @@ use Rattle.dh_parser.specs.declared.parsing.reading.Stop.{Stop}
 use Rattle.dh_parser.specs.declared.parsing.reading.Mark.TheVariants as mark
 use Rattle.dh_parser.specs.Allowed.{level}
 use Rattle.dh_parser.specs.Marks.{comes}
-use Rattle.dh_parser.specs.Grammar.{NameText, ExprText, binary, IndexText, MoreIndicesText, no_indices, index_then, AccessText, element, physical}
+use Rattle.dh_parser.specs.Grammar.{NameText, ExprText, binary, IndexText, MoreIndicesText, no_indices, index_then, AccessText, element, physical, MoreArgumentsText, no_more_arguments, argument_then, ArgumentsText, some_arguments}
 use Rattle.dh_parser.specs.TreesOfTexts.{term_of, index_of, indices_of, joined_terms, plain, place_of}
-use Rattle.dh_parser.specs.Reading.{Outcome, good, bad, deep, bind, the, the_number, Sign, sign_text, sign_at, the_index, more_indices, all_indices, access_from, chain_with, chain, expression, operand}
+use Rattle.dh_parser.specs.Reading.{Outcome, good, bad, deep, bind, the, the_number, Sign, sign_text, sign_at, the_index, more_indices, all_indices, access_from, the_expression, the_argument, more_arguments, the_arguments, steps, chain_with, chain, expression, operand}
 use Rattle.dh_parser.specs.Answers.{Answers, SameTerm, TookOperator}
 use Rattle.dh_parser.proofs.StepsOfExpressions.{none_below}
 use Rattle.dh_parser.proofs.AlikeExpressions.{expression_is}
@@ -63,3 +63,22 @@ pub element_is : (n : NameText) (ts : List Token) → comes mark.OpenBrace ts �
 element_is n ts e = if_false (comes mark.OpenBrace ts) _ _ e ∙ sym (
     assoc (the_index expression ts) _ _ ∙ same_bind (the_index expression ts) _ _ λ i r0.
     assoc (more_indices expression (suc (length r0)) r0) _ _)
+
+pub arguments_go : (ts : List Token) → comes mark.Comma ts ≡ true → (n : ℕ)
+    → more_arguments (suc n) ts ≡ bind (the_argument ts) (λ a r. bind (more_arguments n r) (λ more r. good (argument_then a.0 a.1 more) r))
+arguments_go ts e n = if_true (comes mark.Comma ts) _ _ e ∙ sym (
+    assoc (the mark.Comma ts) _ _ ∙ same_bind (the mark.Comma ts) _ _ λ comma r0.
+    assoc (the_expression r0) _ _)
+
+pub arguments_end : (ts : List Token) → comes mark.Comma ts ≡ false → (n : ℕ) → more_arguments (suc n) ts ≡ bind (the mark.CloseParen ts) (λ closer r. good (no_more_arguments closer) r)
+arguments_end ts e n = if_false (comes mark.Comma ts) _ _ e
+
+pub some_arguments_is : (ts : List Token) → comes mark.CloseParen ts ≡ false
+    → bind (the_expression ts) (λ e r. bind (more_arguments (suc (length r)) r) (λ more r. good (some_arguments e more) r)) ≡ the_arguments ts
+some_arguments_is ts e = sym (if_false (comes mark.CloseParen ts) _ _ e)
+
+pub seen_first : {new old : List Expr} {t : Term} (e : Expr) (x : List Term) → new ≡ old ++ (e ∷ []) → old ≡ [] → term_seen e ≡ t → t ∷ x ≡ map term_seen new ++ x
+seen_first e x g n s = ap (λ u. u ∷ x) (sym s) ∙ ap (λ l. map term_seen l ++ x) (sym (g ∙ ap (λ l. l ++ (e ∷ [])) n))
+
+pub seen_all : {w : List Term} (es : List Expr) → w ≡ map term_seen es ++ [] → map term_seen es ≡ w
+seen_all es f = sym (f ∙ append-nil (map term_seen es))

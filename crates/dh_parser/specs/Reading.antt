@@ -271,6 +271,13 @@ expression k ts = read (steps ts) k ts
 abbrev pub the_expression : List Token → Outcome ExprText
 the_expression ts = expression 0 ts
 
+-- `, argument`
+abbrev pub the_argument : List Token → Outcome (Place × ExprText)
+the_argument ts =
+    bind (the mark.Comma ts) λ comma r.
+    bind (the_expression r) λ e r.
+    good (comma, e) r
+
 abbrev pub more_arguments : ℕ → List Token → Outcome MoreArgumentsText
 more_arguments zero ts = deep
 more_arguments (suc n) ts =

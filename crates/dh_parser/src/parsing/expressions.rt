@@ -5,7 +5,7 @@ ghost use Rattle.dh_tree.specs.PlainTrees.{term, number, truth_value};
 ghost use Rattle.dh_tree.specs.Seen.{form_seen, term_seen};
 ghost use Rattle.dh_parser.specs.Answers.{Answers, Made, SameTerm, SameIndices};
 ghost use Rattle.dh_parser.specs.Grammar.{NameText};
-ghost use Rattle.dh_parser.specs.Reading.{expression, operand, named_from, access_from, all_indices, the_index, bracket_from, the_arguments};
+ghost use Rattle.dh_parser.specs.Reading.{expression, operand, named_from, access_from, all_indices, the_index, bracket_from, the_argument, the_arguments};
 ghost use Rattle.dh_parser.specs.TreesOfTexts.{ref_of, access_of, index_of, arguments_of, joined_terms};
 
 use crate::parsing::operators::{level_above, take_operator};
@@ -177,12 +177,23 @@ pub(crate) fn read_arguments(reader: &mut Reader<'_>) -> Result<Vec<Expr>, Stop>
     let first = read_expression(reader, 0)?;
     arguments.push(first)?;
     while reader.is_next(Mark::Comma) {
-        reader.skip(Mark::Comma)?;
-        let argument = read_expression(reader, 0)?;
+        let argument = read_argument(reader)?;
         arguments.push(argument)?;
     }
     reader.skip(Mark::CloseParen)?;
     Ok(arguments)
+}
+
+/// `, argument`
+fn read_argument(reader: &mut Reader<'_>) -> Result<Expr, Stop>
+    ensures answer { Answers (λ e t. SameTerm e t.1) result reader.new.rest.now (the_argument reader.old.rest.now) }
+    ensures commands { reader.new.commands ≡ reader.old.commands }
+    ensures shorter { length reader.new.rest.now ≤ length reader.old.rest.now }
+    ensures taken { IfOk result (λ _. length reader.new.rest.now < length reader.old.rest.now) }
+{
+    reader.skip(Mark::Comma)?;
+    let argument = read_expression(reader, 0)?;
+    Ok(argument)
 }
 
 /// The expression of this form, its kind not yet found.
