@@ -20,3 +20,4 @@ pub mod DimLoops
 pub mod OperatorLoops
 pub mod TermLoops
 pub mod TermForms
+pub mod BracketLoops

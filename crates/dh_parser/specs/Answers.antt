@@ -5,8 +5,11 @@ use Rattle.dh_base.specs.declared.places.Place.{Place}
 use Rattle.dh_lexer.specs.declared.tokens.Token.{Token}
 use Rattle.dh_value.specs.declared.operators.Op.{Op}
 use Rattle.dh_tree.specs.declared.trees.expressions.Expr.{Expr}
+use Rattle.dh_tree.specs.declared.trees.expressions.Ref.{Ref}
+use Rattle.dh_tree.specs.declared.trees.commands.ViewForm.{ViewForm}
+use Rattle.dh_tree.specs.declared.trees.commands.CommandForm.{CommandForm}
 use Rattle.dh_tree.specs.PlainTrees.{Placed, term_then}
-use Rattle.dh_tree.specs.Seen.{term_seen, terms}
+use Rattle.dh_tree.specs.Seen.{term_seen, terms, factor_seen, plan_seen, action_form_seen}
 use Rattle.dh_parser.specs.declared.parsing.reading.Stop.{Stop}
 use Rattle.dh_parser.specs.declared.parsing.reading.Stop.TheVariants as stop
 use Rattle.dh_parser.specs.declared.parsing.reading.Mark.{Mark}
@@ -14,9 +17,9 @@ use Rattle.dh_parser.specs.declared.parsing.reading.Numeral.{Numeral}
 use Rattle.dh_parser.specs.declared.parsing.types.WrittenType.{WrittenType}
 use Rattle.dh_parser.specs.declared.parsing.types.WrittenDim.{WrittenDim}
 use Rattle.dh_parser.specs.declared.parsing.loops.LoopHead.{LoopHead}
-use Rattle.dh_parser.specs.Grammar.{ExprText, IndexText, MoreIndicesText, PortsText, no_ports, some_ports, DimsText, dim_then, TypeText, HeadText}
+use Rattle.dh_parser.specs.Grammar.{FactorText, SuffixText, OffsetText, ViewText, SimpleText, ExprText, IndexText, MoreIndicesText, PortsText, no_ports, some_ports, DimsText, dim_then, TypeText, HeadText}
 use Rattle.dh_parser.specs.Marks.{comes}
-use Rattle.dh_parser.specs.TreesOfTexts.{placed_of, ref_of, dims_of, places_of, shape_of, shape_places_of, is_memory_type, declared_of, factor_of, term_of, index_of, indices_of}
+use Rattle.dh_parser.specs.TreesOfTexts.{placed_of, ref_of, dims_of, places_of, shape_of, shape_places_of, is_memory_type, declared_of, factor_of, term_of, index_of, indices_of, suffix_of, parent_of, view_of, simple_form, simple_place}
 use Rattle.dh_parser.specs.Reading.{Outcome, good, bad, deep, the, Sign, sign_text, sign_at}
 
 abbrev pub AnswersBy : {A B : Type 0} → (B → A → Type 0) → Result B Stop → List Token → Outcome A → Type 0
@@ -85,3 +88,25 @@ SameTerm e t = term_seen e ≡ term_of t
 -- indices, of which there is one at least
 abbrev pub SameIndices : List Expr → IndexText × MoreIndicesText → Type 0
 SameIndices es t = terms (map term_seen es) ≡ term_then (index_of t.0) (indices_of t.1)
+
+-- the factors of a view and their places
+abbrev pub SameFactors : List ℕ → List Place → FactorText × List FactorText → Type 0
+SameFactors by places t = (by ≡ map (λ (g : FactorText). g.factor.value) (t.0 ∷ t.1)) × (places ≡ map (λ (g : FactorText). g.factor.place) (t.0 ∷ t.1))
+
+-- factors with offsets, and the places of the factors
+abbrev pub SameSuffixes : List (ℕ × Expr) → List Place → SuffixText × List SuffixText → Type 0
+SameSuffixes by places t = (map factor_seen by ≡ map suffix_of (t.0 ∷ t.1)) × (places ≡ map (λ (g : SuffixText). g.factor.place) (t.0 ∷ t.1))
+
+abbrev pub SameOffsets : List Expr → OffsetText × List OffsetText → Type 0
+SameOffsets by t = map term_seen by ≡ map (λ (p : OffsetText). term_of p.offset) (t.0 ∷ t.1)
+
+abbrev pub SameSuffix : Numeral → Expr → SuffixText → Type 0
+SameSuffix factor offset s = SameNumber factor (placed_of s.factor) × (term_seen offset ≡ term_of s.offset)
+
+-- the parent of a view and how it shows that
+abbrev pub SamePlan : Ref → ViewForm → ViewText → Type 0
+SamePlan parent form v = (parent ≡ parent_of v) × (plan_seen form ≡ view_of v)
+
+-- a command without blocks, that begins at a place
+abbrev pub SameSimple : Place → CommandForm → SimpleText → Type 0
+SameSimple place form s = (action_form_seen form ≡ simple_form s) × (simple_place s ≡ place)

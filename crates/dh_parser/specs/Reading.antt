@@ -341,6 +341,20 @@ more_of one (suc n) ts =
     then (bind (one ts) λ a r. bind (more_of one n r) λ more r. good (a ∷ more) r)
     else good [] ts
 
+-- what begins with `[`, once or more
+abbrev pub all_of : {A : Type 0} → (List Token → Outcome A) → List Token → Outcome (A × List A)
+all_of one ts =
+    bind (one ts) λ a r.
+    bind (more_of one (steps r) r) λ more r.
+    good (a, more) r
+
+-- the parent of a view and its brackets, apart
+abbrev pub parent_and : {A : Type 0} → (List Token → Outcome A) → List Token → Outcome (NameText × (A × List A))
+parent_and one ts =
+    bind (the_name ts) λ parent r.
+    bind (all_of one r) λ l r.
+    good (parent, l) r
+
 -- the parent of a view and its brackets
 abbrev pub brackets : {A : Type 0} → (List Token → Outcome A) → (NameText → A → List A → ViewText) → List Token → Outcome ViewText
 brackets one make ts =
