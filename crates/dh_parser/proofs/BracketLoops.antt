@@ -54,3 +54,6 @@ brackets_is one make ts = sym (
 
 pub view_at : (all ts : List Token) (t : Token) (k : TokenKind) → all ≡ t ∷ ts → t.kind ≡ k → the_view all ≡ view_from k t ts
 view_at all ts t k e f = ap the_view e ∙ ap (λ x. view_from x t ts) f
+
+pub ap2 : {X Y Z : Type 0} {x x' : X} {y y' : Y} (f : X → Y → Z) → x ≡ x' → y ≡ y' → f x y ≡ f x' y'
+ap2 {x' = x'} {y = y} f p q = ap (λ u. f u y) p ∙ ap (f x') q

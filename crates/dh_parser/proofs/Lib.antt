@@ -21,3 +21,4 @@ pub mod OperatorLoops
 pub mod TermLoops
 pub mod TermForms
 pub mod BracketLoops
+pub mod SimpleTokens

@@ -1,15 +1,19 @@
 -- How a parser of the code answers, beside the reader of lists: what it gives stands for what is read,
 -- and the tokens to come are those that are left.
-use Rattle.std.specs.Prelude.{◌≡◌, ℕ, Bool, true, false, List, [], ◌∷◌, map, Option, Some, None, Result, Ok, Err}
+use Rattle.std.specs.Prelude.{◌≡◌, ℕ, suc, ◌+◌, Vec, Bool, true, false, List, [], ◌∷◌, map, Option, Some, None, Result, Ok, Err}
+use Rattle.std.specs.Global.{Global}
 use Rattle.dh_base.specs.declared.places.Place.{Place}
 use Rattle.dh_lexer.specs.declared.tokens.Token.{Token}
 use Rattle.dh_value.specs.declared.operators.Op.{Op}
 use Rattle.dh_tree.specs.declared.trees.expressions.Expr.{Expr}
 use Rattle.dh_tree.specs.declared.trees.expressions.Ref.{Ref}
 use Rattle.dh_tree.specs.declared.trees.commands.ViewForm.{ViewForm}
+use Rattle.dh_tree.specs.declared.trees.commands.Command.{Command}
+use Rattle.dh_parser.specs.declared.parsing.commands.Beginning as commands
+use Rattle.dh_parser.specs.declared.parsing.commands.Beginning.TheVariants as beginnings
 use Rattle.dh_tree.specs.declared.trees.commands.CommandForm.{CommandForm}
-use Rattle.dh_tree.specs.PlainTrees.{Placed, term_then}
-use Rattle.dh_tree.specs.Seen.{term_seen, terms, factor_seen, plan_seen, action_form_seen}
+use Rattle.dh_tree.specs.PlainTrees.{Placed, term_then, Action, action, MaybeAction, Actions, no_actions, action_then, Groups, no_groups, group_then, blocks}
+use Rattle.dh_tree.specs.Seen.{term_seen, terms, factor_seen, plan_seen, action_form_seen, action_seen, part_seen, groups, maybe_seen}
 use Rattle.dh_parser.specs.declared.parsing.reading.Stop.{Stop}
 use Rattle.dh_parser.specs.declared.parsing.reading.Stop.TheVariants as stop
 use Rattle.dh_parser.specs.declared.parsing.reading.Mark.{Mark}
@@ -17,10 +21,10 @@ use Rattle.dh_parser.specs.declared.parsing.reading.Numeral.{Numeral}
 use Rattle.dh_parser.specs.declared.parsing.types.WrittenType.{WrittenType}
 use Rattle.dh_parser.specs.declared.parsing.types.WrittenDim.{WrittenDim}
 use Rattle.dh_parser.specs.declared.parsing.loops.LoopHead.{LoopHead}
-use Rattle.dh_parser.specs.Grammar.{FactorText, SuffixText, OffsetText, ViewText, SimpleText, ExprText, IndexText, MoreIndicesText, PortsText, no_ports, some_ports, DimsText, dim_then, TypeText, HeadText}
+use Rattle.dh_parser.specs.Grammar.{FactorText, SuffixText, OffsetText, ViewText, SimpleText, BlockText, PartsText, PartText, CompoundText, IfText, ElseText, CombineText, ExprText, IndexText, MoreIndicesText, PortsText, no_ports, some_ports, DimsText, dim_then, TypeText, HeadText}
 use Rattle.dh_parser.specs.Marks.{comes}
-use Rattle.dh_parser.specs.TreesOfTexts.{placed_of, ref_of, dims_of, places_of, shape_of, shape_places_of, is_memory_type, declared_of, factor_of, term_of, index_of, indices_of, suffix_of, parent_of, view_of, simple_form, simple_place}
-use Rattle.dh_parser.specs.Reading.{Outcome, good, bad, deep, the, Sign, sign_text, sign_at}
+use Rattle.dh_parser.specs.TreesOfTexts.{placed_of, ref_of, dims_of, places_of, shape_of, shape_places_of, is_memory_type, declared_of, factor_of, term_of, index_of, indices_of, suffix_of, parent_of, view_of, simple_form, simple_place, block_of, parts_of, part_of, compound_of, if_of, else_of, combine_of, if_place, count_block, count_parts, count_part, count_compound, count_if, count_else, count_combine}
+use Rattle.dh_parser.specs.Reading.{Outcome, good, bad, deep, the, Sign, sign_text, sign_at, Beginning, begins_simple, begins_compound, begins_semicolon, begins_nothing}
 
 abbrev pub AnswersBy : {A B : Type 0} → (B → A → Type 0) → Result B Stop → List Token → Outcome A → Type 0
 AnswersBy same (Ok v) rest (good a r) = same v a × (rest ≡ r)
@@ -110,3 +114,56 @@ SamePlan parent form v = (parent ≡ parent_of v) × (plan_seen form ≡ view_of
 -- a command without blocks, that begins at a place
 abbrev pub SameSimple : Place → CommandForm → SimpleText → Type 0
 SameSimple place form s = (action_form_seen form ≡ simple_form s) × (simple_place s ≡ place)
+
+-- a command stands for what its text says, where the commands of the text are numbered from `old` on up to `new`
+pub record Numbered (seen told : Action) (old new count : ℕ) : Type 0 where
+  pub is : seen ≡ told
+  pub counted : new ≡ old + count
+
+-- the same of a block that may lack
+pub record MaybeNumbered (seen told : MaybeAction) (old new count : ℕ) : Type 0 where
+  pub is : seen ≡ told
+  pub counted : new ≡ old + count
+
+-- the same of the commands of a part
+pub record PartNumbered (seen told : Actions) (old new count : ℕ) : Type 0 where
+  pub is : seen ≡ told
+  pub counted : new ≡ old + count
+
+-- the same of the parts of a block
+pub record PartsNumbered (seen told : Groups) (old new count : ℕ) : Type 0 where
+  pub is : seen ≡ told
+  pub counted : new ≡ old + count
+
+abbrev pub SameBlock : Command → BlockText → ℕ → ℕ → Type 0
+SameBlock c b old new = Numbered (action_seen c) (block_of old b) old new (count_block b)
+
+abbrev pub SameCompound : Command → CompoundText → ℕ → ℕ → Type 0
+SameCompound c t old new = Numbered (action_seen c) (compound_of old t) old new (count_compound t)
+
+abbrev pub SameIf : Command → IfText → ℕ → ℕ → Type 0
+SameIf c i old new = Numbered (action_seen c) (if_of old i) old new (count_if i)
+
+-- the block that an `if` after `else` stands for
+abbrev pub SameElseIf : Command → IfText → ℕ → ℕ → Type 0
+SameElseIf c i old new =
+    Numbered (action_seen c) (action old (if_place i) (blocks (group_then (action_then (if_of (suc old) i) no_actions) no_groups))) old new (suc (count_if i))
+
+abbrev pub SameElse : Option Action → ElseText → ℕ → ℕ → Type 0
+SameElse seen e old new = MaybeNumbered (maybe_seen seen) (else_of old e) old new (count_else e)
+
+abbrev pub SameCombine : Option Action → CombineText → ℕ → ℕ → Type 0
+SameCombine seen c old new = MaybeNumbered (maybe_seen seen) (combine_of old c) old new (count_combine c)
+
+abbrev pub SamePart : Vec Command Global → PartText → ℕ → ℕ → Type 0
+SamePart cs p old new = PartNumbered (part_seen cs) (part_of old p) old new (count_part p)
+
+abbrev pub SameParts : Vec (Vec Command Global) Global → PartsText → ℕ → ℕ → Type 0
+SameParts parts p old new = PartsNumbered (groups (map part_seen parts.items)) (parts_of old p) old new (count_parts p)
+
+-- what begins at a token, in the code and beside it
+abbrev pub begins_as : commands.Beginning → Beginning
+begins_as beginnings.Simple = begins_simple
+begins_as beginnings.Compound = begins_compound
+begins_as beginnings.Semicolon = begins_semicolon
+begins_as beginnings.Nothing = begins_nothing

@@ -8,6 +8,7 @@ mod operators;
 mod programs;
 mod reading;
 mod refusals;
+mod simple;
 mod types;
 mod views;
 
