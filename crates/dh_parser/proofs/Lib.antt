@@ -22,3 +22,4 @@ pub mod TermLoops
 pub mod TermForms
 pub mod BracketLoops
 pub mod SimpleTokens
+pub mod ActionForms

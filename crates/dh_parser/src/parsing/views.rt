@@ -31,7 +31,6 @@ pub(crate) struct Suffixes {
 }
 
 /// `name = form parent[by ..]..`, after the word `view`.
-#[tactic(auto, using(dh_tree::proofs::SeenActions::actions_are))]
 pub(crate) fn read_view(reader: &mut Reader<'_>) -> Result<CommandForm, Stop>
     ensures answer { (word : Place) → Answers (λ form s. SameSimple word form s) result reader.new.rest.now (view_command_from word reader.old.rest.now) }
     ensures commands { reader.new.commands ≡ reader.old.commands }
@@ -55,17 +54,20 @@ fn read_plan(reader: &mut Reader<'_>) -> Result<(Ref, ViewForm), Stop>
     match token.kind {
         TokenKind::Shrink => {
             reader.rest = after;
-            let (parent, Factors { by, by_place }) = read_factored(reader)?;
+            let (parent, factors) = read_factored(reader)?;
+            let (by, by_place) = (factors.by, factors.by_place);
             Ok((parent, ViewForm::Shrink { by, by_place }))
         }
         TokenKind::Split => {
             reader.rest = after;
-            let (parent, Factors { by, by_place }) = read_factored(reader)?;
+            let (parent, factors) = read_factored(reader)?;
+            let (by, by_place) = (factors.by, factors.by_place);
             Ok((parent, ViewForm::Split { by, by_place }))
         }
         TokenKind::Suffix => {
             reader.rest = after;
-            let (parent, Suffixes { by, by_place }) = read_suffixed(reader)?;
+            let (parent, factors) = read_suffixed(reader)?;
+            let (by, by_place) = (factors.by, factors.by_place);
             Ok((parent, ViewForm::Suffix { by, by_place }))
         }
         TokenKind::Shift => {
