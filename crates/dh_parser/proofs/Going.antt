@@ -98,3 +98,12 @@ when_true false p e h = absurd (cc e)
 pub when_false : {A C : Type 0} {t : C → A → Type 0} {x : Result C Stop} {rest : List Token} {o : Outcome A} (b : Bool) (p : Outcome A) → b ≡ false → Answers t x rest o → Answers t x rest (if b then p else o)
 when_false true p e h = absurd (cc e)
 when_false false p e h = h
+
+as_by : {A B C : Type 0} (s : B → A → Type 0) (t : C → A → Type 0) (e : Stop) (rest : List Token) (o : Outcome A) → AnswersBy s (Err e) rest o → AnswersBy t (Err e) rest o
+as_by s t stop.Here rest (good a r) h = h
+as_by s t stop.Here rest (bad r) h = h
+as_by s t stop.Here rest deep h = h
+as_by s t stop.NoMemory rest o h = h
+
+pub err_as : {A B C : Type 0} {s : B → A → Type 0} {t : C → A → Type 0} {e : Stop} {rest : List Token} {o : Outcome A} → Answers s (Err e) rest o → Answers t (Err e) rest o
+err_as {s = s} {t = t} {e = e} {rest = rest} {o = o} h = record { holds = as_by s t e rest o h.holds }

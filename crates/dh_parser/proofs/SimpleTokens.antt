@@ -1,5 +1,5 @@
 -- What the first tokens of a command without blocks say of it.
-use Rattle.std.proofs.Common.{◌≡◌, ℕ, Bool, true, false, if◌then◌else◌, List, ◌∷◌, Option, Some, None, refl, ap, sym, ◌∙◌}
+use Rattle.std.proofs.Common.{◌≡◌, ℕ, Bool, true, false, if◌then◌else◌, List, ◌∷◌, Option, Some, None, option_map, Ok, [], subst, refl, ap, sym, ◌∙◌}
 use Rattle.dh_base.specs.declared.places.Place.{Place}
 use Rattle.dh_lexer.specs.declared.tokens.Token.{Token}
 use Rattle.dh_lexer.specs.declared.tokens.TokenKind.{TokenKind}
@@ -11,6 +11,7 @@ use Rattle.dh_parser.specs.Reading.{Outcome, good, bad, deep, bind, the, the_nam
 use Rattle.dh_parser.specs.declared.parsing.reading.Mark.TheVariants as mark
 use Rattle.dh_parser.specs.Marks.{comes}
 use Rattle.dh_parser.specs.Reading.{the_number}
+use Rattle.dh_parser.specs.Answers.{StandsAt}
 use Rattle.dh_parser.proofs.Going.{AllOf, all_then}
 
 pub simple_at : (all ts : List Token) (t : Token) (k : TokenKind) → all ≡ t ∷ ts → t.kind ≡ k → the_simple all ≡ simple_from k t ts
@@ -51,7 +52,7 @@ reduces_at n all ts t e a b c d = ap (after_name n) e ∙ reduces_by n t.kind t 
 
 -- an access begins at its name
 pub access_starts : (read : Reads) (n : NameText) (ts : List Token) → AllOf (λ a. place_of (access_of a) ≡ n.place) (access_from read n ts)
-access_starts read n ts = by (comes mark.OpenBrace ts) _ _
+access_starts read n ts = by (λ a. place_of (access_of a) ≡ n.place) (comes mark.OpenBrace ts) _ _
     (all_then _ (the mark.OpenBrace ts) _ λ opener r0.
     all_then _ (the_number r0) _ λ bank r1.
     all_then _ (the mark.CloseBrace r1) _ λ closer r2.
@@ -59,6 +60,21 @@ access_starts read n ts = by (comes mark.OpenBrace ts) _ _
     (all_then _ (the_index read ts) _ λ i r0.
     all_then _ (more_indices read (steps r0) r0) _ λ more r1. refl)
   where
-  by : {P : AccessText → Type 0} (b : Bool) (x y : Outcome AccessText) → AllOf P x → AllOf P y → AllOf P (if b then x else y)
-  by true x y p q = p
-  by false x y p q = q
+  by : (P : AccessText → Type 0) (b : Bool) (x y : Outcome AccessText) → AllOf P x → AllOf P y → AllOf P (if b then x else y)
+  by P true x y p q = p
+  by P false x y p q = q
+
+pub reducer_some : (o : Option ReducerText) (p : Op) → Some p ≡ option_map reducer_op o → (r : ReducerText) × ((o ≡ Some r) × (p ≡ reducer_op r))
+reducer_some None p e = absurd (cc e)
+reducer_some (Some r) p e = (r, (refl, cc))
+
+name_starts_from : (p : Place) (k : TokenKind) (t : Token) (ts : List Token) → t.place ≡ p → AllOf (λ n. n.place ≡ p) (name_from k t ts)
+name_starts_from p (kind.Name n) t ts e = e
+name_starts_from p _ t ts e = tt
+
+pub name_starts : (p : Place) (ts : List Token) → StandsAt (Ok p) ts → AllOf (λ n. n.place ≡ p) (the_name ts)
+name_starts p [] h = tt
+name_starts p (t ∷ ts) h = name_starts_from p t.kind t ts (sym h)
+
+pub stands : (p : Place) (all ts : List Token) (t : Token) → all ≡ t ∷ ts → StandsAt (Ok p) all → t.place ≡ p
+stands p all ts t e h = sym (subst (λ l. StandsAt (Ok p) l) e h)

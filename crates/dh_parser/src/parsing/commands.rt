@@ -10,7 +10,7 @@ ghost use Rattle.dh_parser.specs.TreesOfTexts.{combine_place_of};
 
 use crate::parsing::expressions::read_expression;
 use crate::parsing::loops::{LoopHead, read_loop_head};
-use crate::parsing::reading::{Mark, Reader, Stop};
+use crate::parsing::reading::{Mark, Reader, Stop, begin};
 use crate::parsing::simple::read_simple;
 use dh_base::Place;
 use dh_lexer::{Token, TokenKind};
@@ -125,7 +125,7 @@ pub(crate) fn read_block(reader: &mut Reader<'_>) -> Result<Command, Stop>
     ensures taken { IfOk result (λ _. length reader.new.rest.now < length reader.old.rest.now) }
 {
     let place = reader.skip(Mark::OpenBrace)?;
-    let id = reader.begin();
+    let id = begin(&mut reader.commands);
     let body = read_sequence(reader)?;
     reader.skip(Mark::CloseBrace)?;
     let form = CommandForm::Block { body };
@@ -142,7 +142,7 @@ fn read_if(reader: &mut Reader<'_>) -> Result<Command, Stop>
     ensures taken { IfOk result (λ _. length reader.new.rest.now < length reader.old.rest.now) }
 {
     let place = reader.skip(Mark::If)?;
-    let id = reader.begin();
+    let id = begin(&mut reader.commands);
     reader.skip(Mark::OpenParen)?;
     let test = read_expression(reader, 0)?;
     reader.skip(Mark::CloseParen)?;
@@ -180,7 +180,7 @@ fn read_else_if(reader: &mut Reader<'_>) -> Result<Command, Stop>
     ensures room { reader.new.commands + length reader.new.rest.now ≤ reader.old.commands + length reader.old.rest.now + 1 }
     ensures shorter { length reader.new.rest.now ≤ length reader.old.rest.now }
 {
-    let id = reader.begin();
+    let id = begin(&mut reader.commands);
     let inner = read_if(reader)?;
     block_of_one(reader.alloc, id, inner)
 }
@@ -209,7 +209,7 @@ fn read_while(reader: &mut Reader<'_>) -> Result<Command, Stop>
     ensures taken { IfOk result (λ _. length reader.new.rest.now < length reader.old.rest.now) }
 {
     let place = reader.skip(Mark::While)?;
-    let id = reader.begin();
+    let id = begin(&mut reader.commands);
     reader.skip(Mark::OpenParen)?;
     let test = read_expression(reader, 0)?;
     reader.skip(Mark::CloseParen)?;
@@ -229,7 +229,7 @@ fn read_for(reader: &mut Reader<'_>) -> Result<Command, Stop>
     ensures taken { IfOk result (λ _. length reader.new.rest.now < length reader.old.rest.now) }
 {
     let head = read_loop_head(reader)?;
-    let id = reader.begin();
+    let id = begin(&mut reader.commands);
     let body = read_block(reader)?;
     let body = Box::new(reader.alloc, body)?;
     let (combine, combine_place) = read_combine(reader, head.place)?;

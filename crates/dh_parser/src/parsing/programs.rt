@@ -1,7 +1,7 @@
 //! Whole programs: declarations and functions in any order, and then the body.
 
 use crate::parsing::commands::{read_block, read_sequence};
-use crate::parsing::reading::{Mark, Reader, Stop};
+use crate::parsing::reading::{Mark, Reader, Stop, begin};
 use crate::parsing::types::{WrittenType, read_type};
 use dh_tree::{Command, CommandForm, Decl, Function, Parameter, Tree};
 use dh_lexer::TokenKind;
@@ -35,7 +35,7 @@ pub(crate) fn program(reader: &mut Reader<'_>) -> Result<Tree, Stop> {
 /// The body of a program, and the end of the text.
 fn read_body(reader: &mut Reader<'_>) -> Result<Command, Stop> {
     let place = reader.place()?;
-    let id = reader.begin();
+    let id = begin(&mut reader.commands);
     let body = read_sequence(reader)?;
     reader.skip(Mark::End)?;
     let form = CommandForm::Block { body };

@@ -271,16 +271,15 @@ impl Reader<'_> {
             _ => Err(Stop::Here),
         }
     }
+}
 
-    /// The number of a command that begins here.
-    pub fn begin(&mut self) -> u32
-        requires { self.old.commands < 2 ^ 32 }
-        ensures id { result ≡ self.old.commands }
-        ensures commands { self.new.commands ≡ self.old.commands + 1 }
-        ensures rest { self.new.rest.now ≡ self.old.rest.now }
-    {
-        let id = self.commands as u32;
-        self.commands += 1;
-        id
-    }
+/// The number of a command that begins here, after so many commands.
+pub(crate) fn begin(commands: &mut u64) -> u32
+    requires { commands.old < 2 ^ 32 }
+    ensures id { result ≡ commands.old }
+    ensures count { commands.new ≡ commands.old + 1 }
+{
+    let id = *commands as u32;
+    *commands += 1;
+    id
 }

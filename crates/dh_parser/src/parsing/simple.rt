@@ -4,14 +4,14 @@ ghost use Rattle.std.specs.Prelude.{◌≡◌, ◌<◌, ◌≤◌, ◌+◌, ◌^
 ghost use Rattle.dh_base.specs.declared.places.Place.{Place};
 ghost use Rattle.dh_tree.specs.PlainTrees.{action};
 ghost use Rattle.dh_tree.specs.Seen.{action_seen, action_form_seen, term_seen};
-ghost use Rattle.dh_parser.specs.Answers.{Answers, SameSimple, SameType};
+ghost use Rattle.dh_parser.specs.Answers.{Answers, SameSimple, SameType, StandsAt};
 ghost use Rattle.dh_parser.specs.Grammar.{NameText, TypeText, ValueText};
 ghost use Rattle.dh_parser.specs.Reading.{the_simple, let_from, after_name, store_from, the_value};
 ghost use Rattle.dh_parser.specs.TreesOfTexts.{ref_of, simple_form, simple_place, value_of, let_of, is_memory_type};
 
 use crate::parsing::expressions::{read_access, read_arguments, read_expression};
 use crate::parsing::operators::reducer_of;
-use crate::parsing::reading::{Mark, Reader, Stop};
+use crate::parsing::reading::{Mark, Reader, Stop, begin};
 use crate::parsing::types::{WrittenType, read_type};
 use crate::parsing::views::read_view;
 use dh_lexer::TokenKind;
@@ -25,37 +25,49 @@ pub(crate) fn read_simple(reader: &mut Reader<'_>) -> Result<Command, Stop>
     ensures shorter { length reader.new.rest.now ≤ length reader.old.rest.now }
     ensures taken { IfOk result (λ _. length reader.new.rest.now < length reader.old.rest.now) }
 {
-    let [token, after @ ..] = reader.rest else {
-        return Err(Stop::Here);
-    };
-    let form = match token.kind {
-        TokenKind::Let => {
-            reader.rest = after;
-            read_let(reader)?
-        }
-        TokenKind::View => {
-            reader.rest = after;
-            read_view(reader)?
-        }
-        _ => {
-            let name = reader.name()?;
-            read_named(reader, name)?
-        }
-    };
-    let place = token.place;
-    let id = reader.begin();
+    let place = reader.place()?;
+    let form = read_form(reader)?;
+    let id = begin(&mut reader.commands);
     Ok(Command { id, place, form })
 }
 
+/// What a command is that begins with `let`, `view` or a name.
+fn read_form(reader: &mut Reader<'_>) -> Result<CommandForm, Stop>
+    ensures answer { (p : Place) → StandsAt (Ok p) reader.old.rest.now → Answers (λ form s. SameSimple p form s) result reader.new.rest.now (the_simple reader.old.rest.now) }
+    ensures commands { reader.new.commands ≡ reader.old.commands }
+    ensures shorter { length reader.new.rest.now ≤ length reader.old.rest.now }
+    ensures taken { IfOk result (λ _. length reader.new.rest.now < length reader.old.rest.now) }
+{
+    let [token, after @ ..] = reader.rest else {
+        return Err(Stop::Here);
+    };
+    match token.kind {
+        TokenKind::Let => {
+            reader.rest = after;
+            let form = read_let(reader)?;
+            Ok(form)
+        }
+        TokenKind::View => {
+            reader.rest = after;
+            let form = read_view(reader)?;
+            Ok(form)
+        }
+        _ => {
+            let name = reader.name()?;
+            let form = read_named(reader, name)?;
+            Ok(form)
+        }
+    }
+}
+
 /// The rest of a `let`, after its word.
-#[tactic(auto, using(dh_tree::proofs::SeenActions::actions_are))]
 fn read_let(reader: &mut Reader<'_>) -> Result<CommandForm, Stop>
     ensures answer { (word : Place) → Answers (λ form s. SameSimple word form s) result reader.new.rest.now (let_from word reader.old.rest.now) }
     ensures commands { reader.new.commands ≡ reader.old.commands }
     ensures shorter { length reader.new.rest.now ≤ length reader.old.rest.now }
 {
     let name = reader.name()?;
-    if !reader.take(Mark::Colon) {
+    if !reader.is_next(Mark::Colon) {
         reader.skip(Mark::Assign)?;
         let value = read_expression(reader, 0)?;
         return Ok(CommandForm::Let {
@@ -64,6 +76,7 @@ fn read_let(reader: &mut Reader<'_>) -> Result<CommandForm, Stop>
             value: Some(value),
         });
     }
+    reader.skip(Mark::Colon)?;
     let written = read_type(reader)?;
     let value = read_value(reader)?;
     Ok(typed_let(name, written, value))
@@ -109,7 +122,6 @@ fn read_value(reader: &mut Reader<'_>) -> Result<Option<Expr>, Stop>
 }
 
 /// The rest of a command that begins with this name.
-#[tactic(auto, using(dh_tree::proofs::SeenActions::actions_are))]
 fn read_named(reader: &mut Reader<'_>, name: Ref) -> Result<CommandForm, Stop>
     ensures answer { (n : NameText) → name ≡ ref_of n → Answers (λ form s. SameSimple n.place form s) result reader.new.rest.now (after_name n reader.old.rest.now) }
     ensures commands { reader.new.commands ≡ reader.old.commands }
@@ -152,7 +164,6 @@ fn read_named(reader: &mut Reader<'_>, name: Ref) -> Result<CommandForm, Stop>
 }
 
 /// The rest of a store to an element of the memory of this name.
-#[tactic(auto, using(dh_tree::proofs::SeenActions::actions_are))]
 fn read_store(reader: &mut Reader<'_>, name: Ref) -> Result<CommandForm, Stop>
     ensures answer { (n : NameText) → name ≡ ref_of n → Answers (λ form s. SameSimple n.place form s) result reader.new.rest.now (store_from n reader.old.rest.now) }
     ensures commands { reader.new.commands ≡ reader.old.commands }
