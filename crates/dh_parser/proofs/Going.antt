@@ -107,3 +107,12 @@ as_by s t stop.NoMemory rest o h = h
 
 pub err_as : {A B C : Type 0} {s : B → A → Type 0} {t : C → A → Type 0} {e : Stop} {rest : List Token} {o : Outcome A} → Answers s (Err e) rest o → Answers t (Err e) rest o
 err_as {s = s} {t = t} {e = e} {rest = rest} {o = o} h = record { holds = as_by s t e rest o h.holds }
+
+known_by : {A B : Type 0} (s : B → A → Type 0) (v : B) (rest : List Token) (o : Outcome A) → AnswersBy s (Ok v) rest o → (a : A) × (s v a × (o ≡ good a rest))
+known_by s v rest (good a r) h = (a, (h.0, ap (λ l. good a l) (sym h.1)))
+known_by s v rest (bad r) h = absurd h
+known_by s v rest deep h = absurd h
+
+-- what was read, where there is an answer
+pub known : {A B : Type 0} {s : B → A → Type 0} {v : B} {rest : List Token} {o : Outcome A} → Answers s (Ok v) rest o → (a : A) × (s v a × (o ≡ good a rest))
+known {s = s} {v = v} {rest = rest} {o = o} h = known_by s v rest o h.holds

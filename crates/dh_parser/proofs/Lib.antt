@@ -23,3 +23,5 @@ pub mod TermForms
 pub mod BracketLoops
 pub mod SimpleTokens
 pub mod ActionForms
+pub mod PartLoops
+pub mod BlockForms

@@ -124,3 +124,36 @@ pub loop_last : {C M T : Type 0} {loop : ℕ → List Token → Outcome M} {rest
     (end : Outcome M) → Loops loop rest whole P → ((k : ℕ) → loop (suc k) rest ≡ end) → Answers (λ v m. (put : M → T) → P put → t v (put m)) x new end → Answers t x new whole
 loop_last {loop = loop} {rest = rest} {new = new} {whole = whole} {P = P} {t = t} {x = x} end w stops h =
     last_by loop rest new whole P t x end w.left w.put w.few w.whole_is w.is_so stops h
+
+turn_by : {M T : Type 0} (loop : ℕ → List Token → Outcome M) (cons : M → M) (rest new : List Token) (whole : Outcome T) (P Q : (M → T) → Type 0)
+    → (n : ℕ) (put : M → T) → length rest < n → whole ≡ bind (loop n rest) (λ m r. good (put m) r) → P put
+    → ((k : ℕ) → loop (suc k) rest ≡ bind (loop k new) (λ m r. good (cons m) r)) → length new < length rest → ((put : M → T) → P put → Q (λ m. put (cons m))) → Loops loop new whole Q
+turn_by loop cons rest new whole P Q zero put few e p goes less k = absurd (none_below (length rest) few)
+turn_by loop cons rest new whole P Q (suc n) put few e p goes less k =
+    looping loop new whole Q n (λ m. put (cons m)) (omega arith)
+    (e ∙ (ap (λ x. bind x (λ m q. good (put m) q)) (goes n) ∙ assoc (loop n new) (λ m q. good (cons m) q) (λ m q. good (put m) q)))
+    (k put p)
+
+-- a turn of the loop, of which it is known what it reads
+pub loop_turn : {M T : Type 0} {loop : ℕ → List Token → Outcome M} {rest new : List Token} {whole : Outcome T} {P Q : (M → T) → Type 0} (cons : M → M)
+    → Loops loop rest whole P → ((k : ℕ) → loop (suc k) rest ≡ bind (loop k new) (λ m r. good (cons m) r)) → length new < length rest → ((put : M → T) → P put → Q (λ m. put (cons m))) → Loops loop new whole Q
+loop_turn {loop = loop} {rest = rest} {new = new} {whole = whole} {P = P} {Q = Q} cons w goes less k =
+    turn_by loop cons rest new whole P Q w.left w.put w.few w.whole_is w.is_so goes less k
+
+ends_by : {C M T : Type 0} (loop : ℕ → List Token → Outcome M) (rest new : List Token) (whole : Outcome T) (P : (M → T) → Type 0) (t : C → T → Type 0) (x : Result C Stop)
+    → (n : ℕ) (put : M → T) → length rest < n → whole ≡ bind (loop n rest) (λ m r. good (put m) r) → P put
+    → ((k : ℕ) → Answers (λ v m. (put : M → T) → P put → t v (put m)) x new (loop (suc k) rest)) → Answers t x new whole
+ends_by loop rest new whole P t x zero put few f p h = absurd (none_below (length rest) few)
+ends_by loop rest new whole P t x (suc n) put few f p h =
+    rw f (record { holds = put_by (λ v m. (put : _) → P put → t v (put m)) t x new put (loop (suc n) rest) (λ v m k. k put p) (h n).holds })
+
+-- the loop ends, whatever steps are left
+pub loop_ends : {C M T : Type 0} {loop : ℕ → List Token → Outcome M} {rest new : List Token} {whole : Outcome T} {P : (M → T) → Type 0} {t : C → T → Type 0} {x : Result C Stop}
+    → Loops loop rest whole P → ((k : ℕ) → Answers (λ v m. (put : M → T) → P put → t v (put m)) x new (loop (suc k) rest)) → Answers t x new whole
+loop_ends {loop = loop} {rest = rest} {new = new} {whole = whole} {P = P} {t = t} {x = x} w h =
+    ends_by loop rest new whole P t x w.left w.put w.few w.whole_is w.is_so h
+
+-- what is read becomes a part of a text
+pub through : {C M T : Type 0} {s : C → M → Type 0} {t : C → T → Type 0} {x : Result C Stop} {rest : List Token} {o : Outcome M} (put : M → T)
+    → Answers s x rest o → ((v : C) (m : M) → s v m → t v (put m)) → Answers t x rest (bind o (λ m r. good (put m) r))
+through {s = s} {t = t} {x = x} {rest = rest} {o = o} put h k = record { holds = put_by s t x rest put o k h.holds }

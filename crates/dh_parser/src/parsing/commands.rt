@@ -161,9 +161,10 @@ fn read_else(reader: &mut Reader<'_>) -> Result<Option<Box<Command>>, Stop>
     ensures room { reader.new.commands + length reader.new.rest.now ≤ reader.old.commands + length reader.old.rest.now }
     ensures shorter { length reader.new.rest.now ≤ length reader.old.rest.now }
 {
-    if !reader.take(Mark::Else) {
+    if !reader.is_next(Mark::Else) {
         return Ok(None);
     }
+    reader.skip(Mark::Else)?;
     if reader.is_next(Mark::If) {
         let inner = read_else_if(reader)?;
         return Ok(Some(Box::new(reader.alloc, inner)?));
