@@ -25,3 +25,5 @@ pub mod SimpleTokens
 pub mod ActionForms
 pub mod PartLoops
 pub mod BlockForms
+pub mod ItemLoops
+pub mod BodyPlaces

@@ -135,7 +135,7 @@ part_took : (blocks : Blocks) → SoundBlocks blocks → (n : ℕ) (ts : List To
 part_took blocks h zero ts = tt
 part_took blocks h (suc n) ts = part_with_took blocks h (the_part blocks n) (part_took blocks h n) ts (beginning ts)
 
-parts_took : (blocks : Blocks) → SoundBlocks blocks → (n : ℕ) (ts : List Token) → Took PartsFit spell_parts ts (the_parts blocks n ts)
+pub parts_took : (blocks : Blocks) → SoundBlocks blocks → (n : ℕ) (ts : List Token) → Took PartsFit spell_parts ts (the_parts blocks n ts)
 parts_took blocks h zero ts = tt
 parts_took blocks h (suc n) ts =
     next PartFits spell_part ts _ (the_part blocks (steps ts) ts) _ (part_took blocks h (steps ts) ts) λ p r f e.
@@ -154,7 +154,7 @@ blocks_took (suc d) ts =
     next any (put_mark mark.CloseBrace) r1 _ (the mark.CloseBrace r1) _ (mark_took mark.CloseBrace r1) λ closer r2 _ e2.
     (f1, cc)
 
-block_took : SoundBlocks the_block
+pub block_took : SoundBlocks the_block
 unfolding the_block
 block_took ts = blocks_took (steps ts) ts
 

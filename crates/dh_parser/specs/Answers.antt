@@ -1,6 +1,6 @@
 -- How a parser of the code answers, beside the reader of lists: what it gives stands for what is read,
 -- and the tokens to come are those that are left.
-use Rattle.std.specs.Prelude.{◌≡◌, ℕ, suc, ◌+◌, Vec, Bool, true, false, List, [], ◌∷◌, map, Option, Some, None, Result, Ok, Err}
+use Rattle.std.specs.Prelude.{◌≡◌, ℕ, suc, ◌+◌, Vec, Bool, true, false, List, [], ◌∷◌, ◌++◌, map, Option, Some, None, Result, Ok, Err}
 use Rattle.std.specs.Global.{Global}
 use Rattle.dh_base.specs.declared.places.Place.{Place}
 use Rattle.dh_lexer.specs.declared.tokens.Token.{Token}
@@ -9,11 +9,16 @@ use Rattle.dh_tree.specs.declared.trees.expressions.Expr.{Expr}
 use Rattle.dh_tree.specs.declared.trees.expressions.Ref.{Ref}
 use Rattle.dh_tree.specs.declared.trees.commands.ViewForm.{ViewForm}
 use Rattle.dh_tree.specs.declared.trees.commands.Command.{Command}
+use Rattle.dh_tree.specs.declared.trees.programs.Decl.{Decl}
+use Rattle.dh_tree.specs.declared.trees.programs.Function.{Function}
+use Rattle.dh_parser.specs.declared.parsing.programs.Item.{Item}
+use Rattle.dh_parser.specs.declared.parsing.programs.Item.TheVariants as items
+use Rattle.dh_parser.specs.declared.parsing.programs.ItemsRead.{ItemsRead}
 use Rattle.dh_parser.specs.declared.parsing.commands.Beginning as commands
 use Rattle.dh_parser.specs.declared.parsing.commands.Beginning.TheVariants as beginnings
 use Rattle.dh_tree.specs.declared.trees.commands.CommandForm.{CommandForm}
 use Rattle.dh_tree.specs.PlainTrees.{Placed, term_then, Action, action, MaybeAction, Actions, no_actions, action_then, Groups, no_groups, group_then, blocks}
-use Rattle.dh_tree.specs.Seen.{term_seen, terms, factor_seen, plan_seen, action_form_seen, action_seen, part_seen, groups, maybe_seen}
+use Rattle.dh_tree.specs.Seen.{term_seen, terms, factor_seen, plan_seen, action_form_seen, action_seen, part_seen, groups, maybe_seen, declared_seen, defined_seen}
 use Rattle.dh_parser.specs.declared.parsing.reading.Stop.{Stop}
 use Rattle.dh_parser.specs.declared.parsing.reading.Stop.TheVariants as stop
 use Rattle.dh_parser.specs.declared.parsing.reading.Mark.{Mark}
@@ -21,9 +26,9 @@ use Rattle.dh_parser.specs.declared.parsing.reading.Numeral.{Numeral}
 use Rattle.dh_parser.specs.declared.parsing.types.WrittenType.{WrittenType}
 use Rattle.dh_parser.specs.declared.parsing.types.WrittenDim.{WrittenDim}
 use Rattle.dh_parser.specs.declared.parsing.loops.LoopHead.{LoopHead}
-use Rattle.dh_parser.specs.Grammar.{FactorText, SuffixText, OffsetText, ViewText, SimpleText, BlockText, PartsText, PartText, CompoundText, IfText, ElseText, CombineText, ExprText, IndexText, MoreIndicesText, PortsText, no_ports, some_ports, DimsText, dim_then, TypeText, HeadText}
+use Rattle.dh_parser.specs.Grammar.{ItemsText, FactorText, SuffixText, OffsetText, ViewText, SimpleText, BlockText, PartsText, PartText, CompoundText, IfText, ElseText, CombineText, ExprText, IndexText, MoreIndicesText, PortsText, no_ports, some_ports, DimsText, dim_then, TypeText, HeadText}
 use Rattle.dh_parser.specs.Marks.{comes}
-use Rattle.dh_parser.specs.TreesOfTexts.{placed_of, ref_of, dims_of, places_of, shape_of, shape_places_of, is_memory_type, declared_of, factor_of, term_of, index_of, indices_of, suffix_of, parent_of, view_of, simple_form, simple_place, block_of, parts_of, part_of, compound_of, if_of, else_of, combine_of, if_place, count_block, count_parts, count_part, count_compound, count_if, count_else, count_combine}
+use Rattle.dh_parser.specs.TreesOfTexts.{placed_of, ref_of, dims_of, places_of, shape_of, shape_places_of, is_memory_type, declared_of, factor_of, term_of, index_of, indices_of, suffix_of, parent_of, view_of, simple_form, simple_place, block_of, parts_of, part_of, compound_of, if_of, else_of, combine_of, if_place, count_block, count_parts, count_part, count_compound, count_if, count_else, count_combine, decls_of, functions_of, count_items}
 use Rattle.dh_parser.specs.Reading.{Outcome, good, bad, deep, the, Sign, sign_text, sign_at, Beginning, begins_simple, begins_compound, begins_semicolon, begins_nothing}
 
 abbrev pub AnswersBy : {A B : Type 0} → (B → A → Type 0) → Result B Stop → List Token → Outcome A → Type 0
@@ -167,3 +172,31 @@ begins_as beginnings.Simple = begins_simple
 begins_as beginnings.Compound = begins_compound
 begins_as beginnings.Semicolon = begins_semicolon
 begins_as beginnings.Nothing = begins_nothing
+
+-- a declaration, as what it is put in front of other items
+pub record SameDecl (d : Decl) (put : ItemsText → ItemsText) : Type 0 where
+  pub decls : (more : ItemsText) → decls_of (put more) ≡ declared_seen d ∷ decls_of more
+  pub functions : (id : ℕ) (more : ItemsText) → functions_of id (put more) ≡ functions_of id more
+  pub counted : (more : ItemsText) → count_items (put more) ≡ count_items more
+
+-- a function, as what it is put in front of other items
+pub record SameFunction (f : Function) (put : ItemsText → ItemsText) (old new : ℕ) : Type 0 where
+  pub decls : (more : ItemsText) → decls_of (put more) ≡ decls_of more
+  pub functions : (more : ItemsText) → functions_of old (put more) ≡ defined_seen f ∷ functions_of new more
+  pub counted : (more : ItemsText) → old + count_items (put more) ≡ new + count_items more
+
+abbrev pub SameItem : Option Item → Option (ItemsText → ItemsText) → ℕ → ℕ → Type 0
+SameItem None None old new = new ≡ old
+SameItem (Some (items.Decl d)) (Some put) old new = SameDecl d put × (new ≡ old)
+SameItem (Some (items.Function f)) (Some put) old new = SameFunction f put old new
+SameItem _ _ old new = ⊥
+
+pub record SameItems (given : ItemsRead) (t : ItemsText) (old new : ℕ) : Type 0 where
+  pub decls : map declared_seen given.decls.items ≡ decls_of t
+  pub functions : map defined_seen given.functions.items ≡ functions_of old t
+  pub counted : new ≡ old + count_items t
+
+-- an item behind those of its sort
+abbrev pub Kept : Item → ItemsRead → ItemsRead → Type 0
+Kept (items.Decl d) old new = (new.decls.items ≡ old.decls.items ++ (d ∷ [])) × (new.functions.items ≡ old.functions.items)
+Kept (items.Function f) old new = (new.decls.items ≡ old.decls.items) × (new.functions.items ≡ old.functions.items ++ (f ∷ []))

@@ -635,6 +635,13 @@ the_parameter ts =
     bind (the_type r) λ t r.
     good (parameter_text n colon t) r
 
+-- `, name: type`
+abbrev pub further_parameter : List Token → Outcome (Place × ParameterText)
+further_parameter ts =
+    bind (the mark.Comma ts) λ comma r.
+    bind (the_parameter r) λ p r.
+    good (comma, p) r
+
 abbrev pub more_parameters : ℕ → List Token → Outcome MoreParametersText
 more_parameters zero ts = deep
 more_parameters (suc n) ts =
@@ -685,6 +692,42 @@ abbrev pub the_items : ℕ → List Token → Outcome ItemsText
 the_items zero ts = deep
 the_items (suc n) [] = good no_items []
 the_items (suc n) (t ∷ ts) = items_from (the_items n) t.kind t ts
+
+-- what follows `decl`, as what it is put in front of other items
+abbrev pub the_decl : Place → List Token → Outcome (ItemsText → ItemsText)
+the_decl word ts =
+    bind (the_name ts) λ n r.
+    bind (the mark.Colon r) λ colon r.
+    bind (the_type r) λ t r.
+    bind (the mark.Semicolon r) λ semicolon r.
+    good (λ more. decl_then word n colon t semicolon more) r
+
+-- what follows `def`, as what it is put in front of other items
+abbrev pub the_def : Place → List Token → Outcome (ItemsText → ItemsText)
+the_def word ts =
+    bind (the_name ts) λ n r.
+    bind (the mark.OpenParen r) λ opener r.
+    bind (the_parameters r) λ ps r.
+    bind (the mark.Assign r) λ equal r.
+    bind (the_block r) λ b r.
+    good (λ more. def_then word n opener ps equal b more) r
+
+-- an item, if one comes next
+abbrev pub item_from : TokenKind → Token → List Token → Outcome (Option (ItemsText → ItemsText))
+item_from kind.Decl t ts = bind (the_decl t.place ts) λ put r. good (Some put) r
+item_from kind.Def t ts = bind (the_def t.place ts) λ put r. good (Some put) r
+item_from _ t ts = good None (t ∷ ts)
+
+abbrev pub the_item : List Token → Outcome (Option (ItemsText → ItemsText))
+the_item [] = good None []
+the_item (t ∷ ts) = item_from t.kind t ts
+
+-- the parts of the body, and the end
+abbrev pub the_body : List Token → Outcome (PartsText × Place)
+the_body ts =
+    bind (the_parts the_block (steps ts) ts) λ parts r.
+    bind (the mark.End r) λ end r.
+    good (parts, end) r
 
 abbrev pub program_text : ItemsText → PartsText → Place → ProgramText
 program_text items parts end = record { items = items; parts = parts; end = end }
