@@ -27,7 +27,7 @@ compound_first : (c : CompoundText) (x : List Token) → StandsAt (Ok (compound_
 compound_first (block_alone (block opener parts closer)) x = refl
 compound_first (if_alone (if_else word opener e closer b other)) x = refl
 compound_first (while_loop word opener e closer b) x = refl
-compound_first (for_loop h b combine) x = refl
+compound_first (for_loop h b _) x = refl
 
 part_first : (next : Place) (p : PartText) (x : List Token) → StandsAt (Ok next) x → StandsAt (Ok (part_place next p)) (spell_part p x)
 part_first next end_of_part x h = h

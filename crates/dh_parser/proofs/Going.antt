@@ -116,3 +116,6 @@ known_by s v rest deep h = absurd h
 -- what was read, where there is an answer
 pub known : {A B : Type 0} {s : B → A → Type 0} {v : B} {rest : List Token} {o : Outcome A} → Answers s (Ok v) rest o → (a : A) × (s v a × (o ≡ good a rest))
 known {s = s} {v = v} {rest = rest} {o = o} h = known_by s v rest o h.holds
+
+pub answered : {A B : Type 0} {s : B → A → Type 0} {v : B} {rest : List Token} {o : Outcome A} (a : A) → o ≡ good a rest → s v a → Answers s (Ok v) rest o
+answered a e h = rw e (record { holds = (h, refl) })

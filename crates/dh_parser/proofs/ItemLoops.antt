@@ -4,9 +4,10 @@ use Rattle.dh_base.specs.declared.places.Place.{Place}
 use Rattle.dh_lexer.specs.declared.tokens.Token.{Token}
 use Rattle.dh_lexer.specs.declared.tokens.TokenKind.{TokenKind}
 use Rattle.dh_lexer.specs.declared.tokens.TokenKind.TheVariants as kind
+use Rattle.dh_tree.specs.declared.trees.programs.Entity.{Entity}
 use Rattle.dh_tree.specs.declared.trees.programs.Decl.{Decl}
 use Rattle.dh_tree.specs.declared.trees.programs.Function.{Function}
-use Rattle.dh_tree.specs.PlainTrees.{Declared, Defined, Formal, Action}
+use Rattle.dh_tree.specs.PlainTrees.{Declared, Defined, Formal, Action, Program}
 use Rattle.dh_tree.specs.declared.trees.expressions.Ref.{Ref}
 use Rattle.dh_tree.specs.declared.tables.Shape.{Shape}
 use Rattle.dh_tree.specs.declared.trees.programs.ShapePlaces.{ShapePlaces}
@@ -17,10 +18,12 @@ use Rattle.dh_parser.specs.declared.parsing.programs.Item.{Item}
 use Rattle.dh_parser.specs.declared.parsing.programs.Item.TheVariants as items
 use Rattle.dh_parser.specs.declared.parsing.reading.Mark.TheVariants as mark
 use Rattle.dh_parser.specs.Marks.{comes}
-use Rattle.dh_parser.specs.Grammar.{NameText, TypeText, BlockText, ItemsText, no_items, decl_then, def_then, ParametersText, some_parameters, ParameterText, MoreParametersText, no_more_parameters, parameter_then}
-use Rattle.dh_parser.specs.TreesOfTexts.{ref_of, shape_of, shape_places_of, formals_of, block_of, count_block, decls_of, functions_of, count_items}
+use Rattle.dh_parser.specs.Grammar.{NameText, TypeText, BlockText, PartsText, ItemsText, no_items, decl_then, def_then, ParametersText, some_parameters, ParameterText, MoreParametersText, no_more_parameters, parameter_then}
+use Rattle.dh_parser.specs.TreesOfTexts.{ref_of, shape_of, shape_places_of, formals_of, block_of, count_block, decls_of, functions_of, count_items, body_of, program_of}
 use Rattle.dh_parser.specs.Answers.{SameItem, Kept, SameDecl, SameFunction, SameItems, SameType, SameBlock}
-use Rattle.dh_parser.specs.Reading.{Outcome, good, bad, deep, bind, the, the_name, the_type, the_block, the_parameter, further_parameter, more_parameters, the_parameters, decl_from, def_from, the_decl, the_def, item_from, the_item, items_from, the_items, steps}
+use Rattle.dh_parser.specs.Reading.{Outcome, good, bad, deep, bind, the, the_name, the_type, the_block, the_parameter, further_parameter, more_parameters, the_parameters, decl_from, def_from, the_decl, the_def, item_from, the_item, items_from, the_items, the_parts, the_body, program_text, the_program, steps}
+use Rattle.dh_tree.specs.declared.trees.commands.Command.{Command}
+use Rattle.dh_parser.proofs.AlikeBlocks.{parts_is}
 use Rattle.dh_parser.proofs.Going.{assoc, same_bind, if_true, if_false}
 use Rattle.dh_parser.proofs.BracketLoops.{pushed_map, next_in, all_in}
 
@@ -148,11 +151,36 @@ pub item_none : (i : Option (ItemsText → ItemsText)) (n m : ℕ) → SameItem 
 item_none None n m h = (refl, h)
 item_none (Some put) n m h = absurd h
 
-pub item_more : {start n m : ℕ} {put : ItemsText → ItemsText} {old new : ItemsRead} (item : Item) (one : ItemsText → ItemsText)
+pub item_more : {start n m : ℕ} {put : ItemsText → ItemsText} (old new : ItemsRead) (item : Item) (one : ItemsText → ItemsText)
     → SameItem (Some item) (Some one) n m → Kept item old new → ItemsSoFar start old.decls.items old.functions.items n put → ItemsSoFar start new.decls.items new.functions.items m (λ more. put (one more))
-item_more {old = old} {new = new} (items.Decl d) one h k so = rw k.1 (decl_more d one h.0 h.1 k.0 so)
-item_more {old = old} {new = new} (items.Function f) one h k so = rw k.0 (function_more f one h k.1 so)
+item_more old new (items.Decl d) one h k so = rw k.1 (decl_more d one h.0 h.1 k.0 so)
+item_more old new (items.Function f) one h k so = rw k.0 (function_more f one h k.1 so)
 
 -- no item more: the numbers stay
 pub items_stay : {start n m : ℕ} {ds : List Decl} {fs : List Function} {put : ItemsText → ItemsText} → m ≡ n → ItemsSoFar start ds fs n put → ItemsSoFar start ds fs m put
 items_stay e so = rw e so
+
+abbrev pub program_as : List Declared → List Defined → Action → List Entity → Program
+program_as ds fs x es = record { decls = ds; functions = fs; body = x; entities = es }
+
+numbers : (old mid k : ℕ) → old ≡ 0 → mid ≡ old + k → mid ≡ k
+numbers old mid k e f = omega arith
+
+pub program_made : (given : ItemsRead) (body : Command) (t : ItemsText) (parts : PartsText) (end : Place) (old mid : ℕ) (es : List Entity) → old ≡ 0 → SameItems given t old mid → action_seen body ≡ body_of mid parts end → es ≡ []
+    → program_as (map declared_seen given.decls.items) (map defined_seen given.functions.items) (action_seen body) es ≡ program_of (program_text t parts end)
+program_made given body t parts end old mid es z s h n =
+    ap (λ x. program_as x (map defined_seen given.functions.items) (action_seen body) es) s.decls
+    ∙ (ap (λ x. program_as (decls_of t) x (action_seen body) es) (s.functions ∙ ap (λ k. functions_of k t) z)
+    ∙ (ap (λ x. program_as (decls_of t) (functions_of 0 t) (action_seen body) x) n
+    ∙ ap (λ x. program_as (decls_of t) (functions_of 0 t) x []) (h ∙ ap (λ k. body_of k parts end) (numbers old mid (count_items t) z s.counted))))
+
+-- the reader of programs, by the readers of their parts
+pub program_is : (ts : List Token) → the_program ts ≡ bind (the_items (steps ts) ts) (λ items r. bind (the_body r) (λ t q. good (program_text items t.0 t.1) q))
+program_is ts =
+    same_bind (the_items (steps ts) ts) _ _ λ items r.
+    ap (λ o. bind o (λ parts p. bind (the mark.End p) (λ end q. good (program_text items parts end) q))) (parts_is r)
+    ∙ sym (assoc (the_parts the_block (steps r) r) _ _ ∙ same_bind (the_parts the_block (steps r) r) _ _ λ parts p. assoc (the mark.End p) _ _)
+
+pub body_is : (ts mid new : List Token) (parts : PartsText) (end : Place) → the_parts the_block (steps ts) ts ≡ good parts mid → the mark.End mid ≡ good end new → the_body ts ≡ good (parts, end) new
+body_is ts mid new parts end e f =
+    ap (λ o. bind o (λ parts p. bind (the mark.End p) (λ end q. good (parts, end) q))) e ∙ ap (λ o. bind o (λ end q. good (parts, end) q)) f

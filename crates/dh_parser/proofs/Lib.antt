@@ -27,3 +27,5 @@ pub mod PartLoops
 pub mod BlockForms
 pub mod ItemLoops
 pub mod BodyPlaces
+pub mod PlacedTokens
+pub mod Parsed
