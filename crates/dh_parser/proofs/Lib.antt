@@ -29,3 +29,4 @@ pub mod ItemLoops
 pub mod BodyPlaces
 pub mod PlacedTokens
 pub mod Parsed
+pub mod WidthPlaces

@@ -2,6 +2,8 @@
 use Rattle.std.proofs.Common.{◌≡◌, ℕ, ◌+◌, ◌-◌, ◌<◌, ◌≤◌, ◌++◌, List, [], ◌∷◌, length, take, drop, get_or, Result, Ok, Err, refl, ap, sym, ◌∙◌, subst, arith, length-append}
 use Rattle.std.proofs.lemmas.List.{take_at}
 use Rattle.dh_lexer.specs.declared.tokens.Token.{Token}
+use Rattle.dh_base.specs.declared.faults.PassFault.{PassFault}
+use Rattle.dh_base.specs.declared.faults.PassFault.TheVariants as fault
 use Rattle.dh_lexer.specs.LexedText.{AreEnded}
 use Rattle.dh_tree.specs.declared.trees.programs.Tree.{Tree}
 use Rattle.dh_tree.specs.Seen.{program_seen}
@@ -9,7 +11,7 @@ use Rattle.dh_parser.specs.declared.parsing.reading.Stop.TheVariants as stop
 use Rattle.dh_parser.specs.Grammar.{ProgramText}
 use Rattle.dh_parser.specs.Spelling.{spell_program}
 use Rattle.dh_parser.specs.TreesOfTexts.{program_of}
-use Rattle.dh_parser.specs.Programs.{Spells, OutOfPlace, IsSound, IsPlaced}
+use Rattle.dh_parser.specs.Programs.{Spells, OutOfPlace, IsSound, IsPlaced, Parses, rule_at}
 use Rattle.dh_parser.specs.Answers.{AnswersBy, Answers}
 use Rattle.dh_parser.specs.Reading.{Outcome, good, bad, deep, the_program}
 use Rattle.dh_parser.proofs.Going.{known}
@@ -77,3 +79,16 @@ at_end (u ∷ b) a t d = at_end b a t d
 pub stopped_token : {ts rest : List Token} (s : Stopped ts rest) (d : Token) → get_or ts (length ts - length rest) d ≡ s.token
 stopped_token {ts = ts} {rest = rest} s d =
     ap (λ n. get_or ts n d) (stopped_place ts rest s) ∙ (ap (λ l. get_or l (length s.before) d) s.out.all ∙ at_end s.before s.after s.token d)
+
+pub stopped_few : {ts rest : List Token} → Stopped ts rest → length rest ≤ length ts
+stopped_few {ts = ts} {rest = rest} s = omega (arith, lengths ts rest s)
+
+pub refused : {ts rest : List Token} {f : PassFault} (s : Stopped ts rest) (b : List Token) (t : Token) → f ≡ fault.Refused (rule_at b t) t.place → b ≡ s.before → t ≡ s.token → Parses ts (Err f)
+refused s b t e p q = rw e (record {
+  before = s.before;
+  token = s.token;
+  after = s.after;
+  out = s.out;
+  by_rule = ap (λ x. rule_at x t) p ∙ ap (λ x. rule_at s.before x) q;
+  at_place = ap (λ (x : Token). x.place) q;
+})

@@ -44,7 +44,9 @@ pub fn parse(alloc: Global, tokens: &[Token]) -> Result<Tree, PassFault>
         Err(Stop::NoMemory) => Err(PassFault::NoMemory),
         Err(Stop::Here) => {
             let at = tokens.len() - reader.rest.len();
-            Err(refusal(&tokens[..at], &tokens[at]))
+            let before = &tokens[..at];
+            let token = &tokens[at];
+            Err(refusal(before, token))
         }
     }
 }
