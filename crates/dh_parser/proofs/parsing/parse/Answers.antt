@@ -14,4 +14,4 @@ returns-in-Ok c = parsed c.requires.ended c.in-Ok.ensures
 pub returns-in-Err-Here : goal.returns-in-Err-Here
 returns-in-Err-Here c =
     let s = stopped c.requires.ended (rw c.in-Err-Here.field-0-is at c.in-Err-Here.ensures) in
-    refused s _ _ c.refusal.ensures (stopped_before s) (stopped_token s _)
+    refused s _ c.index-tokens-at.result c.refusal.ensures (stopped_before s) (c.index-tokens-at.is ∙ stopped_token s _)
