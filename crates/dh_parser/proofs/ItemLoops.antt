@@ -23,7 +23,7 @@ use Rattle.dh_parser.specs.TreesOfTexts.{ref_of, shape_of, shape_places_of, form
 use Rattle.dh_parser.specs.Answers.{SameItem, Kept, SameDecl, SameFunction, SameItems, SameType, SameBlock}
 use Rattle.dh_parser.specs.Reading.{Outcome, good, bad, deep, bind, the, the_name, the_type, the_block, the_parameter, further_parameter, more_parameters, the_parameters, decl_from, def_from, the_decl, the_def, item_from, the_item, items_from, the_items, the_parts, the_body, program_text, the_program, steps}
 use Rattle.dh_tree.specs.declared.trees.commands.Command.{Command}
-use Rattle.dh_parser.proofs.AlikeBlocks.{parts_is}
+use Rattle.dh_parser.proofs.WholeBlocks.{parts_is}
 use Rattle.dh_parser.proofs.Going.{assoc, same_bind, if_true, if_false}
 use Rattle.dh_parser.proofs.BracketLoops.{pushed_map, next_in, all_in}
 

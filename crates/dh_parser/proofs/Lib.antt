@@ -11,8 +11,8 @@ pub mod AgainExpressions
 pub mod AgainSimple
 pub mod AgainCommands
 pub mod AgainPrograms
-pub mod AlikeExpressions
-pub mod AlikeBlocks
+pub mod WholeExpressions
+pub mod WholeBlocks
 pub mod FirstTokens
 pub mod Going
 pub mod Loops

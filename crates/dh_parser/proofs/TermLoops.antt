@@ -15,7 +15,7 @@ use Rattle.dh_parser.specs.TreesOfTexts.{term_of, index_of, indices_of, joined_t
 use Rattle.dh_parser.specs.Reading.{Outcome, good, bad, deep, bind, the, the_number, Sign, sign_text, sign_at, the_index, more_indices, all_indices, access_from, the_expression, the_argument, more_arguments, the_arguments, steps, chain_with, chain, expression, operand}
 use Rattle.dh_parser.specs.Answers.{Answers, SameTerm, TookOperator}
 use Rattle.dh_parser.proofs.StepsOfExpressions.{none_below}
-use Rattle.dh_parser.proofs.AlikeExpressions.{expression_is}
+use Rattle.dh_parser.proofs.WholeExpressions.{expression_is}
 use Rattle.dh_parser.proofs.Loops.{Loops}
 use Rattle.dh_parser.proofs.Going.{ok_then, err_then, assoc, same_bind, if_true, if_false}
 

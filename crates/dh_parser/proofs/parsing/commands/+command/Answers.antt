@@ -3,7 +3,7 @@ use Rattle.dh_parser.specs.Grammar.{if_alone, simple_then, compound_then, semico
 use Rattle.dh_parser.specs.Reading.{the_part, the_parts, the_block, begins_simple, begins_compound, begins_nothing}
 use Rattle.dh_parser.proofs.Going.{ok_then, err_then, given, known}
 use Rattle.dh_parser.proofs.Loops.{loop_begins, loop_turn, loop_ends, through}
-use Rattle.dh_parser.proofs.AlikeBlocks.{block_is, if_is, compound_is_if}
+use Rattle.dh_parser.proofs.WholeBlocks.{block_is, if_is, compound_is_if}
 use Rattle.dh_parser.proofs.BlockForms.{block_made, if_made, while_made, for_made, moved}
 use Rattle.dh_parser.proofs.PartLoops.{part_begins, parts_begin, simple_more, compound_more, semicolon_more, part_more, part_ends, part_last, parts_end, part_moved, part_by, simple_turn, simple_last, compound_turn, semicolon_turn, parts_turn, parts_last}
 use Rattle.dh_parser.proofs.parsing.commands.+command.Goals as goal

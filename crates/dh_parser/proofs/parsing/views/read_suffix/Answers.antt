@@ -1,6 +1,6 @@
 use Rattle.std.proofs.Common.{rules, ◌≡◌, [], ◌∷◌, refl, ap, sym, ◌∙◌}
 use Rattle.dh_parser.proofs.Going.{ok_then, err_then, given}
-use Rattle.dh_parser.proofs.AlikeExpressions.{operand_is}
+use Rattle.dh_parser.proofs.WholeExpressions.{operand_is}
 use Rattle.dh_parser.proofs.parsing.views.read_suffix.Goals as goal
 
 pub returns-in_err-skip-3-clause-answer : goal.returns-in_err-skip-3-clause-answer

@@ -12,7 +12,7 @@ use Rattle.dh_parser.specs.Reading.{Outcome, good, bad, deep, bind, the, name_fr
 use Rattle.dh_parser.specs.Allowed.{level}
 use Rattle.dh_parser.proofs.StepsOfExpressions.{Left, next_left, either_left, mark_left, none_below, le-refl, lt-own, lt-suc, suc-lt}
 use Rattle.dh_parser.proofs.StepsOfPrograms.{expression_left, EnoughBlocks, if_left, while_left, combine_left, for_left, compound_left, part_with_left, part_left, parts_left, blocks_left, block_left, head_left, simple_left}
-use Rattle.dh_parser.proofs.AlikeExpressions.{same_next, same_either}
+use Rattle.dh_parser.proofs.WholeExpressions.{same_next, same_either}
 
 -- two readers of blocks with one answer on fewer than m tokens, on which they do not give up
 pub record Both (m : ℕ) (b1 b2 : Blocks) : Type 0 where
