@@ -242,4 +242,5 @@ mutual
       (if_again (if_else if_word opener e closer b other) d n x h f (after_one (length (spell_if (if_else if_word opener e closer b other) x)) d few) (after_one (length (spell_if (if_else if_word opener e closer b other) x)) n more)) refl
 
 pub the_block_again : (b : BlockText) (x : List Token) → BlockFits b → the_block (spell_block b x) ≡ good b x
+unfolding the_block
 the_block_again b x f = block_again b (steps (spell_block b x)) x f (own (length (spell_block b x)))

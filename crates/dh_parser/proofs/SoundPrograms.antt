@@ -155,6 +155,7 @@ blocks_took (suc d) ts =
     (f1, cc)
 
 pub block_took : SoundBlocks the_block
+unfolding the_block
 block_took ts = blocks_took (steps ts) ts
 
 abbrev pub ParameterFits : ParameterText → Type 0

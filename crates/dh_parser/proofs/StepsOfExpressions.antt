@@ -172,14 +172,14 @@ tested false u s e = absurd (none_some s e)
 abbrev pub Enough : ℕ → Reads → Type 0
 Enough m rd = (k : ℕ) (ts : List Token) → length ts < m → Left 1 (length ts) (rd k ts)
 
-index_left : (m : ℕ) (rd : Reads) → Enough m rd → (ts : List Token) → length ts ≤ m → Left 1 (length ts) (the_index rd ts)
+pub index_left : (m : ℕ) (rd : Reads) → Enough m rd → (ts : List Token) → length ts ≤ m → Left 1 (length ts) (the_index rd ts)
 index_left m rd h ts few =
     next_left 1 (length ts) _ _ (the mark.OpenBracket ts) _ (mark_left mark.OpenBracket ts) λ opener r0 l0.
     next_left 1 (length r0) _ _ (rd 0 r0) _ (h 0 r0 (omega arith)) λ x r1 l1.
     next_left 1 (length r1) _ _ (the mark.CloseBracket r1) _ (mark_left mark.CloseBracket r1) λ closer r2 l2.
     (omega arith)
 
-indices_left : (m : ℕ) (rd : Reads) → Enough m rd → (n : ℕ) (ts : List Token) → length ts ≤ m → length ts < n → Left 0 (length ts) (more_indices rd n ts)
+pub indices_left : (m : ℕ) (rd : Reads) → Enough m rd → (n : ℕ) (ts : List Token) → length ts ≤ m → length ts < n → Left 0 (length ts) (more_indices rd n ts)
 indices_left m rd h zero ts few k = absurd (none_below (length ts) k)
 indices_left m rd h (suc n) ts few k =
     either_left _ _ (comes mark.OpenBracket ts) _ _
@@ -251,12 +251,12 @@ sign_shorter_by : (k : ℕ) (x : Option Op) (t : Token) (ts : List Token) (s : S
 sign_shorter_by k None t ts s e = absurd (none_some s e)
 sign_shorter_by k (Some o) t ts s e = tested (nat_le k (level o)) (sign_text o t.place ts) s e
 
-sign_shorter : (k : ℕ) (ts : List Token) (s : Sign) → sign_at k ts ≡ Some s → 1 + length s.rest ≤ length ts
+pub sign_shorter : (k : ℕ) (ts : List Token) (s : Sign) → sign_at k ts ≡ Some s → 1 + length s.rest ≤ length ts
 sign_shorter k [] s e = absurd (none_some s e)
 sign_shorter k (t ∷ ts) s e = subst (λ r. 1 + length r ≤ suc (length ts)) (sym (sign_shorter_by k (op_from t.kind) t ts s e)) (taken (length ts))
 
 -- the rest of a chain does not give up
-abbrev Chains : ℕ → ℕ → (ExprText → List Token → Outcome ExprText) → Type 0
+abbrev pub Chains : ℕ → ℕ → (ExprText → List Token → Outcome ExprText) → Type 0
 Chains m n go = (e : ExprText) (ts : List Token) → length ts ≤ m → length ts < n → Left 0 (length ts) (go e ts)
 
 chain_left_by : (m n : ℕ) (rd : Reads) → Enough m rd → (k : ℕ) (go : ExprText → List Token → Outcome ExprText) → Chains m n go
@@ -267,7 +267,7 @@ chain_left_by m n rd h k go g e ts few more (Some s) some =
     next_left 1 (length s.rest) _ _ (rd (suc (level s.op)) s.rest) _ (h (suc (level s.op)) s.rest (below (length s.rest) (length ts) m l few)) λ f r l1.
     weaker 0 (length r) (length ts) _ (g (binary s.op s.place e f) r (first (length r) (length s.rest) (length ts) m l l1 few) (second (length r) (length s.rest) (length ts) n l l1 more)) (third (length r) (length s.rest) (length ts) l l1)
 
-chain_left : (m : ℕ) (rd : Reads) → Enough m rd → (k n : ℕ) → Chains m n (λ e ts. chain rd n k e ts)
+pub chain_left : (m : ℕ) (rd : Reads) → Enough m rd → (k n : ℕ) → Chains m n (λ e ts. chain rd n k e ts)
 chain_left m rd h k zero e ts few more = absurd (none_below (length ts) more)
 chain_left m rd h k (suc n) e ts few more = chain_left_by m n rd h k (λ f r. chain rd n k f r) (chain_left m rd h k n) e ts few more (sign_at k ts) refl
 

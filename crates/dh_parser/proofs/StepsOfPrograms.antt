@@ -13,12 +13,13 @@ use Rattle.dh_parser.specs.declared.parsing.reading.Mark.{Mark}
 use Rattle.dh_parser.specs.declared.parsing.reading.Mark.TheVariants as mark
 use Rattle.dh_parser.specs.Marks.{is_mark, comes}
 use Rattle.dh_parser.specs.Grammar.{NameText, NumberText, KindText, bool_kind, bit_kind, ubit_kind, PortsText, no_ports, some_ports, BanksText, no_banks, some_banks, DimsText, no_dims, dim_then, TypeText, ExprText, literal, negative, truth, variable, access, bracket, cast, binary, AccessText, element, physical, IndexText, index, MoreIndicesText, no_indices, index_then, MoreArgumentsText, no_more_arguments, argument_then, ArgumentsText, no_arguments, some_arguments, FactorText, SuffixText, OffsetText, ViewText, shrink, split, suffix, shift, ValueText, no_value, some_value, ReducerText, adds, subtracts, multiplies, SimpleText, let_typed, let_value, view, assign, store, reduce, call, DeclaredText, no_declared, some_declared, UnrollText, no_unroll, some_unroll, HeadText, BlockText, block, PartsText, last_part, part_then, PartText, end_of_part, last_simple, simple_then, compound_then, semicolon_then, CompoundText, block_alone, if_alone, while_loop, for_loop, IfText, if_else, ElseText, no_else, else_block, else_if, CombineText, no_combine, some_combine, ParameterText, MoreParametersText, no_more_parameters, parameter_then, ParametersText, no_parameters, some_parameters, ItemsText, no_items, decl_then, def_then, ProgramText}
-use Rattle.dh_parser.specs.Reading.{Outcome, good, bad, deep, bind, the, name_text, number_text, the_name, the_number, is_width, width_from, the_width, width_then, kind_from, the_kind, the_ports, the_banks, the_dims, type_text, the_type, Sign, op_from, sign_text, sign_from, sign_at, Reads, the_index, more_indices, access_from, goes_on, named_from, bracket_from, operand_from, operand, chain_with, chain, read, steps, the_expression, more_arguments, the_arguments, factor_text, suffix_text, offset_text, the_factor, the_suffix, the_offset, more_of, brackets, view_from, the_view, the_value, let_from, view_command_from, reduce_from, store_from, after_name_from, after_name, simple_from, the_simple, the_declared, the_unroll, head_text, the_head, Blocks, the_if, the_while, the_combine, the_for, the_compound, Beginning, begins_simple, begins_compound, begins_semicolon, begins_nothing, beginning_of, beginning, part_with, the_part, the_parts, read_block, the_block, parameter_text, the_parameter, more_parameters, the_parameters, decl_from, def_from, items_from, the_items, program_text, the_program}
+use Rattle.dh_parser.specs.Reading.{Outcome, good, bad, deep, bind, the, name_text, number_text, the_name, the_number, is_width, width_from, the_width, width_then, kind_from, the_kind, the_ports, the_banks, the_dims, type_text, the_type, Sign, op_from, sign_text, sign_from, sign_at, Reads, the_index, more_indices, access_from, goes_on, named_from, bracket_from, operand_from, operand, chain_with, chain, read, steps, the_expression, more_arguments, the_arguments, factor_text, suffix_text, offset_text, the_factor, the_suffix, the_offset, more_of, brackets, view_from, the_view, the_value, let_from, view_command_from, reduce_from, store_from, after_name_from, after_name, simple_from, the_simple, the_declared, the_unroll, head_text, the_head, Blocks, the_if, the_while, the_combine, the_for, the_compound, Beginning, begins_simple, begins_compound, begins_semicolon, begins_nothing, beginning_of, beginning, part_with, the_part, the_parts, read_block, the_block, parameter_text, the_parameter, more_parameters, the_parameters, decl_from, def_from, items_from, the_items, program_text, the_program, expression}
 use Rattle.dh_parser.specs.Allowed.{level}
 use Rattle.dh_parser.specs.Programs.{IsAnswered}
 use Rattle.dh_parser.proofs.StepsOfExpressions.{Left, next_left, either_left, mark_left, name_left, number_left, kind_left, type_left, Enough, access_left, operand_left, read_left, none_below, le-refl, taken, one_more, weaker, lt-own, lt-suc, suc-lt}
 
 pub expression_left : (ts : List Token) → Left 1 (length ts) (the_expression ts)
+unfolding expression
 expression_left ts = read_left (steps ts) 0 ts (lt-own (length ts))
 
 le-suc : (n : ℕ) → n ≤ suc n
@@ -236,7 +237,7 @@ if_left m blocks h (suc n) ts few more =
     (λ _. le-refl (length r4))) λ other r5 l5.
     (omega arith)
 
-while_left : (m : ℕ) (blocks : Blocks) → EnoughBlocks m blocks → (ts : List Token) → length ts ≤ m → Left 1 (length ts) (the_while blocks ts)
+pub while_left : (m : ℕ) (blocks : Blocks) → EnoughBlocks m blocks → (ts : List Token) → length ts ≤ m → Left 1 (length ts) (the_while blocks ts)
 while_left m blocks h ts few =
     next_left 1 (length ts) _ _ (the mark.While ts) _ (mark_left mark.While ts) λ word r0 l0.
     next_left 1 (length r0) _ _ (the mark.OpenParen r0) _ (mark_left mark.OpenParen r0) λ opener r1 l1.
@@ -245,7 +246,7 @@ while_left m blocks h ts few =
     next_left 1 (length r3) _ _ (blocks r3) _ (h r3 (omega arith)) λ b r4 l4.
     (omega arith)
 
-combine_left : (m : ℕ) (blocks : Blocks) → EnoughBlocks m blocks → (ts : List Token) → length ts ≤ m → Left 0 (length ts) (the_combine blocks ts)
+pub combine_left : (m : ℕ) (blocks : Blocks) → EnoughBlocks m blocks → (ts : List Token) → length ts ≤ m → Left 0 (length ts) (the_combine blocks ts)
 combine_left m blocks h ts few =
     either_left _ _ (comes mark.Combine ts) _ _
     (λ _.
@@ -254,7 +255,7 @@ combine_left m blocks h ts few =
     (omega arith))
     (λ _. le-refl (length ts))
 
-for_left : (m : ℕ) (blocks : Blocks) → EnoughBlocks m blocks → (ts : List Token) → length ts ≤ m → Left 1 (length ts) (the_for blocks ts)
+pub for_left : (m : ℕ) (blocks : Blocks) → EnoughBlocks m blocks → (ts : List Token) → length ts ≤ m → Left 1 (length ts) (the_for blocks ts)
 for_left m blocks h ts few =
     next_left 1 (length ts) _ _ (the_head ts) _ (head_left ts) λ head r0 l0.
     next_left 1 (length r0) _ _ (blocks r0) _ (h r0 (omega arith)) λ b r1 l1.
@@ -275,7 +276,7 @@ compound_left m blocks h ts few =
 abbrev EnoughParts : ℕ → (List Token → Outcome PartText) → Type 0
 EnoughParts n go = (ts : List Token) → length ts < n → Left 0 (length ts) (go ts)
 
-part_with_left : (m n : ℕ) (blocks : Blocks) → EnoughBlocks m blocks → (go : List Token → Outcome PartText) → ((ts : List Token) → length ts < m → length ts < n → Left 0 (length ts) (go ts))
+pub part_with_left : (m n : ℕ) (blocks : Blocks) → EnoughBlocks m blocks → (go : List Token → Outcome PartText) → ((ts : List Token) → length ts < m → length ts < n → Left 0 (length ts) (go ts))
     → (ts : List Token) → length ts < m → length ts < suc n → (b : Beginning) → Left 0 (length ts) (part_with blocks go ts b)
 part_with_left m n blocks h go g ts few more begins_simple =
     next_left 1 (length ts) _ _ (the_simple ts) _ (simple_left ts) λ s r l.
@@ -319,6 +320,7 @@ blocks_left (suc d) ts few =
     (omega arith)
 
 pub block_left : (ts : List Token) → Left 1 (length ts) (the_block ts)
+unfolding the_block
 block_left ts = blocks_left (steps ts) ts (lt-own (length ts))
 
 pub parameter_left : (ts : List Token) → Left 1 (length ts) (the_parameter ts)

@@ -1,13 +1,202 @@
 -- How a parser of the code answers, beside the reader of lists: what it gives stands for what is read,
 -- and the tokens to come are those that are left.
-use Rattle.std.specs.Prelude.{◌≡◌, List, Result, Ok, Err}
+use Rattle.std.specs.Prelude.{◌≡◌, ℕ, suc, ◌+◌, Vec, Bool, true, false, List, [], ◌∷◌, ◌++◌, map, Option, Some, None, Result, Ok, Err}
+use Rattle.std.specs.Global.{Global}
+use Rattle.dh_base.specs.declared.places.Place.{Place}
 use Rattle.dh_lexer.specs.declared.tokens.Token.{Token}
+use Rattle.dh_value.specs.declared.operators.Op.{Op}
+use Rattle.dh_tree.specs.declared.trees.expressions.Expr.{Expr}
+use Rattle.dh_tree.specs.declared.trees.expressions.Ref.{Ref}
+use Rattle.dh_tree.specs.declared.trees.commands.ViewForm.{ViewForm}
+use Rattle.dh_tree.specs.declared.trees.commands.Command.{Command}
+use Rattle.dh_tree.specs.declared.trees.programs.Decl.{Decl}
+use Rattle.dh_tree.specs.declared.trees.programs.Function.{Function}
+use Rattle.dh_parser.specs.declared.parsing.programs.Item.{Item}
+use Rattle.dh_parser.specs.declared.parsing.programs.Item.TheVariants as items
+use Rattle.dh_parser.specs.declared.parsing.programs.ItemsRead.{ItemsRead}
+use Rattle.dh_parser.specs.declared.parsing.commands.Beginning as commands
+use Rattle.dh_parser.specs.declared.parsing.commands.Beginning.TheVariants as beginnings
+use Rattle.dh_tree.specs.declared.trees.commands.CommandForm.{CommandForm}
+use Rattle.dh_tree.specs.PlainTrees.{Placed, term_then, Action, action, MaybeAction, Actions, no_actions, action_then, Groups, no_groups, group_then, blocks}
+use Rattle.dh_tree.specs.Seen.{term_seen, terms, factor_seen, plan_seen, action_form_seen, action_seen, part_seen, groups, maybe_seen, declared_seen, defined_seen}
 use Rattle.dh_parser.specs.declared.parsing.reading.Stop.{Stop}
 use Rattle.dh_parser.specs.declared.parsing.reading.Stop.TheVariants as stop
-use Rattle.dh_parser.specs.Reading.{Outcome, good, bad, deep}
+use Rattle.dh_parser.specs.declared.parsing.reading.Mark.{Mark}
+use Rattle.dh_parser.specs.declared.parsing.reading.Numeral.{Numeral}
+use Rattle.dh_parser.specs.declared.parsing.types.WrittenType.{WrittenType}
+use Rattle.dh_parser.specs.declared.parsing.types.WrittenDim.{WrittenDim}
+use Rattle.dh_parser.specs.declared.parsing.loops.LoopHead.{LoopHead}
+use Rattle.dh_parser.specs.Grammar.{ItemsText, FactorText, SuffixText, OffsetText, ViewText, SimpleText, BlockText, PartsText, PartText, CompoundText, IfText, ElseText, CombineText, ExprText, IndexText, MoreIndicesText, PortsText, no_ports, some_ports, DimsText, dim_then, TypeText, HeadText}
+use Rattle.dh_parser.specs.Marks.{comes}
+use Rattle.dh_parser.specs.TreesOfTexts.{placed_of, ref_of, dims_of, places_of, shape_of, shape_places_of, is_memory_type, declared_of, factor_of, term_of, index_of, indices_of, suffix_of, parent_of, view_of, simple_form, simple_place, block_of, parts_of, part_of, compound_of, if_of, else_of, combine_of, if_place, count_block, count_parts, count_part, count_compound, count_if, count_else, count_combine, decls_of, functions_of, count_items}
+use Rattle.dh_parser.specs.Reading.{Outcome, good, bad, deep, the, Sign, sign_text, sign_at, Beginning, begins_simple, begins_compound, begins_semicolon, begins_nothing}
 
-abbrev pub Answers : {A B : Type 0} → (B → A → Type 0) → Result B Stop → List Token → Outcome A → Type 0
-Answers same (Ok v) rest (good a r) = same v a × (rest ≡ r)
-Answers same (Err stop.Here) rest (bad r) = rest ≡ r
-Answers same (Err stop.NoMemory) rest o = Unit {0}
-Answers same _ rest o = ⊥
+abbrev pub AnswersBy : {A B : Type 0} → (B → A → Type 0) → Result B Stop → List Token → Outcome A → Type 0
+AnswersBy same (Ok v) rest (good a r) = same v a × (rest ≡ r)
+AnswersBy same (Err stop.Here) rest (bad r) = rest ≡ r
+AnswersBy same (Err stop.NoMemory) rest o = Unit {0}
+AnswersBy same _ rest o = ⊥
+
+-- what is given, with the tokens to come, answers as the outcome says
+pub record Answers {A B : Type 0} (same : B → A → Type 0) (given : Result B Stop) (rest : List Token) (o : Outcome A) : Type 0 where
+  pub holds : AnswersBy same given rest o
+
+-- the tokens after a mark, if it came next, and whether it did
+abbrev pub Took : Mark → Bool → List Token → List Token → Type 0
+Took m true old new = (comes m old ≡ true) × ((p : Place) × (the m old ≡ good p new))
+Took m false old new = (comes m old ≡ false) × (new ≡ old)
+
+-- the place of the first token, where there is one
+abbrev pub StandsAt : Result Place Stop → List Token → Type 0
+StandsAt (Ok p) (t ∷ ts) = p ≡ t.place
+StandsAt (Err stop.Here) [] = Unit {0}
+StandsAt _ _ = ⊥
+
+-- a number where it stands, in the code and beside it
+abbrev pub SameNumber : Numeral → Placed → Type 0
+SameNumber n p = (n.value ≡ p.value) × (n.place ≡ p.place)
+
+-- the number of ports, where it is written
+abbrev pub SamePorts : Option Numeral → PortsText → Type 0
+SamePorts None no_ports = Unit {0}
+SamePorts (Some n) (some_ports opener ports closer) = SameNumber n (placed_of ports)
+SamePorts _ _ = ⊥
+
+-- a dimension, as what it is put in front of others
+abbrev pub SameDim : WrittenDim → (DimsText → DimsText) → Type 0
+SameDim d put = (more : DimsText) → (dims_of (put more) ≡ d.dim ∷ dims_of more) × (places_of (put more) ≡ d.places ∷ places_of more)
+
+pub record SameType (w : WrittenType) (t : TypeText) : Type 0 where
+  pub shape : w.shape ≡ shape_of t
+  pub places : w.places ≡ shape_places_of t
+  pub memory : w.is_memory ≡ is_memory_type t.ports t.dims
+
+pub record SameHead (h : LoopHead) (t : HeadText) : Type 0 where
+  pub place : h.place ≡ t.word
+  pub iterator : h.iterator ≡ ref_of t.iterator
+  pub declared : h.declared ≡ declared_of t.declared
+  pub low : SameNumber h.low (placed_of t.low)
+  pub high : SameNumber h.high (placed_of t.high)
+  pub factor : SameNumber h.factor (factor_of t.word t.unroll)
+
+-- an operator of at least this level, if one came next
+abbrev pub TookOperator : ℕ → Option Op → List Token → List Token → Type 0
+TookOperator k None old new = (sign_at k old ≡ None) × (new ≡ old)
+TookOperator k (Some op) old new = (p : Place) × (sign_at k old ≡ Some (sign_text op p new))
+
+-- what is made, where memory suffices
+abbrev pub Made : {B : Type 0} → (B → Type 0) → Result B Stop → Type 0
+Made P (Ok v) = P v
+Made P (Err stop.NoMemory) = Unit {0}
+Made P (Err stop.Here) = ⊥
+
+-- an expression stands for the tree of its text
+abbrev pub SameTerm : Expr → ExprText → Type 0
+SameTerm e t = term_seen e ≡ term_of t
+
+-- indices, of which there is one at least
+abbrev pub SameIndices : List Expr → IndexText × MoreIndicesText → Type 0
+SameIndices es t = terms (map term_seen es) ≡ term_then (index_of t.0) (indices_of t.1)
+
+-- the factors of a view and their places
+abbrev pub SameFactors : List ℕ → List Place → FactorText × List FactorText → Type 0
+SameFactors by places t = (by ≡ map (λ (g : FactorText). g.factor.value) (t.0 ∷ t.1)) × (places ≡ map (λ (g : FactorText). g.factor.place) (t.0 ∷ t.1))
+
+-- factors with offsets, and the places of the factors
+abbrev pub SameSuffixes : List (ℕ × Expr) → List Place → SuffixText × List SuffixText → Type 0
+SameSuffixes by places t = (map factor_seen by ≡ map suffix_of (t.0 ∷ t.1)) × (places ≡ map (λ (g : SuffixText). g.factor.place) (t.0 ∷ t.1))
+
+abbrev pub SameOffsets : List Expr → OffsetText × List OffsetText → Type 0
+SameOffsets by t = map term_seen by ≡ map (λ (p : OffsetText). term_of p.offset) (t.0 ∷ t.1)
+
+abbrev pub SameSuffix : Numeral → Expr → SuffixText → Type 0
+SameSuffix factor offset s = SameNumber factor (placed_of s.factor) × (term_seen offset ≡ term_of s.offset)
+
+-- the parent of a view and how it shows that
+abbrev pub SamePlan : Ref → ViewForm → ViewText → Type 0
+SamePlan parent form v = (parent ≡ parent_of v) × (plan_seen form ≡ view_of v)
+
+-- a command without blocks, that begins at a place
+abbrev pub SameSimple : Place → CommandForm → SimpleText → Type 0
+SameSimple place form s = (action_form_seen form ≡ simple_form s) × (simple_place s ≡ place)
+
+-- a command stands for what its text says, where the commands of the text are numbered from `old` on up to `new`
+pub record Numbered (seen told : Action) (old new count : ℕ) : Type 0 where
+  pub is : seen ≡ told
+  pub counted : new ≡ old + count
+
+-- the same of a block that may lack
+pub record MaybeNumbered (seen told : MaybeAction) (old new count : ℕ) : Type 0 where
+  pub is : seen ≡ told
+  pub counted : new ≡ old + count
+
+-- the same of the commands of a part
+pub record PartNumbered (seen told : Actions) (old new count : ℕ) : Type 0 where
+  pub is : seen ≡ told
+  pub counted : new ≡ old + count
+
+-- the same of the parts of a block
+pub record PartsNumbered (seen told : Groups) (old new count : ℕ) : Type 0 where
+  pub is : seen ≡ told
+  pub counted : new ≡ old + count
+
+abbrev pub SameBlock : Command → BlockText → ℕ → ℕ → Type 0
+SameBlock c b old new = Numbered (action_seen c) (block_of old b) old new (count_block b)
+
+abbrev pub SameCompound : Command → CompoundText → ℕ → ℕ → Type 0
+SameCompound c t old new = Numbered (action_seen c) (compound_of old t) old new (count_compound t)
+
+abbrev pub SameIf : Command → IfText → ℕ → ℕ → Type 0
+SameIf c i old new = Numbered (action_seen c) (if_of old i) old new (count_if i)
+
+-- the block that an `if` after `else` stands for
+abbrev pub SameElseIf : Command → IfText → ℕ → ℕ → Type 0
+SameElseIf c i old new =
+    Numbered (action_seen c) (action old (if_place i) (blocks (group_then (action_then (if_of (suc old) i) no_actions) no_groups))) old new (suc (count_if i))
+
+abbrev pub SameElse : Option Action → ElseText → ℕ → ℕ → Type 0
+SameElse seen e old new = MaybeNumbered (maybe_seen seen) (else_of old e) old new (count_else e)
+
+abbrev pub SameCombine : Option Action → CombineText → ℕ → ℕ → Type 0
+SameCombine seen c old new = MaybeNumbered (maybe_seen seen) (combine_of old c) old new (count_combine c)
+
+abbrev pub SamePart : Vec Command Global → PartText → ℕ → ℕ → Type 0
+SamePart cs p old new = PartNumbered (part_seen cs) (part_of old p) old new (count_part p)
+
+abbrev pub SameParts : Vec (Vec Command Global) Global → PartsText → ℕ → ℕ → Type 0
+SameParts parts p old new = PartsNumbered (groups (map part_seen parts.items)) (parts_of old p) old new (count_parts p)
+
+-- what begins at a token, in the code and beside it
+abbrev pub begins_as : commands.Beginning → Beginning
+begins_as beginnings.Simple = begins_simple
+begins_as beginnings.Compound = begins_compound
+begins_as beginnings.Semicolon = begins_semicolon
+begins_as beginnings.Nothing = begins_nothing
+
+-- a declaration, as what it is put in front of other items
+pub record SameDecl (d : Decl) (put : ItemsText → ItemsText) : Type 0 where
+  pub decls : (more : ItemsText) → decls_of (put more) ≡ declared_seen d ∷ decls_of more
+  pub functions : (id : ℕ) (more : ItemsText) → functions_of id (put more) ≡ functions_of id more
+  pub counted : (more : ItemsText) → count_items (put more) ≡ count_items more
+
+-- a function, as what it is put in front of other items
+pub record SameFunction (f : Function) (put : ItemsText → ItemsText) (old new : ℕ) : Type 0 where
+  pub decls : (more : ItemsText) → decls_of (put more) ≡ decls_of more
+  pub functions : (more : ItemsText) → functions_of old (put more) ≡ defined_seen f ∷ functions_of new more
+  pub counted : (more : ItemsText) → old + count_items (put more) ≡ new + count_items more
+
+abbrev pub SameItem : Option Item → Option (ItemsText → ItemsText) → ℕ → ℕ → Type 0
+SameItem None None old new = new ≡ old
+SameItem (Some (items.Decl d)) (Some put) old new = SameDecl d put × (new ≡ old)
+SameItem (Some (items.Function f)) (Some put) old new = SameFunction f put old new
+SameItem _ _ old new = ⊥
+
+pub record SameItems (given : ItemsRead) (t : ItemsText) (old new : ℕ) : Type 0 where
+  pub decls : map declared_seen given.decls.items ≡ decls_of t
+  pub functions : map defined_seen given.functions.items ≡ functions_of old t
+  pub counted : new ≡ old + count_items t
+
+-- an item behind those of its sort
+abbrev pub Kept : Item → ItemsRead → ItemsRead → Type 0
+Kept (items.Decl d) old new = (new.decls.items ≡ old.decls.items ++ (d ∷ [])) × (new.functions.items ≡ old.functions.items)
+Kept (items.Function f) old new = (new.decls.items ≡ old.decls.items) × (new.functions.items ≡ old.functions.items ++ (f ∷ []))

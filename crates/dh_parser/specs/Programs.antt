@@ -1,5 +1,13 @@
 -- Which trees tokens spell, and at which token a list of tokens ceases to begin a program.
-use Rattle.std.specs.Prelude.{◌≡◌, ℕ, List, [], ◌∷◌, ◌++◌}
+use Rattle.std.specs.Prelude.{◌≡◌, ℕ, Bool, true, false, if◌then◌else◌, List, [], ◌∷◌, ◌++◌, Result, Ok, Err}
+use Rattle.dh_base.specs.declared.faults.PassFault.{PassFault}
+use Rattle.dh_base.specs.declared.faults.PassFault.TheVariants as fault
+use Rattle.dh_base.specs.declared.rules.Rule.{Rule}
+use Rattle.dh_base.specs.declared.rules.Rule.TheVariants as rules
+use Rattle.dh_lexer.specs.declared.tokens.TokenKind.{TokenKind}
+use Rattle.dh_lexer.specs.declared.tokens.TokenKind.TheVariants as kind
+use Rattle.dh_tree.specs.declared.trees.programs.Tree.{Tree}
+use Rattle.dh_tree.specs.Seen.{program_seen}
 use Rattle.dh_base.specs.declared.places.Place.{Place}
 use Rattle.dh_lexer.specs.declared.tokens.Token.{Token}
 use Rattle.dh_parser.specs.Grammar.{ProgramText}
@@ -47,3 +55,47 @@ IsPlaced tokens (good p rest) = rest ≡ []
 IsPlaced tokens (bad []) = ⊥
 IsPlaced tokens (bad (t ∷ after)) = (before : List Token) × OutOfPlace tokens before t after
 IsPlaced tokens deep = ⊥
+
+abbrev pub is_kind_word : TokenKind → Bool
+is_kind_word kind.Bit = true
+is_kind_word kind.Ubit = true
+is_kind_word _ = false
+
+abbrev pub is_less : TokenKind → Bool
+is_less kind.Less = true
+is_less _ = false
+
+-- whether the tokens end with `bit <` or `ubit <`, so that the width of a kind comes next
+abbrev pub ends_before_width : List Token → Bool
+ends_before_width [] = false
+ends_before_width (t ∷ []) = false
+ends_before_width (t ∷ (u ∷ [])) = if is_kind_word t.kind then is_less u.kind else false
+ends_before_width (t ∷ (u ∷ (v ∷ ts))) = ends_before_width (u ∷ (v ∷ ts))
+
+-- whether a token is one that the language leaves out, or stands for the width of a kind after these
+abbrev pub is_left_out : List Token → TokenKind → Bool
+is_left_out before (kind.Out w) = true
+is_left_out before kind.Slash = true
+is_left_out before kind.Percent = true
+is_left_out before kind.SlashAssign = true
+is_left_out before (kind.Number n) = ends_before_width before
+is_left_out before _ = false
+
+-- the rule by which a token is refused after these
+abbrev pub rule_at : List Token → Token → Rule
+rule_at before token = if is_left_out before token.kind then rules.Unsupported else rules.Syntax
+
+-- a token that is out of place, with its rule and its place
+pub record RefusedAt (tokens : List Token) (rule : Rule) (place : Place) : Type 0 where
+  pub before : List Token
+  pub token : Token
+  pub after : List Token
+  pub out : OutOfPlace tokens before token after
+  pub by_rule : rule ≡ rule_at before token
+  pub at_place : place ≡ token.place
+
+-- what parsing answers: the tree that the tokens spell, or the first token that no program has after those before it
+abbrev pub Parses : List Token → Result Tree PassFault → Type 0
+Parses tokens (Ok tree) = Spells (program_seen tree) tokens
+Parses tokens (Err (fault.Refused rule place)) = RefusedAt tokens rule place
+Parses tokens (Err fault.NoMemory) = Unit {0}

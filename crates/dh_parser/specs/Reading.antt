@@ -100,6 +100,15 @@ the_banks ts =
     good (some_banks word banks) r)
     else good no_banks ts
 
+-- a dimension, as what it is put in front of others
+abbrev pub the_dim : List Token → Outcome (DimsText → DimsText)
+the_dim ts =
+    bind (the mark.OpenBracket ts) λ opener r.
+    bind (the_number r) λ size r.
+    bind (the_banks r) λ banks r.
+    bind (the mark.CloseBracket r) λ closer r.
+    good (λ more. dim_then opener size banks closer more) r
+
 abbrev pub the_dims : ℕ → List Token → Outcome DimsText
 the_dims zero ts = deep
 the_dims (suc n) ts =
@@ -180,6 +189,13 @@ more_indices read (suc n) ts =
     good (index_then i more) r)
     else good no_indices ts
 
+-- indices, of which there is one at least
+abbrev pub all_indices : Reads → List Token → Outcome (IndexText × MoreIndicesText)
+all_indices read ts =
+    bind (the_index read ts) λ i r.
+    bind (more_indices read (suc (length r)) r) λ more r.
+    good (i, more) r
+
 -- what follows the name of an access
 abbrev pub access_from : Reads → NameText → List Token → Outcome AccessText
 access_from read n ts =
@@ -248,8 +264,19 @@ read (suc d) k ts = bind (operand (read d) ts) λ e r. chain (read d) (suc (leng
 abbrev pub steps : List Token → ℕ
 steps ts = suc (length ts)
 
+-- an expression of operators of at least this level, with steps enough
+unfoldable pub expression : Reads
+expression k ts = read (steps ts) k ts
+
 abbrev pub the_expression : List Token → Outcome ExprText
-the_expression ts = read (steps ts) 0 ts
+the_expression ts = expression 0 ts
+
+-- `, argument`
+abbrev pub the_argument : List Token → Outcome (Place × ExprText)
+the_argument ts =
+    bind (the mark.Comma ts) λ comma r.
+    bind (the_expression r) λ e r.
+    good (comma, e) r
 
 abbrev pub more_arguments : ℕ → List Token → Outcome MoreArgumentsText
 more_arguments zero ts = deep
@@ -314,6 +341,20 @@ more_of one (suc n) ts =
     then (bind (one ts) λ a r. bind (more_of one n r) λ more r. good (a ∷ more) r)
     else good [] ts
 
+-- what begins with `[`, once or more
+abbrev pub all_of : {A : Type 0} → (List Token → Outcome A) → List Token → Outcome (A × List A)
+all_of one ts =
+    bind (one ts) λ a r.
+    bind (more_of one (steps r) r) λ more r.
+    good (a, more) r
+
+-- the parent of a view and its brackets, apart
+abbrev pub parent_and : {A : Type 0} → (List Token → Outcome A) → List Token → Outcome (NameText × (A × List A))
+parent_and one ts =
+    bind (the_name ts) λ parent r.
+    bind (all_of one r) λ l r.
+    good (parent, l) r
+
 -- the parent of a view and its brackets
 abbrev pub brackets : {A : Type 0} → (List Token → Outcome A) → (NameText → A → List A → ViewText) → List Token → Outcome ViewText
 brackets one make ts =
@@ -361,6 +402,13 @@ view_command_from word ts =
     bind (the mark.Assign r) λ equal r.
     bind (the_view r) λ v r.
     good (view word n equal v) r
+
+-- the sign of a reducer that a token is
+abbrev pub reducer_from : TokenKind → Option ReducerText
+reducer_from kind.PlusAssign = Some adds
+reducer_from kind.MinusAssign = Some subtracts
+reducer_from kind.StarAssign = Some multiplies
+reducer_from _ = None
 
 abbrev pub reduce_from : NameText → ReducerText → Place → List Token → Outcome SimpleText
 reduce_from n sign place ts = bind (the_expression ts) λ e r. good (reduce n sign place e) r
@@ -559,8 +607,23 @@ read_block (suc d) ts =
     bind (the mark.CloseBrace r) λ closer r.
     good (block opener parts closer) r
 
-abbrev pub the_block : Blocks
+-- a block, with steps enough
+unfoldable pub the_block : Blocks
 the_block ts = read_block (steps ts) ts
+
+-- an `if`, with steps enough
+unfoldable pub whole_if : List Token → Outcome IfText
+whole_if ts = the_if the_block (steps ts) ts
+
+-- what follows the block of an `if`
+abbrev pub whole_else : List Token → Outcome ElseText
+whole_else ts =
+    if comes mark.Else ts
+    then (bind (the mark.Else ts) λ else_word r.
+    if comes mark.If r
+    then (bind (whole_if r) λ i r. good (else_if else_word i) r)
+    else (bind (the_block r) λ b r. good (else_block else_word b) r))
+    else good no_else ts
 
 abbrev pub parameter_text : NameText → Place → TypeText → ParameterText
 parameter_text n colon t = record { name = n; colon = colon; written = t }
@@ -571,6 +634,13 @@ the_parameter ts =
     bind (the mark.Colon r) λ colon r.
     bind (the_type r) λ t r.
     good (parameter_text n colon t) r
+
+-- `, name: type`
+abbrev pub further_parameter : List Token → Outcome (Place × ParameterText)
+further_parameter ts =
+    bind (the mark.Comma ts) λ comma r.
+    bind (the_parameter r) λ p r.
+    good (comma, p) r
 
 abbrev pub more_parameters : ℕ → List Token → Outcome MoreParametersText
 more_parameters zero ts = deep
@@ -622,6 +692,42 @@ abbrev pub the_items : ℕ → List Token → Outcome ItemsText
 the_items zero ts = deep
 the_items (suc n) [] = good no_items []
 the_items (suc n) (t ∷ ts) = items_from (the_items n) t.kind t ts
+
+-- what follows `decl`, as what it is put in front of other items
+abbrev pub the_decl : Place → List Token → Outcome (ItemsText → ItemsText)
+the_decl word ts =
+    bind (the_name ts) λ n r.
+    bind (the mark.Colon r) λ colon r.
+    bind (the_type r) λ t r.
+    bind (the mark.Semicolon r) λ semicolon r.
+    good (λ more. decl_then word n colon t semicolon more) r
+
+-- what follows `def`, as what it is put in front of other items
+abbrev pub the_def : Place → List Token → Outcome (ItemsText → ItemsText)
+the_def word ts =
+    bind (the_name ts) λ n r.
+    bind (the mark.OpenParen r) λ opener r.
+    bind (the_parameters r) λ ps r.
+    bind (the mark.Assign r) λ equal r.
+    bind (the_block r) λ b r.
+    good (λ more. def_then word n opener ps equal b more) r
+
+-- an item, if one comes next
+abbrev pub item_from : TokenKind → Token → List Token → Outcome (Option (ItemsText → ItemsText))
+item_from kind.Decl t ts = bind (the_decl t.place ts) λ put r. good (Some put) r
+item_from kind.Def t ts = bind (the_def t.place ts) λ put r. good (Some put) r
+item_from _ t ts = good None (t ∷ ts)
+
+abbrev pub the_item : List Token → Outcome (Option (ItemsText → ItemsText))
+the_item [] = good None []
+the_item (t ∷ ts) = item_from t.kind t ts
+
+-- the parts of the body, and the end
+abbrev pub the_body : List Token → Outcome (PartsText × Place)
+the_body ts =
+    bind (the_parts the_block (steps ts) ts) λ parts r.
+    bind (the mark.End r) λ end r.
+    good (parts, end) r
 
 abbrev pub program_text : ItemsText → PartsText → Place → ProgramText
 program_text items parts end = record { items = items; parts = parts; end = end }

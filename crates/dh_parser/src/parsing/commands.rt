@@ -1,18 +1,25 @@
 //! Commands, and the blocks that hold them.
 
-use crate::parsing::expressions::{read_access, read_arguments, read_expression};
-use crate::parsing::loops::{LoopHead, read_factor, read_loop_head};
-use crate::parsing::operators::reducer_of;
-use crate::parsing::reading::{Mark, Reader, Stop};
-use crate::parsing::types::read_type;
-use crate::parsing::views::read_view;
-use dh_tree::{Command, CommandForm, Ref};
+ghost use Rattle.std.specs.Prelude.{◌≡◌, ◌<◌, ◌≤◌, ◌+◌, ◌^◌, length, map, option_map, IfOk};
+ghost use Rattle.dh_base.specs.declared.places.Place.{Place};
+ghost use Rattle.dh_tree.specs.Seen.{action_seen, maybe_seen, placed};
+ghost use Rattle.dh_tree.specs.PlainTrees.{action, counts, blocks, group_then, no_groups, action_then, no_actions};
+ghost use Rattle.dh_parser.specs.Answers.{Answers, Made, SameBlock, SameCompound, SameIf, SameElseIf, SameElse, SameCombine, SamePart, SameParts, begins_as};
+ghost use Rattle.dh_parser.specs.Reading.{the_parts, the_part, the_compound, the_block, whole_if, whole_else, the_while, the_for, the_combine, beginning, steps};
+ghost use Rattle.dh_parser.specs.TreesOfTexts.{combine_place_of};
+
+use crate::parsing::expressions::read_expression;
+use crate::parsing::loops::{LoopHead, read_loop_head};
+use crate::parsing::reading::{Mark, Reader, Stop, begin};
+use crate::parsing::simple::read_simple;
 use dh_base::Place;
 use dh_lexer::{Token, TokenKind};
+use dh_tree::{Command, CommandForm};
+use std::alloc::Global;
 
 /// What begins at a token, among the commands of a part.
 #[derive(Clone, Copy, Debug, PartialEq, Eq)]
-enum Beginning {
+pub(crate) enum Beginning {
     /// A command that a `;` or the end of its part follows.
     Simple,
     /// A command that ends with a block.
@@ -25,28 +32,44 @@ enum Beginning {
 
 /// The parts between `---`.
 #[cycle(command)]
-pub(crate) fn read_sequence(reader: &mut Reader<'_>) -> Result<Vec<Vec<Command>>, Stop> {
+pub(crate) fn read_sequence(reader: &mut Reader<'_>) -> Result<Vec<Vec<Command>>, Stop>
+    requires { reader.old.commands + length reader.old.rest.now ≤ 2 ^ 32 }
+    ensures answer { Answers (λ parts p. SameParts parts p reader.old.commands reader.new.commands) result reader.new.rest.now (the_parts the_block (steps reader.old.rest.now) reader.old.rest.now) }
+    ensures room { reader.new.commands + length reader.new.rest.now ≤ reader.old.commands + length reader.old.rest.now }
+    ensures shorter { length reader.new.rest.now ≤ length reader.old.rest.now }
+{
     let mut parts = Vec::new(reader.alloc);
-    parts.push(read_part(reader)?)?;
-    while reader.take(Mark::Dashes) {
-        parts.push(read_part(reader)?)?;
+    loop {
+        let part = read_part(reader)?;
+        parts.push(part)?;
+        if !reader.take(Mark::Dashes) {
+            return Ok(parts);
+        }
     }
-    Ok(parts)
 }
 
 /// The commands of a part. A simple one that no `;` follows is the last.
 #[cycle(command)]
-fn read_part(reader: &mut Reader<'_>) -> Result<Vec<Command>, Stop> {
+fn read_part(reader: &mut Reader<'_>) -> Result<Vec<Command>, Stop>
+    requires { reader.old.commands + length reader.old.rest.now ≤ 2 ^ 32 }
+    ensures answer { Answers (λ commands p. SamePart commands p reader.old.commands reader.new.commands) result reader.new.rest.now (the_part the_block (steps reader.old.rest.now) reader.old.rest.now) }
+    ensures room { reader.new.commands + length reader.new.rest.now ≤ reader.old.commands + length reader.old.rest.now }
+    ensures shorter { length reader.new.rest.now ≤ length reader.old.rest.now }
+{
     let mut commands = Vec::new(reader.alloc);
     loop {
         match what_begins(reader.rest) {
             Beginning::Simple => {
-                commands.push(read_simple(reader)?)?;
+                let command = read_simple(reader)?;
+                commands.push(command)?;
                 if !reader.take(Mark::Semicolon) {
                     return Ok(commands);
                 }
             }
-            Beginning::Compound => commands.push(read_compound(reader)?)?,
+            Beginning::Compound => {
+                let command = read_compound(reader)?;
+                commands.push(command)?;
+            }
             Beginning::Semicolon => {
                 reader.skip(Mark::Semicolon)?;
             }
@@ -56,7 +79,9 @@ fn read_part(reader: &mut Reader<'_>) -> Result<Vec<Command>, Stop> {
 }
 
 /// What begins at the first of these tokens.
-fn what_begins(tokens: &[Token]) -> Beginning {
+fn what_begins(tokens: &[Token]) -> Beginning
+    ensures { begins_as result ≡ beginning tokens.now }
+{
     let [token, ..] = tokens else {
         return Beginning::Nothing;
     };
@@ -72,7 +97,13 @@ fn what_begins(tokens: &[Token]) -> Beginning {
 
 /// A command that ends with a block.
 #[cycle(command)]
-fn read_compound(reader: &mut Reader<'_>) -> Result<Command, Stop> {
+fn read_compound(reader: &mut Reader<'_>) -> Result<Command, Stop>
+    requires { reader.old.commands + length reader.old.rest.now ≤ 2 ^ 32 }
+    ensures answer { Answers (λ command c. SameCompound command c reader.old.commands reader.new.commands) result reader.new.rest.now (the_compound the_block reader.old.rest.now) }
+    ensures room { reader.new.commands + length reader.new.rest.now ≤ reader.old.commands + length reader.old.rest.now }
+    ensures shorter { length reader.new.rest.now ≤ length reader.old.rest.now }
+    ensures taken { IfOk result (λ _. length reader.new.rest.now < length reader.old.rest.now) }
+{
     if reader.is_next(Mark::If) {
         read_if(reader)
     } else if reader.is_next(Mark::While) {
@@ -86,9 +117,15 @@ fn read_compound(reader: &mut Reader<'_>) -> Result<Command, Stop> {
 
 /// `{ .. }`
 #[cycle(command)]
-pub(crate) fn read_block(reader: &mut Reader<'_>) -> Result<Command, Stop> {
+pub(crate) fn read_block(reader: &mut Reader<'_>) -> Result<Command, Stop>
+    requires { reader.old.commands + length reader.old.rest.now ≤ 2 ^ 32 }
+    ensures answer { Answers (λ command b. SameBlock command b reader.old.commands reader.new.commands) result reader.new.rest.now (the_block reader.old.rest.now) }
+    ensures room { reader.new.commands + length reader.new.rest.now ≤ reader.old.commands + length reader.old.rest.now }
+    ensures shorter { length reader.new.rest.now ≤ length reader.old.rest.now }
+    ensures taken { IfOk result (λ _. length reader.new.rest.now < length reader.old.rest.now) }
+{
     let place = reader.skip(Mark::OpenBrace)?;
-    let id = reader.begin();
+    let id = begin(&mut reader.commands);
     let body = read_sequence(reader)?;
     reader.skip(Mark::CloseBrace)?;
     let form = CommandForm::Block { body };
@@ -97,9 +134,15 @@ pub(crate) fn read_block(reader: &mut Reader<'_>) -> Result<Command, Stop> {
 
 /// `if (test) { .. }` with what follows `else`, if anything does.
 #[cycle(command)]
-fn read_if(reader: &mut Reader<'_>) -> Result<Command, Stop> {
+fn read_if(reader: &mut Reader<'_>) -> Result<Command, Stop>
+    requires { reader.old.commands + length reader.old.rest.now ≤ 2 ^ 32 }
+    ensures answer { Answers (λ command i. SameIf command i reader.old.commands reader.new.commands) result reader.new.rest.now (whole_if reader.old.rest.now) }
+    ensures room { reader.new.commands + length reader.new.rest.now ≤ reader.old.commands + length reader.old.rest.now }
+    ensures shorter { length reader.new.rest.now ≤ length reader.old.rest.now }
+    ensures taken { IfOk result (λ _. length reader.new.rest.now < length reader.old.rest.now) }
+{
     let place = reader.skip(Mark::If)?;
-    let id = reader.begin();
+    let id = begin(&mut reader.commands);
     reader.skip(Mark::OpenParen)?;
     let test = read_expression(reader, 0)?;
     reader.skip(Mark::CloseParen)?;
@@ -112,27 +155,46 @@ fn read_if(reader: &mut Reader<'_>) -> Result<Command, Stop> {
 
 /// `else` and its block, if the word comes next.
 #[cycle(command)]
-fn read_else(reader: &mut Reader<'_>) -> Result<Option<Box<Command>>, Stop> {
-    if !reader.take(Mark::Else) {
+fn read_else(reader: &mut Reader<'_>) -> Result<Option<Box<Command>>, Stop>
+    requires { reader.old.commands + length reader.old.rest.now ≤ 2 ^ 32 }
+    ensures answer { Answers (λ other e. SameElse (option_map (λ b. action_seen b.value) other) e reader.old.commands reader.new.commands) result reader.new.rest.now (whole_else reader.old.rest.now) }
+    ensures room { reader.new.commands + length reader.new.rest.now ≤ reader.old.commands + length reader.old.rest.now }
+    ensures shorter { length reader.new.rest.now ≤ length reader.old.rest.now }
+{
+    if !reader.is_next(Mark::Else) {
         return Ok(None);
     }
-    let block = if reader.is_next(Mark::If) {
-        read_else_if(reader)?
-    } else {
-        read_block(reader)?
-    };
+    reader.skip(Mark::Else)?;
+    if reader.is_next(Mark::If) {
+        let inner = read_else_if(reader)?;
+        return Ok(Some(Box::new(reader.alloc, inner)?));
+    }
+    let block = read_block(reader)?;
     Ok(Some(Box::new(reader.alloc, block)?))
 }
 
 /// The block that an `if` after `else` stands for: its one command is that `if`.
 #[cycle(command)]
-fn read_else_if(reader: &mut Reader<'_>) -> Result<Command, Stop> {
-    let id = reader.begin();
+fn read_else_if(reader: &mut Reader<'_>) -> Result<Command, Stop>
+    requires { reader.old.commands + length reader.old.rest.now < 2 ^ 32 }
+    ensures answer { Answers (λ command i. SameElseIf command i reader.old.commands reader.new.commands) result reader.new.rest.now (whole_if reader.old.rest.now) }
+    ensures room { reader.new.commands + length reader.new.rest.now ≤ reader.old.commands + length reader.old.rest.now + 1 }
+    ensures shorter { length reader.new.rest.now ≤ length reader.old.rest.now }
+{
+    let id = begin(&mut reader.commands);
     let inner = read_if(reader)?;
+    block_of_one(reader.alloc, id, inner)
+}
+
+/// The block of this number that holds this command alone.
+#[tactic(auto, using(dh_tree::proofs::SeenActions::actions_are))]
+fn block_of_one(alloc: Global, id: u32, inner: Command) -> Result<Command, Stop>
+    ensures { Made (λ block. action_seen block ≡ action id inner.place (blocks (group_then (action_then (action_seen inner) no_actions) no_groups))) result }
+{
     let place = inner.place;
-    let mut part = Vec::new(reader.alloc);
+    let mut part = Vec::new(alloc);
     part.push(inner)?;
-    let mut body = Vec::new(reader.alloc);
+    let mut body = Vec::new(alloc);
     body.push(part)?;
     let form = CommandForm::Block { body };
     Ok(Command { id, place, form })
@@ -140,9 +202,15 @@ fn read_else_if(reader: &mut Reader<'_>) -> Result<Command, Stop> {
 
 /// `while (test) { .. }`
 #[cycle(command)]
-fn read_while(reader: &mut Reader<'_>) -> Result<Command, Stop> {
+fn read_while(reader: &mut Reader<'_>) -> Result<Command, Stop>
+    requires { reader.old.commands + length reader.old.rest.now ≤ 2 ^ 32 }
+    ensures answer { Answers (λ command c. SameCompound command c reader.old.commands reader.new.commands) result reader.new.rest.now (the_while the_block reader.old.rest.now) }
+    ensures room { reader.new.commands + length reader.new.rest.now ≤ reader.old.commands + length reader.old.rest.now }
+    ensures shorter { length reader.new.rest.now ≤ length reader.old.rest.now }
+    ensures taken { IfOk result (λ _. length reader.new.rest.now < length reader.old.rest.now) }
+{
     let place = reader.skip(Mark::While)?;
-    let id = reader.begin();
+    let id = begin(&mut reader.commands);
     reader.skip(Mark::OpenParen)?;
     let test = read_expression(reader, 0)?;
     reader.skip(Mark::CloseParen)?;
@@ -154,19 +222,42 @@ fn read_while(reader: &mut Reader<'_>) -> Result<Command, Stop> {
 
 /// `for (let ..) { .. }` with its combine block, if one follows.
 #[cycle(command)]
-fn read_for(reader: &mut Reader<'_>) -> Result<Command, Stop> {
-    let place = reader.skip(Mark::For)?;
-    let id = reader.begin();
+fn read_for(reader: &mut Reader<'_>) -> Result<Command, Stop>
+    requires { reader.old.commands + length reader.old.rest.now ≤ 2 ^ 32 }
+    ensures answer { Answers (λ command c. SameCompound command c reader.old.commands reader.new.commands) result reader.new.rest.now (the_for the_block reader.old.rest.now) }
+    ensures room { reader.new.commands + length reader.new.rest.now ≤ reader.old.commands + length reader.old.rest.now }
+    ensures shorter { length reader.new.rest.now ≤ length reader.old.rest.now }
+    ensures taken { IfOk result (λ _. length reader.new.rest.now < length reader.old.rest.now) }
+{
+    let head = read_loop_head(reader)?;
+    let id = begin(&mut reader.commands);
+    let body = read_block(reader)?;
+    let body = Box::new(reader.alloc, body)?;
+    let (combine, combine_place) = read_combine(reader, head.place)?;
+    Ok(counted_loop(id, head, body, combine, combine_place))
+}
+
+/// The loop of this number with this head and these blocks.
+#[tactic(auto, using(dh_tree::proofs::SeenActions::actions_are))]
+fn counted_loop(
+    id: u32,
+    head: LoopHead,
+    body: Box<Command>,
+    combine: Option<Box<Command>>,
+    combine_place: Place,
+) -> Command
+    ensures { action_seen result ≡ action id head.place
+        (counts head.iterator head.declared (placed head.low.value head.low.place) (placed head.high.value head.high.place) (placed head.factor.value head.factor.place)
+        (action_seen body.value) (maybe_seen (option_map (λ b. action_seen b.value) combine)) combine_place) }
+{
     let LoopHead {
+        place,
         iterator,
         declared,
         low,
         high,
-    } = read_loop_head(reader)?;
-    let factor = read_factor(reader, place)?;
-    let body = read_block(reader)?;
-    let body = Box::new(reader.alloc, body)?;
-    let (combine, combine_place) = read_combine(reader, place)?;
+        factor,
+    } = head;
     let form = CommandForm::For {
         iterator,
         declared,
@@ -180,7 +271,7 @@ fn read_for(reader: &mut Reader<'_>) -> Result<Command, Stop> {
         combine,
         combine_place,
     };
-    Ok(Command { id, place, form })
+    Command { id, place, form }
 }
 
 /// `combine { .. }` with the place of its word, if it comes next; else the place of the loop.
@@ -188,106 +279,16 @@ fn read_for(reader: &mut Reader<'_>) -> Result<Command, Stop> {
 fn read_combine(
     reader: &mut Reader<'_>,
     place: Place,
-) -> Result<(Option<Box<Command>>, Place), Stop> {
+) -> Result<(Option<Box<Command>>, Place), Stop>
+    requires { reader.old.commands + length reader.old.rest.now ≤ 2 ^ 32 }
+    ensures answer { Answers (λ v c. SameCombine (option_map (λ b. action_seen b.value) v.0) c reader.old.commands reader.new.commands × (v.1 ≡ combine_place_of place c)) result reader.new.rest.now (the_combine the_block reader.old.rest.now) }
+    ensures room { reader.new.commands + length reader.new.rest.now ≤ reader.old.commands + length reader.old.rest.now }
+    ensures shorter { length reader.new.rest.now ≤ length reader.old.rest.now }
+{
     if !reader.is_next(Mark::Combine) {
         return Ok((None, place));
     }
     let word = reader.skip(Mark::Combine)?;
     let block = read_block(reader)?;
     Ok((Some(Box::new(reader.alloc, block)?), word))
-}
-
-/// A command that begins with `let`, `view` or a name.
-fn read_simple(reader: &mut Reader<'_>) -> Result<Command, Stop> {
-    let place = reader.place()?;
-    let [token, after @ ..] = reader.rest else {
-        return Err(Stop::Here);
-    };
-    let form = match token.kind {
-        TokenKind::Let => {
-            reader.rest = after;
-            read_let(reader)?
-        }
-        TokenKind::View => {
-            reader.rest = after;
-            read_view(reader)?
-        }
-        _ => {
-            let name = reader.name()?;
-            read_named(reader, name)?
-        }
-    };
-    let id = reader.begin();
-    Ok(Command { id, place, form })
-}
-
-/// The rest of a `let`, after its word.
-fn read_let(reader: &mut Reader<'_>) -> Result<CommandForm, Stop> {
-    let name = reader.name()?;
-    if !reader.take(Mark::Colon) {
-        reader.skip(Mark::Assign)?;
-        let value = Some(read_expression(reader, 0)?);
-        return Ok(CommandForm::Let {
-            name,
-            declared: None,
-            value,
-        });
-    }
-    let written = read_type(reader)?;
-    let value = if reader.take(Mark::Assign) {
-        Some(read_expression(reader, 0)?)
-    } else {
-        None
-    };
-    if written.is_memory {
-        return Ok(CommandForm::LetMemory {
-            name,
-            shape: written.shape,
-            shape_places: written.places,
-            value,
-        });
-    }
-    Ok(CommandForm::Let {
-        name,
-        declared: Some(written.shape.kind),
-        value,
-    })
-}
-
-/// The rest of a command that begins with this name.
-fn read_named(reader: &mut Reader<'_>, name: Ref) -> Result<CommandForm, Stop> {
-    let [token, after @ ..] = reader.rest else {
-        return Err(Stop::Here);
-    };
-    match &token.kind {
-        TokenKind::Becomes => {
-            reader.rest = after;
-            let value = read_expression(reader, 0)?;
-            let target = name;
-            Ok(CommandForm::Assign { target, value })
-        }
-        TokenKind::OpenParen => {
-            let function = name;
-            let arguments = read_arguments(reader)?;
-            Ok(CommandForm::Call {
-                function,
-                arguments,
-            })
-        }
-        TokenKind::OpenBracket | TokenKind::OpenBrace => {
-            let target = read_access(reader, name)?;
-            reader.skip(Mark::Becomes)?;
-            let value = read_expression(reader, 0)?;
-            Ok(CommandForm::Store { target, value })
-        }
-        kind => {
-            let Some(op) = reducer_of(kind) else {
-                return Err(Stop::Here);
-            };
-            reader.rest = after;
-            let value = read_expression(reader, 0)?;
-            let target = name;
-            Ok(CommandForm::Reduce { target, op, value })
-        }
-    }
 }

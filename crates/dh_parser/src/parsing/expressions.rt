@@ -1,21 +1,33 @@
 //! Expressions: operands joined by operators, of which the tighter take their operands first.
 
-use crate::parsing::operators::{level_of, take_operator};
-use crate::parsing::reading::{Mark, Numeral, Reader, Stop};
+ghost use Rattle.std.specs.Prelude.{◌≡◌, ◌<◌, ◌≤◌, length, map, IfOk, None};
+ghost use Rattle.dh_tree.specs.PlainTrees.{term, number, truth_value};
+ghost use Rattle.dh_tree.specs.Seen.{form_seen, term_seen};
+ghost use Rattle.dh_parser.specs.Answers.{Answers, Made, SameTerm, SameIndices};
+ghost use Rattle.dh_parser.specs.Grammar.{NameText};
+ghost use Rattle.dh_parser.specs.Reading.{expression, operand, named_from, access_from, all_indices, the_index, bracket_from, the_argument, the_arguments};
+ghost use Rattle.dh_parser.specs.TreesOfTexts.{ref_of, access_of, index_of, arguments_of, joined_terms};
+
+use crate::parsing::operators::{level_above, take_operator};
+use crate::parsing::reading::{Mark, Reader, Stop};
 use crate::parsing::types::read_kind;
-use dh_tree::{Expr, ExprForm, Ref};
 use dh_base::Place;
 use dh_lexer::TokenKind;
+use dh_tree::{Expr, ExprForm, Ref};
 use dh_value::Op;
 use std::alloc::Global;
 
 /// The expression of operators that bind at least as tightly as `level`, from 0 for all to 10 for
 /// none.
 #[cycle(expression)]
-pub(crate) fn read_expression(reader: &mut Reader<'_>, level: u8) -> Result<Expr, Stop> {
+pub(crate) fn read_expression(reader: &mut Reader<'_>, level: u8) -> Result<Expr, Stop>
+    ensures answer { Answers (λ e t. SameTerm e t) result reader.new.rest.now (expression level reader.old.rest.now) }
+    ensures commands { reader.new.commands ≡ reader.old.commands }
+    ensures shorter { length reader.new.rest.now ≤ length reader.old.rest.now }
+{
     let mut left = read_operand(reader)?;
     while let Some(op) = take_operator(reader, level) {
-        let right = read_expression(reader, level_of(op) + 1)?;
+        let right = read_expression(reader, level_above(op))?;
         left = joined(reader.alloc, op, left, right)?;
     }
     Ok(left)
@@ -23,24 +35,32 @@ pub(crate) fn read_expression(reader: &mut Reader<'_>, level: u8) -> Result<Expr
 
 /// An operand: a literal, a name, an access, or something in parentheses.
 #[cycle(expression)]
-pub(crate) fn read_operand(reader: &mut Reader<'_>) -> Result<Expr, Stop> {
+pub(crate) fn read_operand(reader: &mut Reader<'_>) -> Result<Expr, Stop>
+    ensures answer { Answers (λ e t. SameTerm e t) result reader.new.rest.now (operand expression reader.old.rest.now) }
+    ensures commands { reader.new.commands ≡ reader.old.commands }
+    ensures shorter { length reader.new.rest.now ≤ length reader.old.rest.now }
+{
     let [token, after @ ..] = reader.rest else {
         return Err(Stop::Here);
     };
     match &token.kind {
-        TokenKind::Number(_) => {
-            let number = reader.number()?;
-            Ok(literal(number.place, false, number.value))
+        TokenKind::Number(value) => {
+            let value = *value;
+            reader.rest = after;
+            Ok(literal(token.place, false, value))
         }
         TokenKind::Minus => {
             reader.rest = after;
             let number = reader.number()?;
             Ok(literal(token.place, true, number.value))
         }
-        TokenKind::True | TokenKind::False => {
+        TokenKind::True => {
             reader.rest = after;
-            let value = matches!(token.kind, TokenKind::True);
-            Ok(plain(token.place, ExprForm::Truth { value }))
+            Ok(truth(token.place, true))
+        }
+        TokenKind::False => {
+            reader.rest = after;
+            Ok(truth(token.place, false))
         }
         TokenKind::Name(_) => {
             let of = reader.name()?;
@@ -56,8 +76,12 @@ pub(crate) fn read_operand(reader: &mut Reader<'_>) -> Result<Expr, Stop> {
 
 /// What a name begins: an access, or the name alone.
 #[cycle(expression)]
-fn read_named(reader: &mut Reader<'_>, of: Ref) -> Result<Expr, Stop> {
-    if reader.is_next(Mark::OpenBracket) || reader.is_next(Mark::OpenBrace) {
+fn read_named(reader: &mut Reader<'_>, of: Ref) -> Result<Expr, Stop>
+    ensures answer { (n : NameText) → of ≡ ref_of n → Answers (λ e t. SameTerm e t) result reader.new.rest.now (named_from expression n reader.old.rest.now) }
+    ensures commands { reader.new.commands ≡ reader.old.commands }
+    ensures shorter { length reader.new.rest.now ≤ length reader.old.rest.now }
+{
+    if reader.goes_on() {
         return read_access(reader, of);
     }
     let place = of.place;
@@ -66,12 +90,17 @@ fn read_named(reader: &mut Reader<'_>, of: Ref) -> Result<Expr, Stop> {
 
 /// The rest of the access `of[index]..` or `of{bank}[row]`, after its name.
 #[cycle(expression)]
-pub(crate) fn read_access(reader: &mut Reader<'_>, of: Ref) -> Result<Expr, Stop> {
+pub(crate) fn read_access(reader: &mut Reader<'_>, of: Ref) -> Result<Expr, Stop>
+    ensures answer { (n : NameText) → of ≡ ref_of n → Answers (λ e a. term_seen e ≡ access_of a) result reader.new.rest.now (access_from expression n reader.old.rest.now) }
+    ensures commands { reader.new.commands ≡ reader.old.commands }
+    ensures shorter { length reader.new.rest.now ≤ length reader.old.rest.now }
+{
     let place = of.place;
-    if !reader.take(Mark::OpenBrace) {
+    if !reader.is_next(Mark::OpenBrace) {
         let indices = read_indices(reader)?;
         return Ok(plain(place, ExprForm::Access { of, indices }));
     }
+    reader.skip(Mark::OpenBrace)?;
     let bank = reader.number()?;
     reader.skip(Mark::CloseBrace)?;
     let row = read_index(reader)?;
@@ -86,55 +115,92 @@ pub(crate) fn read_access(reader: &mut Reader<'_>, of: Ref) -> Result<Expr, Stop
 
 /// Indices in brackets, at least one.
 #[cycle(expression)]
-fn read_indices(reader: &mut Reader<'_>) -> Result<Vec<Expr>, Stop> {
+fn read_indices(reader: &mut Reader<'_>) -> Result<Vec<Expr>, Stop>
+    ensures answer { Answers (λ es t. SameIndices es.items t) result reader.new.rest.now (all_indices expression reader.old.rest.now) }
+    ensures commands { reader.new.commands ≡ reader.old.commands }
+    ensures shorter { length reader.new.rest.now ≤ length reader.old.rest.now }
+{
     let mut indices = Vec::new(reader.alloc);
-    indices.push(read_index(reader)?)?;
+    let first = read_index(reader)?;
+    indices.push(first)?;
     while reader.is_next(Mark::OpenBracket) {
-        indices.push(read_index(reader)?)?;
+        let index = read_index(reader)?;
+        indices.push(index)?;
     }
     Ok(indices)
 }
 
 /// An index in brackets.
 #[cycle(expression)]
-fn read_index(reader: &mut Reader<'_>) -> Result<Expr, Stop> {
+fn read_index(reader: &mut Reader<'_>) -> Result<Expr, Stop>
+    ensures answer { Answers (λ e i. term_seen e ≡ index_of i) result reader.new.rest.now (the_index expression reader.old.rest.now) }
+    ensures commands { reader.new.commands ≡ reader.old.commands }
+    ensures shorter { length reader.new.rest.now ≤ length reader.old.rest.now }
+    ensures taken { IfOk result (λ _. length reader.new.rest.now < length reader.old.rest.now) }
+{
     reader.skip(Mark::OpenBracket)?;
     let index = read_expression(reader, 0)?;
     reader.skip(Mark::CloseBracket)?;
     Ok(index)
 }
 
-/// What stands in parentheses, of which the first stood at `open`: an expression or a cast.
+/// What stands in parentheses, of which the first stood at `opening`: an expression or a cast.
 #[cycle(expression)]
-fn read_bracketed(reader: &mut Reader<'_>, open: Place) -> Result<Expr, Stop> {
+fn read_bracketed(reader: &mut Reader<'_>, opening: Place) -> Result<Expr, Stop>
+    ensures answer { Answers (λ e t. SameTerm e t) result reader.new.rest.now (bracket_from expression opening reader.old.rest.now) }
+    ensures commands { reader.new.commands ≡ reader.old.commands }
+    ensures shorter { length reader.new.rest.now ≤ length reader.old.rest.now }
+{
     let inner = read_expression(reader, 0)?;
-    if !reader.take(Mark::As) {
+    if !reader.is_next(Mark::As) {
         reader.skip(Mark::CloseParen)?;
         return Ok(inner);
     }
+    reader.skip(Mark::As)?;
     let to = read_kind(reader)?;
     reader.skip(Mark::CloseParen)?;
     let inner = Box::new(reader.alloc, inner)?;
-    Ok(plain(open, ExprForm::Cast { inner, to }))
+    Ok(plain(opening, ExprForm::Cast { inner, to }))
 }
 
-/// Arguments between parentheses, of which the first stands next.
-pub(crate) fn read_arguments(reader: &mut Reader<'_>) -> Result<Vec<Expr>, Stop> {
+/// Arguments between parentheses, after the first of these.
+pub(crate) fn read_arguments(reader: &mut Reader<'_>) -> Result<Vec<Expr>, Stop>
+    ensures answer { Answers (λ es t. map term_seen es.items ≡ arguments_of t) result reader.new.rest.now (the_arguments reader.old.rest.now) }
+    ensures commands { reader.new.commands ≡ reader.old.commands }
+    ensures shorter { length reader.new.rest.now ≤ length reader.old.rest.now }
+{
     let mut arguments = Vec::new(reader.alloc);
-    reader.skip(Mark::OpenParen)?;
-    if reader.take(Mark::CloseParen) {
+    if reader.is_next(Mark::CloseParen) {
+        reader.skip(Mark::CloseParen)?;
         return Ok(arguments);
     }
-    arguments.push(read_expression(reader, 0)?)?;
-    while reader.take(Mark::Comma) {
-        arguments.push(read_expression(reader, 0)?)?;
+    let first = read_expression(reader, 0)?;
+    arguments.push(first)?;
+    while reader.is_next(Mark::Comma) {
+        let argument = read_argument(reader)?;
+        arguments.push(argument)?;
     }
     reader.skip(Mark::CloseParen)?;
     Ok(arguments)
 }
 
+/// `, argument`
+fn read_argument(reader: &mut Reader<'_>) -> Result<Expr, Stop>
+    ensures answer { Answers (λ e t. SameTerm e t.1) result reader.new.rest.now (the_argument reader.old.rest.now) }
+    ensures commands { reader.new.commands ≡ reader.old.commands }
+    ensures shorter { length reader.new.rest.now ≤ length reader.old.rest.now }
+    ensures taken { IfOk result (λ _. length reader.new.rest.now < length reader.old.rest.now) }
+{
+    reader.skip(Mark::Comma)?;
+    let argument = read_expression(reader, 0)?;
+    Ok(argument)
+}
+
 /// The expression of this form, its kind not yet found.
-fn plain(place: Place, form: ExprForm) -> Expr {
+#[tactic(auto, using(dh_tree::proofs::SeenTerms::terms_are))]
+fn plain(place: Place, form: ExprForm) -> Expr
+    ensures { term_seen result ≡ term place None (form_seen form) }
+{
     Expr {
         place,
         kind: None,
@@ -143,12 +209,26 @@ fn plain(place: Place, form: ExprForm) -> Expr {
 }
 
 /// A number, or a number after a `-`.
-fn literal(place: Place, negative: bool, value: u64) -> Expr {
+#[tactic(auto, using(dh_tree::proofs::SeenTerms::terms_are))]
+fn literal(place: Place, negative: bool, value: u64) -> Expr
+    ensures { term_seen result ≡ term place None (number negative value) }
+{
     plain(place, ExprForm::Number { negative, value })
 }
 
+/// `true` or `false`.
+#[tactic(auto, using(dh_tree::proofs::SeenTerms::terms_are))]
+fn truth(place: Place, value: bool) -> Expr
+    ensures { term_seen result ≡ term place None (truth_value value) }
+{
+    plain(place, ExprForm::Truth { value })
+}
+
 /// `left op right`
-fn joined(alloc: Global, op: Op, left: Expr, right: Expr) -> Result<Expr, Stop> {
+#[tactic(auto, using(dh_tree::proofs::SeenTerms::terms_are))]
+fn joined(alloc: Global, op: Op, left: Expr, right: Expr) -> Result<Expr, Stop>
+    ensures { Made (λ e. term_seen e ≡ joined_terms op (term_seen left) (term_seen right)) result }
+{
     let place = left.place;
     let form = ExprForm::Binary {
         op,

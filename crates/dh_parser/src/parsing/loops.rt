@@ -1,14 +1,20 @@
 //! The head of a `for`.
 
+ghost use Rattle.std.specs.Prelude.{◌≡◌, ◌<◌, ◌≤◌, length, IfOk};
+ghost use Rattle.dh_parser.specs.Answers.{Answers, SameHead, SameNumber};
+ghost use Rattle.dh_parser.specs.Reading.{the_declared, the_head, the_unroll};
+ghost use Rattle.dh_parser.specs.TreesOfTexts.{declared_of, factor_of};
+
 use crate::parsing::reading::{Mark, Numeral, Reader, Stop};
 use crate::parsing::types::read_kind;
-use dh_tree::Ref;
 use dh_base::Place;
-use dh_tree::Kind;
+use dh_tree::{Kind, Ref};
 
-/// What stands in the parentheses of a `for`.
+/// What stands before the body of a `for`.
 #[derive(Drop)]
 pub(crate) struct LoopHead {
+    /// The place of the word `for`.
+    pub place: Place,
     /// The iterator.
     pub iterator: Ref,
     /// Its kind, where it is written.
@@ -17,33 +23,56 @@ pub(crate) struct LoopHead {
     pub low: Numeral,
     /// The number after its last value.
     pub high: Numeral,
+    /// The copies of the body; 1 at the place of the word where none are written.
+    pub factor: Numeral,
 }
 
-/// `(let iterator: declared = low..high)`
-pub(crate) fn read_loop_head(reader: &mut Reader<'_>) -> Result<LoopHead, Stop> {
+/// `for (let iterator: declared = low..high) unroll factor`
+pub(crate) fn read_loop_head(reader: &mut Reader<'_>) -> Result<LoopHead, Stop>
+    ensures answer { Answers (λ head t. SameHead head t) result reader.new.rest.now (the_head reader.old.rest.now) }
+    ensures commands { reader.new.commands ≡ reader.old.commands }
+    ensures shorter { length reader.new.rest.now ≤ length reader.old.rest.now }
+    ensures taken { IfOk result (λ _. length reader.new.rest.now < length reader.old.rest.now) }
+{
+    let place = reader.skip(Mark::For)?;
     reader.skip(Mark::OpenParen)?;
     reader.skip(Mark::Let)?;
     let iterator = reader.name()?;
-    let declared = if reader.take(Mark::Colon) {
-        Some(read_kind(reader)?)
-    } else {
-        None
-    };
+    let declared = read_declared(reader)?;
     reader.skip(Mark::Assign)?;
     let low = reader.number()?;
     reader.skip(Mark::Range)?;
     let high = reader.number()?;
     reader.skip(Mark::CloseParen)?;
+    let factor = read_factor(reader, place)?;
     Ok(LoopHead {
+        place,
         iterator,
         declared,
         low,
         high,
+        factor,
     })
 }
 
+/// The kind after `:`, if that sign comes next.
+fn read_declared(reader: &mut Reader<'_>) -> Result<Option<Kind>, Stop>
+    ensures answer { Answers (λ declared t. declared ≡ declared_of t) result reader.new.rest.now (the_declared reader.old.rest.now) }
+    ensures commands { reader.new.commands ≡ reader.old.commands }
+    ensures shorter { length reader.new.rest.now ≤ length reader.old.rest.now }
+{
+    if !reader.take(Mark::Colon) {
+        return Ok(None);
+    }
+    Ok(Some(read_kind(reader)?))
+}
+
 /// The number after `unroll`, if the word comes next; else 1, at the place of the loop.
-pub(crate) fn read_factor(reader: &mut Reader<'_>, place: Place) -> Result<Numeral, Stop> {
+fn read_factor(reader: &mut Reader<'_>, place: Place) -> Result<Numeral, Stop>
+    ensures answer { Answers (λ factor t. SameNumber factor (factor_of place t)) result reader.new.rest.now (the_unroll reader.old.rest.now) }
+    ensures commands { reader.new.commands ≡ reader.old.commands }
+    ensures shorter { length reader.new.rest.now ≤ length reader.old.rest.now }
+{
     if reader.take(Mark::Unroll) {
         reader.number()
     } else {

@@ -1,16 +1,19 @@
 //! The operators and how tightly they bind.
 
-ghost use Rattle.std.specs.Prelude.{◌≡◌};
+ghost use Rattle.std.specs.Prelude.{◌≡◌, suc, ◌<◌, ◌≤◌, length, IfSome, option_map};
 ghost use Rattle.dh_parser.specs.Allowed.{level};
-ghost use Rattle.dh_parser.specs.Reading.{op_from};
+ghost use Rattle.dh_parser.specs.Answers.{TookOperator};
+ghost use Rattle.dh_parser.specs.Reading.{op_from, reducer_from};
+ghost use Rattle.dh_parser.specs.TreesOfTexts.{reducer_op};
 
 use crate::parsing::reading::Reader;
 use dh_lexer::TokenKind;
 use dh_value::Op;
 
 /// How tightly an operator binds, from 0 for `||` to 9 for `*`.
-pub(crate) fn level_of(op: Op) -> u8
-    ensures { result ≡ level op }
+fn level_of(op: Op) -> u8
+    ensures level { result ≡ level op }
+    ensures bound { result < 10 }
 {
     match op {
         Op::Either => 0,
@@ -24,6 +27,13 @@ pub(crate) fn level_of(op: Op) -> u8
         Op::Add | Op::Sub => 8,
         Op::Mul => 9,
     }
+}
+
+/// The level of what may stand at the right of an operator: what binds more tightly than it.
+pub(crate) fn level_above(op: Op) -> u8
+    ensures { result ≡ suc (level op) }
+{
+    level_of(op) + 1
 }
 
 /// The operator that a token is.
@@ -52,7 +62,12 @@ pub(crate) fn operator_of(kind: &TokenKind) -> Option<Op>
 }
 
 /// Takes an operator that binds at least as tightly as `level`, if one comes next.
-pub(crate) fn take_operator(reader: &mut Reader<'_>, level: u8) -> Option<Op> {
+pub(crate) fn take_operator(reader: &mut Reader<'_>, level: u8) -> Option<Op>
+    ensures took { TookOperator level result reader.old.rest.now reader.new.rest.now }
+    ensures commands { reader.new.commands ≡ reader.old.commands }
+    ensures shorter { length reader.new.rest.now ≤ length reader.old.rest.now }
+    ensures taken { IfSome result (λ _. length reader.new.rest.now < length reader.old.rest.now) }
+{
     let [token, after @ ..] = reader.rest else {
         return None;
     };
@@ -65,7 +80,9 @@ pub(crate) fn take_operator(reader: &mut Reader<'_>, level: u8) -> Option<Op> {
 }
 
 /// The operator of a reducer.
-pub(crate) fn reducer_of(kind: &TokenKind) -> Option<Op> {
+pub(crate) fn reducer_of(kind: &TokenKind) -> Option<Op>
+    ensures { result ≡ option_map reducer_op (reducer_from kind.now) }
+{
     match kind {
         TokenKind::PlusAssign => Some(Op::Add),
         TokenKind::MinusAssign => Some(Op::Sub),

@@ -1,29 +1,46 @@
 //! Whole programs: declarations and functions in any order, and then the body.
 
+ghost use Rattle.std.specs.Prelude.{◌≡◌, ◌<◌, ◌≤◌, ◌+◌, ◌^◌, length, map, IfOk, IfSome};
+ghost use Rattle.dh_base.specs.declared.places.Place.{Place};
+ghost use Rattle.dh_tree.specs.Seen.{action_seen, formal_seen, program_seen};
+ghost use Rattle.dh_parser.specs.Answers.{Answers, Made, Kept, SameType, SameDecl, SameFunction, SameItem, SameItems};
+ghost use Rattle.dh_parser.specs.Grammar.{NameText, TypeText};
+ghost use Rattle.dh_parser.specs.Reading.{parameter_text, the_parameter, further_parameter, the_parameters, the_decl, the_def, the_item, the_items, the_body, the_program, steps};
+ghost use Rattle.dh_parser.specs.TreesOfTexts.{ref_of, formal_of, formals_of, body_of, program_of};
+
 use crate::parsing::commands::{read_block, read_sequence};
-use crate::parsing::reading::{Mark, Reader, Stop};
+use crate::parsing::reading::{Mark, Reader, Stop, begin};
 use crate::parsing::types::{WrittenType, read_type};
-use dh_tree::{Command, CommandForm, Decl, Function, Parameter, Tree};
 use dh_lexer::TokenKind;
+use dh_tree::{Command, CommandForm, Decl, Function, Parameter, Ref, Tree};
 
 /// What may stand before the body.
 #[derive(Drop)]
-enum Item {
+pub(crate) enum Item {
+    /// A memory from outside.
     Decl(Decl),
+    /// A function.
     Function(Function),
 }
 
+/// All that stands before the body.
+#[derive(Drop)]
+pub(crate) struct ItemsRead {
+    /// The memories from outside, in order.
+    pub decls: Vec<Decl>,
+    /// The functions, in order.
+    pub functions: Vec<Function>,
+}
+
 /// A program, up to the end of the text.
-pub(crate) fn program(reader: &mut Reader<'_>) -> Result<Tree, Stop> {
-    let mut decls = Vec::new(reader.alloc);
-    let mut functions = Vec::new(reader.alloc);
-    while let Some(item) = read_item(reader)? {
-        match item {
-            Item::Decl(decl) => decls.push(decl)?,
-            Item::Function(function) => functions.push(function)?,
-        }
-    }
+pub(crate) fn program(reader: &mut Reader<'_>) -> Result<Tree, Stop>
+    requires few { length reader.old.rest.now < 2 ^ 32 }
+    requires none { reader.old.commands ≡ 0 }
+    ensures { Answers (λ tree p. program_seen tree ≡ program_of p) result reader.new.rest.now (the_program reader.old.rest.now) }
+{
+    let items = read_items(reader)?;
     let body = read_body(reader)?;
+    let ItemsRead { decls, functions } = items;
     Ok(Tree {
         decls,
         functions,
@@ -32,10 +49,48 @@ pub(crate) fn program(reader: &mut Reader<'_>) -> Result<Tree, Stop> {
     })
 }
 
+/// The declarations and functions that come next.
+fn read_items(reader: &mut Reader<'_>) -> Result<ItemsRead, Stop>
+    requires { reader.old.commands + length reader.old.rest.now ≤ 2 ^ 32 }
+    ensures answer { Answers (λ items t. SameItems items t reader.old.commands reader.new.commands) result reader.new.rest.now (the_items (steps reader.old.rest.now) reader.old.rest.now) }
+    ensures room { reader.new.commands + length reader.new.rest.now ≤ reader.old.commands + length reader.old.rest.now }
+{
+    let mut items = ItemsRead {
+        decls: Vec::new(reader.alloc),
+        functions: Vec::new(reader.alloc),
+    };
+    loop {
+        let item = read_item(reader)?;
+        let Some(item) = item else {
+            return Ok(items);
+        };
+        keep(&mut items, item)?;
+    }
+}
+
+/// Puts an item behind those of its sort.
+fn keep(items: &mut ItemsRead, item: Item) -> Result<(), Stop>
+    ensures { Made (λ _. Kept item items.old items.new) result }
+{
+    match item {
+        Item::Decl(decl) => {
+            items.decls.push(decl)?;
+            Ok(())
+        }
+        Item::Function(function) => {
+            items.functions.push(function)?;
+            Ok(())
+        }
+    }
+}
+
 /// The body of a program, and the end of the text.
-fn read_body(reader: &mut Reader<'_>) -> Result<Command, Stop> {
+fn read_body(reader: &mut Reader<'_>) -> Result<Command, Stop>
+    requires { reader.old.commands + length reader.old.rest.now < 2 ^ 32 }
+    ensures { Answers (λ body t. action_seen body ≡ body_of reader.old.commands t.0 t.1) result reader.new.rest.now (the_body reader.old.rest.now) }
+{
     let place = reader.place()?;
-    let id = reader.begin();
+    let id = begin(&mut reader.commands);
     let body = read_sequence(reader)?;
     reader.skip(Mark::End)?;
     let form = CommandForm::Block { body };
@@ -43,25 +98,37 @@ fn read_body(reader: &mut Reader<'_>) -> Result<Command, Stop> {
 }
 
 /// A declaration or a function, if one comes next.
-fn read_item(reader: &mut Reader<'_>) -> Result<Option<Item>, Stop> {
+fn read_item(reader: &mut Reader<'_>) -> Result<Option<Item>, Stop>
+    requires { reader.old.commands + length reader.old.rest.now ≤ 2 ^ 32 }
+    ensures answer { Answers (λ item t. SameItem item t reader.old.commands reader.new.commands) result reader.new.rest.now (the_item reader.old.rest.now) }
+    ensures room { reader.new.commands + length reader.new.rest.now ≤ reader.old.commands + length reader.old.rest.now }
+    ensures shorter { length reader.new.rest.now ≤ length reader.old.rest.now }
+    ensures taken { IfOk result (λ item. IfSome item (λ _. length reader.new.rest.now < length reader.old.rest.now)) }
+{
     let [token, after @ ..] = reader.rest else {
         return Ok(None);
     };
     match token.kind {
         TokenKind::Decl => {
             reader.rest = after;
-            Ok(Some(Item::Decl(read_decl(reader)?)))
+            let decl = read_decl(reader)?;
+            Ok(Some(Item::Decl(decl)))
         }
         TokenKind::Def => {
             reader.rest = after;
-            Ok(Some(Item::Function(read_function(reader)?)))
+            let function = read_function(reader)?;
+            Ok(Some(Item::Function(function)))
         }
         _ => Ok(None),
     }
 }
 
 /// The rest of `decl name: type;`, after its word.
-fn read_decl(reader: &mut Reader<'_>) -> Result<Decl, Stop> {
+fn read_decl(reader: &mut Reader<'_>) -> Result<Decl, Stop>
+    ensures answer { (word : Place) → Answers (λ d put. SameDecl d put) result reader.new.rest.now (the_decl word reader.old.rest.now) }
+    ensures commands { reader.new.commands ≡ reader.old.commands }
+    ensures shorter { length reader.new.rest.now ≤ length reader.old.rest.now }
+{
     let name = reader.name()?;
     reader.skip(Mark::Colon)?;
     let written = read_type(reader)?;
@@ -74,8 +141,14 @@ fn read_decl(reader: &mut Reader<'_>) -> Result<Decl, Stop> {
 }
 
 /// The rest of `def name(parameters) = { .. }`, after its word.
-fn read_function(reader: &mut Reader<'_>) -> Result<Function, Stop> {
+fn read_function(reader: &mut Reader<'_>) -> Result<Function, Stop>
+    requires { reader.old.commands + length reader.old.rest.now ≤ 2 ^ 32 }
+    ensures answer { (word : Place) → Answers (λ f put. SameFunction f put reader.old.commands reader.new.commands) result reader.new.rest.now (the_def word reader.old.rest.now) }
+    ensures room { reader.new.commands + length reader.new.rest.now ≤ reader.old.commands + length reader.old.rest.now }
+    ensures shorter { length reader.new.rest.now ≤ length reader.old.rest.now }
+{
     let name = reader.name()?;
+    reader.skip(Mark::OpenParen)?;
     let parameters = read_parameters(reader)?;
     reader.skip(Mark::Assign)?;
     let body = read_block(reader)?;
@@ -87,36 +160,73 @@ fn read_function(reader: &mut Reader<'_>) -> Result<Function, Stop> {
     })
 }
 
-/// Parameters between parentheses.
-fn read_parameters(reader: &mut Reader<'_>) -> Result<Vec<Parameter>, Stop> {
+/// Parameters between parentheses, after the first of these.
+fn read_parameters(reader: &mut Reader<'_>) -> Result<Vec<Parameter>, Stop>
+    ensures answer { Answers (λ ps t. map formal_seen ps.items ≡ formals_of t) result reader.new.rest.now (the_parameters reader.old.rest.now) }
+    ensures commands { reader.new.commands ≡ reader.old.commands }
+    ensures shorter { length reader.new.rest.now ≤ length reader.old.rest.now }
+{
     let mut parameters = Vec::new(reader.alloc);
-    reader.skip(Mark::OpenParen)?;
-    if reader.take(Mark::CloseParen) {
+    if reader.is_next(Mark::CloseParen) {
+        reader.skip(Mark::CloseParen)?;
         return Ok(parameters);
     }
-    parameters.push(read_parameter(reader)?)?;
-    while reader.take(Mark::Comma) {
-        parameters.push(read_parameter(reader)?)?;
+    let first = read_parameter(reader)?;
+    parameters.push(first)?;
+    while reader.is_next(Mark::Comma) {
+        let parameter = read_further_parameter(reader)?;
+        parameters.push(parameter)?;
     }
     reader.skip(Mark::CloseParen)?;
     Ok(parameters)
 }
 
+/// `, name: type`
+fn read_further_parameter(reader: &mut Reader<'_>) -> Result<Parameter, Stop>
+    ensures answer { Answers (λ p t. formal_seen p ≡ formal_of t.1) result reader.new.rest.now (further_parameter reader.old.rest.now) }
+    ensures commands { reader.new.commands ≡ reader.old.commands }
+    ensures shorter { length reader.new.rest.now ≤ length reader.old.rest.now }
+    ensures taken { IfOk result (λ _. length reader.new.rest.now < length reader.old.rest.now) }
+{
+    reader.skip(Mark::Comma)?;
+    let parameter = read_parameter(reader)?;
+    Ok(parameter)
+}
+
 /// `name: type`
-fn read_parameter(reader: &mut Reader<'_>) -> Result<Parameter, Stop> {
+fn read_parameter(reader: &mut Reader<'_>) -> Result<Parameter, Stop>
+    ensures answer { Answers (λ p t. formal_seen p ≡ formal_of t) result reader.new.rest.now (the_parameter reader.old.rest.now) }
+    ensures commands { reader.new.commands ≡ reader.old.commands }
+    ensures shorter { length reader.new.rest.now ≤ length reader.old.rest.now }
+{
     let name = reader.name()?;
     reader.skip(Mark::Colon)?;
+    let written = read_type(reader)?;
+    Ok(parameter_of(name, written))
+}
+
+/// The parameter of this name and type.
+fn parameter_of(name: Ref, written: WrittenType) -> Parameter
+    ensures { (n : NameText) (colon : Place) (t : TypeText) → name ≡ ref_of n → SameType written t → formal_seen result ≡ formal_of (parameter_text n colon t) }
+{
     let WrittenType {
         shape,
         places,
         is_memory,
-    } = read_type(reader)?;
+    } = written;
     let kind = shape.kind;
-    let shape = if is_memory { Some(shape) } else { None };
-    Ok(Parameter {
+    if is_memory {
+        return Parameter {
+            name,
+            shape: Some(shape),
+            shape_places: places,
+            kind,
+        };
+    }
+    Parameter {
         name,
-        shape,
+        shape: None,
         shape_places: places,
         kind,
-    })
+    }
 }

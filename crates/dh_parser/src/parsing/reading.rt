@@ -1,11 +1,11 @@
 //! Where the parser stands, and the single tokens that it takes.
 
-ghost use Rattle.std.specs.Prelude.{◌≡◌, if◌then◌else◌, drop};
-ghost use Rattle.dh_parser.specs.Answers.{Answers};
+ghost use Rattle.std.specs.Prelude.{◌≡◌, ◌<◌, ◌≤◌, ◌+◌, ◌^◌, length, IfOk};
+ghost use Rattle.dh_parser.specs.Answers.{Answers, SameNumber, StandsAt, Took};
 ghost use Rattle.dh_parser.specs.Marks as marks;
 ghost use Rattle.dh_parser.specs.Marks.{comes};
-ghost use Rattle.dh_parser.specs.Reading.{the, the_number, the_name};
-ghost use Rattle.dh_parser.specs.TreesOfTexts.{ref_of};
+ghost use Rattle.dh_parser.specs.Reading.{the, the_number, the_name, goes_on};
+ghost use Rattle.dh_parser.specs.TreesOfTexts.{ref_of, placed_of};
 ghost use Rattle.dh_parser.specs.declared.parsing.reading.Stop.TheVariants as stop;
 
 use dh_tree::Ref;
@@ -163,7 +163,9 @@ pub(crate) struct Numeral {
 
 impl Reader<'_> {
     /// The place of the next token.
-    pub fn place(&self) -> Result<Place, Stop> {
+    pub fn place(&self) -> Result<Place, Stop>
+        ensures { StandsAt result self.now.rest.now }
+    {
         match self.rest {
             [token, ..] => Ok(token.place),
             [] => Err(Stop::Here),
@@ -180,10 +182,17 @@ impl Reader<'_> {
         }
     }
 
+    /// Whether an access goes on here, after its name.
+    pub fn goes_on(&self) -> bool
+        ensures { result ≡ goes_on self.now.rest.now }
+    {
+        self.is_next(Mark::OpenBracket) || self.is_next(Mark::OpenBrace)
+    }
+
     /// Takes this, if it comes next, and says whether it did.
     pub fn take(&mut self, mark: Mark) -> bool
-        ensures found { result ≡ comes mark self.old.rest.now }
-        ensures rest { self.new.rest.now ≡ (if result then drop 1 self.old.rest.now else self.old.rest.now) }
+        ensures took { Took mark result self.old.rest.now self.new.rest.now }
+        ensures shorter { length self.new.rest.now ≤ length self.old.rest.now }
         ensures commands { self.new.commands ≡ self.old.commands }
     {
         match self.rest {
@@ -198,6 +207,8 @@ impl Reader<'_> {
     /// Takes this, which has to come next. Gives its place.
     pub fn skip(&mut self, mark: Mark) -> Result<Place, Stop>
         ensures answer { Answers (λ place p. place ≡ p) result self.new.rest.now (the mark self.old.rest.now) }
+        ensures shorter { length self.new.rest.now ≤ length self.old.rest.now }
+        ensures taken { IfOk result (λ _. length self.new.rest.now < length self.old.rest.now) }
         ensures commands { self.new.commands ≡ self.old.commands }
     {
         match self.rest {
@@ -212,6 +223,8 @@ impl Reader<'_> {
     /// Takes a name, which has to come next.
     pub fn name(&mut self) -> Result<Ref, Stop>
         ensures answer { Answers (λ name n. name ≡ ref_of n) result self.new.rest.now (the_name self.old.rest.now) }
+        ensures shorter { length self.new.rest.now ≤ length self.old.rest.now }
+        ensures taken { IfOk result (λ _. length self.new.rest.now < length self.old.rest.now) }
         ensures commands { self.new.commands ≡ self.old.commands }
     {
         match self.rest {
@@ -236,7 +249,9 @@ impl Reader<'_> {
 
     /// Takes a number, which has to come next.
     pub fn number(&mut self) -> Result<Numeral, Stop>
-        ensures answer { Answers (λ number n. (number.value ≡ n.value) × (number.place ≡ n.place)) result self.new.rest.now (the_number self.old.rest.now) }
+        ensures answer { Answers (λ number n. SameNumber number (placed_of n)) result self.new.rest.now (the_number self.old.rest.now) }
+        ensures shorter { length self.new.rest.now ≤ length self.old.rest.now }
+        ensures taken { IfOk result (λ _. length self.new.rest.now < length self.old.rest.now) }
         ensures commands { self.new.commands ≡ self.old.commands }
     {
         match self.rest {
@@ -256,11 +271,15 @@ impl Reader<'_> {
             _ => Err(Stop::Here),
         }
     }
+}
 
-    /// The number of a command that begins here.
-    pub fn begin(&mut self) -> u32 {
-        let id = self.commands as u32;
-        self.commands += 1;
-        id
-    }
+/// The number of a command that begins here, after so many commands.
+pub(crate) fn begin(commands: &mut u64) -> u32
+    requires { commands.old < 2 ^ 32 }
+    ensures id { result ≡ commands.old }
+    ensures count { commands.new ≡ commands.old + 1 }
+{
+    let id = *commands as u32;
+    *commands += 1;
+    id
 }

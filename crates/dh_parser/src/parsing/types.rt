@@ -1,18 +1,16 @@
 //! Kinds and types.
 
-ghost use Rattle.std.specs.Prelude.{◌≡◌, true};
-ghost use Rattle.dh_parser.specs.Answers.{Answers};
+ghost use Rattle.std.specs.Prelude.{◌≡◌, ◌<◌, ◌≤◌, length, IfOk};
 ghost use Rattle.dh_base.specs.declared.places.Place.{Place};
 ghost use Rattle.dh_value.specs.declared.kinds.Kind.TheVariants as kinds;
-ghost use Rattle.dh_parser.specs.declared.parsing.reading.Mark.TheVariants as mark;
-ghost use Rattle.dh_parser.specs.Grammar.{bit_kind, ubit_kind};
-ghost use Rattle.dh_parser.specs.Marks.{comes};
-ghost use Rattle.dh_parser.specs.Reading.{width_then, the_kind, the_ports};
-ghost use Rattle.dh_parser.specs.TreesOfTexts.{kind_of, ports_of};
+ghost use Rattle.dh_parser.specs.Answers.{Answers, SameNumber, SamePorts, SameDim, SameType};
+ghost use Rattle.dh_parser.specs.Grammar.{TypeText, bit_kind, ubit_kind};
+ghost use Rattle.dh_parser.specs.Reading.{width_then, the_kind, the_ports, the_banks, the_dim, the_dims, the_type, steps};
+ghost use Rattle.dh_parser.specs.TreesOfTexts.{kind_of, kind_place, banks_of, dims_of, places_of};
 
 use crate::parsing::reading::{Mark, Numeral, Reader, Stop};
 use dh_tree::{DimPlaces, ShapePlaces};
-use dh_base::Items;
+use dh_base::{Items, Place};
 use dh_lexer::{Token, TokenKind};
 use dh_tree::{Dim, Kind, Shape};
 
@@ -29,9 +27,11 @@ pub(crate) struct WrittenType {
 
 /// A dimension as it is written.
 #[derive(Clone, Copy)]
-struct WrittenDim {
-    dim: Dim,
-    places: DimPlaces,
+pub(crate) struct WrittenDim {
+    /// Its size and banks.
+    pub dim: Dim,
+    /// The places of these numbers.
+    pub places: DimPlaces,
 }
 
 /// The most bits of a kind.
@@ -41,6 +41,7 @@ const MOST_BITS: u64 = 64;
 pub(crate) fn read_kind(reader: &mut Reader<'_>) -> Result<Kind, Stop>
     ensures answer { Answers (λ kind k. kind ≡ kind_of k) result reader.new.rest.now (the_kind reader.old.rest.now) }
     ensures commands { reader.new.commands ≡ reader.old.commands }
+    ensures shorter { length reader.new.rest.now ≤ length reader.old.rest.now }
 {
     let [token, after @ ..] = reader.rest else {
         return Err(Stop::Here);
@@ -67,6 +68,7 @@ fn read_width(reader: &mut Reader<'_>) -> Result<u8, Stop>
     ensures answer { (word : Place) → Answers (λ width k. kinds.Unsigned width ≡ kind_of k) result reader.new.rest.now (width_then (ubit_kind word) reader.old.rest.now) }
     ensures signed { (word : Place) → Answers (λ width k. kinds.Signed width ≡ kind_of k) result reader.new.rest.now (width_then (bit_kind word) reader.old.rest.now) }
     ensures commands { reader.new.commands ≡ reader.old.commands }
+    ensures shorter { length reader.new.rest.now ≤ length reader.old.rest.now }
 {
     reader.skip(Mark::Less)?;
     let [
@@ -89,15 +91,68 @@ fn read_width(reader: &mut Reader<'_>) -> Result<u8, Stop>
 }
 
 /// `kind{ports}[size bank banks]..`
-pub(crate) fn read_type(reader: &mut Reader<'_>) -> Result<WrittenType, Stop> {
+pub(crate) fn read_type(reader: &mut Reader<'_>) -> Result<WrittenType, Stop>
+    ensures answer { Answers (λ written t. SameType written t) result reader.new.rest.now (the_type reader.old.rest.now) }
+    ensures commands { reader.new.commands ≡ reader.old.commands }
+    ensures shorter { length reader.new.rest.now ≤ length reader.old.rest.now }
+{
     let place = reader.place()?;
     let kind = read_kind(reader)?;
-    let has_ports = reader.is_next(Mark::OpenBrace);
-    let ports = if has_ports {
-        read_ports(reader)?
-    } else {
-        Numeral { value: 1, place }
+    let ports = read_ports(reader)?;
+    let (dims, places) = read_dims(reader)?;
+    Ok(written_type(place, kind, ports, dims, places))
+}
+
+/// The type of these parts, that begins at this place.
+fn written_type(
+    place: Place,
+    kind: Kind,
+    ports: Option<Numeral>,
+    dims: Items<Dim>,
+    places: Items<DimPlaces>,
+) -> WrittenType
+    ensures { (t : TypeText) → kind ≡ kind_of t.kind → kind_place t.kind ≡ place → SamePorts ports t.ports
+        → (dims ≡ dims_of t.dims) × (places ≡ places_of t.dims) → SameType result t }
+{
+    let (number, is_memory) = match ports {
+        Some(number) => (number, true),
+        None => (Numeral { value: 1, place }, !dims.is_empty()),
     };
+    WrittenType {
+        shape: Shape {
+            kind,
+            ports: number.value,
+            dims,
+        },
+        places: ShapePlaces {
+            ports_place: number.place,
+            dims: places,
+        },
+        is_memory,
+    }
+}
+
+/// A number of ports in braces, if a brace comes next.
+fn read_ports(reader: &mut Reader<'_>) -> Result<Option<Numeral>, Stop>
+    ensures answer { Answers (λ ports p. SamePorts ports p) result reader.new.rest.now (the_ports reader.old.rest.now) }
+    ensures commands { reader.new.commands ≡ reader.old.commands }
+    ensures shorter { length reader.new.rest.now ≤ length reader.old.rest.now }
+{
+    if !reader.is_next(Mark::OpenBrace) {
+        return Ok(None);
+    }
+    reader.skip(Mark::OpenBrace)?;
+    let ports = reader.number()?;
+    reader.skip(Mark::CloseBrace)?;
+    Ok(Some(ports))
+}
+
+/// The dimensions that come next, and the places of their numbers.
+fn read_dims(reader: &mut Reader<'_>) -> Result<(Items<Dim>, Items<DimPlaces>), Stop>
+    ensures answer { Answers (λ dims t. (dims.0 ≡ dims_of t) × (dims.1 ≡ places_of t)) result reader.new.rest.now (the_dims (steps reader.old.rest.now) reader.old.rest.now) }
+    ensures commands { reader.new.commands ≡ reader.old.commands }
+    ensures shorter { length reader.new.rest.now ≤ length reader.old.rest.now }
+{
     let mut dims = Items::new(reader.alloc);
     let mut places = Items::new(reader.alloc);
     while reader.is_next(Mark::OpenBracket) {
@@ -105,45 +160,19 @@ pub(crate) fn read_type(reader: &mut Reader<'_>) -> Result<WrittenType, Stop> {
         dims.push(written.dim)?;
         places.push(written.places)?;
     }
-    let is_memory = has_ports || !dims.is_empty();
-    let ports_place = ports.place;
-    let ports = ports.value;
-    Ok(WrittenType {
-        shape: Shape { kind, ports, dims },
-        places: ShapePlaces {
-            kind_place: place,
-            braces_place: None,
-            ports_place,
-            dims: places,
-        },
-        is_memory,
-    })
-}
-
-/// A number of ports in braces.
-fn read_ports(reader: &mut Reader<'_>) -> Result<Numeral, Stop>
-    requires { comes mark.OpenBrace reader.now.rest.now ≡ true }
-    ensures answer { (start : Place) → Answers (λ ports p. (ports.value ≡ (ports_of start p).value) × (ports.place ≡ (ports_of start p).place)) result reader.new.rest.now (the_ports reader.old.rest.now) }
-    ensures commands { reader.new.commands ≡ reader.old.commands }
-{
-    reader.skip(Mark::OpenBrace)?;
-    let ports = reader.number()?;
-    reader.skip(Mark::CloseBrace)?;
-    Ok(ports)
+    Ok((dims, places))
 }
 
 /// `[size]` or `[size bank banks]`
-fn read_dim(reader: &mut Reader<'_>) -> Result<WrittenDim, Stop> {
+fn read_dim(reader: &mut Reader<'_>) -> Result<WrittenDim, Stop>
+    ensures answer { Answers (λ written put. SameDim written put) result reader.new.rest.now (the_dim reader.old.rest.now) }
+    ensures commands { reader.new.commands ≡ reader.old.commands }
+    ensures shorter { length reader.new.rest.now ≤ length reader.old.rest.now }
+    ensures taken { IfOk result (λ _. length reader.new.rest.now < length reader.old.rest.now) }
+{
     reader.skip(Mark::OpenBracket)?;
     let size = reader.number()?;
-    let banks = if reader.take(Mark::Bank) {
-        reader.number()?
-    } else {
-        Numeral {
-            value: 1,
-            place: size.place,
-        }
-    };
+    let banks = read_banks(reader, size.place)?;
     reader.skip(Mark::CloseBracket)?;
     Ok(WrittenDim {
         dim: Dim {
@@ -157,4 +186,20 @@ fn read_dim(reader: &mut Reader<'_>) -> Result<WrittenDim, Stop> {
             banks_place: banks.place,
         },
     })
+}
+
+/// The number after `bank`, if the word comes next; else 1, at the place of the size.
+fn read_banks(reader: &mut Reader<'_>, size: Place) -> Result<Numeral, Stop>
+    ensures answer { Answers (λ banks t. SameNumber banks (banks_of size t)) result reader.new.rest.now (the_banks reader.old.rest.now) }
+    ensures commands { reader.new.commands ≡ reader.old.commands }
+    ensures shorter { length reader.new.rest.now ≤ length reader.old.rest.now }
+{
+    if reader.take(Mark::Bank) {
+        reader.number()
+    } else {
+        Ok(Numeral {
+            value: 1,
+            place: size,
+        })
+    }
 }

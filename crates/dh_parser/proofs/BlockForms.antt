@@ -1,0 +1,95 @@
+-- What is seen of the commands with blocks that the parser makes, and how many commands they are.
+use Rattle.std.proofs.Common.{◌≡◌, ℕ, suc, ◌+◌, List, map, Option, Some, None, option_map, refl, ap, sym, ◌∙◌, arith}
+use Rattle.std.specs.Prelude.{Vec}
+use Rattle.std.specs.Global.{Global}
+use Rattle.dh_base.specs.declared.places.Place.{Place}
+use Rattle.dh_tree.specs.declared.trees.expressions.Expr.{Expr}
+use Rattle.dh_tree.specs.declared.trees.commands.Command.{Command}
+use Rattle.dh_tree.specs.declared.trees.commands.CommandForm.TheVariants.{Block, If, While}
+use Rattle.dh_tree.specs.PlainTrees.{Term, Placed, Action, action, MaybeAction, no_action, one_action, Groups, blocks, decides, repeats, counts}
+use Rattle.dh_tree.specs.Seen.{term_seen, action_form_seen, action_seen, part_seen, groups, maybe_seen, placed}
+use Rattle.dh_tree.proofs.SeenActions.{block_is, if_is, while_is}
+use Rattle.dh_parser.specs.declared.parsing.loops.LoopHead.{LoopHead}
+use Rattle.dh_parser.specs.declared.parsing.reading.Numeral.{Numeral}
+use Rattle.dh_parser.specs.Grammar.{ExprText, HeadText, BlockText, block, PartsText, CompoundText, while_loop, for_loop, IfText, if_else, ElseText, CombineText}
+use Rattle.dh_parser.specs.TreesOfTexts.{ref_of, placed_of, term_of, declared_of, factor_of, block_of, parts_of, compound_of, if_of, else_of, combine_of, combine_place_of, body_of, parts_place, count_block, count_parts, count_else, count_combine}
+use Rattle.dh_parser.specs.Answers.{Numbered, MaybeNumbered, PartsNumbered, SameParts, SameBlock, SameElse, SameCombine, SameTerm, SameHead, SameNumber}
+
+add_one : (n : ℕ) → n + 1 ≡ suc n
+add_one n = omega arith
+
+after_one : (old count new k : ℕ) → count ≡ old + 1 → new ≡ count + k → new ≡ old + suc k
+after_one old count new k e f = omega arith
+
+after_two : (old count mid new j k : ℕ) → count ≡ old + 1 → mid ≡ count + j → new ≡ mid + k → new ≡ old + suc (j + k)
+after_two old count mid new j k e f g = omega arith
+
+middle : (old count mid j : ℕ) → count ≡ old + 1 → mid ≡ count + j → mid ≡ suc (old + j)
+middle old count mid j e f = omega arith
+
+pub block_made : {t : Action} (id old count new : ℕ) (place opener closer : Place) (body : Vec (Vec Command Global) Global) (p : PartsText)
+    → t ≡ action id place (action_form_seen (Block body)) → id ≡ old → count ≡ old + 1 → place ≡ opener → SameParts body p count new → Numbered t (block_of old (block opener p closer)) old new (suc (count_parts p))
+block_made id old count new place opener closer body p h e f g s = record {
+  is = h ∙ (ap (λ x. action id place x) (block_is body) ∙ (ap (λ x. action id place (blocks x)) s.is ∙ (ap (λ x. action id place (blocks (parts_of x p))) (f ∙ add_one old)
+      ∙ (ap (λ x. action x place (blocks (parts_of (suc old) p))) e ∙ ap (λ x. action old x (blocks (parts_of (suc old) p))) g))));
+  counted = after_one old count new (count_parts p) f s.counted;
+}
+
+pub body_made : {t : Action} (id old count new : ℕ) (place : Place) (body : Vec (Vec Command Global) Global) (p : PartsText) (end : Place)
+    → t ≡ action id place (action_form_seen (Block body)) → id ≡ old → count ≡ old + 1 → place ≡ parts_place end p → SameParts body p count new → t ≡ body_of old p end
+body_made id old count new place body p end h e f g s =
+    h ∙ (ap (λ x. action id place x) (block_is body) ∙ (ap (λ x. action id place (blocks x)) s.is ∙ (ap (λ x. action id place (blocks (parts_of x p))) (f ∙ add_one old)
+      ∙ (ap (λ x. action x place (blocks (parts_of (suc old) p))) e ∙ ap (λ x. action old x (blocks (parts_of (suc old) p))) g))))
+
+pub if_made : {t : Action} (id old count mid new : ℕ) (place word opener closer : Place) (test : Expr) (first other : _) (v : Command) (e : ExprText) (b : BlockText) (l : ElseText)
+    → t ≡ action id place (action_form_seen (If test first other)) → id ≡ old → count ≡ old + 1 → place ≡ word → SameTerm test e → first.value ≡ v → SameBlock v b count mid
+    → SameElse (option_map (λ x. action_seen x.value) other) l mid new → Numbered t (if_of old (if_else word opener e closer b l)) old new (suc (count_block b + count_else l))
+if_made id old count mid new place word opener closer test first other v e b l h i f g s w x y = record {
+  is = h ∙ (ap (λ z. action id place z) (if_is test first other) ∙ (ap (λ z. action id place (decides z (action_seen first.value) (maybe_seen (option_map (λ x. action_seen x.value) other)))) s
+      ∙ (ap (λ z. action id place (decides (term_of e) z (maybe_seen (option_map (λ x. action_seen x.value) other)))) (ap action_seen w ∙ (x.is ∙ ap (λ n. block_of n b) (f ∙ add_one old)))
+      ∙ (ap (λ z. action id place (decides (term_of e) (block_of (suc old) b) z)) (y.is ∙ ap (λ n. else_of n l) (middle old count mid (count_block b) f x.counted))
+      ∙ (ap (λ z. action z place (decides (term_of e) (block_of (suc old) b) (else_of (suc (old + count_block b)) l))) i
+      ∙ ap (λ z. action old z (decides (term_of e) (block_of (suc old) b) (else_of (suc (old + count_block b)) l))) g)))));
+  counted = after_two old count mid new (count_block b) (count_else l) f x.counted y.counted;
+}
+
+pub while_made : {t : Action} (id old count new : ℕ) (place word opener closer : Place) (test : Expr) (body : _) (v : Command) (e : ExprText) (b : BlockText)
+    → t ≡ action id place (action_form_seen (While test body)) → id ≡ old → count ≡ old + 1 → place ≡ word → SameTerm test e → body.value ≡ v → SameBlock v b count new
+    → Numbered t (compound_of old (while_loop word opener e closer b)) old new (suc (count_block b))
+while_made id old count new place word opener closer test body v e b h i f g s w x = record {
+  is = h ∙ (ap (λ z. action id place z) (while_is test body) ∙ (ap (λ z. action id place (repeats z (action_seen body.value))) s
+      ∙ (ap (λ z. action id place (repeats (term_of e) z)) (ap action_seen w ∙ (x.is ∙ ap (λ n. block_of n b) (f ∙ add_one old)))
+      ∙ (ap (λ z. action z place (repeats (term_of e) (block_of (suc old) b))) i ∙ ap (λ z. action old z (repeats (term_of e) (block_of (suc old) b))) g))));
+  counted = after_one old count new (count_block b) f x.counted;
+}
+
+placed_is : (n : Numeral) (p : Placed) → SameNumber n p → placed n.value n.place ≡ p
+placed_is n p h = ap (λ v. placed v n.place) h.0 ∙ ap (λ q. placed p.value q) h.1
+
+headed : (old : ℕ) (c : CombineText) (head : LoopHead) (h : HeadText) (x : Action) (y : MaybeAction) → SameHead head h
+    → action old head.place (counts head.iterator head.declared (placed head.low.value head.low.place) (placed head.high.value head.high.place) (placed head.factor.value head.factor.place) x y (combine_place_of h.word c))
+    ≡ action old h.word (counts (ref_of h.iterator) (declared_of h.declared) (placed_of h.low) (placed_of h.high) (factor_of h.word h.unroll) x y (combine_place_of h.word c))
+headed old c head h x y s =
+    ap (λ z. action old z (counts head.iterator head.declared (placed head.low.value head.low.place) (placed head.high.value head.high.place) (placed head.factor.value head.factor.place) x y (combine_place_of h.word c))) s.place
+    ∙ (ap (λ z. action old h.word (counts z head.declared (placed head.low.value head.low.place) (placed head.high.value head.high.place) (placed head.factor.value head.factor.place) x y (combine_place_of h.word c))) s.iterator
+    ∙ (ap (λ z. action old h.word (counts (ref_of h.iterator) z (placed head.low.value head.low.place) (placed head.high.value head.high.place) (placed head.factor.value head.factor.place) x y (combine_place_of h.word c))) s.declared
+    ∙ (ap (λ z. action old h.word (counts (ref_of h.iterator) (declared_of h.declared) z (placed head.high.value head.high.place) (placed head.factor.value head.factor.place) x y (combine_place_of h.word c))) (placed_is head.low (placed_of h.low) s.low)
+    ∙ (ap (λ z. action old h.word (counts (ref_of h.iterator) (declared_of h.declared) (placed_of h.low) z (placed head.factor.value head.factor.place) x y (combine_place_of h.word c))) (placed_is head.high (placed_of h.high) s.high)
+    ∙ ap (λ z. action old h.word (counts (ref_of h.iterator) (declared_of h.declared) (placed_of h.low) (placed_of h.high) z x y (combine_place_of h.word c))) (placed_is head.factor (factor_of h.word h.unroll) s.factor)))))
+
+pub for_made : {t : Action} (id old count mid new : ℕ) (head : LoopHead) (h : HeadText) (body v : Command) (seen : Option Action) (place : Place) (b : BlockText) (c : CombineText)
+    → t ≡ action id head.place (counts head.iterator head.declared (placed head.low.value head.low.place) (placed head.high.value head.high.place) (placed head.factor.value head.factor.place) (action_seen body) (maybe_seen seen) place)
+    → id ≡ old → count ≡ old + 1 → SameHead head h → body ≡ v → SameBlock v b count mid → SameCombine seen c mid new → place ≡ combine_place_of head.place c
+    → Numbered t (compound_of old (for_loop h b c)) old new (suc (count_block b + count_combine c))
+for_made id old count mid new head h body v seen place b c e i f s w x y p = record {
+  is = e ∙ (ap (λ z. action z head.place (counts head.iterator head.declared (placed head.low.value head.low.place) (placed head.high.value head.high.place) (placed head.factor.value head.factor.place) (action_seen body) (maybe_seen seen) place)) i
+      ∙ (ap (λ z. action old head.place (counts head.iterator head.declared (placed head.low.value head.low.place) (placed head.high.value head.high.place) (placed head.factor.value head.factor.place) z (maybe_seen seen) place)) (ap action_seen w ∙ (x.is ∙ ap (λ n. block_of n b) (f ∙ add_one old)))
+      ∙ (ap (λ z. action old head.place (counts head.iterator head.declared (placed head.low.value head.low.place) (placed head.high.value head.high.place) (placed head.factor.value head.factor.place) (block_of (suc old) b) z place)) (y.is ∙ ap (λ n. combine_of n c) (middle old count mid (count_block b) f x.counted))
+      ∙ (ap (λ z. action old head.place (counts head.iterator head.declared (placed head.low.value head.low.place) (placed head.high.value head.high.place) (placed head.factor.value head.factor.place) (block_of (suc old) b) (combine_of (suc (old + count_block b)) c) z)) (p ∙ ap (λ q. combine_place_of q c) s.place)
+      ∙ headed old c head h (block_of (suc old) b) (combine_of (suc (old + count_block b)) c) s))));
+  counted = after_two old count mid new (count_block b) (count_combine c) f x.counted y.counted;
+}
+
+-- the same of the numbers of a command that goes on
+pub moved : {t u : Action} {old new end n : ℕ} → Numbered t u old new n → end ≡ new → Numbered t u old end n
+moved h e = record { is = h.is; counted = e ∙ h.counted }

@@ -1,0 +1,121 @@
+-- How what a parser of the code calls answers for it, beside readers of lists that go on with one another.
+use Rattle.std.proofs.Common.{◌≡◌, Bool, true, false, if◌then◌else◌, List, Result, Ok, Err, IsErr, refl, ap, sym, ◌∙◌}
+use Rattle.std.specs.Result.{IsErrAnd}
+use Rattle.dh_lexer.specs.declared.tokens.Token.{Token}
+use Rattle.dh_parser.specs.declared.parsing.reading.Stop.{Stop}
+use Rattle.dh_parser.specs.declared.parsing.reading.Stop.TheVariants as stop
+use Rattle.dh_parser.specs.Reading.{Outcome, good, bad, deep, bind}
+use Rattle.dh_parser.specs.Answers.{AnswersBy, Answers}
+
+abbrev answers : {A B : Type 0} (s : B → A → Type 0) (x : Result B Stop) (rest : List Token) (o : Outcome A) → AnswersBy s x rest o → Answers s x rest o
+answers s x rest o h = record { holds = h }
+
+ok_by : {A B C : Type 0} (s : B → A → Type 0) (t : C → A → Type 0) (v : B) (w : C) (rest : List Token) (o : Outcome A)
+    → AnswersBy s (Ok v) rest o → ((a : A) → s v a → t w a) → AnswersBy t (Ok w) rest o
+ok_by s t v w rest (good a r) h k = (k a h.0, h.1)
+ok_by s t v w rest (bad r) h k = h
+ok_by s t v w rest deep h k = h
+
+-- another value for the same text
+pub ok_as : {A B C : Type 0} {s : B → A → Type 0} {t : C → A → Type 0} {v : B} {w : C} {rest : List Token} {o : Outcome A}
+    → Answers s (Ok v) rest o → ((a : A) → s v a → t w a) → Answers t (Ok w) rest o
+ok_as {s = s} {t = t} {v = v} {w = w} {rest = rest} {o = o} h k = record { holds = ok_by s t v w rest o h.holds k }
+
+err_by : {A B C D : Type 0} (s : B → A → Type 0) (t : C → D → Type 0) (e : Stop) (rest : List Token) (o : Outcome A) (go : A → List Token → Outcome D)
+    → AnswersBy s (Err e) rest o → AnswersBy t (Err e) rest (bind o go)
+err_by s t stop.Here rest (good a r) go h = absurd h
+err_by s t stop.Here rest (bad r) go h = h
+err_by s t stop.Here rest deep go h = h
+err_by s t stop.NoMemory rest o go h = h
+
+-- a refusal by the first is one of the whole
+pub err_then : {A B C D : Type 0} {s : B → A → Type 0} {t : C → D → Type 0} {e : Stop} {rest : List Token} {o : Outcome A} (go : A → List Token → Outcome D)
+    → Answers s (Err e) rest o → Answers t (Err e) rest (bind o go)
+err_then {s = s} {t = t} {e = e} {rest = rest} {o = o} go h = record { holds = err_by s t e rest o go h.holds }
+
+then_by : {A B C D : Type 0} (s : B → A → Type 0) (t : C → D → Type 0) (v : B) (x : Result C Stop) (mid rest : List Token) (o : Outcome A) (go : A → List Token → Outcome D)
+    → AnswersBy s (Ok v) mid o → ((a : A) → s v a → Answers t x rest (go a mid)) → Answers t x rest (bind o go)
+then_by s t v x mid rest (good a r) go h k = rw (sym h.1) (k a h.0)
+then_by s t v x mid rest (bad r) go h k = absurd h
+then_by s t v x mid rest deep go h k = absurd h
+
+-- after an answer of the first, the rest answers for the whole
+pub ok_then : {A B C D : Type 0} {s : B → A → Type 0} {t : C → D → Type 0} {v : B} {x : Result C Stop} {mid rest : List Token} {o : Outcome A} (go : A → List Token → Outcome D)
+    → Answers s (Ok v) mid o → ((a : A) → s v a → Answers t x rest (go a mid)) → Answers t x rest (bind o go)
+ok_then {s = s} {t = t} {v = v} {x = x} {mid = mid} {rest = rest} {o = o} go h k = then_by s t v x mid rest o go h.holds k
+
+-- what `?` hands on
+pub given : {C : Type 0} {x : Result C Stop} {e : Stop} → IsErr x × IsErrAnd x (λ f. f ≡ e) → x ≡ Err e
+given {x = Ok v} h = cc h.0
+given {x = Err f} {e = e} h = ap (λ g. Err g) h.1
+
+pub assoc : {A B C : Type 0} (o : Outcome A) (f : A → List Token → Outcome B) (g : B → List Token → Outcome C) → bind (bind o f) g ≡ bind o (λ a r. bind (f a r) g)
+assoc (good a r) f g = refl
+assoc (bad r) f g = refl
+assoc deep f g = refl
+
+pub same_bind : {A B : Type 0} (o : Outcome A) (go went : A → List Token → Outcome B) → ((a : A) (r : List Token) → go a r ≡ went a r) → bind o go ≡ bind o went
+same_bind (good a r) go went h = h a r
+same_bind (bad r) go went h = refl
+same_bind deep go went h = refl
+
+pub bind_good : {A : Type 0} (o : Outcome A) → o ≡ bind o (λ a r. good a r)
+bind_good (good a r) = refl
+bind_good (bad r) = refl
+bind_good deep = refl
+
+pub if_true : {A : Type 0} (b : Bool) (x y : A) → b ≡ true → (if b then x else y) ≡ x
+if_true true x y e = refl
+if_true false x y e = cc
+
+pub if_false : {A : Type 0} (b : Bool) (x y : A) → b ≡ false → (if b then x else y) ≡ y
+if_false true x y e = cc
+if_false false x y e = refl
+
+-- what is so of each text that is read
+abbrev pub AllOf : {A : Type 0} → (A → Type 0) → Outcome A → Type 0
+AllOf P (good a r) = P a
+AllOf P (bad r) = Unit {0}
+AllOf P deep = Unit {0}
+
+pub all_then : {A B : Type 0} (P : B → Type 0) (o : Outcome A) (go : A → List Token → Outcome B) → ((a : A) (r : List Token) → AllOf P (go a r)) → AllOf P (bind o go)
+all_then P (good a r) go h = h a r
+all_then P (bad r) go h = tt
+all_then P deep go h = tt
+
+also_by : {A B : Type 0} (s : B → A → Type 0) (P : A → Type 0) (v : B) (rest : List Token) (o : Outcome A) → AnswersBy s (Ok v) rest o → AllOf P o → AnswersBy (λ w a. s w a × P a) (Ok v) rest o
+also_by s P v rest (good a r) h p = ((h.0, p), h.1)
+also_by s P v rest (bad r) h p = h
+also_by s P v rest deep h p = h
+
+pub also : {A B : Type 0} {s : B → A → Type 0} {v : B} {rest : List Token} {o : Outcome A} (P : A → Type 0) → Answers s (Ok v) rest o → AllOf P o → Answers (λ w a. s w a × P a) (Ok v) rest o
+also {s = s} {v = v} {rest = rest} {o = o} P h p = record { holds = also_by s P v rest o h.holds p }
+
+pub when_true : {A C : Type 0} {t : C → A → Type 0} {x : Result C Stop} {rest : List Token} {o : Outcome A} (b : Bool) (p : Outcome A) → b ≡ true → Answers t x rest o → Answers t x rest (if b then o else p)
+when_true true p e h = h
+when_true false p e h = absurd (cc e)
+
+pub when_false : {A C : Type 0} {t : C → A → Type 0} {x : Result C Stop} {rest : List Token} {o : Outcome A} (b : Bool) (p : Outcome A) → b ≡ false → Answers t x rest o → Answers t x rest (if b then p else o)
+when_false true p e h = absurd (cc e)
+when_false false p e h = h
+
+as_by : {A B C : Type 0} (s : B → A → Type 0) (t : C → A → Type 0) (e : Stop) (rest : List Token) (o : Outcome A) → AnswersBy s (Err e) rest o → AnswersBy t (Err e) rest o
+as_by s t stop.Here rest (good a r) h = h
+as_by s t stop.Here rest (bad r) h = h
+as_by s t stop.Here rest deep h = h
+as_by s t stop.NoMemory rest o h = h
+
+pub err_as : {A B C : Type 0} {s : B → A → Type 0} {t : C → A → Type 0} {e : Stop} {rest : List Token} {o : Outcome A} → Answers s (Err e) rest o → Answers t (Err e) rest o
+err_as {s = s} {t = t} {e = e} {rest = rest} {o = o} h = record { holds = as_by s t e rest o h.holds }
+
+known_by : {A B : Type 0} (s : B → A → Type 0) (v : B) (rest : List Token) (o : Outcome A) → AnswersBy s (Ok v) rest o → (a : A) × (s v a × (o ≡ good a rest))
+known_by s v rest (good a r) h = (a, (h.0, ap (λ l. good a l) (sym h.1)))
+known_by s v rest (bad r) h = absurd h
+known_by s v rest deep h = absurd h
+
+-- what was read, where there is an answer
+pub known : {A B : Type 0} {s : B → A → Type 0} {v : B} {rest : List Token} {o : Outcome A} → Answers s (Ok v) rest o → (a : A) × (s v a × (o ≡ good a rest))
+known {s = s} {v = v} {rest = rest} {o = o} h = known_by s v rest o h.holds
+
+pub answered : {A B : Type 0} {s : B → A → Type 0} {v : B} {rest : List Token} {o : Outcome A} (a : A) → o ≡ good a rest → s v a → Answers s (Ok v) rest o
+answered a e h = rw e (record { holds = (h, refl) })

@@ -1,0 +1,114 @@
+use Rattle.std.proofs.Common.{rules, ◌≡◌, refl, ap, sym, ◌∙◌}
+use Rattle.dh_parser.specs.Grammar.{index_then, no_indices, cast}
+use Rattle.dh_parser.specs.TreesOfTexts.{index_of, indices_of}
+use Rattle.dh_parser.specs.Marks.{comes}
+use Rattle.dh_parser.specs.declared.parsing.reading.Mark.TheVariants as mark
+use Rattle.dh_parser.specs.Reading.{expression, the_index, more_indices}
+use Rattle.dh_parser.proofs.Going.{ok_then, err_then, given, when_true, when_false}
+use Rattle.dh_parser.proofs.Loops.{loop_after, loop_goes, loop_refused, loop_done}
+use Rattle.dh_parser.proofs.OperatorLoops.{chain_begins, chain_none, chain_goes, chain_refused, chain_done}
+use Rattle.dh_parser.proofs.TermLoops.{terms_first, terms_listed, terms_listed_all, indices_go, indices_end, element_is}
+use Rattle.dh_parser.proofs.TermForms.{variable_seen, access_seen, physical_seen, cast_seen}
+use Rattle.dh_parser.proofs.parsing.expressions.+expression.Goals as goal
+
+pub read_access-returns-then-not-is_next-clause-answer :
+    goal.read_access-returns-then-not-is_next-clause-answer
+read_access-returns-then-not-is_next-clause-answer t c = λ n e.
+    rw (element_is n _ (sym c.if-not-is_next.ensures))
+    (ok_then _ c.in_ok-indices.ensures.answer λ p s.
+    record { holds = (access_seen _ n _ p.0 p.1 c.plain.ensures e s, refl) })
+
+pub read_access-returns-in_err-row-clause-answer :
+    goal.read_access-returns-in_err-row-clause-answer
+read_access-returns-in_err-row-clause-answer t c = λ n e.
+    rw (given c.from_residual-in_err-row.ensures)
+    (when_true _ _ (sym c.if-not-is_next.ensures)
+    (ok_then _ c.in_ok-skip.ensures.answer λ opener p0.
+    ok_then _ c.in_ok-bank.ensures.answer λ bank p1.
+    ok_then _ c.in_ok-skip-2.ensures.answer λ closer p2.
+    err_then _ c.in_err-row.ensures.answer))
+
+pub read_access-returns-clause-answer : goal.read_access-returns-clause-answer
+read_access-returns-clause-answer t c = λ n e.
+    when_true _ _ (sym c.if-not-is_next.ensures)
+    (ok_then _ c.in_ok-skip.ensures.answer λ opener p0.
+    ok_then _ c.in_ok-bank.ensures.answer λ bank p1.
+    ok_then _ c.in_ok-skip-2.ensures.answer λ closer p2.
+    ok_then _ c.in_ok-row.ensures.answer λ row p3.
+    record { holds = (physical_seen _ n _ bank _ _ row opener closer c.plain-2.ensures e p1 (search rules) p3, refl) })
+
+pub read_bracketed-returns-in_err-to-clause-answer :
+    goal.read_bracketed-returns-in_err-to-clause-answer
+read_bracketed-returns-in_err-to-clause-answer t c =
+    rw (given c.from_residual-in_err-to.ensures)
+    (ok_then _ c.in_ok-inner.ensures.answer λ e p0.
+    when_true _ _ (sym c.if-not-is_next.ensures)
+    (ok_then _ c.in_ok-skip-2.ensures.answer λ word p1.
+    err_then _ c.in_err-to.ensures.answer))
+
+pub read_bracketed-returns-in_err-skip-3-clause-answer :
+    goal.read_bracketed-returns-in_err-skip-3-clause-answer
+read_bracketed-returns-in_err-skip-3-clause-answer t c =
+    rw (given c.from_residual-in_err-skip-3.ensures)
+    (ok_then _ c.in_ok-inner.ensures.answer λ e p0.
+    when_true _ _ (sym c.if-not-is_next.ensures)
+    (ok_then _ c.in_ok-skip-2.ensures.answer λ word p1.
+    ok_then _ c.in_ok-to.ensures.answer λ k p2.
+    err_then _ c.in_err-skip-3.ensures.answer))
+
+pub read_bracketed-returns-clause-answer : goal.read_bracketed-returns-clause-answer
+read_bracketed-returns-clause-answer t c =
+    ok_then _ c.in_ok-inner.ensures.answer λ e p0.
+    when_true _ _ (sym c.if-not-is_next.ensures)
+    (ok_then _ c.in_ok-skip-2.ensures.answer λ word p1.
+    ok_then _ c.in_ok-to.ensures.answer λ k p2.
+    ok_then _ c.in_ok-skip-3.ensures.answer λ closer p3.
+    record { holds = (cast_seen _ _ _ _ e k word closer c.plain.ensures (search rules) p0 p2, refl) })
+
+pub read_expression-returns-in_err-left-clause-answer :
+    goal.read_expression-returns-in_err-left-clause-answer
+read_expression-returns-in_err-left-clause-answer t c =
+    rw (given c.from_residual.ensures) (chain_none c.args.level _ c.in_err-left.ensures.answer)
+
+pub read_expression-loop-op-init : goal.read_expression-loop-op-init
+read_expression-loop-op-init t c = record {
+  chains = chain_begins c.args.level _ c.in_ok-left.ensures.answer;
+  commands = search rules;
+  shorter = search rules;
+}
+
+pub read_expression-loop-op-preserved : goal.read_expression-loop-op-preserved
+read_expression-loop-op-preserved t c = record {
+  chains = chain_goes c.loop-op.invariant.chains c.in-Some.ensures.took (rw c.level_above.ensures at c.in_ok-right.ensures.answer) c.in_ok-left-2.ensures (search rules);
+  commands = search rules;
+  shorter = search rules;
+}
+
+pub read_indices-loop-reader-init : goal.read_indices-loop-reader-init
+read_indices-loop-reader-init t c = record {
+  loops = loop_after (more_indices expression) (λ i more. (i, more)) c.in_ok-first.ensures.answer (λ i s more. terms_first _ _ c.in_ok-push.ensures.items c.new-indices.ensures.items s);
+  commands = search rules;
+  shorter = search rules;
+}
+
+pub read_indices-returns-in_err-index-clause-answer :
+    goal.read_indices-returns-in_err-index-clause-answer
+read_indices-returns-in_err-index-clause-answer t c =
+    rw (given c.from_residual-in_err-index.ensures)
+    (loop_refused (the_index expression) index_then c.loop-reader.invariant.loops (indices_go _ (search rules)) c.in_err-index.ensures.answer)
+
+pub read_indices-loop-reader-preserved : goal.read_indices-loop-reader-preserved
+read_indices-loop-reader-preserved t c = record {
+  loops = loop_goes (the_index expression) index_then c.loop-reader.invariant.loops (indices_go _ (search rules)) c.in_ok-index.ensures.answer (search rules)
+      (λ put i so s more. terms_listed _ _ _ (so (index_then i more)) c.in_ok-push-2.ensures.items s);
+  commands = search rules;
+  shorter = search rules;
+}
+
+pub read_indices-returns-clause-answer : goal.read_indices-returns-clause-answer
+read_indices-returns-clause-answer t c =
+    loop_done no_indices c.loop-reader.invariant.loops (indices_end _ (search rules)) (λ put so. terms_listed_all _ (so no_indices))
+
+pub read_named-returns-clause-answer : goal.read_named-returns-clause-answer
+read_named-returns-clause-answer t c = λ n e.
+    when_false _ _ (sym c.if-goes_on.ensures) (record { holds = (variable_seen _ n c.plain.ensures e, refl) })

@@ -1,0 +1,16 @@
+use Rattle.std.proofs.Common.{rules, ◌≡◌, ◌+◌, Ok, refl, ap, sym, ◌∙◌, subst}
+use Rattle.dh_parser.proofs.Going.{ok_then, ok_as, also}
+use Rattle.dh_parser.proofs.FirstTokens.{first_is}
+use Rattle.dh_parser.proofs.SimpleTokens.{named_simple, name_starts}
+use Rattle.dh_parser.proofs.parsing.simple.read_form.Goals as goal
+
+pub returns-in_ok-form-in_default-kind : goal.returns-in_ok-form-in_default-kind
+returns-in_ok-form-in_default-kind c = record {
+  answer = λ p h.
+      rw (named_simple _ _ c.token-item.result (first_is _ _ c.in-len1-up.len_at_least c.token-item.is) c.in_default-kind.not-Let c.in_default-kind.not-View)
+      (ok_then _ (also (λ n. n.place ≡ p) c.in_ok-name-in_default-kind.ensures.answer (name_starts p _ h)) λ n q.
+      ok_as (c.in_ok-form-in_default-kind.ensures.answer n q.0) λ s u. (u.0, u.1 ∙ q.1));
+  commands = search rules;
+  shorter = search rules;
+  taken = search rules;
+}

@@ -1,0 +1,33 @@
+use Rattle.std.proofs.Common.{rules, ◌≡◌, Ok, refl, ap, sym, ◌∙◌, subst}
+use Rattle.dh_parser.specs.TreesOfTexts.{place_of, access_of}
+use Rattle.dh_parser.specs.Reading.{read, steps}
+use Rattle.dh_parser.proofs.WholeExpressions.{access_is}
+use Rattle.dh_parser.proofs.Going.{ok_then, err_then, given, also, when_true, when_false}
+use Rattle.dh_parser.proofs.ActionForms.{value_seen, assign_seen, call_seen, store_seen, reduce_seen}
+use Rattle.dh_parser.proofs.SimpleTokens.{access_starts}
+use Rattle.dh_parser.proofs.parsing.simple.read_store.Goals as goal
+
+pub returns-in_err-target-clause-answer : goal.returns-in_err-target-clause-answer
+returns-in_err-target-clause-answer c = λ n e.
+    rw (given c.from_residual.ensures)
+    (err_then _ (rw (← access_is n _) at (c.in_err-target.ensures.answer n e)))
+
+pub returns-in_err-skip-clause-answer : goal.returns-in_err-skip-clause-answer
+returns-in_err-skip-clause-answer c = λ n e.
+    rw (given c.from_residual-in_err-skip.ensures)
+    (ok_then _ (rw (← access_is n _) at (c.in_ok-target.ensures.answer n e)) λ a p0.
+    err_then _ c.in_err-skip.ensures.answer)
+
+pub returns-in_err-value-clause-answer : goal.returns-in_err-value-clause-answer
+returns-in_err-value-clause-answer c = λ n e.
+    rw (given c.from_residual-in_err-value.ensures)
+    (ok_then _ (rw (← access_is n _) at (c.in_ok-target.ensures.answer n e)) λ a p0.
+    ok_then _ c.in_ok-skip.ensures.answer λ becomes p1.
+    err_then _ c.in_err-value.ensures.answer)
+
+pub returns-clause-answer : goal.returns-clause-answer
+returns-clause-answer c = λ n e.
+    ok_then _ (also (λ a. place_of (access_of a) ≡ n.place) (rw (← access_is n _) at (c.in_ok-target.ensures.answer n e)) (access_starts (read (steps c.args.reader.now.rest.now)) n c.args.reader.now.rest.now)) λ a p0.
+    ok_then _ c.in_ok-skip.ensures.answer λ becomes p1.
+    ok_then _ c.in_ok-value.ensures.answer λ t p2.
+    record { holds = ((store_seen _ _ becomes a t p0.0 p2, p0.1), refl) }

@@ -1,0 +1,11 @@
+use Rattle.std.proofs.Common.{rules, ◌≡◌, [], ◌∷◌, refl, ap, sym, ◌∙◌}
+use Rattle.dh_parser.proofs.Going.{ok_then, err_then, given}
+use Rattle.dh_parser.proofs.parsing.views.read_offset.Goals as goal
+
+pub returns-in_err-skip-3-clause-answer : goal.returns-in_err-skip-3-clause-answer
+returns-in_err-skip-3-clause-answer c =
+    rw (given c.from_residual-in_err-skip-3.ensures)
+    (ok_then _ c.in_ok-skip.ensures.answer λ a0 s0.
+    ok_then _ c.in_ok-skip-2.ensures.answer λ a1 s1.
+    ok_then _ c.in_ok-offset.ensures.answer λ a2 s2.
+    err_then _ c.in_err-skip-3.ensures.answer)

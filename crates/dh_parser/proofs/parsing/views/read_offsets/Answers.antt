@@ -1,0 +1,31 @@
+use Rattle.std.proofs.Common.{rules, ◌≡◌, [], ◌∷◌, map, refl, ap, sym, ◌∙◌}
+use Rattle.dh_tree.specs.Seen.{term_seen, factor_seen}
+use Rattle.dh_parser.specs.Reading.{the_factor, the_suffix, the_offset, more_of}
+use Rattle.dh_parser.proofs.Going.{given}
+use Rattle.dh_parser.proofs.Loops.{loop_after, loop_goes, loop_refused, loop_done}
+use Rattle.dh_parser.proofs.BracketLoops.{pushed_map, first_in, next_in, all_in, suffix_seen, brackets_go, brackets_end, brackets_is, view_at}
+use Rattle.dh_parser.proofs.parsing.views.read_offsets.Goals as goal
+
+pub loop-reader-init : goal.loop-reader-init
+loop-reader-init c = record {
+  loops = loop_after (more_of the_offset) (λ a more. (a, more)) c.in_ok-first.ensures.answer (λ a s more. first_in _ _ (pushed_map _ term_seen _ c.in_ok-push.ensures.items) (ap (λ l. map term_seen l) c.new-by.ensures.items) s);
+  commands = search rules;
+  shorter = search rules;
+}
+
+pub returns-in_err-offset-clause-answer : goal.returns-in_err-offset-clause-answer
+returns-in_err-offset-clause-answer c =
+    rw (given c.from_residual-in_err-offset.ensures)
+    (loop_refused the_offset (λ a more. a ∷ more) c.loop-reader.invariant.loops (brackets_go the_offset _ (sym c.loop-reader-test.ensures)) c.in_err-offset.ensures.answer)
+
+pub loop-reader-preserved : goal.loop-reader-preserved
+loop-reader-preserved c = record {
+  loops = loop_goes the_offset (λ a more. a ∷ more) c.loop-reader.invariant.loops (brackets_go the_offset _ (sym c.loop-reader-test.ensures)) c.in_ok-offset.ensures.answer (search rules)
+      (λ put a so s more. next_in _ _ _ (so (a ∷ more)) (pushed_map _ term_seen _ c.in_ok-push-2.ensures.items) s);
+  commands = search rules;
+  shorter = search rules;
+}
+
+pub returns-clause-answer : goal.returns-clause-answer
+returns-clause-answer c =
+    loop_done [] c.loop-reader.invariant.loops (brackets_end the_offset _ (sym c.loop-reader-test.ensures)) (λ put so. all_in _ (so []))

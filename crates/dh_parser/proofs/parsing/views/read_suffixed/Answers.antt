@@ -1,0 +1,15 @@
+use Rattle.std.proofs.Common.{rules, ◌≡◌, [], ◌∷◌, refl, ap, sym, ◌∙◌}
+use Rattle.dh_parser.proofs.Going.{ok_then, err_then, given}
+use Rattle.dh_parser.proofs.parsing.views.read_suffixed.Goals as goal
+
+pub returns-in_err-suffixes-clause-answer : goal.returns-in_err-suffixes-clause-answer
+returns-in_err-suffixes-clause-answer c =
+    rw (given c.from_residual-in_err-suffixes.ensures)
+    (ok_then _ c.in_ok-parent.ensures.answer λ a0 s0.
+    err_then _ c.in_err-suffixes.ensures.answer)
+
+pub returns-clause-answer : goal.returns-clause-answer
+returns-clause-answer c =
+    ok_then _ c.in_ok-parent.ensures.answer λ parent p0.
+    ok_then _ c.in_ok-suffixes.ensures.answer λ l p1.
+    record { holds = ((p0, p1), refl) }

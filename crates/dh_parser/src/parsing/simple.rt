@@ -1,0 +1,176 @@
+//! Commands without blocks.
+
+ghost use Rattle.std.specs.Prelude.{◌≡◌, ◌<◌, ◌≤◌, ◌+◌, ◌^◌, length, option_map, IfOk};
+ghost use Rattle.dh_base.specs.declared.places.Place.{Place};
+ghost use Rattle.dh_tree.specs.PlainTrees.{action};
+ghost use Rattle.dh_tree.specs.Seen.{action_seen, action_form_seen, term_seen};
+ghost use Rattle.dh_parser.specs.Answers.{Answers, SameSimple, SameType, StandsAt};
+ghost use Rattle.dh_parser.specs.Grammar.{NameText, TypeText, ValueText};
+ghost use Rattle.dh_parser.specs.Reading.{the_simple, let_from, after_name, store_from, the_value};
+ghost use Rattle.dh_parser.specs.TreesOfTexts.{ref_of, simple_form, simple_place, value_of, let_of, is_memory_type};
+
+use crate::parsing::expressions::{read_access, read_arguments, read_expression};
+use crate::parsing::operators::reducer_of;
+use crate::parsing::reading::{Mark, Reader, Stop, begin};
+use crate::parsing::types::{WrittenType, read_type};
+use crate::parsing::views::read_view;
+use dh_lexer::TokenKind;
+use dh_tree::{Command, CommandForm, Expr, Ref};
+
+/// A command that begins with `let`, `view` or a name.
+pub(crate) fn read_simple(reader: &mut Reader<'_>) -> Result<Command, Stop>
+    requires { reader.old.commands + length reader.old.rest.now ≤ 2 ^ 32 }
+    ensures answer { Answers (λ c s. (action_seen c ≡ action reader.old.commands (simple_place s) (simple_form s)) × (reader.new.commands ≡ reader.old.commands + 1)) result reader.new.rest.now (the_simple reader.old.rest.now) }
+    ensures room { reader.new.commands + length reader.new.rest.now ≤ reader.old.commands + length reader.old.rest.now }
+    ensures shorter { length reader.new.rest.now ≤ length reader.old.rest.now }
+    ensures taken { IfOk result (λ _. length reader.new.rest.now < length reader.old.rest.now) }
+{
+    let place = reader.place()?;
+    let form = read_form(reader)?;
+    let id = begin(&mut reader.commands);
+    Ok(Command { id, place, form })
+}
+
+/// What a command is that begins with `let`, `view` or a name.
+fn read_form(reader: &mut Reader<'_>) -> Result<CommandForm, Stop>
+    ensures answer { (p : Place) → StandsAt (Ok p) reader.old.rest.now → Answers (λ form s. SameSimple p form s) result reader.new.rest.now (the_simple reader.old.rest.now) }
+    ensures commands { reader.new.commands ≡ reader.old.commands }
+    ensures shorter { length reader.new.rest.now ≤ length reader.old.rest.now }
+    ensures taken { IfOk result (λ _. length reader.new.rest.now < length reader.old.rest.now) }
+{
+    let [token, after @ ..] = reader.rest else {
+        return Err(Stop::Here);
+    };
+    match token.kind {
+        TokenKind::Let => {
+            reader.rest = after;
+            let form = read_let(reader)?;
+            Ok(form)
+        }
+        TokenKind::View => {
+            reader.rest = after;
+            let form = read_view(reader)?;
+            Ok(form)
+        }
+        _ => {
+            let name = reader.name()?;
+            let form = read_named(reader, name)?;
+            Ok(form)
+        }
+    }
+}
+
+/// The rest of a `let`, after its word.
+fn read_let(reader: &mut Reader<'_>) -> Result<CommandForm, Stop>
+    ensures answer { (word : Place) → Answers (λ form s. SameSimple word form s) result reader.new.rest.now (let_from word reader.old.rest.now) }
+    ensures commands { reader.new.commands ≡ reader.old.commands }
+    ensures shorter { length reader.new.rest.now ≤ length reader.old.rest.now }
+{
+    let name = reader.name()?;
+    if !reader.is_next(Mark::Colon) {
+        reader.skip(Mark::Assign)?;
+        let value = read_expression(reader, 0)?;
+        return Ok(CommandForm::Let {
+            name,
+            declared: None,
+            value: Some(value),
+        });
+    }
+    reader.skip(Mark::Colon)?;
+    let written = read_type(reader)?;
+    let value = read_value(reader)?;
+    Ok(typed_let(name, written, value))
+}
+
+/// The `let` of this name with a type.
+#[tactic(auto, using(dh_tree::proofs::SeenActions::actions_are))]
+fn typed_let(name: Ref, written: WrittenType, value: Option<Expr>) -> CommandForm
+    ensures { (n : NameText) (t : TypeText) (v : ValueText) → name ≡ ref_of n → SameType written t → option_map term_seen value ≡ value_of v
+        → action_form_seen result ≡ let_of (is_memory_type t.ports t.dims) n t v }
+{
+    let WrittenType {
+        shape,
+        places,
+        is_memory,
+    } = written;
+    if is_memory {
+        return CommandForm::LetMemory {
+            name,
+            shape,
+            shape_places: places,
+            value,
+        };
+    }
+    CommandForm::Let {
+        name,
+        declared: Some(shape.kind),
+        value,
+    }
+}
+
+/// The expression after `=`, if that sign comes next.
+fn read_value(reader: &mut Reader<'_>) -> Result<Option<Expr>, Stop>
+    ensures answer { Answers (λ value v. option_map term_seen value ≡ value_of v) result reader.new.rest.now (the_value reader.old.rest.now) }
+    ensures commands { reader.new.commands ≡ reader.old.commands }
+    ensures shorter { length reader.new.rest.now ≤ length reader.old.rest.now }
+{
+    if !reader.take(Mark::Assign) {
+        return Ok(None);
+    }
+    let value = read_expression(reader, 0)?;
+    Ok(Some(value))
+}
+
+/// The rest of a command that begins with this name.
+fn read_named(reader: &mut Reader<'_>, name: Ref) -> Result<CommandForm, Stop>
+    ensures answer { (n : NameText) → name ≡ ref_of n → Answers (λ form s. SameSimple n.place form s) result reader.new.rest.now (after_name n reader.old.rest.now) }
+    ensures commands { reader.new.commands ≡ reader.old.commands }
+    ensures shorter { length reader.new.rest.now ≤ length reader.old.rest.now }
+{
+    let [token, after @ ..] = reader.rest else {
+        return Err(Stop::Here);
+    };
+    match &token.kind {
+        TokenKind::Becomes => {
+            reader.rest = after;
+            let value = read_expression(reader, 0)?;
+            Ok(CommandForm::Assign {
+                target: name,
+                value,
+            })
+        }
+        TokenKind::OpenParen => {
+            reader.rest = after;
+            let arguments = read_arguments(reader)?;
+            Ok(CommandForm::Call {
+                function: name,
+                arguments,
+            })
+        }
+        TokenKind::OpenBracket | TokenKind::OpenBrace => read_store(reader, name),
+        kind => {
+            let Some(op) = reducer_of(kind) else {
+                return Err(Stop::Here);
+            };
+            reader.rest = after;
+            let value = read_expression(reader, 0)?;
+            Ok(CommandForm::Reduce {
+                target: name,
+                op,
+                value,
+            })
+        }
+    }
+}
+
+/// The rest of a store to an element of the memory of this name.
+fn read_store(reader: &mut Reader<'_>, name: Ref) -> Result<CommandForm, Stop>
+    ensures answer { (n : NameText) → name ≡ ref_of n → Answers (λ form s. SameSimple n.place form s) result reader.new.rest.now (store_from n reader.old.rest.now) }
+    ensures commands { reader.new.commands ≡ reader.old.commands }
+    ensures shorter { length reader.new.rest.now ≤ length reader.old.rest.now }
+{
+    let target = read_access(reader, name)?;
+    reader.skip(Mark::Becomes)?;
+    let value = read_expression(reader, 0)?;
+    Ok(CommandForm::Store { target, value })
+}
