@@ -2,7 +2,7 @@
 -- and the load up to an access the largest such sum of the sets that this access completes.
 use Rattle.std.proofs.Common.{◌≡◌, ℕ, ◌+◌, ◌≤◌, ◌<◌, Bool, true, false, ◌==◌, ◌||◌, if◌then◌else◌, ◌⊎◌, inl, inr, max, refl, ap, sym, ◌∙◌, subst, arith}
 use Rattle.std.specs.Prelude.{IsTrue}
-use Rattle.std.proofs.lemmas.Bool.{eqb-true, eq-eqb, ne_eqb, or_cases, cases_Bool, cases_lt}
+use Rattle.std.proofs.lemmas.Bool.{eqb-true, eq-eqb, or_cases, cases_Bool, cases_lt}
 use Rattle.std.proofs.Math.Bool.{or-true}
 use Rattle.std.proofs.Math.Nat.{le_refl, max-eq_left, max-eq_right, le-max_left, le-max_right}
 use Rattle.dh_tree.specs.Meets.{Meets, nothing, access, all, one, In, has, Distinct, Apart, Before, Together, total, Completes, load, upto, IsLargest, IsLargestUpto}
@@ -138,8 +138,8 @@ load_most charge chosen (all l r) together =
     both_below _ _ _ _ (load_most charge chosen l (λ a b c d e. together a b c d (inl e))) (load_most charge chosen r (λ a b c d e. together a b c d (inr e)))
 load_most charge chosen (one l r) together =
     elim (some_or_none chosen l) [
-      inl s ↦ below_left _ _ _ _ (load_most charge chosen l (λ a b c d e. together a b c d (inr (inl e)))) (none_total charge chosen r (λ b c i. together s.0 b s.1.0 c (inl (inl (s.1.1, i)))))
-    | inr none ↦ below_right _ _ _ _ (none_total charge chosen l none) (load_most charge chosen r (λ a b c d e. together a b c d (inr (inr e))))
+      | inl s ↦ below_left _ _ _ _ (load_most charge chosen l (λ a b c d e. together a b c d (inr (inl e)))) (none_total charge chosen r (λ b c i. together s.0 b s.1.0 c (inl (inl (s.1.1, i)))))
+      | inr none ↦ below_right _ _ _ _ (none_total charge chosen l none) (load_most charge chosen r (λ a b c d e. together a b c d (inr (inr e))))
     ]
 
 -- sets of members of the tree alone
@@ -210,24 +210,36 @@ load_reached charge (access b) d = record { chosen = λ x. x == b; only = λ x e
 load_reached charge (all l r) d =
     let x = load_reached charge l d.0.0 in
     let y = load_reached charge r d.0.1 in
-    record { chosen = joint x.chosen y.chosen
-           ; only = joint_only l r d.1 x.chosen y.chosen x.only y.only
-           ; together = joint_together l r d.1 x.chosen y.chosen x.only y.only x.together y.together
-           ; sum = joint_total l r d.1 x.chosen y.chosen x.only y.only charge ∙ sums _ _ _ _ x.sum y.sum }
+    record {
+      chosen = joint x.chosen y.chosen;
+      only = joint_only l r d.1 x.chosen y.chosen x.only y.only;
+      together = joint_together l r d.1 x.chosen y.chosen x.only y.only x.together y.together;
+      sum = joint_total l r d.1 x.chosen y.chosen x.only y.only charge ∙ sums _ _ _ _ x.sum y.sum;
+    }
 load_reached charge (one l r) d =
     let x = load_reached charge l d.0.0 in
     let y = load_reached charge r d.0.1 in
     elim (cases_lt (load charge l) (load charge r)) [
-      inr small ↦ record { chosen = x.chosen; only = λ k e. inl (x.only k e); together = left_together l r d.1 x.chosen x.only x.together
-                         ; sum = left_sum _ _ _ _ x.sum (only_left_total charge l r d.1 x.chosen x.only) small }
-    | inl large ↦ record { chosen = y.chosen; only = λ k e. inr (y.only k e); together = right_together l r d.1 y.chosen y.only y.together
-                         ; sum = right_sum _ _ _ _ y.sum (only_right_total charge l r d.1 y.chosen y.only) (lt_le large) }
+      | inr small ↦ record {
+        chosen = x.chosen;
+        only = λ k e. inl (x.only k e);
+        together = left_together l r d.1 x.chosen x.only x.together;
+        sum = left_sum _ _ _ _ x.sum (only_left_total charge l r d.1 x.chosen x.only) small;
+      }
+      | inl large ↦ record {
+        chosen = y.chosen;
+        only = λ k e. inr (y.only k e);
+        together = right_together l r d.1 y.chosen y.only y.together;
+        sum = right_sum _ _ _ _ y.sum (only_right_total charge l r d.1 y.chosen y.only) (lt_le large);
+      }
     ]
   where
     lt_le : {m n : ℕ} → m < n → m ≤ n
     lt_le s = omega (arith, s)
+
     left_sum : (a b m n : ℕ) → a ≡ m → b ≡ 0 → n ≤ m → a + b ≡ max m n
     left_sum a b m n e f s = let x : a + b ≡ m = omega (arith, e, f) in x ∙ sym (max-eq_left s)
+
     right_sum : (a b m n : ℕ) → b ≡ n → a ≡ 0 → m ≤ n → a + b ≡ max m n
     right_sum a b m n e f s = let x : a + b ≡ n = omega (arith, e, f) in x ∙ sym (max-eq_right s)
 
@@ -283,24 +295,24 @@ upto_most charge a chosen nothing d i c = absurd i
 upto_most charge a chosen (access b) d i c = pick_most (chosen b) (charge b)
 upto_most charge a chosen (all l r) d (inl i) c =
     left_zero _ _ _ _
-      (upto_most charge a chosen l d.0.0 i (record { last = c.last; together = λ x y e f p. c.together x y e f (inl p); no_later = λ x e j. within_left l r d.1 a x i j (c.no_later x e (inl j)) }))
-      (none_total charge chosen r (λ x e j. not_after l r d.1 a x i j (c.no_later x e (inr j))))
-      (upto_first charge a l r i)
+    (upto_most charge a chosen l d.0.0 i (record { last = c.last; together = λ x y e f p. c.together x y e f (inl p); no_later = λ x e j. within_left l r d.1 a x i j (c.no_later x e (inl j)) }))
+    (none_total charge chosen r (λ x e j. not_after l r d.1 a x i j (c.no_later x e (inr j))))
+    (upto_first charge a l r i)
 upto_most charge a chosen (all l r) d (inr i) c =
     both_most _ _ _ _ _
-      (load_most charge chosen l (λ x y e f p. c.together x y e f (inl p)))
-      (upto_most charge a chosen r d.0.1 i (record { last = c.last; together = λ x y e f p. c.together x y e f (inr p); no_later = λ x e j. within_right l r d.1 a x i j (c.no_later x e (inr j)) }))
-      (upto_second charge a l r (λ j. d.1 a j i))
+    (load_most charge chosen l (λ x y e f p. c.together x y e f (inl p)))
+    (upto_most charge a chosen r d.0.1 i (record { last = c.last; together = λ x y e f p. c.together x y e f (inr p); no_later = λ x e j. within_right l r d.1 a x i j (c.no_later x e (inr j)) }))
+    (upto_second charge a l r (λ j. d.1 a j i))
 upto_most charge a chosen (one l r) d (inl i) c =
     left_zero _ _ _ _
-      (upto_most charge a chosen l d.0.0 i (record { last = c.last; together = λ x y e f p. c.together x y e f (inr (inl p)); no_later = λ x e j. within_left l r d.1 a x i j (c.no_later x e (inl j)) }))
-      (none_total charge chosen r (λ x e j. c.together a x c.last e (inl (inl (i, j)))))
-      (upto_one_first charge a l r i)
+    (upto_most charge a chosen l d.0.0 i (record { last = c.last; together = λ x y e f p. c.together x y e f (inr (inl p)); no_later = λ x e j. within_left l r d.1 a x i j (c.no_later x e (inl j)) }))
+    (none_total charge chosen r (λ x e j. c.together a x c.last e (inl (inl (i, j)))))
+    (upto_one_first charge a l r i)
 upto_most charge a chosen (one l r) d (inr i) c =
     right_zero _ _ _ _
-      (none_total charge chosen l (λ x e j. c.together x a e c.last (inl (inl (j, i)))))
-      (upto_most charge a chosen r d.0.1 i (record { last = c.last; together = λ x y e f p. c.together x y e f (inr (inr p)); no_later = λ x e j. within_right l r d.1 a x i j (c.no_later x e (inr j)) }))
-      (upto_one_second charge a l r (λ j. d.1 a j i))
+    (none_total charge chosen l (λ x e j. c.together x a e c.last (inl (inl (j, i)))))
+    (upto_most charge a chosen r d.0.1 i (record { last = c.last; together = λ x y e f p. c.together x y e f (inr (inr p)); no_later = λ x e j. within_right l r d.1 a x i j (c.no_later x e (inr j)) }))
+    (upto_one_second charge a l r (λ j. d.1 a j i))
 
 pub record ReachesUpto (charge : ℕ → ℕ) (t : Meets) (a n : ℕ) : Type 0 where
   pub chosen : ℕ → Bool
@@ -319,27 +331,31 @@ later_right l r x a (inr p) = inr (inr (inr p))
 -- a set that an access of the left part completes, in the node
 left_completes : (l r : Meets) (a : ℕ) (disjoint : (k : ℕ) → In k l → In k r → ⊥) (c : ℕ → Bool) → ((x : ℕ) → IsTrue (c x) → In x l) → Completes l a c → Completes (all l r) a c
 left_completes l r a disjoint c only k = record {
-    last = k.last;
-    together = λ x y e f p. elim p [ inl q ↦ k.together x y e f q | inr q ↦ disjoint x (only x e) (apart_left r x y q) ];
-    no_later = λ x e j. later_left l r x a (k.no_later x e (only x e)) }
+  last = k.last;
+  together = λ x y e f p. elim p [ inl q ↦ k.together x y e f q | inr q ↦ disjoint x (only x e) (apart_left r x y q) ];
+  no_later = λ x e j. later_left l r x a (k.no_later x e (only x e));
+}
 
 both_completes : (l r : Meets) (a : ℕ) (disjoint : (k : ℕ) → In k l → In k r → ⊥) (c d : ℕ → Bool) → ((x : ℕ) → IsTrue (c x) → In x l) → ((x : ℕ) → IsTrue (d x) → In x r) → Together l c → In a r → Completes r a d → Completes (all l r) a (joint c d)
 both_completes l r a disjoint c d in_l in_r together i k = record {
-    last = or_right (c a) (d a) k.last;
-    together = joint_together l r disjoint c d in_l in_r together k.together;
-    no_later = λ x e j. elim (or_cases (c x) (d x) e) [ inl f ↦ inr (inl (in_l x f, i)) | inr f ↦ later_right l r x a (k.no_later x f (in_r x f)) ] }
+  last = or_right (c a) (d a) k.last;
+  together = joint_together l r disjoint c d in_l in_r together k.together;
+  no_later = λ x e j. elim (or_cases (c x) (d x) e) [ inl f ↦ inr (inl (in_l x f, i)) | inr f ↦ later_right l r x a (k.no_later x f (in_r x f)) ];
+}
 
 left_one_completes : (l r : Meets) (a : ℕ) (disjoint : (k : ℕ) → In k l → In k r → ⊥) (c : ℕ → Bool) → ((x : ℕ) → IsTrue (c x) → In x l) → Completes l a c → Completes (one l r) a c
 left_one_completes l r a disjoint c only k = record {
-    last = k.last;
-    together = left_together l r disjoint c only k.together;
-    no_later = λ x e j. later_left l r x a (k.no_later x e (only x e)) }
+  last = k.last;
+  together = left_together l r disjoint c only k.together;
+  no_later = λ x e j. later_left l r x a (k.no_later x e (only x e));
+}
 
 right_one_completes : (l r : Meets) (a : ℕ) (disjoint : (k : ℕ) → In k l → In k r → ⊥) (c : ℕ → Bool) → ((x : ℕ) → IsTrue (c x) → In x r) → Completes r a c → Completes (one l r) a c
 right_one_completes l r a disjoint c only k = record {
-    last = k.last;
-    together = right_together l r disjoint c only k.together;
-    no_later = λ x e j. later_right l r x a (k.no_later x e (only x e)) }
+  last = k.last;
+  together = right_together l r disjoint c only k.together;
+  no_later = λ x e j. later_right l r x a (k.no_later x e (only x e));
+}
 
 left_is : (a b u v : ℕ) → a ≡ u → b ≡ 0 → v ≡ u → a + b ≡ v
 left_is a b u v x y z = omega (arith, x, y, z)
@@ -350,27 +366,44 @@ right_is a b u v x y z = omega (arith, x, y, z)
 pub upto_reached : (charge : ℕ → ℕ) (a : ℕ) (t : Meets) → Distinct t → In a t → ReachesUpto charge t a (upto charge a t)
 upto_reached charge a nothing d i = absurd i
 upto_reached charge a (access b) d i = record {
-    chosen = λ x. x == b; only = λ x e. eqb-true x b e;
-    completes = record { last = eq-eqb a b i; together = λ x y e f p. p; no_later = λ x e j. inl (eqb-true x b e ∙ sym i) };
-    sum = if_same (charge b) b }
+  chosen = λ x. x == b;
+  only = λ x e. eqb-true x b e;
+  completes = record { last = eq-eqb a b i; together = λ x y e f p. p; no_later = λ x e j. inl (eqb-true x b e ∙ sym i) };
+  sum = if_same (charge b) b;
+}
 upto_reached charge a (all l r) d (inl i) =
     let x = upto_reached charge a l d.0.0 i in
-    record { chosen = x.chosen; only = λ k e. inl (x.only k e); completes = left_completes l r a d.1 x.chosen x.only x.completes
-           ; sum = left_is _ _ _ _ x.sum (only_left_total charge l r d.1 x.chosen x.only) (upto_first charge a l r i) }
+    record {
+      chosen = x.chosen;
+      only = λ k e. inl (x.only k e);
+      completes = left_completes l r a d.1 x.chosen x.only x.completes;
+      sum = left_is _ _ _ _ x.sum (only_left_total charge l r d.1 x.chosen x.only) (upto_first charge a l r i);
+    }
 upto_reached charge a (all l r) d (inr i) =
     let x = load_reached charge l d.0.0 in
     let y = upto_reached charge a r d.0.1 i in
-    record { chosen = joint x.chosen y.chosen; only = joint_only l r d.1 x.chosen y.chosen x.only y.only
-           ; completes = both_completes l r a d.1 x.chosen y.chosen x.only y.only x.together i y.completes
-           ; sum = joint_total l r d.1 x.chosen y.chosen x.only y.only charge ∙ (sums _ _ _ _ x.sum y.sum ∙ sym (upto_second charge a l r (λ j. d.1 a j i))) }
+    record {
+      chosen = joint x.chosen y.chosen;
+      only = joint_only l r d.1 x.chosen y.chosen x.only y.only;
+      completes = both_completes l r a d.1 x.chosen y.chosen x.only y.only x.together i y.completes;
+      sum = joint_total l r d.1 x.chosen y.chosen x.only y.only charge ∙ (sums _ _ _ _ x.sum y.sum ∙ sym (upto_second charge a l r (λ j. d.1 a j i)));
+    }
 upto_reached charge a (one l r) d (inl i) =
     let x = upto_reached charge a l d.0.0 i in
-    record { chosen = x.chosen; only = λ k e. inl (x.only k e); completes = left_one_completes l r a d.1 x.chosen x.only x.completes
-           ; sum = left_is _ _ _ _ x.sum (only_left_total charge l r d.1 x.chosen x.only) (upto_one_first charge a l r i) }
+    record {
+      chosen = x.chosen;
+      only = λ k e. inl (x.only k e);
+      completes = left_one_completes l r a d.1 x.chosen x.only x.completes;
+      sum = left_is _ _ _ _ x.sum (only_left_total charge l r d.1 x.chosen x.only) (upto_one_first charge a l r i);
+    }
 upto_reached charge a (one l r) d (inr i) =
     let y = upto_reached charge a r d.0.1 i in
-    record { chosen = y.chosen; only = λ k e. inr (y.only k e); completes = right_one_completes l r a d.1 y.chosen y.only y.completes
-           ; sum = right_is _ _ _ _ (only_right_total charge l r d.1 y.chosen y.only) y.sum (upto_one_second charge a l r (λ j. d.1 a j i)) }
+    record {
+      chosen = y.chosen;
+      only = λ k e. inr (y.only k e);
+      completes = right_one_completes l r a d.1 y.chosen y.only y.completes;
+      sum = right_is _ _ _ _ (only_right_total charge l r d.1 y.chosen y.only) y.sum (upto_one_second charge a l r (λ j. d.1 a j i));
+    }
 
 pub upto_is_largest : (charge : ℕ → ℕ) (t : Meets) (a : ℕ) → Distinct t → In a t → IsLargestUpto charge t a (upto charge a t)
 upto_is_largest charge t a d i =

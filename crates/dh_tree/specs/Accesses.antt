@@ -3,7 +3,7 @@
 -- Nigam and others (PLDI 2020); sharing, charges and places are this project's. For now a memory has
 -- one bank, commands are stores and blocks, and two indices are equal where they are equal numbers;
 -- forms that are not built have no access.
-use Rattle.std.specs.Prelude.{◌≡◌, ℕ, ◌+◌, ◌≤◌, ◌<◌, ◌==◌, ◌&&◌, ◌||◌, not, Bool, true, false, List, [], ◌∷◌, ◌++◌, length, take, Option, Some, None, option_map, slice_get, if◌then◌else◌}
+use Rattle.std.specs.Prelude.{◌≡◌, ℕ, ◌+◌, ◌≤◌, ◌<◌, ◌==◌, ◌&&◌, not, Bool, true, false, List, [], ◌∷◌, ◌++◌, length, take, Option, Some, None, option_map, slice_get, if◌then◌else◌}
 use Rattle.std.specs.List.{list_any}
 use Rattle.dh_base.specs.declared.places.Place.{Place}
 use Rattle.dh_tree.specs.PlainTrees.{Term, term, TermForm, number, accessed, applied, converted, Terms, no_terms, term_then, Action, action, ActionForm, stores, blocks, Actions, no_actions, action_then, Groups, no_groups, group_then, Declared, Program}

@@ -1,6 +1,6 @@
 -- Which accesses may meet, as a tree, and the load of such a tree. The idea of ports that `;` spends
 -- together and `---` gives back is of Nigam and others (PLDI 2020); sets and loads are this project's.
-use Rattle.std.specs.Prelude.{◌≡◌, ℕ, ◌+◌, ◌≤◌, ◌⊎◌, Bool, true, false, IsTrue, if◌then◌else◌, ◌==◌, ◌||◌, max}
+use Rattle.std.specs.Prelude.{◌≡◌, ℕ, ◌+◌, ◌≤◌, ◌⊎◌, Bool, false, IsTrue, if◌then◌else◌, ◌==◌, ◌||◌, max}
 
 -- Accesses by number. Two of them that stand in different parts of an `all` may meet, two in
 -- different parts of a `one` never do. More than two parts are grouped to the right.

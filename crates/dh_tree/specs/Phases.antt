@@ -1,7 +1,7 @@
 -- The phases of a command: what it does in each of its logical steps. For now there are Straight
 -- phases alone, of stores, and a list has at most one stepped part; commands of forms that are not
 -- built have no phase.
-use Rattle.std.specs.Prelude.{ℕ, ◌==◌, ◌&&◌, ◌||◌, Bool, true, false, List, [], ◌∷◌, ◌++◌}
+use Rattle.std.specs.Prelude.{ℕ, ◌==◌, ◌&&◌, Bool, List, [], ◌∷◌, ◌++◌}
 use Rattle.std.specs.List.{list_any}
 use Rattle.dh_base.specs.declared.places.Place.{Place}
 use Rattle.dh_tree.specs.PlainTrees.{Action, action, ActionForm, stores, blocks, Actions, no_actions, action_then, Groups, no_groups, group_then}
