@@ -1,21 +1,19 @@
 -- Single accesses of a walk, by loads.
-use Rattle.std.proofs.Common.{◌≡◌, ℕ, zero, suc, ◌+◌, ◌-◌, ◌≤◌, ◌<◌, ◌==◌, ◌&&◌, ◌||◌, not, Bool, true, false, List, [], ◌∷◌, ◌++◌, length, slice_index, slice_set, Option, Some, None, Ok, Err, if◌then◌else◌, ◌⊎◌, inl, inr, refl, ap, sym, ◌∙◌, subst, arith, option_map}
+use Rattle.std.proofs.Common.{◌≡◌, ℕ, zero, suc, ◌+◌, ◌-◌, ◌<◌, ◌==◌, ◌&&◌, not, Bool, true, false, List, [], ◌∷◌, ◌++◌, length, slice_index, Option, Some, Ok, Err, if◌then◌else◌, ◌⊎◌, inl, inr, refl, ap, sym, ◌∙◌, subst, arith, option_map}
 use Rattle.std.specs.Prelude.{Result}
 use Rattle.std.specs.List.{slice_get}
 use Rattle.std.proofs.lemmas.Bool.{eq-eqb, cases_Bool, eqb-true}
-use Rattle.std.proofs.Math.Bool.{and-true}
 use Rattle.dh_base.specs.declared.places.Place.{Place}
-use Rattle.dh_tree.specs.Meets.{Meets, nothing, access}
+use Rattle.dh_tree.specs.Meets.{access}
 use Rattle.dh_tree.specs.Accesses.{Access, same_entity}
 use Rattle.dh_ports.specs.declared.elements.Element.{Element}
 use Rattle.dh_ports.specs.declared.recents.Recent.{Recent}
 use Rattle.dh_ports.specs.declared.walks.Stop.{Stop}
 use Rattle.dh_ports.specs.declared.walks.Stop.TheVariants as stop
 use Rattle.dh_ports.specs.SingleElements.{IsAt}
-use Rattle.dh_ports.specs.Tags.{Tagged, tag, shares_one, charge_after, charges}
-use Rattle.dh_ports.specs.Recalled.{known}
-use Rattle.dh_ports.specs.Walked.{Fits, Beyond, Remembers, Standing, Passes, Walked}
-use Rattle.dh_ports.specs.WalkSteps.{IsSpent, IsStopped, IsRecalled, Spends, ReadsOne}
+use Rattle.dh_ports.specs.Tags.{Tagged, tag, shares_one, charges}
+use Rattle.dh_ports.specs.Walked.{Fits, Beyond, Remembers, Standing, Walked}
+use Rattle.dh_ports.specs.WalkSteps.{IsSpent, IsStopped, Spends, ReadsOne}
 use Rattle.dh_ports.proofs.LogFacts.{index_set}
 use Rattle.dh_ports.proofs.WalkTrees.{fits_access, beyond_access}
 use Rattle.dh_ports.proofs.SharedReads.{charges_here, get_front, write_shares_none, remembers_write, remembers_shared, remembers_read}

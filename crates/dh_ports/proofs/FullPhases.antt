@@ -2,7 +2,6 @@
 -- those of its parts.
 use Rattle.std.proofs.Common.{◌≡◌, ℕ, suc, ◌+◌, ◌≤◌, List, [], ◌∷◌, ◌++◌, length, min, max, refl, ap, sym, ◌∙◌, arith}
 use Rattle.std.proofs.Math.Nat.{zero-add}
-use Rattle.std.specs.List.{AllByRecursion}
 use Rattle.dh_tree.specs.PlainTrees.{Action, action, ActionForm, lets, lets_memory, views, assigns, stores, reduces, calls, blocks, decides, repeats, counts, Actions, no_actions, action_then, Groups, no_groups, group_then}
 use Rattle.dh_tree.specs.Phases.{Phase, straight, one_straight, joined, phases, form_phases, groups_phases, parts_phases}
 use Rattle.dh_ports.specs.StepCounts.{most_of}

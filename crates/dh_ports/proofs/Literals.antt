@@ -8,7 +8,6 @@ use Rattle.dh_tree.specs.declared.trees.expressions.ExprForm.TheVariants.{Number
 use Rattle.dh_tree.specs.PlainTrees.{Term, term, TermForm, number, truth_value, named, accessed, in_bank, applied, converted, Terms, no_terms, term_then}
 use Rattle.dh_tree.specs.Seen.{term_seen, form_seen, terms}
 use Rattle.dh_tree.proofs.SeenTerms.{number_is}
-use Rattle.dh_ports.specs.declared.elements.Literal.{Literal}
 use Rattle.dh_ports.specs.SingleElements.{literal_at}
 
 absurd : {A : Type 0} → ⊥ → A

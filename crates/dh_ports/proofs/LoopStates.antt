@@ -1,27 +1,26 @@
 -- The states of the loops of a walk, and their turns.
-use Rattle.std.proofs.Common.{◌≡◌, ℕ, suc, zero, ◌+◌, ◌≤◌, ◌<◌, ◌==◌, Bool, true, false, List, [], ◌∷◌, ◌++◌, length, map, drop, get_or, min, slice_index, Option, Some, Ok, Err, if◌then◌else◌, ◌⊎◌, inl, inr, refl, ap, sym, ◌∙◌, subst, arith}
+use Rattle.std.proofs.Common.{◌≡◌, ℕ, suc, zero, ◌+◌, ◌≤◌, ◌<◌, ◌==◌, Bool, true, false, List, [], ◌∷◌, ◌++◌, length, map, drop, get_or, min, slice_index, Option, Ok, Err, if◌then◌else◌, ◌⊎◌, inl, inr, refl, ap, sym, ◌∙◌, subst, arith}
 use Rattle.std.specs.Prelude.{Result, Vec}
 use Rattle.std.specs.Global.{Global}
-use Rattle.std.specs.List.{slice_get}
 use Rattle.std.proofs.Math.ListN.{drop_of_length-le}
 use Rattle.std.proofs.lemmas.Bool.{cases_Bool, eqb-true}
 use Rattle.std.proofs.lemmas.List.{ext_get_or}
 use Rattle.dh_tree.specs.declared.trees.commands.Command.{Command}
-use Rattle.dh_tree.specs.PlainTrees.{Action, Actions, no_actions, action_then, Groups, no_groups, group_then}
+use Rattle.dh_tree.specs.PlainTrees.{action_then, group_then}
 use Rattle.dh_tree.specs.Seen.{action_seen, part_seen, groups, actions}
 use Rattle.dh_ports.specs.declared.marks.Mark.{Mark}
 use Rattle.dh_ports.specs.declared.recents.Recent.{Recent}
 use Rattle.dh_ports.specs.declared.walks.Walk.{Walk}
 use Rattle.dh_ports.specs.declared.walks.Stop.{Stop}
-use Rattle.dh_tree.specs.FirstForms.{AreBuilt, AreBuiltGroups, AreCounted, AreCountedGroups}
+use Rattle.dh_tree.specs.FirstForms.{AreBuilt, AreBuiltGroups}
 use Rattle.dh_ports.specs.Logs.{AreMarks, at_begin, least, marks_now}
-use Rattle.dh_ports.specs.Tags.{Tagged, released, going_after, groups_going, part_going, is_stepped}
-use Rattle.dh_ports.specs.Walked.{Standing, Remembers}
+use Rattle.dh_ports.specs.Tags.{released, going_after, groups_going, part_going}
+use Rattle.dh_ports.specs.Walked.{Standing}
 use Rattle.dh_ports.specs.WalkSteps.{standing, IsKept}
 use Rattle.dh_ports.specs.Weights.{weight, groups_weight, part_weight}
 use Rattle.dh_ports.proofs.LogFacts.{least_min}
 use Rattle.dh_ports.proofs.Turns.{at_item}
-use Rattle.dh_ports.proofs.PartWalks.{PartLoop, PartGoal, CommandWalked, part_start, part_turn, part_stops, part_ends, GroupsLoop, GroupsGoal, PartWalked, BlockGoal, ReleasedTo, groups_start, groups_turn, groups_stop, block_stops, block_ends}
+use Rattle.dh_ports.proofs.PartWalks.{PartLoop, PartGoal, CommandWalked, part_turn, part_stops, part_ends, GroupsLoop, PartWalked, BlockGoal, ReleasedTo, groups_turn, groups_stop, block_stops, block_ends}
 
 -- a loop through the commands of a list
 pub record PartAt (w0 : Walk) (log0 : List Mark) (part : List Command) (w : Walk) (log : List Mark) (i : ℕ) : Type 0 where

@@ -1,9 +1,8 @@
 -- The numbers of the accesses in a command's tree, and how many there are.
-use Rattle.std.proofs.Common.{◌≡◌, ℕ, suc, Bool, ◌+◌, ◌≤◌, ◌<◌, List, [], ◌∷◌, ◌++◌, length, map, Option, inl, inr, refl, ap, sym, ◌∙◌, subst, arith}
+use Rattle.std.proofs.Common.{◌≡◌, ℕ, suc, Bool, ◌+◌, ◌≤◌, ◌<◌, List, [], ◌∷◌, ◌++◌, length, map, Option, inl, inr, refl, ap, sym, ◌∙◌, arith}
 use Rattle.std.proofs.lemmas.List.{length-append, length-map, map-append}
-use Rattle.dh_base.specs.declared.places.Place.{Place}
 use Rattle.dh_tree.specs.PlainTrees.{Action, action, ActionForm, lets, lets_memory, views, assigns, stores, reduces, calls, blocks, decides, repeats, counts, Actions, no_actions, action_then, Groups, no_groups, group_then}
-use Rattle.dh_tree.specs.Meets.{Meets, nothing, access, all, one, In, Distinct}
+use Rattle.dh_tree.specs.Meets.{Meets, access, all, one, In, Distinct}
 use Rattle.dh_tree.specs.Accesses.{Access, accesses, command_accesses, groups_accesses, part_accesses, store_accesses, row, meets, command_meets, groups_meets, part_meets}
 use Rattle.dh_ports.specs.Tags.{Tagged, tag, tags, form_tags, groups_tags, part_tags, released, is_stepped, going_after, part_going, phase_at}
 use Rattle.dh_ports.proofs.WalkTrees.{Disjoint}

@@ -1,19 +1,19 @@
 -- Loops of a walk: what the rest of a list answers from where the loop stands, the whole answers.
-use Rattle.std.proofs.Common.{◌≡◌, ℕ, ◌+◌, ◌≤◌, Bool, true, false, List, [], ◌∷◌, ◌++◌, length, map, min, slice_index, Option, Some, None, Ok, Err, refl, ap, sym, ◌∙◌, subst, arith}
+use Rattle.std.proofs.Common.{◌≡◌, ℕ, ◌+◌, ◌≤◌, Bool, true, false, List, [], ◌++◌, length, map, min, slice_index, Option, Ok, Err, ap, sym, ◌∙◌, subst, arith}
 use Rattle.std.specs.Prelude.{Result}
-use Rattle.std.proofs.lemmas.List.{append_assoc, append-nil, length-append, map-append}
+use Rattle.std.proofs.lemmas.List.{append_assoc, append-nil, length-append}
 use Rattle.dh_base.specs.declared.places.Place.{Place}
 use Rattle.dh_tree.specs.PlainTrees.{Term, Action, action, ActionForm, stores, blocks, Actions, no_actions, action_then, Groups, no_groups, group_then}
-use Rattle.dh_tree.specs.Meets.{Meets, nothing, all, one, load}
-use Rattle.dh_tree.specs.Accesses.{accesses, part_accesses, groups_accesses, store_accesses, row, meets, part_meets, groups_meets}
+use Rattle.dh_tree.specs.Meets.{Meets, one, load}
+use Rattle.dh_tree.specs.Accesses.{accesses, part_accesses, store_accesses, row, meets, part_meets, groups_meets}
 use Rattle.dh_ports.specs.declared.marks.Mark.{Mark}
 use Rattle.dh_ports.specs.declared.recents.Recent.{Recent}
 use Rattle.dh_ports.specs.declared.walks.Stop.{Stop}
 use Rattle.dh_ports.specs.declared.walks.Stop.TheVariants as stop
 use Rattle.dh_tree.specs.FirstForms.{IsCounted, AreCounted, AreCountedGroups, number_after, part_after, groups_after}
-use Rattle.dh_ports.specs.Logs.{least, at_begin, marks_now}
+use Rattle.dh_ports.specs.Logs.{least}
 use Rattle.dh_ports.specs.Tags.{Tagged, tag, tags, part_tags, groups_tags, phase_at, released, going_after, part_going, is_stepped, charges}
-use Rattle.dh_ports.specs.Walked.{Fits, Beyond, Lowers, Remembers, Standing, Passes, Walked}
+use Rattle.dh_ports.specs.Walked.{Fits, Beyond, Lowers, Remembers, Standing, Walked}
 use Rattle.dh_ports.proofs.LogFacts.{least_low}
 use Rattle.dh_ports.proofs.WalkTrees.{Disjoint, lowers_one, lowers_nothing, lowers_fits, beyond_one_first, beyond_one_second}
 use Rattle.dh_ports.proofs.WalkJoins.{walked_stop, walked_then, passes_nothing, middle, front}

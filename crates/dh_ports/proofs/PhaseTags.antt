@@ -1,16 +1,15 @@
 -- The tags of a walk are those of the program's phases: each access has as its tag the first command
 -- of the Straight phase in which its own command stands.
-use Rattle.std.proofs.Common.{◌≡◌, ℕ, suc, ◌+◌, ◌≤◌, ◌<◌, ◌==◌, ◌&&◌, ◌||◌, Bool, true, false, List, [], ◌∷◌, ◌++◌, length, map, min, Option, Some, None, ◌⊎◌, inl, inr, refl, ap, sym, ◌∙◌, subst, arith}
-use Rattle.std.specs.List.{list_any, AllByRecursion}
+use Rattle.std.proofs.Common.{◌≡◌, ℕ, suc, ◌==◌, ◌||◌, Bool, true, false, List, [], ◌∷◌, ◌++◌, length, map, min, Option, Some, None, ◌⊎◌, inl, inr, refl, ap, sym, ◌∙◌, subst, arith}
+use Rattle.std.specs.List.{AllByRecursion}
 use Rattle.std.proofs.Math.Bool.{or-true}
-use Rattle.std.proofs.lemmas.Bool.{eq-eqb, eqb-true, or_cases, cases_Bool}
-use Rattle.std.proofs.lemmas.List.{append-nil}
+use Rattle.std.proofs.lemmas.Bool.{eq-eqb}
 use Rattle.std.proofs.lemmas.List.Folds.{list_any-append}
 use Rattle.dh_base.specs.declared.places.Place.{Place}
-use Rattle.dh_tree.specs.PlainTrees.{Term, Action, action, ActionForm, lets, lets_memory, views, assigns, stores, reduces, calls, blocks, decides, repeats, counts, Actions, no_actions, action_then, Groups, no_groups, group_then}
+use Rattle.dh_tree.specs.PlainTrees.{Action, action, ActionForm, lets, lets_memory, views, assigns, stores, reduces, calls, blocks, decides, repeats, counts, Actions, no_actions, action_then, Groups, no_groups, group_then}
 use Rattle.dh_tree.specs.Phases.{Phase, straight, one_straight, joined, phases, form_phases, groups_phases, parts_phases, id_of, holds_id}
-use Rattle.dh_tree.specs.Accesses.{Access, term_accesses, form_accesses, terms_accesses, target_accesses, store_accesses}
-use Rattle.dh_tree.specs.FirstForms.{IsElement, IsRightSide, IsBuilt, IsBuiltForm, AreBuilt, AreBuiltGroups}
+use Rattle.dh_tree.specs.Accesses.{Access, store_accesses}
+use Rattle.dh_tree.specs.FirstForms.{IsBuilt, IsBuiltForm, AreBuilt, AreBuiltGroups}
 use Rattle.dh_ports.specs.Tags.{Tagged, tag, tags, form_tags, groups_tags, part_tags, released, is_stepped, going_after, form_going, groups_going, part_going, phase_at}
 use Rattle.dh_ports.proofs.StoreWalks.{one_accesses}
 

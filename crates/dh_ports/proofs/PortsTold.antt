@@ -1,15 +1,15 @@
 -- From loads to sets: what a walk of the whole body tells of the program.
-use Rattle.std.proofs.Common.{◌≡◌, ◌↔◌, ℕ, zero, suc, ◌+◌, ◌≤◌, ◌<◌, ◌==◌, ◌&&◌, ◌||◌, not, Bool, true, false, List, [], ◌∷◌, ◌++◌, length, map, take, slice_index, Option, Some, None, option_map, Err, if◌then◌else◌, refl, ap, sym, ◌∙◌, subst, arith}
+use Rattle.std.proofs.Common.{◌≡◌, ◌↔◌, ℕ, zero, suc, ◌+◌, ◌≤◌, ◌<◌, ◌&&◌, ◌||◌, not, Bool, false, List, [], ◌∷◌, ◌++◌, map, take, slice_index, Option, Some, None, option_map, Err, if◌then◌else◌, refl, ap, sym, ◌∙◌, subst, arith}
 use Rattle.std.specs.List.{slice_get, list_any, AllByRecursion}
 use Rattle.std.proofs.lemmas.List.{append-nil}
 use Rattle.dh_base.specs.declared.places.Place.{Place}
 use Rattle.dh_tree.specs.declared.trees.programs.Decl.{Decl}
 use Rattle.dh_tree.specs.declared.trees.programs.Tree.{Tree}
-use Rattle.dh_tree.specs.PlainTrees.{Action, Program}
+use Rattle.dh_tree.specs.PlainTrees.{Program}
 use Rattle.dh_tree.specs.Seen.{declared_seen, program_seen}
 use Rattle.dh_tree.specs.Phases.{Phase, phases, in_one_straight}
-use Rattle.dh_tree.specs.Meets.{Meets, nothing, access, all, one, In, Distinct, Before, Together, Completes, total, load, upto, IsLargest, IsLargestUpto}
-use Rattle.dh_tree.specs.Accesses.{Access, accesses, meets, shares, equal_reads, same_entity, charge, charge_behind, declared_ports, ports_of, KeepsPorts, Overspends, PortsSpent}
+use Rattle.dh_tree.specs.Meets.{Meets, nothing, access, all, one, In, Distinct, total, load, upto, IsLargest, IsLargestUpto}
+use Rattle.dh_tree.specs.Accesses.{Access, accesses, meets, shares, equal_reads, same_entity, charge, charge_behind, declared_ports, ports_of, KeepsPorts, PortsSpent}
 use Rattle.dh_tree.proofs.LargestSums.{before_left}
 use Rattle.dh_ports.specs.declared.recents.Recent.{Recent}
 use Rattle.dh_tree.specs.FirstForms.{HasFirstForms, number_after}

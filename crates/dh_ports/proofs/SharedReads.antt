@@ -1,13 +1,13 @@
 -- Which reads share, with what a walk recalls, as one access is added.
-use Rattle.std.proofs.Common.{◌≡◌, ℕ, zero, suc, ◌+◌, ◌≤◌, ◌<◌, ◌==◌, ◌&&◌, ◌||◌, not, Bool, true, false, List, [], ◌∷◌, ◌++◌, length, take, Option, Some, None, if◌then◌else◌, ◌⊎◌, inl, inr, refl, ap, sym, ◌∙◌, subst, arith, option_map}
+use Rattle.std.proofs.Common.{◌≡◌, ℕ, ◌+◌, ◌≤◌, ◌<◌, ◌==◌, ◌&&◌, ◌||◌, not, Bool, true, false, List, [], ◌∷◌, ◌++◌, length, take, Option, Some, None, if◌then◌else◌, ◌⊎◌, inl, inr, refl, ap, sym, ◌∙◌, subst, arith}
 use Rattle.std.specs.List.{slice_get, list_any}
-use Rattle.std.proofs.Math.Bool.{and-true, or-false, or-true, false-or}
+use Rattle.std.proofs.Math.Bool.{and-true, or-false}
 use Rattle.std.proofs.lemmas.Bool.{eq-eqb, ne_eqb, cases_Bool, eqb-true}
 use Rattle.std.proofs.lemmas.List.Folds.{list_any-append}
 use Rattle.dh_base.specs.declared.places.Place.{Place}
 use Rattle.dh_value.specs.declared.kinds.Kind.{Kind}
 use Rattle.dh_tree.specs.PlainTrees.{Term, term, TermForm, number, truth_value, named, accessed, in_bank, applied, converted, Terms, no_terms, term_then}
-use Rattle.dh_tree.specs.Accesses.{Access, same_entity, same_sign, alike, all_alike, equal_reads}
+use Rattle.dh_tree.specs.Accesses.{Access, same_entity, same_sign, all_alike, equal_reads}
 use Rattle.dh_ports.specs.declared.elements.Element.{Element}
 use Rattle.dh_ports.specs.declared.elements.Literal.{Literal}
 use Rattle.dh_ports.specs.declared.recents.Recent.{Recent}

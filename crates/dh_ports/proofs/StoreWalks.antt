@@ -1,23 +1,22 @@
 -- A store's accesses, and the walk through them.
-use Rattle.std.proofs.Common.{◌≡◌, ℕ, ◌+◌, ◌<◌, Bool, true, false, List, [], ◌∷◌, ◌++◌, length, map, ◌⊎◌, inl, inr, Option, Some, None, Ok, Err, refl, ap, sym, ◌∙◌, subst, arith}
+use Rattle.std.proofs.Common.{◌≡◌, ℕ, ◌+◌, ◌<◌, Bool, true, false, List, [], ◌∷◌, ◌++◌, length, map, inl, inr, Option, Some, None, Ok, Err, refl, ap, sym, ◌∙◌, subst, arith}
 use Rattle.std.specs.Prelude.{Result}
 use Rattle.std.specs.Option.{unwrap_or}
 use Rattle.std.proofs.lemmas.List.{append-nil, length-append}
 use Rattle.dh_base.specs.declared.places.Place.{Place}
 use Rattle.dh_value.specs.declared.kinds.Kind.{Kind}
 use Rattle.dh_tree.specs.declared.trees.expressions.Ref.{Ref}
-use Rattle.dh_tree.specs.PlainTrees.{Term, term, TermForm, number, truth_value, named, accessed, in_bank, applied, converted, Terms, no_terms, term_then}
-use Rattle.dh_tree.specs.Meets.{Meets, nothing, access, all}
+use Rattle.dh_tree.specs.PlainTrees.{Term, term, number, truth_value, named, accessed, in_bank, applied, converted, Terms, no_terms, term_then}
+use Rattle.dh_tree.specs.Meets.{nothing, access, all}
 use Rattle.std.specs.List.{AllByRecursion}
 use Rattle.dh_tree.specs.Accesses.{Access, term_accesses, terms_accesses, target_accesses, store_accesses, row}
 use Rattle.dh_ports.specs.declared.elements.Element.{Element}
-use Rattle.dh_ports.specs.declared.recents.Recent.{Recent}
 use Rattle.dh_ports.specs.declared.walks.Stop.{Stop}
 use Rattle.dh_ports.specs.declared.walks.Stop.TheVariants as stop
 use Rattle.dh_ports.specs.SingleElements.{literal_at, element_at, element_from, read_at, IsAt}
 use Rattle.dh_tree.specs.FirstForms.{IsNumber, IsOneNumber, IsMemory, IsElement, IsRightSide}
 use Rattle.dh_ports.specs.Tags.{Tagged, tag, phase_at}
-use Rattle.dh_ports.specs.Walked.{Remembers, Standing, Passes, Walked}
+use Rattle.dh_ports.specs.Walked.{Remembers, Standing, Walked}
 use Rattle.dh_ports.specs.WalkSteps.{ReadsOne, ReadsAny, SpendsAny}
 use Rattle.dh_ports.proofs.WalkTrees.{Disjoint}
 use Rattle.dh_ports.proofs.WalkJoins.{walked_stop, walked_then, walked_last}

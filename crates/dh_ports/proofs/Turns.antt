@@ -1,5 +1,5 @@
 -- Steps of loops over the parts of a block, from what is left of the list.
-use Rattle.std.proofs.Common.{◌≡◌, ℕ, suc, add-one, ◌+◌, ◌≤◌, ◌<◌, List, [], ◌∷◌, length, map, get_or, drop, min, max, refl, ap, sym, ◌∙◌, subst, arith}
+use Rattle.std.proofs.Common.{◌≡◌, ℕ, suc, add-one, ◌+◌, ◌≤◌, ◌<◌, List, [], ◌∷◌, length, map, get_or, drop, min, max, ap, sym, ◌∙◌, arith}
 use Rattle.std.specs.Prelude.{Vec}
 use Rattle.std.specs.Global.{Global}
 use Rattle.std.proofs.Math.Seq.{drop-cons}

@@ -1,9 +1,8 @@
 -- Walks of accesses one after another, joined.
-use Rattle.std.proofs.Common.{◌≡◌, ℕ, ◌+◌, List, [], ◌∷◌, ◌++◌, length, slice_index, Ok, Err, refl, ap, sym, ◌∙◌, subst}
+use Rattle.std.proofs.Common.{◌≡◌, ℕ, List, [], ◌++◌, slice_index, Ok, Err, ap, sym, ◌∙◌, subst}
 use Rattle.std.specs.Prelude.{Result}
 use Rattle.std.proofs.lemmas.List.{append_assoc, append-nil}
-use Rattle.dh_tree.specs.Meets.{Meets, nothing, all, In}
-use Rattle.dh_ports.specs.declared.recents.Recent.{Recent}
+use Rattle.dh_tree.specs.Meets.{Meets, nothing, all}
 use Rattle.dh_ports.specs.declared.walks.Stop.{Stop}
 use Rattle.dh_ports.specs.declared.walks.Stop.TheVariants as stop
 use Rattle.dh_ports.specs.Tags.{Tagged}

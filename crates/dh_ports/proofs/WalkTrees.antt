@@ -1,8 +1,8 @@
 -- Walks of the parts of a tree, joined to a walk of the tree, over plain functions of the memory.
-use Rattle.std.proofs.Common.{◌≡◌, ℕ, ◌+◌, ◌≤◌, ◌<◌, List, ◌⊎◌, inl, inr, min, max, refl, ap, sym, ◌∙◌, subst, arith, Some, option_map}
+use Rattle.std.proofs.Common.{◌≡◌, ℕ, ◌+◌, ◌≤◌, ◌<◌, List, inl, inr, min, max, refl, sym, ◌∙◌, subst, arith, Some, option_map}
 use Rattle.std.specs.List.{slice_get}
 use Rattle.dh_base.specs.declared.places.Place.{Place}
-use Rattle.dh_tree.specs.Meets.{Meets, nothing, access, all, one, In, Before, load, upto}
+use Rattle.dh_tree.specs.Meets.{Meets, nothing, access, all, one, In, load, upto}
 use Rattle.dh_tree.proofs.LargestSums.{upto_first, upto_second, upto_one_first, upto_one_second, before_left, before_right}
 use Rattle.dh_ports.specs.Tags.{Tagged, charges}
 use Rattle.dh_ports.specs.Walked.{Fits, Beyond, Lowers}

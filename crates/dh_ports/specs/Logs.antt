@@ -1,5 +1,5 @@
 -- Logs of what was left of memories' ports, as functions of the memory.
-use Rattle.std.specs.Prelude.{◌≡◌, ℕ, ◌<◌, ◌==◌, List, [], ◌∷◌, map, length, min, slice_index, slice_get, Some, if◌then◌else◌}
+use Rattle.std.specs.Prelude.{◌≡◌, ℕ, ◌<◌, ◌==◌, List, [], ◌∷◌, map, min, slice_index, slice_get, Some, if◌then◌else◌}
 use Rattle.dh_ports.specs.declared.marks.Mark.{Mark}
 
 -- what was left of a memory at a log's begin: what its first mark says, or what is left now

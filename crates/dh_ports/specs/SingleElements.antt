@@ -1,7 +1,7 @@
 -- Accesses by one literal index, as the code holds them.
-use Rattle.std.specs.Prelude.{◌≡◌, ℕ, ◌<◌, ◌==◌, ◌&&◌, Bool, Option, Some, None}
+use Rattle.std.specs.Prelude.{◌≡◌, ℕ, ◌==◌, ◌&&◌, Bool, Option, Some, None}
 use Rattle.dh_base.specs.declared.places.Place.{Place}
-use Rattle.dh_tree.specs.PlainTrees.{Term, term, TermForm, number, accessed, applied, Terms, no_terms, term_then}
+use Rattle.dh_tree.specs.PlainTrees.{Term, term, number, accessed, applied, Terms, no_terms, term_then}
 use Rattle.dh_tree.specs.Accesses.{Access, same_sign}
 use Rattle.dh_ports.specs.declared.elements.Literal.{Literal}
 use Rattle.dh_ports.specs.declared.elements.Element.{Element}

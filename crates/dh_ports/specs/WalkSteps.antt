@@ -1,5 +1,5 @@
 -- What the steps of a walk make of where it stands.
-use Rattle.std.specs.Prelude.{◌≡◌, ℕ, ◌-◌, ◌<◌, ◌==◌, ◌||◌, ◌⊎◌, Bool, true, false, length, slice_get, slice_index, slice_set, Option, Some, None, Result, Ok, Err, if◌then◌else◌, List}
+use Rattle.std.specs.Prelude.{◌≡◌, ℕ, ◌-◌, ◌<◌, ◌==◌, ◌||◌, ◌⊎◌, true, false, length, slice_get, slice_index, slice_set, Option, Some, None, Result, Ok, Err, if◌then◌else◌, List}
 use Rattle.dh_base.specs.declared.places.Place.{Place}
 use Rattle.dh_ports.specs.declared.elements.Element.{Element}
 use Rattle.dh_ports.specs.declared.elements.Literal.{Literal}

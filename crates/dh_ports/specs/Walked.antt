@@ -1,5 +1,5 @@
 -- What a walk through some accesses makes of the ports that are left, by the loads of their tree.
-use Rattle.std.specs.Prelude.{◌≡◌, ℕ, ◌+◌, ◌≤◌, ◌<◌, min, Bool, false, List, [], ◌∷◌, ◌++◌, length, slice_get, slice_index, Option, Some, None, option_map, Result, Ok, Err}
+use Rattle.std.specs.Prelude.{◌≡◌, ℕ, ◌+◌, ◌≤◌, ◌<◌, min, false, List, ◌++◌, length, slice_get, slice_index, Option, Some, option_map, Result, Ok, Err}
 use Rattle.dh_base.specs.declared.places.Place.{Place}
 use Rattle.dh_tree.specs.Meets.{Meets, In, Before, load, upto}
 use Rattle.dh_tree.specs.Accesses.{Access}

@@ -8,8 +8,6 @@ mod keeping;
 mod marks;
 mod recents;
 mod steps;
-#[cfg(test)]
-mod tests;
 mod walks;
 
 pub use keeping::ports_kept;

@@ -1,5 +1,5 @@
-use Rattle.std.proofs.Common.{◌≡◌, ◌+◌, ◌≤◌, [], min, max, length, map, ℕ, drop}
-use Rattle.dh_tree.specs.Phases.{phases, groups_phases, parts_phases, joined}
+use Rattle.std.proofs.Common.{◌≡◌, ◌+◌, ◌≤◌, min, max, length, map, drop}
+use Rattle.dh_tree.specs.Phases.{groups_phases, parts_phases}
 use Rattle.dh_tree.specs.Seen.{action_seen, part_seen, groups, actions}
 use Rattle.dh_ports.specs.StepCounts.{most_of}
 use Rattle.dh_ports.proofs.steps.+steps.Given as goal

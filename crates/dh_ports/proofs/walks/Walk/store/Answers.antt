@@ -1,4 +1,3 @@
-use Rattle.std.proofs.Common.{◌≡◌}
 use Rattle.std.proofs.lemmas.Result.{err_from_is_err_and}
 use Rattle.dh_tree.specs.Seen.{term_seen}
 use Rattle.dh_ports.specs.WalkSteps.{standing}
