@@ -296,7 +296,7 @@ mutual
       block_then stepped id b more x (λ k. block_fine id b (spell_part more x) k) (λ after k. part_fine after (id + count_block b) more x k) h
   part_fine stepped id (compound_then (if_alone (if_else word opener e closer b other)) more) x h = absurd (cc)
   part_fine stepped id (compound_then (while_loop word opener e closer b) more) x h = absurd (cc)
-  part_fine stepped id (compound_then (for_loop head b combine) more) x h = absurd (cc)
+  part_fine stepped id (compound_then (for_loop head b _) more) x h = absurd (cc)
   part_fine stepped id (semicolon_then semicolon more) x h =
       let f = part_fine stepped id more x h in
       let short = f.0.short in
