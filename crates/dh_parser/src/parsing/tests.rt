@@ -1,10 +1,11 @@
 //! The trees of texts, written out with brackets, and the places where texts are refused.
 
 use crate::parsing::parse;
-use dh_tree::{Command, CommandForm, Expr, ExprForm, Ref, ShapePlaces, Tree, ViewForm};
 use dh_base::{PassFault, Place};
 use dh_lexer::lex;
-use dh_tree::{Kind, Shape};
+use dh_tree::{
+    Command, CommandForm, Expr, ExprForm, Kind, Ref, Shape, ShapePlaces, Tree, ViewForm,
+};
 use std::alloc::Global;
 use std::test::Fail;
 

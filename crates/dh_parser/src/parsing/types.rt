@@ -9,10 +9,9 @@ ghost use Rattle.dh_parser.specs.Reading.{width_then, the_kind, the_ports, the_b
 ghost use Rattle.dh_parser.specs.TreesOfTexts.{kind_of, kind_place, dims_of, places_of};
 
 use crate::parsing::reading::{Mark, Numeral, Reader, Stop};
-use dh_tree::{DimPlaces, ShapePlaces};
 use dh_base::{Items, Place};
 use dh_lexer::{Token, TokenKind};
-use dh_tree::{Dim, Kind, Shape};
+use dh_tree::{Dim, DimPlaces, Kind, Shape, ShapePlaces};
 
 /// A type as it is written.
 #[derive(Drop)]
