@@ -8,7 +8,7 @@ use Rattle.dh_value.specs.declared.operators.Op.{Op}
 use Rattle.dh_parser.specs.declared.parsing.reading.Mark.TheVariants as mark
 use Rattle.dh_parser.specs.Grammar.{NameText, NumberText, KindText, ExprText, bool_kind, bit_kind, ubit_kind, no_ports, some_ports, no_banks, some_banks, no_dims, dim_then, literal, negative, truth, variable, access, bracket, cast, binary, element, physical, index, no_indices, index_then}
 use Rattle.dh_parser.specs.Allowed.{level}
-use Rattle.dh_parser.specs.Reading.{Outcome, name_text, number_text, is_width, width_from, the_width, width_then, kind_from, the_kind, the_ports, the_banks, the_dims, type_text, the_type, op_from, sign_text, sign_from, sign_at, Reads, the_index, more_indices, access_from, goes_on, named_from, bracket_from, operand_from, operand, chain_with, chain, read, steps, the_expression}
+use Rattle.dh_parser.specs.Reading.{Outcome, name_text, number_text, is_width, width_from, the_width, width_then, kind_from, the_kind, the_ports, the_banks, the_dims, type_text, the_type, op_from, sign_text, sign_from, sign_at, Reads, the_index, more_indices, access_from, goes_on, named_from, bracket_from, operand_from, operand, chain_with, chain, read, steps, the_expression, expression}
 use Rattle.dh_parser.proofs.AlikeBasics.{Where, first, second, Alikes, next_at, least, ends, no_steps, stepped, choose, if_comes, Before, takes, stays, passes, if_before, by_token, mark_alike, number_alike}
 
 width_before : (k : TokenKind) (t : Token) (p q : List Token) (w : Where p) → Before p q w (width_from k t (first p w)) (width_from k t (second p q w))
@@ -174,4 +174,5 @@ read_alike (suc d) c k p q w =
     chain_alike (read d) (read c) (read_alike d c) (suc (length (first p w0))) (suc (length (second p q w0))) k e p q w0
 
 pub expression_alike : Alikes the_expression the_expression
+unfolding expression
 expression_alike p q w = read_alike (steps (first p w)) (steps (second p q w)) 0 p q w

@@ -308,6 +308,7 @@ blocks_alike (suc d) c p q w =
     ends (block opener parts closer) w2
 
 the_block_alike : Alikes the_block the_block
+unfolding the_block
 the_block_alike p q w = blocks_alike (steps (first p w)) (steps (second p q w)) p q w
 
 parameter_alike : Alikes the_parameter the_parameter

@@ -39,7 +39,7 @@ pub body_made : {t : Action} (id old count new : ℕ) (place : Place) (body : Ve
     → t ≡ action id place (action_form_seen (Block body)) → id ≡ old → count ≡ old + 1 → place ≡ parts_place end p → SameParts body p count new → t ≡ body_of old p end
 body_made id old count new place body p end h e f g s =
     h ∙ (ap (λ x. action id place x) (block_is body) ∙ (ap (λ x. action id place (blocks x)) s.is ∙ (ap (λ x. action id place (blocks (parts_of x p))) (f ∙ add_one old)
-      ∙ (ap (λ x. action x place (blocks (parts_of (suc old) p))) e ∙ ap (λ x. action old x (blocks (parts_of (suc old) p))) g))))
+    ∙ (ap (λ x. action x place (blocks (parts_of (suc old) p))) e ∙ ap (λ x. action old x (blocks (parts_of (suc old) p))) g))))
 
 pub if_made : {t : Action} (id old count mid new : ℕ) (place word opener closer : Place) (test : Expr) (first other : _) (v : Command) (e : ExprText) (b : BlockText) (l : ElseText)
     → t ≡ action id place (action_form_seen (If test first other)) → id ≡ old → count ≡ old + 1 → place ≡ word → SameTerm test e → first.value ≡ v → SameBlock v b count mid

@@ -18,9 +18,9 @@ use Rattle.dh_parser.proofs.Going.{assoc, same_bind, if_true, if_false}
 pub pushed_map : {X Z : Type 0} {new : List X} (old : List X) (f : X → Z) (x : X) → new ≡ old ++ (x ∷ []) → map f new ≡ map f old ++ (f x ∷ [])
 pushed_map old f x e = ap (map f) e ∙ snoc f x old
   where
-  snoc : {X Z : Type 0} (f : X → Z) (x : X) (l : List X) → map f (l ++ (x ∷ [])) ≡ map f l ++ (f x ∷ [])
-  snoc f x [] = refl
-  snoc f x (y ∷ l) = ap (λ m. f y ∷ m) (snoc f x l)
+    snoc : {X Z : Type 0} (f : X → Z) (x : X) (l : List X) → map f (l ++ (x ∷ [])) ≡ map f l ++ (f x ∷ [])
+    snoc f x [] = refl
+    snoc f x (y ∷ l) = ap (λ m. f y ∷ m) (snoc f x l)
 
 pub first_in : {X : Type 0} {new old : List X} {y : X} (x : X) (rest : List X) → new ≡ old ++ (x ∷ []) → old ≡ [] → x ≡ y → y ∷ rest ≡ new ++ rest
 first_in x rest g n s = ap (λ u. u ∷ rest) (sym s) ∙ ap (λ l. l ++ rest) (sym (g ∙ ap (λ l. l ++ (x ∷ [])) n))

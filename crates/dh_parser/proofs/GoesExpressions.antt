@@ -11,7 +11,7 @@ use Rattle.dh_parser.specs.Marks.{comes}
 use Rattle.dh_parser.specs.Grammar.{NameText, ExprText, bool_kind, negative, access, bracket, cast, binary, element, physical, index, no_indices, index_then}
 use Rattle.dh_parser.specs.Spelling.{put, put_name, sign_of, spell, spell_access, spell_index, spell_indices}
 use Rattle.dh_parser.specs.Allowed.{level, Fits, AccessFits, IndexFits, IndicesFit}
-use Rattle.dh_parser.specs.Reading.{Outcome, bind, name_text, Sign, sign_at, Reads, the_index, more_indices, access_from, goes_on, named_from, bracket_from, operand_from, operand, chain_with, chain, read, steps, the_expression}
+use Rattle.dh_parser.specs.Reading.{Outcome, bind, name_text, Sign, sign_at, Reads, the_index, more_indices, access_from, goes_on, named_from, bracket_from, operand_from, operand, chain_with, chain, read, steps, the_expression, expression}
 use Rattle.dh_parser.proofs.SoundOperands.{Sound, index_took, indices_took, operand_took}
 use Rattle.dh_parser.proofs.SoundOperators.{level_small, Below, sign_is, loose, looser, Read, Tight, le-refl, read_tight}
 use Rattle.dh_parser.proofs.SoundSimple.{read_took, expression_took}
@@ -132,4 +132,5 @@ pub reads_go : (d : ℕ) → ReadsGo (read d)
 reads_go d k = part_of expression_front (read_took d k) (read_go d k)
 
 pub expression_goes : Part (Fits 0) spell the_expression
+unfolding expression
 expression_goes = part_of expression_front expression_took (λ b z o ts. read_go (steps ts) 0 b z o ts)

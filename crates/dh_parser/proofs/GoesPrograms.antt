@@ -150,6 +150,7 @@ blocks_go : (d : ℕ) → BlocksGo (read_block d)
 blocks_go d = part_of block_front (blocks_took d) (block_go d)
 
 the_block_goes : BlocksGo the_block
+unfolding the_block
 the_block_goes = part_of block_front block_took (λ b z o ts. block_go (steps ts) b z o ts)
 
 parameter_go : GoesOn ParameterFits spell_parameter the_parameter

@@ -93,8 +93,8 @@ function_more {start = start} {ds = ds} {fs = fs} {new = new} {n = n} {m = m} {p
 abbrev declares : Ref → Shape → ShapePlaces → Declared
 declares n s p = record { name = n; shape = s; shape_places = p }
 
-abbrev defines : Ref → List Formal → Action → Defined
-defines n ps x = record { name = n; parameters = ps; body = x }
+abbrev defines : Place → Ref → List Formal → Action → Defined
+defines w n ps x = record { place = w; name = n; parameters = ps; body = x }
 
 all_counted : (old mid new a k : ℕ) → mid ≡ old → new ≡ mid + a → old + (a + k) ≡ new + k
 all_counted old mid new a k e f = omega arith
@@ -117,12 +117,13 @@ decl_made d w word n colon t semicolon e s f g = record {
   counted = λ more. refl;
 }
 
-pub function_made : (f : Function) (old mid new : ℕ) (word : Place) (n : NameText) (opener : Place) (ps : ParametersText) (equal : Place) (b : BlockText) → f.name ≡ ref_of n → map formal_seen f.parameters.items ≡ formals_of ps
+pub function_made : (f : Function) (old mid new : ℕ) (word : Place) (n : NameText) (opener : Place) (ps : ParametersText) (equal : Place) (b : BlockText) → f.place ≡ word → f.name ≡ ref_of n → map formal_seen f.parameters.items ≡ formals_of ps
     → mid ≡ old → SameBlock f.body b mid new → SameFunction f (λ more. def_then word n opener ps equal b more) old new
-function_made f old mid new word n opener ps equal b e p m s = record {
+function_made f old mid new word n opener ps equal b w e p m s = record {
   decls = λ more. refl;
-  functions = λ more. ap (λ x. x ∷ functions_of (old + count_block b) more) (sym (ap (λ r. defines r (map formal_seen f.parameters.items) (action_seen f.body)) e ∙ (ap (λ r. defines (ref_of n) r (action_seen f.body)) p
-      ∙ ap (λ r. defines (ref_of n) (formals_of ps) r) (s.is ∙ ap (λ k. block_of k b) m))))
+  functions = λ more. ap (λ x. x ∷ functions_of (old + count_block b) more) (sym (ap (λ r. defines r f.name (map formal_seen f.parameters.items) (action_seen f.body)) w
+      ∙ (ap (λ r. defines word r (map formal_seen f.parameters.items) (action_seen f.body)) e ∙ (ap (λ r. defines word (ref_of n) r (action_seen f.body)) p
+      ∙ ap (λ r. defines word (ref_of n) (formals_of ps) r) (s.is ∙ ap (λ k. block_of k b) m)))))
       ∙ ap (λ k. defined_seen f ∷ functions_of k more) (sym (s.counted ∙ ap (λ k. k + count_block b) m));
   counted = λ more. all_counted old mid new (count_block b) (count_items more) m s.counted;
 }

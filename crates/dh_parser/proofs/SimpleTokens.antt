@@ -60,9 +60,9 @@ access_starts read n ts = by (λ a. place_of (access_of a) ≡ n.place) (comes m
     (all_then _ (the_index read ts) _ λ i r0.
     all_then _ (more_indices read (steps r0) r0) _ λ more r1. refl)
   where
-  by : (P : AccessText → Type 0) (b : Bool) (x y : Outcome AccessText) → AllOf P x → AllOf P y → AllOf P (if b then x else y)
-  by P true x y p q = p
-  by P false x y p q = q
+    by : (P : AccessText → Type 0) (b : Bool) (x y : Outcome AccessText) → AllOf P x → AllOf P y → AllOf P (if b then x else y)
+    by P true x y p q = p
+    by P false x y p q = q
 
 pub reducer_some : (o : Option ReducerText) (p : Op) → Some p ≡ option_map reducer_op o → (r : ReducerText) × ((o ≡ Some r) × (p ≡ reducer_op r))
 reducer_some None p e = absurd (cc e)

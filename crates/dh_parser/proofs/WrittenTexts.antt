@@ -69,9 +69,10 @@ are_dims (dim_then opener size banks closer more) = (one_bank size.place banks, 
 decls_declared : (id : ℕ) (items : ItemsText) (x : List Token) → unbuilt_functions (functions_of id items) ≡ [] → AreSound (spell_items items x)
     → AllByRecursion IsDeclared (decls_of items)
 decls_declared id no_items x none h = tt
-decls_declared id (decl_then word n colon t semicolon more) x none h =
-    (record { named = h.1.0; ports = one_port (kind_place t.kind) t.ports; dims = are_dims t.dims },
-    decls_declared id more x none (behind (front_of spell_type type_front t) _ h.1.1.1).1)
+decls_declared id (decl_then word n colon t semicolon more) x none h = (
+  record { named = h.1.0; ports = one_port (kind_place t.kind) t.ports; dims = are_dims t.dims },
+  decls_declared id more x none (behind (front_of spell_type type_front t) _ h.1.1.1).1,
+)
 decls_declared id (def_then word n opener ps equal b more) x none h = cc
 
 decls_short : (id : ℕ) (items : ItemsText) (x : List Token) → unbuilt_functions (functions_of id items) ≡ []
@@ -226,10 +227,14 @@ block_then stepped id (block opener parts closer) more x own others h =
     let none' = g.0.none in
     let after = f.0.next in
     let later = g.0.next in
-    let n = length-append (accesses (block_of id inner)) (part_accesses (part_of (id + count_block inner) more)) in
-    (record { short = omega (arith, first, rest, n); none = omega (arith, none, none');
-      next = ap (λ m. part_after m (part_of (id + count_block inner) more)) after ∙ omega (arith, later) },
-    (f.1, subst (λ (m : ℕ). AreCounted m (part_of (id + count_block inner) more)) (sym after) g.1))
+    let n = length-append (accesses (block_of id inner)) (part_accesses (part_of (id + count_block inner) more)) in (
+      record {
+        short = omega (arith, first, rest, n);
+        none = omega (arith, none, none');
+        next = ap (λ m. part_after m (part_of (id + count_block inner) more)) after ∙ omega (arith, later);
+      },
+      (f.1, subst (λ (m : ℕ). AreCounted m (part_of (id + count_block inner) more)) (sym after) g.1),
+    )
 
 mutual
   block_fine : (id : ℕ) (b : BlockText) (x : List Token) → unbuilt_action (block_of id b) ≡ []
@@ -238,10 +243,14 @@ mutual
       let f = parts_fine (suc id) parts (put kind.CloseBrace closer x) h in
       let long = f.0.short in
       let same : suc id ≡ id + 1 = omega arith in
-      let next = f.0.next in
-      (record { short = omega (arith, long); none = f.0.none;
-        next = subst (λ (n : ℕ). groups_after n (parts_of (suc id) parts) ≡ id + suc (count_parts parts)) same (omega (arith, next)) },
-      (refl, subst (λ (n : ℕ). AreCountedGroups n (parts_of (suc id) parts)) same f.1))
+      let next = f.0.next in (
+        record {
+          short = omega (arith, long);
+          none = f.0.none;
+          next = subst (λ (n : ℕ). groups_after n (parts_of (suc id) parts) ≡ id + suc (count_parts parts)) same (omega (arith, next));
+        },
+        (refl, subst (λ (n : ℕ). AreCountedGroups n (parts_of (suc id) parts)) same f.1),
+      )
 
   parts_fine : (id : ℕ) (ps : PartsText) (x : List Token) → unbuilt_groups (parts_of id ps) ≡ []
       → Fine id (count_parts ps) (groups_accesses (parts_of id ps)) (declared_in_groups (parts_of id ps)) (groups_after id (parts_of id ps)) x (spell_parts ps x) × AreCountedGroups id (parts_of id ps)
@@ -261,10 +270,14 @@ mutual
       let n = length-append (part_accesses (part_of id p)) (groups_accesses (parts_of (id + count_part p) more)) in
       let none = f.0.none in
       let none' = g.0.none in
-      let next = g.0.next in
-      (record { short = omega (arith, first, rest, n); none = omega (arith, none, none');
-        next = ap (λ m. groups_after m (parts_of (id + count_part p) more)) f.0.next ∙ omega (arith, next) },
-      (f.1, subst (λ (m : ℕ). AreCountedGroups m (parts_of (id + count_part p) more)) (sym f.0.next) g.1))
+      let next = g.0.next in (
+        record {
+          short = omega (arith, first, rest, n);
+          none = omega (arith, none, none');
+          next = ap (λ m. groups_after m (parts_of (id + count_part p) more)) f.0.next ∙ omega (arith, next);
+        },
+        (f.1, subst (λ (m : ℕ). AreCountedGroups m (parts_of (id + count_part p) more)) (sym f.0.next) g.1),
+      )
 
   part_fine : (stepped : Bool) (id : ℕ) (p : PartText) (x : List Token) → unbuilt_part stepped (part_of id p) ≡ []
       → Fine id (count_part p) (part_accesses (part_of id p)) (declared_in_actions (part_of id p)) (part_after id (part_of id p)) x (spell_part p x) × AreCounted id (part_of id p)
@@ -288,15 +301,19 @@ mutual
       let next = f.0.next in
       let after : form_after (id + 1) (simple_form s) ≡ suc id = omega (arith, next) in
       let later = g.0.next in
-      let n = length-append (command_accesses id (simple_form s)) (part_accesses (part_of (suc id) more)) in
-      (record { short = omega (arith, first, rest, n); none = omega (arith, none, none');
-        next = ap (λ m. part_after m (part_of (suc id) more)) after ∙ omega (arith, later) },
-      ((refl, f.1), subst (λ (m : ℕ). AreCounted m (part_of (suc id) more)) (sym after) g.1))
+      let n = length-append (command_accesses id (simple_form s)) (part_accesses (part_of (suc id) more)) in (
+        record {
+          short = omega (arith, first, rest, n);
+          none = omega (arith, none, none');
+          next = ap (λ m. part_after m (part_of (suc id) more)) after ∙ omega (arith, later);
+        },
+        ((refl, f.1), subst (λ (m : ℕ). AreCounted m (part_of (suc id) more)) (sym after) g.1),
+      )
   part_fine stepped id (compound_then (block_alone b) more) x h =
       block_then stepped id b more x (λ k. block_fine id b (spell_part more x) k) (λ after k. part_fine after (id + count_block b) more x k) h
   part_fine stepped id (compound_then (if_alone (if_else word opener e closer b other)) more) x h = absurd (cc)
   part_fine stepped id (compound_then (while_loop word opener e closer b) more) x h = absurd (cc)
-  part_fine stepped id (compound_then (for_loop head b combine) more) x h = absurd (cc)
+  part_fine stepped id (compound_then (for_loop head b _) more) x h = absurd (cc)
   part_fine stepped id (semicolon_then semicolon more) x h =
       let f = part_fine stepped id more x h in
       let short = f.0.short in

@@ -24,11 +24,13 @@ use Rattle.dh_parser.specs.declared.parsing.reading.Stop.TheVariants as stop
 use Rattle.dh_parser.specs.declared.parsing.reading.Mark.{Mark}
 use Rattle.dh_parser.specs.declared.parsing.reading.Numeral.{Numeral}
 use Rattle.dh_parser.specs.declared.parsing.types.WrittenType.{WrittenType}
+use Rattle.dh_parser.specs.declared.parsing.types.WrittenPorts.{WrittenPorts}
+use Rattle.dh_parser.specs.declared.parsing.types.WrittenBanks.{WrittenBanks}
 use Rattle.dh_parser.specs.declared.parsing.types.WrittenDim.{WrittenDim}
 use Rattle.dh_parser.specs.declared.parsing.loops.LoopHead.{LoopHead}
-use Rattle.dh_parser.specs.Grammar.{ItemsText, FactorText, SuffixText, OffsetText, ViewText, SimpleText, BlockText, PartsText, PartText, CompoundText, IfText, ElseText, CombineText, ExprText, IndexText, MoreIndicesText, PortsText, no_ports, some_ports, DimsText, dim_then, TypeText, HeadText}
+use Rattle.dh_parser.specs.Grammar.{ItemsText, FactorText, SuffixText, OffsetText, ViewText, SimpleText, BlockText, PartsText, PartText, CompoundText, IfText, ElseText, CombineText, ExprText, IndexText, MoreIndicesText, PortsText, no_ports, some_ports, BanksText, DimsText, dim_then, TypeText, HeadText}
 use Rattle.dh_parser.specs.Marks.{comes}
-use Rattle.dh_parser.specs.TreesOfTexts.{placed_of, ref_of, dims_of, places_of, shape_of, shape_places_of, is_memory_type, declared_of, factor_of, term_of, index_of, indices_of, suffix_of, parent_of, view_of, simple_form, simple_place, block_of, parts_of, part_of, compound_of, if_of, else_of, combine_of, if_place, count_block, count_parts, count_part, count_compound, count_if, count_else, count_combine, decls_of, functions_of, count_items}
+use Rattle.dh_parser.specs.TreesOfTexts.{placed_of, ref_of, word_of, banks_of, dims_of, places_of, shape_of, shape_places_of, is_memory_type, declared_of, factor_of, term_of, index_of, indices_of, suffix_of, parent_of, view_of, simple_form, simple_place, block_of, parts_of, part_of, compound_of, if_of, else_of, combine_of, if_place, count_block, count_parts, count_part, count_compound, count_if, count_else, count_combine, decls_of, functions_of, count_items}
 use Rattle.dh_parser.specs.Reading.{Outcome, good, bad, deep, the, Sign, sign_text, sign_at, Beginning, begins_simple, begins_compound, begins_semicolon, begins_nothing}
 
 abbrev pub AnswersBy : {A B : Type 0} → (B → A → Type 0) → Result B Stop → List Token → Outcome A → Type 0
@@ -56,11 +58,15 @@ StandsAt _ _ = ⊥
 abbrev pub SameNumber : Numeral → Placed → Type 0
 SameNumber n p = (n.value ≡ p.value) × (n.place ≡ p.place)
 
--- the number of ports, where it is written
-abbrev pub SamePorts : Option Numeral → PortsText → Type 0
+-- the number of ports and the place of its braces, where it is written
+abbrev pub SamePorts : Option WrittenPorts → PortsText → Type 0
 SamePorts None no_ports = Unit {0}
-SamePorts (Some n) (some_ports opener ports closer) = SameNumber n (placed_of ports)
+SamePorts (Some p) (some_ports opener ports closer) = (p.braces ≡ opener) × SameNumber p.number (placed_of ports)
 SamePorts _ _ = ⊥
+
+-- the number of banks after a size that stands here, and the place of its word, where it is written
+abbrev pub SameBanks : Place → WrittenBanks → BanksText → Type 0
+SameBanks size b t = (b.word ≡ word_of t) × SameNumber b.number (banks_of size t)
 
 -- a dimension, as what it is put in front of others
 abbrev pub SameDim : WrittenDim → (DimsText → DimsText) → Type 0

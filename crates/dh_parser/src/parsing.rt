@@ -19,9 +19,9 @@ mod views;
 use crate::parsing::programs::program;
 use crate::parsing::reading::{Reader, Stop};
 use crate::parsing::refusals::refusal;
-use dh_tree::Tree;
 use dh_base::PassFault;
 use dh_lexer::Token;
+use dh_tree::Tree;
 use std::alloc::Global;
 
 /// The tree of the program that these tokens spell. They end with `End`, and are fewer than 2^32

@@ -11,6 +11,7 @@ ghost use Rattle.dh_parser.specs.TreesOfTexts.{ref_of, formal_of, formals_of, bo
 use crate::parsing::commands::{read_block, read_sequence};
 use crate::parsing::reading::{Mark, Reader, Stop, begin};
 use crate::parsing::types::{WrittenType, read_type};
+use dh_base::Place;
 use dh_lexer::TokenKind;
 use dh_tree::{Command, CommandForm, Decl, Function, Parameter, Ref, Tree};
 
@@ -116,7 +117,7 @@ fn read_item(reader: &mut Reader<'_>) -> Result<Option<Item>, Stop>
         }
         TokenKind::Def => {
             reader.rest = after;
-            let function = read_function(reader)?;
+            let function = read_function(reader, token.place)?;
             Ok(Some(Item::Function(function)))
         }
         _ => Ok(None),
@@ -140,10 +141,10 @@ fn read_decl(reader: &mut Reader<'_>) -> Result<Decl, Stop>
     })
 }
 
-/// The rest of `def name(parameters) = { .. }`, after its word.
-fn read_function(reader: &mut Reader<'_>) -> Result<Function, Stop>
+/// The rest of `def name(parameters) = { .. }`, after its word, which stands here.
+fn read_function(reader: &mut Reader<'_>, word: Place) -> Result<Function, Stop>
     requires { reader.old.commands + length reader.old.rest.now ≤ 2 ^ 32 }
-    ensures answer { (word : Place) → Answers (λ f put. SameFunction f put reader.old.commands reader.new.commands) result reader.new.rest.now (the_def word reader.old.rest.now) }
+    ensures answer { Answers (λ f put. SameFunction f put reader.old.commands reader.new.commands) result reader.new.rest.now (the_def word reader.old.rest.now) }
     ensures room { reader.new.commands + length reader.new.rest.now ≤ reader.old.commands + length reader.old.rest.now }
     ensures shorter { length reader.new.rest.now ≤ length reader.old.rest.now }
 {
@@ -153,7 +154,7 @@ fn read_function(reader: &mut Reader<'_>) -> Result<Function, Stop>
     reader.skip(Mark::Assign)?;
     let body = read_block(reader)?;
     Ok(Function {
-        place: name.place,
+        place: word,
         name,
         parameters,
         body,

@@ -8,9 +8,9 @@ ghost use Rattle.dh_parser.specs.Reading.{the, the_number, the_name, goes_on};
 ghost use Rattle.dh_parser.specs.TreesOfTexts.{ref_of, placed_of};
 ghost use Rattle.dh_parser.specs.declared.parsing.reading.Stop.TheVariants as stop;
 
-use dh_tree::Ref;
 use dh_base::{NoMemory, Place};
 use dh_lexer::{Token, TokenKind};
+use dh_tree::Ref;
 use std::alloc::{AllocError, AllocFailed, Global};
 
 /// Where a parser stands.

@@ -1,10 +1,11 @@
 //! The trees of texts, written out with brackets, and the places where texts are refused.
 
 use crate::parsing::parse;
-use dh_tree::{Command, CommandForm, Expr, ExprForm, Ref, Tree, ViewForm};
-use dh_base::PassFault;
+use dh_base::{PassFault, Place};
 use dh_lexer::lex;
-use dh_tree::{Kind, Shape};
+use dh_tree::{
+    Command, CommandForm, Expr, ExprForm, Kind, Ref, Shape, ShapePlaces, Tree, ViewForm,
+};
 use std::alloc::Global;
 use std::test::Fail;
 
@@ -331,6 +332,92 @@ fn reads_the_tree_of_each_form(rt: HostRuntime) -> Result<(), Fail> {
         ),
     ] {
         let got = shown(alloc, text.as_bytes())?;
+        assert_eq!(rt; got.as_str(), want, "at {text}");
+    }
+    Ok(())
+}
+
+fn show_place(out: &mut String, place: Place) -> Result<(), Fail> {
+    write!(out, " {}:{}", place.line, place.column)?;
+    Ok(())
+}
+
+fn show_written(out: &mut String, place: Option<Place>) -> Result<(), Fail> {
+    match place {
+        Some(place) => show_place(out, place)?,
+        None => write!(out, " none")?,
+    }
+    Ok(())
+}
+
+/// Where a type's kind, braces and ports stand, and the bracket, size, word and banks of each dimension.
+fn show_places(out: &mut String, places: &ShapePlaces) -> Result<(), Fail> {
+    show_place(out, places.kind_place)?;
+    show_written(out, places.braces_place)?;
+    show_place(out, places.ports_place)?;
+    for dim in places.dims.as_slice() {
+        write!(out, " [")?;
+        show_place(out, dim.open_place)?;
+        show_place(out, dim.size_place)?;
+        show_written(out, dim.word_place)?;
+        show_place(out, dim.banks_place)?;
+        write!(out, " ]")?;
+    }
+    Ok(())
+}
+
+fn show_items(out: &mut String, tree: &Tree) -> Result<(), Fail> {
+    for decl in tree.decls.as_slice() {
+        write!(out, "decl")?;
+        show_place(out, decl.name.place)?;
+        show_places(out, &decl.shape_places)?;
+        write!(out, ";")?;
+    }
+    for function in tree.functions.as_slice() {
+        write!(out, "def")?;
+        show_place(out, function.place)?;
+        show_place(out, function.name.place)?;
+        for parameter in function.parameters.as_slice() {
+            show_place(out, parameter.name.place)?;
+            show_places(out, &parameter.shape_places)?;
+        }
+        write!(out, ";")?;
+    }
+    Ok(())
+}
+
+/// Where the parts of the text's declarations and functions stand.
+fn places(alloc: Global, text: &[u8]) -> Result<String, Fail> {
+    let mut out = String::new(alloc);
+    if text.len() > 1_048_576 {
+        return Ok(out);
+    }
+    let tokens = match lex(alloc, text) {
+        Ok(tokens) => tokens,
+        Err(_) => return Ok(String::from_str(alloc, "not lexed")?),
+    };
+    match parse(alloc, &tokens) {
+        Ok(tree) => show_items(&mut out, &tree)?,
+        Err(_) => write!(out, "not parsed")?,
+    }
+    Ok(out)
+}
+
+#[test]
+fn keeps_where_the_parts_of_types_and_functions_stand(rt: HostRuntime) -> Result<(), Fail> {
+    let alloc = rt.alloc();
+    for (text, want) in [
+        (
+            "decl a: bit<8>{2}[4 bank 2][3];",
+            "decl 1:6 1:9 1:15 1:16 [ 1:18 1:19 1:21 1:26 ] [ 1:28 1:29 none 1:29 ];",
+        ),
+        (
+            "decl a: bool;\n  def f(x: bool, y: bit<4>[2]) = { }",
+            "decl 1:6 1:9 none 1:9;def 2:3 2:7 2:9 2:12 none 2:12 2:18 2:21 none 2:21 [ 2:27 2:28 none 2:28 ];",
+        ),
+        ("def f(x: bool) = { }", "def 1:1 1:5 1:7 1:10 none 1:10;"),
+    ] {
+        let got = places(alloc, text.as_bytes())?;
         assert_eq!(rt; got.as_str(), want, "at {text}");
     }
     Ok(())

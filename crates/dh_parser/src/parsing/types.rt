@@ -3,26 +3,43 @@
 ghost use Rattle.std.specs.Prelude.{◌≡◌, ◌<◌, ◌≤◌, length, IfOk};
 ghost use Rattle.dh_base.specs.declared.places.Place.{Place};
 ghost use Rattle.dh_value.specs.declared.kinds.Kind.TheVariants as kinds;
-ghost use Rattle.dh_parser.specs.Answers.{Answers, SameNumber, SamePorts, SameDim, SameType};
+ghost use Rattle.dh_parser.specs.Answers.{Answers, SameBanks, SamePorts, SameDim, SameType};
 ghost use Rattle.dh_parser.specs.Grammar.{TypeText, bit_kind, ubit_kind};
 ghost use Rattle.dh_parser.specs.Reading.{width_then, the_kind, the_ports, the_banks, the_dim, the_dims, the_type, steps};
-ghost use Rattle.dh_parser.specs.TreesOfTexts.{kind_of, kind_place, banks_of, dims_of, places_of};
+ghost use Rattle.dh_parser.specs.TreesOfTexts.{kind_of, kind_place, dims_of, places_of};
 
 use crate::parsing::reading::{Mark, Numeral, Reader, Stop};
-use dh_tree::{DimPlaces, ShapePlaces};
 use dh_base::{Items, Place};
 use dh_lexer::{Token, TokenKind};
-use dh_tree::{Dim, Kind, Shape};
+use dh_tree::{Dim, DimPlaces, Kind, Shape, ShapePlaces};
 
 /// A type as it is written.
 #[derive(Drop)]
 pub(crate) struct WrittenType {
     /// Its kind, ports and dimensions; 1 port and 1 bank where they are not written.
     pub shape: Shape,
-    /// The places of its numbers.
+    /// The places of its parts.
     pub places: ShapePlaces,
     /// Whether it has ports or dimensions, as a memory has.
     pub is_memory: bool,
+}
+
+/// A number of ports as it is written.
+#[derive(Clone, Copy)]
+pub(crate) struct WrittenPorts {
+    /// Where the `{` before it stands.
+    pub braces: Place,
+    /// The number.
+    pub number: Numeral,
+}
+
+/// A number of banks as it is written, or 1 where it is not.
+#[derive(Clone, Copy)]
+pub(crate) struct WrittenBanks {
+    /// Where the word before it stands, where it is written.
+    pub word: Option<Place>,
+    /// The number.
+    pub number: Numeral,
 }
 
 /// A dimension as it is written.
@@ -30,7 +47,7 @@ pub(crate) struct WrittenType {
 pub(crate) struct WrittenDim {
     /// Its size and banks.
     pub dim: Dim,
-    /// The places of these numbers.
+    /// The places of its parts.
     pub places: DimPlaces,
 }
 
@@ -107,16 +124,16 @@ pub(crate) fn read_type(reader: &mut Reader<'_>) -> Result<WrittenType, Stop>
 fn written_type(
     place: Place,
     kind: Kind,
-    ports: Option<Numeral>,
+    ports: Option<WrittenPorts>,
     dims: Items<Dim>,
     places: Items<DimPlaces>,
 ) -> WrittenType
     ensures { (t : TypeText) → kind ≡ kind_of t.kind → kind_place t.kind ≡ place → SamePorts ports t.ports
         → (dims ≡ dims_of t.dims) × (places ≡ places_of t.dims) → SameType result t }
 {
-    let (number, is_memory) = match ports {
-        Some(number) => (number, true),
-        None => (Numeral { value: 1, place }, !dims.is_empty()),
+    let (number, braces_place, is_memory) = match ports {
+        Some(ports) => (ports.number, Some(ports.braces), true),
+        None => (Numeral { value: 1, place }, None, !dims.is_empty()),
     };
     WrittenType {
         shape: Shape {
@@ -125,6 +142,8 @@ fn written_type(
             dims,
         },
         places: ShapePlaces {
+            kind_place: place,
+            braces_place,
             ports_place: number.place,
             dims: places,
         },
@@ -133,7 +152,7 @@ fn written_type(
 }
 
 /// A number of ports in braces, if a brace comes next.
-fn read_ports(reader: &mut Reader<'_>) -> Result<Option<Numeral>, Stop>
+fn read_ports(reader: &mut Reader<'_>) -> Result<Option<WrittenPorts>, Stop>
     ensures answer { Answers (λ ports p. SamePorts ports p) result reader.new.rest.now (the_ports reader.old.rest.now) }
     ensures commands { reader.new.commands ≡ reader.old.commands }
     ensures shorter { length reader.new.rest.now ≤ length reader.old.rest.now }
@@ -141,13 +160,13 @@ fn read_ports(reader: &mut Reader<'_>) -> Result<Option<Numeral>, Stop>
     if !reader.is_next(Mark::OpenBrace) {
         return Ok(None);
     }
-    reader.skip(Mark::OpenBrace)?;
-    let ports = reader.number()?;
+    let braces = reader.skip(Mark::OpenBrace)?;
+    let number = reader.number()?;
     reader.skip(Mark::CloseBrace)?;
-    Ok(Some(ports))
+    Ok(Some(WrittenPorts { braces, number }))
 }
 
-/// The dimensions that come next, and the places of their numbers.
+/// The dimensions that come next, and the places of their parts.
 fn read_dims(reader: &mut Reader<'_>) -> Result<(Items<Dim>, Items<DimPlaces>), Stop>
     ensures answer { Answers (λ dims t. (dims.0 ≡ dims_of t) × (dims.1 ≡ places_of t)) result reader.new.rest.now (the_dims (steps reader.old.rest.now) reader.old.rest.now) }
     ensures commands { reader.new.commands ≡ reader.old.commands }
@@ -170,36 +189,43 @@ fn read_dim(reader: &mut Reader<'_>) -> Result<WrittenDim, Stop>
     ensures shorter { length reader.new.rest.now ≤ length reader.old.rest.now }
     ensures taken { IfOk result (λ _. length reader.new.rest.now < length reader.old.rest.now) }
 {
-    reader.skip(Mark::OpenBracket)?;
+    let open_place = reader.skip(Mark::OpenBracket)?;
     let size = reader.number()?;
     let banks = read_banks(reader, size.place)?;
     reader.skip(Mark::CloseBracket)?;
     Ok(WrittenDim {
         dim: Dim {
             size: size.value,
-            banks: banks.value,
+            banks: banks.number.value,
         },
         places: DimPlaces {
-            open_place: size.place,
-            word_place: None,
+            open_place,
             size_place: size.place,
-            banks_place: banks.place,
+            word_place: banks.word,
+            banks_place: banks.number.place,
         },
     })
 }
 
 /// The number after `bank`, if the word comes next; else 1, at the place of the size.
-fn read_banks(reader: &mut Reader<'_>, size: Place) -> Result<Numeral, Stop>
-    ensures answer { Answers (λ banks t. SameNumber banks (banks_of size t)) result reader.new.rest.now (the_banks reader.old.rest.now) }
+fn read_banks(reader: &mut Reader<'_>, size: Place) -> Result<WrittenBanks, Stop>
+    ensures answer { Answers (λ banks t. SameBanks size banks t) result reader.new.rest.now (the_banks reader.old.rest.now) }
     ensures commands { reader.new.commands ≡ reader.old.commands }
     ensures shorter { length reader.new.rest.now ≤ length reader.old.rest.now }
 {
-    if reader.take(Mark::Bank) {
-        reader.number()
-    } else {
-        Ok(Numeral {
-            value: 1,
-            place: size,
-        })
+    if !reader.is_next(Mark::Bank) {
+        return Ok(WrittenBanks {
+            word: None,
+            number: Numeral {
+                value: 1,
+                place: size,
+            },
+        });
     }
+    let word = reader.skip(Mark::Bank)?;
+    let number = reader.number()?;
+    Ok(WrittenBanks {
+        word: Some(word),
+        number,
+    })
 }

@@ -138,13 +138,13 @@ read_part-returns-then-not-take-clause-answer t c =
 
 pub read_part-loop-reader-preserved-else-not-take : goal.read_part-loop-reader-preserved-else-not-take
 read_part-loop-reader-preserved-else-not-take t c =
-  let s = known c.in_ok-command-in-Simple.ensures.answer in
-  let m = c.if-not-take.ensures.took in record {
-  loops = loop_turn (simple_then s.0 m.1.0) c.loop-reader.invariant.loops (simple_turn _ _ _ s.0 m.1.0 c.in-Simple.ensures s.1.1 m.0 m.1.1) (search rules)
-      (λ put so. simple_more _ s.0 m.1.0 s.1.0.0 c.in_ok-push-in-Simple.ensures.items (c.if-not-take.ensures.commands ∙ s.1.0.1) so);
-  room = search rules;
-  shorter = search rules;
-}
+    let s = known c.in_ok-command-in-Simple.ensures.answer in
+    let m = c.if-not-take.ensures.took in record {
+      loops = loop_turn (simple_then s.0 m.1.0) c.loop-reader.invariant.loops (simple_turn _ _ _ s.0 m.1.0 c.in-Simple.ensures s.1.1 m.0 m.1.1) (search rules)
+          (λ put so. simple_more _ s.0 m.1.0 s.1.0.0 c.in_ok-push-in-Simple.ensures.items (c.if-not-take.ensures.commands ∙ s.1.0.1) so);
+      room = search rules;
+      shorter = search rules;
+    }
 
 pub read_part-returns-in_err-command-in-Compound-clause-answer : goal.read_part-returns-in_err-command-in-Compound-clause-answer
 read_part-returns-in_err-command-in-Compound-clause-answer t c =
@@ -153,21 +153,21 @@ read_part-returns-in_err-command-in-Compound-clause-answer t c =
 
 pub read_part-loop-reader-preserved-in-Continue-branch-4 : goal.read_part-loop-reader-preserved-in-Continue-branch-4
 read_part-loop-reader-preserved-in-Continue-branch-4 t c =
-  let s = known c.in_ok-command-in-Compound.ensures.answer in record {
-  loops = loop_turn (compound_then s.0) c.loop-reader.invariant.loops (compound_turn _ _ s.0 c.in-Compound.ensures s.1.1) (search rules)
-      (λ put so. compound_more _ s.0 s.1.0 c.in_ok-push-in-Compound.ensures.items so);
-  room = search rules;
-  shorter = search rules;
-}
+    let s = known c.in_ok-command-in-Compound.ensures.answer in record {
+      loops = loop_turn (compound_then s.0) c.loop-reader.invariant.loops (compound_turn _ _ s.0 c.in-Compound.ensures s.1.1) (search rules)
+          (λ put so. compound_more _ s.0 s.1.0 c.in_ok-push-in-Compound.ensures.items so);
+      room = search rules;
+      shorter = search rules;
+    }
 
 pub read_part-loop-reader-preserved : goal.read_part-loop-reader-preserved
 read_part-loop-reader-preserved t c =
-  let s = known c.in_ok-skip-in-Semicolon.ensures.answer in record {
-  loops = loop_turn (semicolon_then s.0) c.loop-reader.invariant.loops (semicolon_turn _ _ s.0 c.in-Semicolon.ensures s.1.1) (search rules)
-      (λ put so. semicolon_more s.0 c.in_ok-skip-in-Semicolon.ensures.commands so);
-  room = search rules;
-  shorter = search rules;
-}
+    let s = known c.in_ok-skip-in-Semicolon.ensures.answer in record {
+      loops = loop_turn (semicolon_then s.0) c.loop-reader.invariant.loops (semicolon_turn _ _ s.0 c.in-Semicolon.ensures s.1.1) (search rules)
+          (λ put so. semicolon_more s.0 c.in_ok-skip-in-Semicolon.ensures.commands so);
+      room = search rules;
+      shorter = search rules;
+    }
 
 pub read_part-returns-in-Nothing-clause-answer : goal.read_part-returns-in-Nothing-clause-answer
 read_part-returns-in-Nothing-clause-answer t c =
@@ -193,10 +193,10 @@ read_sequence-returns-then-not-take-clause-answer t c =
 
 pub read_sequence-loop-parts-preserved : goal.read_sequence-loop-parts-preserved
 read_sequence-loop-parts-preserved t c =
-  let s = known c.in_ok-part.ensures.answer in
-  let m = c.if-not-take.ensures.took in record {
-  loops = loop_turn (λ more. part_then s.0 m.1.0 more) c.loop-parts.invariant.loops (parts_turn c.loop-parts.reader.rest.now _ _ s.0 m.1.0 s.1.1 m.0 m.1.1) (search rules)
-      (λ put so. part_more c.in_ok-part.part s.0 m.1.0 (part_moved s.1.0 c.if-not-take.ensures.commands) c.in_ok-push.ensures.items so);
-  room = search rules;
-  shorter = search rules;
-}
+    let s = known c.in_ok-part.ensures.answer in
+    let m = c.if-not-take.ensures.took in record {
+      loops = loop_turn (λ more. part_then s.0 m.1.0 more) c.loop-parts.invariant.loops (parts_turn c.loop-parts.reader.rest.now _ _ s.0 m.1.0 s.1.1 m.0 m.1.1) (search rules)
+          (λ put so. part_more c.in_ok-part.part s.0 m.1.0 (part_moved s.1.0 c.if-not-take.ensures.commands) c.in_ok-push.ensures.items so);
+      room = search rules;
+      shorter = search rules;
+    }

@@ -27,7 +27,7 @@ pub loop-items-preserved : goal.loop-items-preserved
 loop-items-preserved c =
     let s = known (rw c.in-Some.is at c.in_ok-item.ensures.answer) in
     let g = item_goes c.in-Some.item s.0 _ _ s.1.0 in record {
-  loops = loop_turn g.0 c.loop-items.invariant.loops (items_turn c.loop-items.reader.rest.now c.read_item.new.reader.rest.now g.0 (s.1.1 ∙ ap (λ x. good x c.read_item.new.reader.rest.now) g.1.0))
-      (rw c.in-Some.is at c.in_ok-item.ensures.taken) (λ put so. item_more c.loop-items.items c.keep.new.items c.in-Some.item g.0 g.1.1 c.in_ok-keep.ensures so);
-  room = search rules;
-}
+      loops = loop_turn g.0 c.loop-items.invariant.loops (items_turn c.loop-items.reader.rest.now c.read_item.new.reader.rest.now g.0 (s.1.1 ∙ ap (λ x. good x c.read_item.new.reader.rest.now) g.1.0))
+          (rw c.in-Some.is at c.in_ok-item.ensures.taken) (λ put so. item_more c.loop-items.items c.keep.new.items c.in-Some.item g.0 g.1.1 c.in_ok-keep.ensures so);
+      room = search rules;
+    }

@@ -11,6 +11,7 @@ returns-in_err-form-clause-answer c =
 
 pub returns-clause-answer : goal.returns-clause-answer
 returns-clause-answer c =
-    ok_as (c.in_ok-form.ensures.answer _ c.in_ok-place.ensures) λ s p.
-    (ap (λ i. action i c.in_ok-place.place (action_form_seen c.in_ok-form.form)) (c.begin-id.ensures.id ∙ c.read_form.ensures.commands) ∙ ap2 (λ q f. action c.args.reader.now.commands q f) (sym p.1) p.0,
-    c.begin-id.ensures.count ∙ ap (λ n. n + 1) c.read_form.ensures.commands)
+    ok_as (c.in_ok-form.ensures.answer _ c.in_ok-place.ensures) λ s p. (
+      ap (λ i. action i c.in_ok-place.place (action_form_seen c.in_ok-form.form)) (c.begin-id.ensures.id ∙ c.read_form.ensures.commands) ∙ ap2 (λ q f. action c.args.reader.now.commands q f) (sym p.1) p.0,
+      c.begin-id.ensures.count ∙ ap (λ n. n + 1) c.read_form.ensures.commands,
+    )
