@@ -1,6 +1,6 @@
 -- A program whose forms are all built, with its names resolved, has the forms that the pass over ports
 -- takes: what it accesses are memories, each by one number.
-use Rattle.std.proofs.Common.{◌≡◌, ℕ, ◌<◌, Option, Some, None, List, [], ◌∷◌, ◌++◌, length, refl, ap, sym, ◌∙◌}
+use Rattle.std.proofs.Common.{◌≡◌, ℕ, ◌<◌, Option, Some, None, List, [], ◌∷◌, ◌++◌, length, refl, ap, sym, ◌∙◌, subst}
 use Rattle.std.specs.Prelude.{Bool, true, false, ◌&&◌, ◌||◌, if◌then◌else◌}
 use Rattle.std.specs.List.{AllByRecursion}
 use Rattle.std.specs.Option.{is_some}
@@ -14,7 +14,7 @@ use Rattle.dh_tree.specs.Scopes.{Binding, entity_of, Scope, form_at_end, actions
 use Rattle.dh_tree.specs.Breaches as names
 use Rattle.dh_tree.specs.Breaches.{KeepsNames}
 use Rattle.dh_tree.specs.Resolved.{resolved_term, resolved_term_form, resolved_action, resolved_form, resolved_actions, resolved_groups, HasEntities}
-use Rattle.dh_tree.specs.Forms.{unbuilt, plain_number, is_small, is_stored, is_access, is_element, further_indices, unbuilt_index, unbuilt_indices, unbuilt_element, unbuilt_access, is_sum_of, unbuilt_stored, unbuilt_value, form_holds, unbuilt_action, unbuilt_form, unbuilt_groups, unbuilt_part, further_dims, unbuilt_where, unbuilt_dims, unbuilt_decl, unbuilt_decls, unbuilt_functions, unbuilt_forms}
+use Rattle.dh_tree.specs.Forms.{unbuilt, plain_number, is_small, is_stored, is_access, is_element, further_indices, unbuilt_index, unbuilt_indices, unbuilt_element, unbuilt_access, is_sum_of, is_word, unbuilt_stored, unbuilt_value, form_holds, unbuilt_action, unbuilt_form, unbuilt_groups, unbuilt_part, further_dims, unbuilt_where, unbuilt_dims, unbuilt_decl, unbuilt_decls, unbuilt_functions, unbuilt_forms}
 use Rattle.dh_tree.specs.FirstForms.{IsNumber, IsOneNumber, IsMemory, IsElement, IsRightSide, IsBuilt, IsBuiltForm, AreBuilt, AreBuiltGroups, HasFirstForms}
 use Rattle.dh_tree.specs.Written.{AreDims, IsDeclared, IsWritten}
 use Rattle.dh_check.specs.Elements.{HasOneDim}
@@ -183,8 +183,8 @@ body_is : (n : ℕ) (bs : List Binding) → Sees n bs → (a : Action) (s : Scop
 body_is n bs sees (action id place form) s at built visible resolved = (form_is n bs sees id place form s at built visible (ap action_form resolved)).0
 
 -- a program of the built forms, with its names resolved
-pub has_first_forms : (tokens : ℕ) (p : Program) → IsWritten tokens p → unbuilt_forms p ≡ [] → KeepsNames p → HasEntities p → HasFirstForms p
-has_first_forms tokens p written built keeps entities =
+first_forms : (tokens : ℕ) (p : Program) → IsWritten tokens p → unbuilt_forms p ≡ [] → KeepsNames p → HasEntities p → HasFirstForms p
+first_forms tokens p written built keeps entities =
     let decls = no_rest (unbuilt_decls p.decls) (unbuilt_functions p.functions ++ unbuilt_action p.body) built in
     let forms = no_rest (unbuilt_functions p.functions) (unbuilt_action p.body) decls.1 in
     let outer = no_rest (names.items_breaches [] (items_of p)) (names.functions_breaches (length p.decls) (first_scope p) p.functions ++ names.breaches (body_scope p) p.body) keeps in
@@ -194,6 +194,11 @@ has_first_forms tokens p written built keeps entities =
       first_number = written.first_number;
       counted = written.counted;
     }
+
+-- the same of the program as the code holds it
+pub has_first_forms : (tokens : ℕ) (p t : Program) → t ≡ p → IsWritten tokens p → unbuilt_forms p ≡ [] → KeepsNames p → HasEntities p → HasFirstForms t
+has_first_forms tokens p t same written built keeps entities =
+    subst (λ (x : Program). HasFirstForms x) (sym same) (first_forms tokens p written built keeps entities)
 
 dims_are : (start : Place) (dims : List Dim) (places : List DimPlaces) → AreDims dims places → unbuilt_dims start places ≡ [] → (dim : Dim) × (dims ≡ dim ∷ [])
 dims_are start [] [] are built = absurd (cc)
@@ -208,11 +213,12 @@ one_dims : (ds : List Declared) → AllByRecursion IsDeclared ds → unbuilt_dec
 one_dims [] declared built = tt
 one_dims (d ∷ ds) declared built =
     let b = no_rest (unbuilt_decl d) (unbuilt_decls ds) built in
-    let first = no_rest (if _ then [] else _) (unbuilt_where d.shape_places.braces_place ++ unbuilt_dims d.shape_places.kind_place d.shape_places.dims) b.0 in
+    let first = no_rest (if is_word d.shape.kind then [] else unbuilt d.shape_places.kind_place) (unbuilt_where d.shape_places.braces_place ++ unbuilt_dims d.shape_places.kind_place d.shape_places.dims) b.0 in
     let rest = no_rest (unbuilt_where d.shape_places.braces_place) (unbuilt_dims d.shape_places.kind_place d.shape_places.dims) first.1 in
     (dims_are d.shape_places.kind_place d.shape.dims d.shape_places.dims declared.0.dims rest.1, one_dims ds declared.1 b.1)
 
 -- its memories have one dimension each
-pub has_one_dims : (tokens : ℕ) (p : Program) → IsWritten tokens p → unbuilt_forms p ≡ [] → AllByRecursion HasOneDim p.decls
-has_one_dims tokens p written built =
-    one_dims p.decls written.decls (no_rest (unbuilt_decls p.decls) (unbuilt_functions p.functions ++ unbuilt_action p.body) built).0
+pub has_one_dims : (tokens : ℕ) (p t : Program) → t ≡ p → IsWritten tokens p → unbuilt_forms p ≡ [] → AllByRecursion HasOneDim t.decls
+has_one_dims tokens p t same written built =
+    let P : Program → Type 0 = λ x. AllByRecursion HasOneDim x.decls in
+    subst P (sym same) (one_dims p.decls written.decls (no_rest (unbuilt_decls p.decls) (unbuilt_functions p.functions ++ unbuilt_action p.body) built).0)

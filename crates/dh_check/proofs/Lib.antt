@@ -6,3 +6,4 @@ pub mod OneVerdict
 pub mod OuterNames
 pub mod FirstPrograms
 pub mod Passing
+pub mod Texts

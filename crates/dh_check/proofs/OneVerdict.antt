@@ -31,15 +31,15 @@ abbrev OneOf : (Verdict → Type 0) → Type 0
 OneOf P = (v w : Verdict) → P v → P w → v ≡ w
 
 passes_once : (bs : List Breach) (next : Verdict → Type 0) → OneOf next → OneOf (λ v. Passes bs v (next v))
-passes_once bs next once v w (inl (a, h, e)) (inl (b, k, f)) = e ∙ (ap (λ (c : Breach). refuses c.rule c.place) (least_is_one bs a b h k) ∙ sym f)
-passes_once bs next once v w (inl (a, h, e)) (inr (none, m)) = absurd (least_not_none bs a h none)
-passes_once bs next once v w (inr (none, m)) (inl (b, k, f)) = absurd (least_not_none bs b k none)
+passes_once bs next once v w (inl (a, (h, e))) (inl (b, (k, f))) = e ∙ (ap (λ (c : Breach). refuses c.rule c.place) (least_is_one bs a b h k) ∙ sym f)
+passes_once bs next once v w (inl (a, (h, e))) (inr (none, m)) = absurd (least_not_none bs a h none)
+passes_once bs next once v w (inr (none, m)) (inl (b, (k, f))) = absurd (least_not_none bs b k none)
 passes_once bs next once v w (inr (none, m)) (inr (none', n)) = once v w m n
 
 ports_once : (p : Program) → OneOf (JudgedPorts p)
-ports_once p v w (inl (a, h, e)) (inl (b, k, f)) = e ∙ (ap (λ place. refuses PortsSpent place) (spent_once p a b h k) ∙ sym f)
-ports_once p v w (inl (a, h, e)) (inr (kept, f)) = absurd (kept_not_spent p a kept h)
-ports_once p v w (inr (kept, e)) (inl (b, k, f)) = absurd (kept_not_spent p b kept k)
+ports_once p v w (inl (a, (h, e))) (inl (b, (k, f))) = e ∙ (ap (λ place. refuses PortsSpent place) (spent_once p a b h k) ∙ sym f)
+ports_once p v w (inl (a, (h, e))) (inr (kept, f)) = absurd (kept_not_spent p a kept h)
+ports_once p v w (inr (kept, e)) (inl (b, (k, f))) = absurd (kept_not_spent p b kept k)
 ports_once p v w (inr (kept, e)) (inr (kept', f)) = e ∙ sym f
 
 elements_once : (p : Program) (o : Option Excess) → OneOf (JudgedElements p o)
@@ -67,17 +67,17 @@ token_once tokens v w h k =
 tokens_once : (tokens : List Token) (o : Option Excess) → OneOf (JudgedTokens tokens o)
 tokens_once tokens (Some x) v w e f = e ∙ sym f
 tokens_once tokens None v w (inl h) (inl k) = token_once tokens v w h k
-tokens_once tokens None v w (inl h) (inr (q, s, k)) = absurd (spelled_in_place q tokens h.before h.token h.after s h.out_of_place)
-tokens_once tokens None v w (inr (p, s, h)) (inl k) = absurd (spelled_in_place p tokens k.before k.token k.after s k.out_of_place)
-tokens_once tokens None v w (inr (p, s, h)) (inr (q, t, k)) =
+tokens_once tokens None v w (inl h) (inr (q, (s, k))) = absurd (spelled_in_place q tokens h.before h.token h.after s h.out_of_place)
+tokens_once tokens None v w (inr (p, (s, h))) (inl k) = absurd (spelled_in_place p tokens k.before k.token k.after s k.out_of_place)
+tokens_once tokens None v w (inr (p, (s, h))) (inr (q, (t, k))) =
     let P : Program → Type 0 = λ x. JudgedTree x w in
     tree_once p v w h (subst P (sym (one_tree p q tokens s t)) k)
 
 one_verdict : (text : List _) → OneOf (Judged text)
-one_verdict text v w (inl (a, h, e)) (inl (b, k, f)) = e ∙ (ap (λ place. refuses Lex place) (one_breach text a b h k) ∙ sym f)
-one_verdict text v w (inl (a, h, e)) (inr (ts, k, f)) = absurd (not_both text ts a k h)
-one_verdict text v w (inr (ts, h, e)) (inl (b, k, f)) = absurd (not_both text ts b h k)
-one_verdict text v w (inr (ts, h, e)) (inr (us, k, f)) =
+one_verdict text v w (inl (a, (h, e))) (inl (b, (k, f))) = e ∙ (ap (λ place. refuses Lex place) (one_breach text a b h k) ∙ sym f)
+one_verdict text v w (inl (a, (h, e))) (inr (ts, (k, f))) = absurd (not_both text ts a k h)
+one_verdict text v w (inr (ts, (h, e))) (inl (b, (k, f))) = absurd (not_both text ts b h k)
+one_verdict text v w (inr (ts, (h, e))) (inr (us, (k, f))) =
     let P : List Token → Type 0 = λ x. JudgedTokens x (tokens_excess x) w in
     tokens_once ts (tokens_excess ts) v w e (subst P (sym (one_list text ts us h k)) f)
 
