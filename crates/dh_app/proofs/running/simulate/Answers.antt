@@ -28,3 +28,9 @@ returns-clause-replies g c =
     λ words names.
     no_program (g.F.Files.seen c.args.files.now) (g.F.Files.seen c.read_program.new.files) c.args.file.now
     (g.E.Engine.exact c.args.engine.now) (g.E.Engine.given c.args.engine.now) c.in-Err.reply c.in-Err.ensures.read words (inr (inr (c.args.data_.now, names)))
+
+pub read_memories-requires : goal.read_memories-requires
+read_memories-requires g c = c.in-Ok-compile.ensures.valid.table
+
+pub report_run-requires : goal.report_run-requires
+report_run-requires g c = record { valid = c.in-Ok-compile.ensures.valid; fits = c.in-Ok-read_memories.ensures.read.1 }
