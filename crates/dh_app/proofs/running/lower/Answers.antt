@@ -9,7 +9,7 @@ returns-in-Ok-clause-replies g c =
     λ words exact answers names.
     net_written (g.F.Files.seen c.args.files.now) (g.F.Files.seen c.read_program.new.files) c.args.file.now (program_seen c.in-Ok.accepted) exact answers c.net_text.result c.in-Ok.ensures.read c.net_text.ensures words names
 
-pub returns-clause-replies : goal.returns-clause-replies
-returns-clause-replies g c =
+pub returns-in-Err-clause-replies : goal.returns-in-Err-clause-replies
+returns-in-Err-clause-replies g c =
     λ words exact answers names.
     no_program (g.F.Files.seen c.args.files.now) (g.F.Files.seen c.read_program.new.files) c.args.file.now exact answers c.in-Err.reply c.in-Err.ensures.read words (inr (inl names))
