@@ -1,14 +1,14 @@
 //! The top call: from the words to the status.
 
 ghost use Rattle.std.specs.Prelude.{◌≡◌, ◌+◌, ◌≤◌, [], ◌∷◌, length, map, string_bytes, Bool, List, ℕ, IfOk};
-ghost use Rattle.dh_base.specs.Outside.{KeepsFiles, KeepsSink};
+ghost use Rattle.dh_base.specs.Outside.{FilesSeen, KeepsFiles, KeepsSink};
 ghost use Rattle.dh_tree.specs.Tables.{Fits, IsTable};
 ghost use Rattle.dh_tree.specs.Meaning.{table_of};
 ghost use Rattle.dh_tree.specs.PlainTrees.{Program};
 ghost use Rattle.dh_tree.specs.Seen.{program_seen};
 ghost use Rattle.dh_net.specs.Valid.{IsValid};
 ghost use Rattle.dh_compile.specs.Compiled.{PlaysProgram};
-ghost use Rattle.dh_app.specs.Ends.{Names, NamesCheck, NamesLower, Ends, Succeeds, status_of as status_of_lem};
+ghost use Rattle.dh_app.specs.Ends.{IsProgram, Names, NamesCheck, NamesLower, Ends, Succeeds, status_of as status_of_lem};
 ghost use Rattle.dh_app.specs.declared.engine.Finish.{Finish};
 ghost use Rattle.dh_app.specs.Replies.{AnswersLine, AnswersWith, Written, Replies, ProgramRead, ProgramOf, DataRead, DataOf, RunReplies, ReportsFirst, LowerReplies, CheckReplies};
 ghost use Rattle.dh_app.specs.Lines as lines;
@@ -190,11 +190,25 @@ fn simulate<F: Files, E: Engine>(
     ensures engine { E.exact engine.new ≡ E.exact engine.old }
     ensures replies { (words : List (List ℕ)) → Names words file.now data_.now → Replies words (F.seen files.old) (F.seen files.new) (E.exact engine.old) (E.given engine.new) result }
 {
-    let accepted = match read_program(alloc, file, files, Forms::Compiled) {
-        Ok(accepted) => accepted,
-        Err(reply) => return reply,
-    };
-    let Ok(net) = compile(alloc, &accepted) else {
+    match read_program(alloc, file, files, Forms::Compiled) {
+        Ok(accepted) => simulate_accepted(alloc, &accepted, data_, files, engine),
+        Err(reply) => reply,
+    }
+}
+
+/// Compiles an accepted program, and has its net run from the memories of a file.
+fn simulate_accepted<F: Files, E: Engine>(
+    alloc: Global,
+    accepted: &Accepted,
+    data_: &str,
+    files: &mut F,
+    engine: &mut E,
+) -> Reply
+    ensures files { KeepsFiles (F.seen files.old) (F.seen files.new) }
+    ensures engine { E.exact engine.new ≡ E.exact engine.old }
+    ensures replies { (first : FilesSeen) (file : List ℕ) (words : List (List ℕ)) → KeepsFiles first (F.seen files.old) → IsProgram first file (program_seen accepted.now) → Names words file data_.now → Replies words first (F.seen files.new) (E.exact engine.old) (E.given engine.new) result }
+{
+    let Ok(net) = compile(alloc, accepted) else {
         return Reply::NoMemory;
     };
     match read_memories(alloc, data_, &net.table, files) {

@@ -19,6 +19,9 @@ use std::test::Fail;
 
 const PROGRAM: &str = "decl A: ubit<32>[1]; decl B: ubit<32>[1]; A[0] := 7 --- B[0] := A[0] + 1;";
 
+/// The read of the memory takes its one port, and then the write wants it.
+const READ_AND_WRITTEN: &str = "decl A: ubit<32>[1]; A[0] := A[0] + 1;";
+
 const DATA: &str = "{\"A\":{\"data\":[0]},\"B\":{\"data\":[0]}}";
 
 const REPORT: &str =
@@ -101,6 +104,15 @@ fn words(alloc: Global) -> Result<Vec<String>, AllocError> {
     Ok(words)
 }
 
+/// The words of a command over the one file `a`.
+fn words_over_file(alloc: Global, command: &str) -> Result<Vec<String>, AllocError> {
+    let mut words = Vec::new(alloc);
+    for word in [command, "a"] {
+        words.push(String::from_str(alloc, word)?)?;
+    }
+    Ok(words)
+}
+
 fn files(alloc: Global, text: &str, data: &str, failing: &[u64]) -> Result<MemFiles, AllocError> {
     let mut entries = Vec::new(alloc);
     entries.push((
@@ -120,12 +132,7 @@ fn each_text_gets_its_line(rt: HostRuntime) -> Result<(), Fail> {
     let words = words(alloc)?;
     let table = [
         (PROGRAM, DATA, Status::Done, REPORT),
-        (
-            "decl A: ubit<32>[1]; A[0] := A[0] + 1;",
-            DATA,
-            Status::Refused,
-            "refused K3 Unsupported 1:1\n",
-        ),
+        (READ_AND_WRITTEN, DATA, Status::Refused, "refused K19 PortsSpent 1:22\n"),
         (PROGRAM, "{}", Status::BadData, "bad data NotJson\n"),
     ];
     for (text, data, status, written) in table {
@@ -140,12 +147,39 @@ fn each_text_gets_its_line(rt: HostRuntime) -> Result<(), Fail> {
 }
 
 #[test]
+fn check_writes_the_line_of_each_verdict(rt: HostRuntime) -> Result<(), Fail> {
+    let alloc = rt.alloc();
+    let words = words_over_file(alloc, "check")?;
+    let table = [
+        (PROGRAM, Status::Done, "ok\n"),
+        ("", Status::Done, "ok\n"),
+        (READ_AND_WRITTEN, Status::Refused, "refused K19 PortsSpent 1:22\n"),
+        (
+            "decl A: ubit<32>[2]; A[0] := 1; A[1] := 2;",
+            Status::Refused,
+            "refused K19 PortsSpent 1:33\n",
+        ),
+        (
+            "decl A: ubit<32>[1048577]; A[0] := 1;",
+            Status::TooLarge,
+            "too large Elements 1048577\n",
+        ),
+    ];
+    for (text, status, written) in table {
+        let mut files = files(alloc, text, DATA, &[])?;
+        let mut out = MemSink::new(alloc, Vec::new(alloc), 0);
+        let mut engine = NetEngine::new(alloc);
+        let ended = run(alloc, words.as_slice(), &mut files, &mut out, &mut engine);
+        assert_eq!(rt; ended, status, "{text}");
+        assert_eq!(rt; out.bytes(), written.as_bytes(), "{text}");
+    }
+    Ok(())
+}
+
+#[test]
 fn the_text_of_the_first_program_is_a_netlist(rt: HostRuntime) -> Result<(), Fail> {
     let alloc = rt.alloc();
-    let mut words = Vec::new(alloc);
-    for word in ["lower", "a"] {
-        words.push(String::from_str(alloc, word)?)?;
-    }
+    let words = words_over_file(alloc, "lower")?;
     let mut files = files(alloc, PROGRAM, DATA, &[])?;
     let mut out = MemSink::new(alloc, Vec::new(alloc), 0);
     let mut engine = NetEngine::new(alloc);

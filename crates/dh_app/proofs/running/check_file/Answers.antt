@@ -9,7 +9,7 @@ returns-in-Ok-clause-replies g c =
     λ words exact answers names.
     check_replied (g.F.Files.seen c.args.files.now) (g.F.Files.seen c.read_program.new.files) c.args.file.now (program_seen c.in-Ok.field-0) exact answers c.ok_reply.result c.in-Ok.ensures.read c.ok_reply.ensures words names
 
-pub returns-in-Err-clause-replies : goal.returns-in-Err-clause-replies
-returns-in-Err-clause-replies g c =
+pub returns-clause-replies : goal.returns-clause-replies
+returns-clause-replies g c =
     λ words exact answers names.
     no_program (g.F.Files.seen c.args.files.now) (g.F.Files.seen c.read_program.new.files) c.args.file.now exact answers c.in-Err.reply c.in-Err.ensures.read words (inl names)

@@ -16,7 +16,7 @@ returns-in-Some-Lower-clause-replies g c =
     let job = sym c.of.ensures ∙ (c.in-Some-Lower.is ∙ ap Some c.in-Some-Lower.field-0-is) in
     let P : List ℕ → Type 0 = λ x. NamesLower (map string_bytes c.args.words.now) x in
     c.lower.ensures.replies (map string_bytes c.args.words.now) (g.E.Engine.exact c.args.engine.now) (g.E.Engine.given c.args.engine.now)
-    (subst P (sym c.as_str.ensures.value) (names_lower string_bytes c.args.words.now c.in-Some-Lower.file c.index-words-file.result job c.index-words-file.is))
+    (subst P (sym c.as_str-in-Some-Lower.ensures.value) (names_lower string_bytes c.args.words.now c.in-Some-Lower.file c.index-words-file-in-Some-Lower.result job c.index-words-file-in-Some-Lower.is))
 
 pub returns-in-Some-Simulate-clause-replies : goal.returns-in-Some-Simulate-clause-replies
 returns-in-Some-Simulate-clause-replies g c =
