@@ -18,9 +18,7 @@ ghost use Rattle.dh_base.specs.declared.statuses.Status.TheVariants as status;
 use crate::engine::{Engine, Finish};
 use crate::lines::{not_json_line, ok_line, refused_line, too_large_line, usage_line};
 use crate::words::Job;
-use dh_base::{
-    Excess, FileFault, Files, Limit, NoMemory, Outcome, Sink, SinkFault, Status,
-};
+use dh_base::{Excess, FileFault, Files, Limit, NoMemory, Outcome, Sink, SinkFault, Status};
 use dh_check::{Accepted, CheckFault, Forms, check};
 use dh_compile::compile;
 use dh_data::{DataFault, Ending, report};

@@ -132,7 +132,12 @@ fn each_text_gets_its_line(rt: HostRuntime) -> Result<(), Fail> {
     let words = words(alloc)?;
     let table = [
         (PROGRAM, DATA, Status::Done, REPORT),
-        (READ_AND_WRITTEN, DATA, Status::Refused, "refused K19 PortsSpent 1:22\n"),
+        (
+            READ_AND_WRITTEN,
+            DATA,
+            Status::Refused,
+            "refused K19 PortsSpent 1:22\n",
+        ),
         (PROGRAM, "{}", Status::BadData, "bad data NotJson\n"),
     ];
     for (text, data, status, written) in table {
@@ -153,7 +158,11 @@ fn check_writes_the_line_of_each_verdict(rt: HostRuntime) -> Result<(), Fail> {
     let table = [
         (PROGRAM, Status::Done, "ok\n"),
         ("", Status::Done, "ok\n"),
-        (READ_AND_WRITTEN, Status::Refused, "refused K19 PortsSpent 1:22\n"),
+        (
+            READ_AND_WRITTEN,
+            Status::Refused,
+            "refused K19 PortsSpent 1:22\n",
+        ),
         (
             "decl A: ubit<32>[2]; A[0] := 1; A[1] := 2;",
             Status::Refused,
