@@ -1,5 +1,5 @@
 //! The parser of the language: the tree that tokens spell, or the first token that no program
-//! allows where it stands. `NOTES.md` says what is proved of it so far.
+//! allows where it stands. `specs/Programs.antt` has the contract, `src/laws.rt` what it rests on.
 //! Stands on `dh_lexer`, `dh_tree`, `dh_value` and `dh_base`. docs/LANGUAGE.md has the grammar.
 #![tactic(auto)]
 
