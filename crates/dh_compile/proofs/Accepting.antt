@@ -21,8 +21,9 @@ use Rattle.dh_compile.specs.Grouped.{IsGroup, IsGrouped, tree_of}
 use Rattle.dh_compile.specs.Timetable.{any_read, is_read, total_length}
 use Rattle.dh_compile.specs.Reading.{action_read, phase_read, program_read}
 use Rattle.dh_compile.proofs.Groups.{at_place}
-use Rattle.dh_compile.proofs.Plain.{no_rest, Known, CommandFits, PhasesFit, body_fits}
-use Rattle.dh_compile.proofs.Declarations.{IsLineDecl, merged_none, no_functions, visible_declared, distinct_names, decls_are, lines_are, entries_are}
+use Rattle.dh_check.proofs.OuterNames.{no_rest, items_are, visible_declared}
+use Rattle.dh_compile.proofs.Plain.{Known, CommandFits, PhasesFit, body_fits}
+use Rattle.dh_compile.proofs.Declarations.{IsLineDecl, distinct_names, decls_are, lines_are, entries_are}
 use Rattle.dh_compile.proofs.Meant.{AreWords, phases_are, stores_are}
 use Rattle.dh_compile.proofs.Meeting.{commands_accesses, phases_accesses, phases_append, accesses_are}
 use Rattle.dh_compile.proofs.Ordering.{AllNumbered, Ordered, AllBelow, ordered, not_together, below_more}
@@ -153,14 +154,10 @@ clocks_are ds (straight cs ∷ ps) h =
     let e = length-append (commands_accesses cs) (phases_accesses ps) in
     omega (arith, one, others, e)
 
--- a program without functions has the memories alone as its outer names
-items_are : (ds : List Declared) (n : ℕ) (fs : List Defined) → fs ≡ [] → merged (memory_items 0 ds) (function_items n fs) ≡ memory_items 0 ds
-items_are ds n fs none = ap (λ l. merged (memory_items 0 ds) (function_items n l)) none ∙ merged_none (memory_items 0 ds)
-
 accepted_items : (p : Program) → IsAccepted p → items_of p ≡ memory_items 0 p.decls
 accepted_items p a =
     let built = no_rest (unbuilt_decls p.decls) _ a.built in
-    items_are p.decls (length p.decls) p.functions (no_functions p.functions (no_rest (unbuilt_functions p.functions) (unbuilt_action p.body) built.1).0)
+    items_are p (no_rest (unbuilt_functions p.functions) (unbuilt_action p.body) built.1).0
 
 facts_are : (p : Program) → IsAccepted p → Facts p
 facts_are p a =
@@ -171,7 +168,7 @@ facts_are p a =
     let body_names = no_rest (functions_breaches (length p.decls) (first_scope p) p.functions) (breaches (body_scope p) p.body) names.1 in
     let decls = decls_are p.decls a.written.decls built.0 ranges.0 in
     let known : Known p.decls (body_scope p).visible = record {
-      declared = λ name m e. visible_declared p.decls name m (ap (λ items. entity_of (after_items [] items) name) (sym (accepted_items p a)) ∙ e);
+      declared = visible_declared p forms.0;
       lines = lines_are p.decls decls;
     } in
     record {

@@ -17,55 +17,14 @@ use Rattle.dh_tree.specs.declared.trees.programs.DimPlaces.{DimPlaces}
 use Rattle.dh_tree.specs.PlainTrees.{Declared, Defined}
 use Rattle.dh_tree.specs.Scopes.{Binding, binding, entity_of, is_visible, bind, Item, memory_items, merged, after_items}
 use Rattle.dh_tree.specs.Breaches.{twice, items_breaches}
-use Rattle.dh_tree.specs.Ranges.{sizes_judged, decls_judged}
+use Rattle.dh_tree.specs.Ranges.{size_judged, decls_judged}
 use Rattle.dh_tree.specs.Tables.{line_of, elements_of, elements_in, most_elements, HasNoName, HasDistinctNames}
 use Rattle.dh_tree.specs.Written.{IsOneUnless, AreDims, IsDeclared}
 use Rattle.dh_tree.specs.Meaning.{entry_of}
 use Rattle.dh_tree.specs.Forms.{is_word, unbuilt_where, further_dims, unbuilt_dims, unbuilt_decl, unbuilt_decls, unbuilt_functions}
 use Rattle.dh_compile.specs.Grouped as grouped
-use Rattle.dh_compile.proofs.Plain.{LineFits, no_rest, if_none}
-use Rattle.dh_compile.proofs.Listing.{all_append}
-
--- the numbers of all visible names are below a number
-abbrev Below : ℕ → List Binding → Type 0
-Below n bs = AllByRecursion (λ b. b.entity < n) bs
-
-either_some : (b : Bool) (e m n : ℕ) (rest : Option ℕ) → e < n → (rest ≡ Some m → m < n) → (if b then Some e else rest) ≡ Some m → m < n
-either_some true e m n rest first others h = let same : e ≡ m = cc in omega (arith, same, first)
-either_some false e m n rest first others h = others h
-
-entity_below : (n : ℕ) (bs : List Binding) (name : List ℕ) (m : ℕ) → Below n bs → entity_of bs name ≡ Some m → m < n
-entity_below n [] name m h e = absurd (cc)
-entity_below n (b ∷ bs) name m h e = either_some (bytes_eq name b.name) b.entity m n (entity_of bs name) h.0 (λ rest. entity_below n bs name m h.1 rest) e
-
-chosen_below : (n : ℕ) (t : Bool) (bs cs : List Binding) → Below n bs → Below n cs → Below n (if t then bs else cs)
-chosen_below n true bs cs h k = h
-chosen_below n false bs cs h k = k
-
-after_below : (n : ℕ) (bs : List Binding) (items : List Item) → Below n bs → AllByRecursion (λ i. i.entity < n) items → Below n (after_items bs items)
-after_below n bs [] h k = h
-after_below n bs (i ∷ items) h k =
-    after_below n (bind bs i.name.name i.entity) items
-    (chosen_below n (is_visible bs i.name.name) bs (bs ++ binding i.name.name i.entity ∷ []) h (all_append (λ b. b.entity < n) bs (binding i.name.name i.entity ∷ []) h (k.0, tt)))
-    k.1
-
-items_below : (n first : ℕ) (ds : List Declared) → first + length ds ≤ n → AllByRecursion (λ i. i.entity < n) (memory_items first ds)
-items_below n first [] h = tt
-items_below n first (d ∷ ds) h = (omega (arith, h), items_below n (first + 1) ds (omega (arith, h)))
-
-pub merged_none : (items : List Item) → merged items [] ≡ items
-merged_none [] = refl
-merged_none (i ∷ items) = refl
-
--- a program whose forms are all built has no functions
-pub no_functions : (fs : List Defined) → unbuilt_functions fs ≡ [] → fs ≡ []
-no_functions [] e = refl
-no_functions (f ∷ fs) e = absurd (cc)
-
--- what is visible in the body are the memories that are declared
-pub visible_declared : (ds : List Declared) (name : List ℕ) (m : ℕ) → entity_of (after_items [] (memory_items 0 ds)) name ≡ Some m → m < length ds
-visible_declared ds name m e =
-    entity_below (length ds) (after_items [] (memory_items 0 ds)) name m (after_below (length ds) [] (memory_items 0 ds) tt (items_below (length ds) 0 ds (omega arith))) e
+use Rattle.dh_check.proofs.OuterNames.{no_rest, if_none}
+use Rattle.dh_compile.proofs.Plain.{LineFits}
 
 same_name : (name : List ℕ) → bytes_eq name name ≡ true
 same_name name = (bytes_eq-Decides name name).1 refl
@@ -149,7 +108,7 @@ pub record IsLine (dims : List Dim) : Type 0 where
 one_dim : (d : Dim) → d.banks ≡ 1 → d ∷ [] ≡ line_of d.size
 one_dim d e = ap (λ n. record { size = d.size; banks = n } ∷ []) e
 
-dims_are : (start : Place) (dims : List Dim) (places : List DimPlaces) → AreDims dims places → unbuilt_dims start places ≡ [] → sizes_judged dims places ≡ [] → IsLine dims
+dims_are : (start : Place) (dims : List Dim) (places : List DimPlaces) → AreDims dims places → unbuilt_dims start places ≡ [] → size_judged dims places ≡ [] → IsLine dims
 dims_are start [] [] are built judged = absurd (cc)
 dims_are start [] (p ∷ ps) are built judged = absurd are
 dims_are start (d ∷ ds) [] are built judged = absurd are
@@ -158,7 +117,7 @@ dims_are start (d ∷ []) (p ∷ []) are built judged =
     record {
       size = d.size;
       line = one_dim d (one_unless p.word_place d.banks none are.0);
-      least = size_least d.size (d.size == 0) _ refl (no_rest (if d.size == 0 then _ ∷ [] else []) [] judged).0;
+      least = size_least d.size (d.size == 0) _ refl judged;
     }
 dims_are start (d ∷ []) (p ∷ q ∷ ps) are built judged = absurd are.1
 dims_are start (d ∷ e ∷ ds) (p ∷ []) are built judged = absurd are.1
@@ -170,7 +129,7 @@ pub record IsLineDecl (d : Declared) : Type 0 where
   pub ports : d.shape.ports ≡ 1
   pub line : IsLine d.shape.dims
 
-decl_is : (d : Declared) → IsDeclared d → unbuilt_decl d ≡ [] → sizes_judged d.shape.dims d.shape_places.dims ≡ [] → IsLineDecl d
+decl_is : (d : Declared) → IsDeclared d → unbuilt_decl d ≡ [] → size_judged d.shape.dims d.shape_places.dims ≡ [] → IsLineDecl d
 decl_is d declared built judged =
     let first = no_rest (if is_word d.shape.kind then [] else _) (unbuilt_where d.shape_places.braces_place ++ unbuilt_dims d.shape_places.kind_place d.shape_places.dims) built in
     let rest = no_rest (unbuilt_where d.shape_places.braces_place) (unbuilt_dims d.shape_places.kind_place d.shape_places.dims) first.1 in
@@ -184,7 +143,7 @@ pub decls_are : (ds : List Declared) → AllByRecursion IsDeclared ds → unbuil
 decls_are [] h built judged = tt
 decls_are (d ∷ ds) h built judged =
     let b = no_rest (unbuilt_decl d) (unbuilt_decls ds) built in
-    let j = no_rest (sizes_judged d.shape.dims d.shape_places.dims) (decls_judged ds) judged in
+    let j = no_rest (size_judged d.shape.dims d.shape_places.dims) (decls_judged ds) judged in
     (decl_is d h.0 b.0 j.0, decls_are ds h.1 b.1 j.1)
 
 pub lines_are : (ds : List Declared) → AllByRecursion IsLineDecl ds → AllByRecursion LineFits ds

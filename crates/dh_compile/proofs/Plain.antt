@@ -22,6 +22,7 @@ use Rattle.dh_tree.specs.Ranges.{index_range, dims_of, first_dim, declared_dims,
 use Rattle.dh_tree.specs.Meaning.{entry_of}
 use Rattle.dh_tree.specs.Tables.{line_of}
 use Rattle.dh_tree.specs.Forms.{unbuilt, plain_number, is_small, is_element, further_indices, unbuilt_index, unbuilt_indices, unbuilt_element, unbuilt_access, is_sum_of, unbuilt_stored, unbuilt_value, form_holds, unbuilt_action, unbuilt_form, unbuilt_groups, unbuilt_part}
+use Rattle.dh_check.proofs.OuterNames.{no_rest, if_none}
 use Rattle.dh_compile.specs.Grouped as grouped
 use Rattle.dh_compile.proofs.Listing.{all_append, both}
 
@@ -90,10 +91,6 @@ pub record LineFits (d : Declared) : Type 0 where
   pub line : d.shape.dims ≡ line_of size
   pub least : 1 ≤ size
 
-pub no_rest : {A : Type 0} (xs ys : List A) → xs ++ ys ≡ [] → (xs ≡ []) × (ys ≡ [])
-no_rest [] ys e = (refl, e)
-no_rest (x ∷ xs) ys e = absurd (cc)
-
 -- a choice between nothing and something that gives nothing
 chosen_none : {A : Type 0} (b : Bool) (x : A) (xs : List A) → (if b then [] else x ∷ xs) ≡ [] → b ≡ true
 chosen_none true x xs e = refl
@@ -115,11 +112,6 @@ small_number (in_bank r bank bank_place row) e = absurd (cc)
 small_number (applied o left right) e = absurd (cc)
 small_number (converted inner to) e = absurd (cc)
 
--- a choice that gives nothing, where the other side would give something
-pub if_none : {A : Type 0} (b : Bool) (xs : List A) (y : A) (ys : List A) → (if b then xs else y ∷ ys) ≡ [] → (b ≡ true) × (xs ≡ [])
-if_none true xs y ys e = (refl, e)
-if_none false xs y ys e = absurd (cc)
-
 in_size : (place : Place) (n size : ℕ) (zero_size below : Bool) (b : Breach) → (size == 0) ≡ zero_size → nat_lt n size ≡ below → 1 ≤ size
     → (if zero_size then [] else (if below then [] else b ∷ [])) ≡ [] → n < size
 in_size place n size true below b is test least e = omega (arith, least, zero_is size is)
@@ -140,7 +132,7 @@ pub record Known (ds : List Declared) (bs : List Binding) : Type 0 where
   pub lines : AllByRecursion LineFits ds
 
 one_index : (ds : List Declared) (m : ℕ) (d : Declared) → slice_get ds m ≡ Some d → LineFits d → (p place : Place) (form : TermForm)
-    → is_some (plain_number form) ≡ true → index_judged index_range (first_dim (dims_of ds (Some m))) (term p None form) ≡ []
+    → is_some (plain_number form) ≡ true → index_judged index_range (first_dim (dims_of ds (Some m))) p form ≡ []
     → PlainNumber (grouped.IsElement (map entry_of ds) m) form
 one_index ds m d at line p place (number false n) e judged = record {
   entry = entry_of d;
@@ -157,25 +149,12 @@ one_index ds m d at line p place (in_bank r bank bank_place row) e judged = absu
 one_index ds m d at line p place (applied o left right) e judged = absurd (cc)
 one_index ds m d at line p place (converted inner to) e judged = absurd (cc)
 
--- the test of an index sees its number alone
-index_form : (ds : List Declared) (m : ℕ) (p : Place) (k : _) (form : TermForm) → index_judged index_range (first_dim (dims_of ds (Some m))) (term p k form) ≡ []
-    → index_judged index_range (first_dim (dims_of ds (Some m))) (term p None form) ≡ []
-index_form ds m p k (number false n) e = e
-index_form ds m p k (number true n) e = refl
-index_form ds m p k (truth_value value) e = refl
-index_form ds m p k (named r) e = refl
-index_form ds m p k (accessed r indices) e = refl
-index_form ds m p k (in_bank r bank bank_place row) e = refl
-index_form ds m p k (applied o left right) e = refl
-index_form ds m p k (converted inner to) e = refl
-
 index_fits : (ds : List Declared) (m : ℕ) (d : Declared) → slice_get ds m ≡ Some d → LineFits d → (place : Place) (indices : Terms)
-    → unbuilt_indices place indices ≡ [] → indices_judged index_range ds (dims_of ds (Some m)) indices ≡ [] → OneIndex (grouped.IsElement (map entry_of ds) m) indices
+    → unbuilt_indices place indices ≡ [] → indices_judged index_range (dims_of ds (Some m)) indices ≡ [] → OneIndex (grouped.IsElement (map entry_of ds) m) indices
 index_fits ds m d at line place no_terms e judged = absurd (cc)
 index_fits ds m d at line place (term_then (term p k form) no_terms) e judged =
     let built = if_none (is_some (plain_number form)) [] _ [] (no_rest (unbuilt_index (term p k form)) [] e).0 in
-    let range = no_rest (index_judged index_range (first_dim (dims_of ds (Some m))) (term p k form)) [] judged in
-    one_index ds m d at line p place form built.0 (index_form ds m p k form range.0)
+    one_index ds m d at line p place form built.0 judged
 index_fits ds m d at line place (term_then t (term_then (term p k form) rest)) e judged =
     absurd (let x = (no_rest (unbuilt_index t) (further_indices (term_then (term p k form) rest)) e).1 in cc)
 
@@ -185,7 +164,7 @@ access_entity (accessed r indices) = r.entity
 access_entity _ = None
 
 entity_fits : (ds : List Declared) (bs : List Binding) → Known ds bs → (place : Place) (name : List ℕ) (e : Option ℕ) (indices : Terms) → entity_of bs name ≡ e → is_some e ≡ true
-    → unbuilt_indices place indices ≡ [] → indices_judged index_range ds (dims_of ds e) indices ≡ [] → EntityFits ds e indices
+    → unbuilt_indices place indices ≡ [] → indices_judged index_range (dims_of ds e) indices ≡ [] → EntityFits ds e indices
 entity_fits ds bs known place name None indices is some_one built judged = absurd (cc)
 entity_fits ds bs known place name (Some m) indices is some_one built judged =
     elim (slice_get_cases ds m).1 [
@@ -362,12 +341,12 @@ mutual
   part_fits ds bs known stepped no_actions s sees built judged visible resolved = (tt, sees)
   part_fits ds bs known stepped (action_then (action id place form) rest) s sees built judged visible resolved =
       let a = no_rest (unbuilt_form place form) ((if stepped && form_holds form then unbuilt place else []) ++ unbuilt_part (stepped || form_holds form) rest) built in
-      let b = (a.0, (no_rest (if stepped && form_holds form then unbuilt place else []) (unbuilt_part (stepped || form_holds form) rest) a.1).1) in
+      let later = no_rest (if stepped && form_holds form then unbuilt place else []) (unbuilt_part (stepped || form_holds form) rest) a.1 in
       let j = no_rest (command_judged index_range ds form) (part_judged index_range ds rest) judged in
       let after = past s (action id place form) (form_at_end s form) in
       let v = no_rest (names.form_breaches s form) (names.actions_breaches after rest) visible in
-      let first = form_fits ds bs known id place form s sees b.0 j.0 v.0 (ap first_action resolved) in
-      let others = part_fits ds bs known (stepped || form_holds form) rest after first.1 b.1 j.1 v.1 (ap other_actions resolved) in
+      let first = form_fits ds bs known id place form s sees a.0 j.0 v.0 (ap first_action resolved) in
+      let others = part_fits ds bs known (stepped || form_holds form) rest after first.1 later.1 j.1 v.1 (ap other_actions resolved) in
       ((first.0, others.0), others.1)
 
 -- the phases of an accepted body
