@@ -15,7 +15,7 @@ abbrev pub refused_line : Rule → Place → List ℕ
 refused_line rule place =
     codes "refused K" ++ (decimal (number_of rule) ++ (codes " " ++ (name_of rule ++ (codes " " ++ (decimal place.line ++ (codes ":" ++ (decimal place.column ++ codes "\n")))))))
 
--- `too large Ports 9`
+-- `too large Brackets 65`
 abbrev pub too_large_line : Limit → ℕ → List ℕ
 too_large_line limit count = codes "too large " ++ (printed_name limit ++ (codes " " ++ (decimal count ++ codes "\n")))
 

@@ -55,7 +55,7 @@ abbrev pub JudgedElements : Program → Option Excess → Verdict → Type 0
 JudgedElements p (Some e) v = v ≡ exceeds e
 JudgedElements p None v = JudgedPorts p v
 
--- kinds, then shapes and ranges, then the limits on memories, then ports
+-- kinds, then shapes and ranges, then the limit on elements, then ports
 abbrev pub JudgedNamed : Program → Verdict → Type 0
 JudgedNamed p v = Passes (kind_breaches p) v (Passes (range_breaches p) v (JudgedElements p (excess_of (elements_in (table_of p))) v))
 

@@ -77,7 +77,7 @@ fn tokens_excess(counts: Counts) -> Option<Excess>
 }
 
 /// Checks a text of at most 1,048,576 bytes: its tokens, the limits on them, its tree, the forms that
-/// are built, names, kinds, sizes and indices, the limits on memories, and ports, in this order. The
+/// are built, names, kinds, sizes and indices, the limit on elements, and ports, in this order. The
 /// first of these with a breach or an excess refuses it, at the least place.
 ///
 /// # Errors

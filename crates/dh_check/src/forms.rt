@@ -226,7 +226,7 @@ fn has_dashes(parts: &[Vec<Command>]) -> bool
     parts.len() > 1
 }
 
-/// What of a command is not built; whether it takes several steps.
+/// What of a command is not built; whether it holds a `---`, a loop or a call.
 #[cycle(unbuilt)]
 #[tactic(auto, using(dh_tree::proofs::SeenActions::actions_are, crate::proofs::Leasts::least_append))]
 fn keep_command(kept: &mut Option<Breach>, command: &Command) -> bool
@@ -264,7 +264,7 @@ fn keep_whole(kept: &mut Option<Breach>, place: Place, form: &CommandForm) -> bo
     takes_steps(form)
 }
 
-/// The parts between `---`; whether one of them takes several steps. In a list, a second command
+/// The parts between `---`; whether one of them holds a `---`. In a list, a second command
 /// that does is not built.
 #[cycle(unbuilt)]
 #[tactic(auto, using(dh_tree::proofs::SeenActions::actions_are, crate::proofs::Leasts::least_append))]
@@ -285,7 +285,7 @@ fn keep_groups(kept: &mut Option<Breach>, parts: &[Vec<Command>]) -> bool
     holds
 }
 
-/// That a command is a second one of its list which takes several steps.
+/// That a command is a second one of its list which holds a `---`.
 fn keep_second(kept: &mut Option<Breach>, is_second: bool, place: Place)
     ensures { kept.new ≡ least_of kept.old (if is_second then unbuilt place else []) }
 {

@@ -1,7 +1,7 @@
--- Which forms of a program are not built yet, by the rule `Unsupported` (K3) at their first tokens.
+-- Which forms of a program are not built yet, by the rule `Unsupported` (K3), each at its place.
 -- Built are declarations of `ubit<32>` with one dimension and no word `bank`; stores by a number of
 -- at most 2^32 - 1, or by an element plus such a number, with a number as index; blocks, `;` and
--- `---`, with at most one part of a list that takes several steps.
+-- `---`, with at most one part of a list that holds a `---`.
 use Rattle.std.specs.Prelude.{ℕ, ◌==◌, ◌&&◌, ◌||◌, nat_le, Bool, false, true, List, [], ◌∷◌, ◌++◌, Option, Some, None, if◌then◌else◌}
 use Rattle.std.specs.Option.{is_some}
 use Rattle.dh_base.specs.declared.places.Place.{Place}
@@ -176,7 +176,7 @@ abbrev mutual
   unbuilt_groups no_groups = []
   unbuilt_groups (group_then part rest) = unbuilt_part false part ++ unbuilt_groups rest
 
-  -- a list, in which an earlier part may take several steps
+  -- a list, in which an earlier part may hold a `---`
   pub unbuilt_part : Bool → Actions → List Breach
   unbuilt_part stepped no_actions = []
   unbuilt_part stepped (action_then (action id place form) rest) =

@@ -1,6 +1,6 @@
--- What holds of the tree of any text, whatever rules it breaks: names are names, what a type does not
--- write is 1, commands are numbered in text order, and there are not more names and accesses than a
--- number of 32 bits counts.
+-- What holds of the tree of a text of the built forms, whatever other rules it breaks: names are names,
+-- what a type does not write is 1, commands are numbered in text order, and there are no more names and
+-- accesses than the text has tokens.
 use Rattle.std.specs.Prelude.{◌≡◌, ℕ, ◌≤◌, List, [], ◌∷◌, length, Option, Some, None}
 use Rattle.std.specs.List.{AllByRecursion}
 use Rattle.dh_base.specs.declared.places.Place.{Place}
