@@ -1,6 +1,6 @@
 -- What a text comes to: its passes one after the other, of which the first with a breach or an excess
 -- refuses it. (The order of the passes is this project's.)
-use Rattle.std.specs.Prelude.{◌≡◌, ℕ, ◌⊎◌, List, [], Option, Some, None, Result, Ok, Err, false}
+use Rattle.std.specs.Prelude.{◌≡◌, ℕ, ◌⊎◌, List, [], Option, Some, None, Result, Ok, Err, Bool, true, false}
 use Rattle.dh_base.specs.declared.limits.Excess.{Excess}
 use Rattle.dh_base.specs.declared.limits.Limit.TheVariants as limit
 use Rattle.dh_base.specs.declared.places.Place.{Place}
@@ -15,14 +15,18 @@ use Rattle.dh_tree.specs.LeastBreach.{IsLeast}
 use Rattle.dh_tree.specs.PlainTrees.{Program}
 use Rattle.dh_tree.specs.Breaches.{breaches_of}
 use Rattle.dh_tree.specs.Resolved.{resolved}
-use Rattle.dh_tree.specs.Ranges.{kind_breaches, range_breaches}
+use Rattle.dh_tree.specs.Kinds.{typed}
+use Rattle.dh_tree.specs.KindBreaches.{kind_breaches}
+use Rattle.dh_tree.specs.Ranges.{range_breaches}
 use Rattle.dh_tree.specs.Tables.{elements_in}
 use Rattle.dh_tree.specs.Accesses as accesses
 use Rattle.dh_tree.specs.Accesses.{KeepsPorts}
 use Rattle.dh_tree.specs.Meaning.{table_of}
 use Rattle.dh_tree.specs.Seen.{program_seen}
 use Rattle.dh_check.specs.Elements.{excess_at, excess_of}
-use Rattle.dh_tree.specs.Forms.{unbuilt_forms}
+use Rattle.dh_tree.specs.declared.trees.typed.Typed.{Typed}
+use Rattle.dh_check.specs.Acceptance.{unbuilt_by, IsReady}
+use Rattle.dh_check.specs.declared.checking.Forms.{Forms}
 use Rattle.dh_check.specs.declared.accepted.Accepted.{Accepted}
 use Rattle.dh_check.specs.declared.checking.CheckFault.{CheckFault}
 use Rattle.dh_check.specs.declared.checking.CheckFault.TheVariants as fault
@@ -51,17 +55,28 @@ Passes breaches v next = ((b : Breach) × (IsLeast breaches b × (v ≡ refuses 
 abbrev pub JudgedPorts : Program → Verdict → Type 0
 JudgedPorts p v = ((place : Place) × (accesses.PortsSpent p place × (v ≡ refuses PortsSpent place))) ⊎ (KeepsPorts p × (v ≡ accepts p))
 
-abbrev pub JudgedElements : Program → Option Excess → Verdict → Type 0
-JudgedElements p (Some e) v = v ≡ exceeds e
-JudgedElements p None v = JudgedPorts p v
+-- what is asked of a text: which forms may stand in it, and whether the ports of memories are judged
+pub record Asked : Type 0 where
+  pub forms : Forms
+  pub ports : Bool
 
--- kinds, then shapes and ranges, then the limit on elements, then ports
-abbrev pub JudgedNamed : Program → Verdict → Type 0
-JudgedNamed p v = Passes (kind_breaches p) v (Passes (range_breaches p) v (JudgedElements p (excess_of (elements_in (table_of p))) v))
+-- the pass over ports, where it is asked for
+abbrev pub JudgedLast : Bool → Program → Verdict → Type 0
+JudgedLast true p v = JudgedPorts p v
+JudgedLast false p v = v ≡ accepts p
 
--- the forms that are built, then names
-abbrev pub JudgedTree : Program → Verdict → Type 0
-JudgedTree p v = Passes (unbuilt_forms p) v (Passes (breaches_of p) v (JudgedNamed (resolved p) v))
+abbrev pub JudgedElements : Bool → Program → Option Excess → Verdict → Type 0
+JudgedElements ports p (Some e) v = v ≡ exceeds e
+JudgedElements ports p None v = JudgedLast ports p v
+
+-- of a program whose expressions have their kinds: kinds, then shapes and ranges, then the limit on
+-- elements, then ports
+abbrev pub JudgedTyped : Bool → Program → Verdict → Type 0
+JudgedTyped ports p v = Passes (kind_breaches p) v (Passes (range_breaches p) v (JudgedElements ports p (excess_of (elements_in (table_of p))) v))
+
+-- the forms that are built, then names, then the rest
+abbrev pub JudgedTree : Asked → Program → Verdict → Type 0
+JudgedTree asked p v = Passes (unbuilt_by asked.forms p) v (Passes (breaches_of p) v (JudgedTyped asked.ports (typed (resolved p)) v))
 
 -- a token is out of place
 pub record JudgedToken (tokens : List Token) (v : Verdict) : Type 0 where
@@ -71,39 +86,43 @@ pub record JudgedToken (tokens : List Token) (v : Verdict) : Type 0 where
   pub out_of_place : OutOfPlace tokens before token after
   pub verdict : v ≡ refuses (rule_at before token) token.place
 
-abbrev pub JudgedTokens : List Token → Option Excess → Verdict → Type 0
-JudgedTokens tokens (Some e) v = v ≡ exceeds e
-JudgedTokens tokens None v = JudgedToken tokens v ⊎ ((p : Program) × (Spells p tokens × JudgedTree p v))
+abbrev pub JudgedTokens : Asked → List Token → Option Excess → Verdict → Type 0
+JudgedTokens asked tokens (Some e) v = v ≡ exceeds e
+JudgedTokens asked tokens None v = JudgedToken tokens v ⊎ ((p : Program) × (Spells p tokens × JudgedTree asked p v))
 
 -- what a text comes to
-abbrev pub Judged : List ℕ → Verdict → Type 0
-Judged text v =
+abbrev pub Judged : Asked → List ℕ → Verdict → Type 0
+Judged asked text v =
     ((place : Place) × (IsBreach text place × (v ≡ refuses Lex place)))
-    ⊎ ((tokens : List Token) × (HasTokens text tokens × JudgedTokens tokens (tokens_excess tokens) v))
+    ⊎ ((tokens : List Token) × (HasTokens text tokens × JudgedTokens asked tokens (tokens_excess tokens) v))
 
 -- what a text comes to, and nothing else
-pub record IsVerdict (text : List ℕ) (v : Verdict) : Type 0 where
-  pub judged : Judged text v
-  pub only : (w : Verdict) → Judged text w → w ≡ v
+pub record IsVerdict (asked : Asked) (text : List ℕ) (v : Verdict) : Type 0 where
+  pub judged : Judged asked text v
+  pub only : (w : Verdict) → Judged asked text w → w ≡ v
 
--- an answer tells what the text comes to, or memory was refused
-abbrev pub Checks : List ℕ → Result Accepted CheckFault → Type 0
-Checks text (Ok a) = IsVerdict text (accepts (program_seen a))
-Checks text (Err (fault.Refused rule place)) = IsVerdict text (refuses rule place)
-Checks text (Err (fault.TooLarge excess)) = IsVerdict text (exceeds excess)
-Checks text (Err fault.NoMemory) = Unit {0}
+-- a fault that tells what the text comes to, or that memory was refused
+abbrev pub FaultTells : (Verdict → Type 0) → CheckFault → Type 0
+FaultTells tells (fault.Refused rule place) = tells (refuses rule place)
+FaultTells tells (fault.TooLarge excess) = tells (exceeds excess)
+FaultTells tells fault.NoMemory = Unit {0}
 
 -- an answer whose verdict is one of these
 abbrev pub TellsBy : (Verdict → Type 0) → Result Accepted CheckFault → Type 0
-TellsBy judged (Ok a) = judged (accepts (program_seen a))
-TellsBy judged (Err (fault.Refused rule place)) = judged (refuses rule place)
-TellsBy judged (Err (fault.TooLarge excess)) = judged (exceeds excess)
-TellsBy judged (Err fault.NoMemory) = Unit {0}
+TellsBy tells (Ok a) = tells (accepts (program_seen a))
+TellsBy tells (Err e) = FaultTells tells e
 
--- what the passes over a tree tell
-abbrev pub TellsTree : Program → Result Accepted CheckFault → Type 0
-TellsTree p result = TellsBy (JudgedTree p) result
+-- the same of an answer without the pass over ports
+abbrev pub TellsTypedBy : (Verdict → Type 0) → Result Typed CheckFault → Type 0
+TellsTypedBy tells (Ok t) = tells (accepts (program_seen t)) × IsReady (program_seen t)
+TellsTypedBy tells (Err e) = FaultTells tells e
 
--- what the passes over a tree with resolved names tell
-abbrev pub TellsNamed : Program → Result Accepted CheckFault → Type 0
-TellsNamed p result = TellsBy (JudgedNamed p) result
+abbrev pub asked_of : Forms → Bool → Asked
+asked_of forms ports = record { forms = forms; ports = ports }
+
+-- an answer tells what the text comes to, or memory was refused
+abbrev pub Checks : Forms → List ℕ → Result Accepted CheckFault → Type 0
+Checks forms text result = TellsBy (IsVerdict (asked_of forms true) text) result
+
+abbrev pub ChecksWithoutPorts : Forms → List ℕ → Result Typed CheckFault → Type 0
+ChecksWithoutPorts forms text result = TellsTypedBy (IsVerdict (asked_of forms false) text) result

@@ -3,4 +3,5 @@ pub mod SeenActions
 pub mod LargestSums
 pub mod FirstBreaches
 pub mod ResolvedForms
+pub mod ResolvedTexts
 pub mod SpentOnce

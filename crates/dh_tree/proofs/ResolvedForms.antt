@@ -13,7 +13,8 @@ use Rattle.dh_tree.specs.NameCounts.{declared_in, declared_in_form, declared_in_
 use Rattle.dh_tree.specs.PlainTrees.{Term, term, TermForm, number, truth_value, named, accessed, in_bank, applied, converted, Terms, no_terms, term_then, Action, action, ActionForm, lets, lets_memory, views, assigns, stores, reduces, calls, blocks, decides, repeats, counts, MaybeAction, no_action, one_action, Actions, no_actions, action_then, Groups, no_groups, group_then, Declared, Formal, Defined, Program}
 use Rattle.dh_tree.specs.Resolved.{resolved_term, resolved_term_form, resolved_terms, resolved_action, resolved_form, resolved_other, resolved_actions, resolved_groups, resolved_decls, resolved_formals, resolved_functions, resolved}
 use Rattle.dh_tree.specs.Scopes.{Binding, Scope, declare, leave, past, at_end, actions_at_end, formal_sort, body_start, after_function, first_scope, body_scope}
-use Rattle.dh_tree.specs.Written.{IsDeclared, IsWritten}
+use Rattle.dh_tree.specs.Widths.{HasWidths}
+use Rattle.dh_tree.specs.Written.{IsDeclared, IsOfText, IsWritten}
 
 -- expressions
 number_kept : (bs : List Binding) (f : TermForm) → plain_number (resolved_term_form bs f) ≡ plain_number f
@@ -78,10 +79,10 @@ dashes_kept s (group_then part no_groups) = refl
 dashes_kept s (group_then part (group_then next rest)) = refl
 
 mutual
-  steps_kept : (s : Scope) (a : Action) → holds_steps (resolved_action s a) ≡ holds_steps a
+  pub steps_kept : (s : Scope) (a : Action) → holds_steps (resolved_action s a) ≡ holds_steps a
   steps_kept s (action id place form) = form_steps_kept s form
 
-  form_steps_kept : (s : Scope) (f : ActionForm) → form_holds (resolved_form s f) ≡ form_holds f
+  pub form_steps_kept : (s : Scope) (f : ActionForm) → form_holds (resolved_form s f) ≡ form_holds f
   form_steps_kept s (lets name declared value) = refl
   form_steps_kept s (lets_memory name shape shape_places value) = refl
   form_steps_kept s (views name parent form) = refl
@@ -97,7 +98,7 @@ mutual
   form_steps_kept s (repeats test body) = refl
   form_steps_kept s (counts iterator declared low high factor body combine combine_place) = refl
 
-  other_steps_kept : (s : Scope) (m : MaybeAction) → other_holds (resolved_other s m) ≡ other_holds m
+  pub other_steps_kept : (s : Scope) (m : MaybeAction) → other_holds (resolved_other s m) ≡ other_holds m
   other_steps_kept s no_action = refl
   other_steps_kept s (one_action a) = steps_kept s a
 
@@ -147,7 +148,7 @@ decls_kept : (n : ℕ) (ds : List Declared) → unbuilt_decls (resolved_decls n 
 decls_kept n [] = refl
 decls_kept n (d ∷ ds) = ap (λ l. unbuilt_decl d ++ l) (decls_kept (n + 1) ds)
 
-functions_kept : (n : ℕ) (s : Scope) (fs : List Defined) → unbuilt_functions (resolved_functions n s fs) ≡ unbuilt_functions fs
+pub functions_kept : (n : ℕ) (s : Scope) (fs : List Defined) → unbuilt_functions (resolved_functions n s fs) ≡ unbuilt_functions fs
 functions_kept n s [] = refl
 functions_kept n s (f ∷ fs) = ap (λ l. unbuilt f.place ++ l) (functions_kept (n + 1) (after_function n s f) fs)
 
@@ -350,20 +351,28 @@ decls_declared : (n : ℕ) (ds : List Declared) → AllByRecursion IsDeclared ds
 decls_declared n [] h = tt
 decls_declared n (d ∷ ds) h = (record { named = h.0.named; ports = h.0.ports; dims = h.0.dims }, decls_declared (n + 1) ds h.1)
 
--- the tree is written as it was
-pub written_kept : (tokens : ℕ) (p : Program) → IsWritten tokens p → IsWritten tokens (resolved p)
-written_kept tokens p h =
+-- what holds of the tree of a text holds still
+pub of_text_kept : (tokens : ℕ) (p : Program) → HasWidths (resolved p) → IsOfText tokens p → IsOfText tokens (resolved p)
+of_text_kept tokens p widths h =
     let decls = decls_count 0 p.decls in
     let functions = functions_count (length p.decls) (first_scope p) p.functions in
     let within = functions_names_kept (length p.decls) (first_scope p) p.functions in
     let body = names_kept (body_scope p) p.body in
     let names = h.names in
+    record {
+      decls = decls_declared 0 p.decls h.decls;
+      names = omega (arith, decls, functions, within, body, names);
+      widths = widths;
+    }
+
+-- the tree is written as it was
+pub written_kept : (tokens : ℕ) (p : Program) → HasWidths (resolved p) → IsWritten tokens p → IsWritten tokens (resolved p)
+written_kept tokens p widths h =
     let long = action_long (body_scope p) p.body in
     let accesses = h.accesses in
     record {
-      decls = decls_declared 0 p.decls h.decls;
+      of_text = of_text_kept tokens p widths h.of_text;
       first_number = h.first_number;
       counted = counted_kept (body_scope p) h.first_number p.body h.counted;
-      names = omega (arith, decls, functions, within, body, names);
       accesses = omega (arith, long, accesses);
     }

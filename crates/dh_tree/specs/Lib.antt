@@ -7,6 +7,8 @@ pub mod Phases
 pub mod Meets
 pub mod Accesses
 pub mod Meaning
+pub mod Kinds
+pub mod KindBreaches
 pub mod Elements
 pub mod Effects
 pub mod Steps
@@ -18,4 +20,7 @@ pub mod NameCounts
 pub mod Ranges
 pub mod Forms
 pub mod FirstForms
+pub mod Widths
 pub mod Written
+pub mod UncheckedForms
+pub mod Suited

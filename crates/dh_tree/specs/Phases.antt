@@ -1,10 +1,10 @@
 -- The phases of a command: what it does in each of its logical steps. For now there are Straight
--- phases alone, of stores, and a list has at most one stepped part; commands of forms that are not
--- built have no phase.
-use Rattle.std.specs.Prelude.{ℕ, ◌==◌, ◌&&◌, Bool, List, [], ◌∷◌, ◌++◌}
+-- phases alone, and a list has at most one stepped part; commands of forms that are not built have no
+-- phase.
+use Rattle.std.specs.Prelude.{ℕ, ◌==◌, ◌&&◌, Bool, true, false, if◌then◌else◌, List, [], ◌∷◌, ◌++◌}
 use Rattle.std.specs.List.{list_any}
 use Rattle.dh_base.specs.declared.places.Place.{Place}
-use Rattle.dh_tree.specs.PlainTrees.{Action, action, ActionForm, stores, blocks, Actions, no_actions, action_then, Groups, no_groups, group_then}
+use Rattle.dh_tree.specs.PlainTrees.{Action, action, ActionForm, lets, assigns, stores, blocks, decides, MaybeAction, no_action, one_action, Actions, no_actions, action_then, Groups, no_groups, group_then}
 
 -- straight commands that are done in one logical step
 pub data Phase : Type 0 where
@@ -24,15 +24,33 @@ joined cs ([] ∷ parts) = joined cs parts
 joined cs ((straight ds ∷ []) ∷ parts) = joined (cs ++ ds) parts
 joined cs ((p ∷ q ∷ ps) ∷ parts) = one_straight cs ++ ((p ∷ q ∷ ps) ++ joined [] parts)
 
+-- no phase, or one Straight phase
+abbrev pub are_straight : List Phase → Bool
+are_straight [] = true
+are_straight (straight cs ∷ []) = true
+are_straight (p ∷ q ∷ ps) = false
+
+abbrev pub one_command : Action → List Phase
+one_command a = straight (a ∷ []) ∷ []
+
 abbrev mutual
-  -- the phases of a command: a straight one is one phase, a block has those of its content
+  -- The phases of a command: a straight one is one phase, a block has those of its content. An `if` is
+  -- straight where its arms are.
   pub phases : Action → List Phase
   phases (action id place form) = form_phases id place form
 
   pub form_phases : ℕ → Place → ActionForm → List Phase
-  form_phases id place (stores target value) = straight (action id place (stores target value) ∷ []) ∷ []
+  form_phases id place (lets name declared value) = one_command (action id place (lets name declared value))
+  form_phases id place (assigns target value) = one_command (action id place (assigns target value))
+  form_phases id place (stores target value) = one_command (action id place (stores target value))
+  form_phases id place (decides test chosen other) =
+      if are_straight (phases chosen) && are_straight (other_phases other) then one_command (action id place (decides test chosen other)) else []
   form_phases id place (blocks body) = groups_phases body
   form_phases id place form = []
+
+  pub other_phases : MaybeAction → List Phase
+  other_phases no_action = []
+  other_phases (one_action a) = phases a
 
   -- nothing is joined across `---`
   pub groups_phases : Groups → List Phase

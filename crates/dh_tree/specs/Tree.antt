@@ -1,32 +1,45 @@
--- Programs as the definitions see them: trees without memory management. A tree of the code stands
--- for one of these.
+-- Programs as the checked semantics runs them: memories by number, variables by the number of their
+-- entity, and the kinds of numbers filled in.
 use Rattle.std.specs.Prelude.{ℕ, Bool, List}
 use Rattle.dh_base.specs.declared.places.Place.{Place}
 use Rattle.dh_value.specs.declared.kinds.Kind.{Kind}
+use Rattle.dh_value.specs.declared.operators.Op.{Op}
 use Rattle.dh_tree.specs.declared.tables.MemEntry.{MemEntry}
 
--- the operators that are built
-pub data Op : Type 0 where
-  add : Op
-
 mutual
-  -- an expression: a number, an element of a memory, or an operation on two operands of one kind
+  -- an expression
   pub data Term : Type 0 where
+    -- a number of a kind
     number : (kind : Kind) → (negative : Bool) → (value : ℕ) → Term
+    truth_value : (value : Bool) → Term
+    -- a variable, of which there is one in each copy of so many unrolled loops round its declaration
+    variable : (kind : Kind) → (depth : ℕ) → (entity : ℕ) → Term
+    -- an element of a memory
     access : (place : Place) → (memory : ℕ) → (indices : Terms) → Term
-    binary : (kind : Kind) → (op : Op) → (left right : Term) → Term
+    -- an operation; its operands are extended already
+    binary : (op : Op) → (left right : Term) → Term
+    -- the value of an expression, modulo 2^width of an integer kind
+    convert : (to : Kind) → (inner : Term) → Term
 
   pub data Terms : Type 0 where
     no_terms : Terms
     term : Term → Terms → Terms
 
--- a straight command: it takes one logical step, with its neighbours
-pub data Command : Type 0 where
-  store : (place : Place) → (memory : ℕ) → (indices : Terms) → (value : Term) → Command
+mutual
+  -- a straight command: it takes one logical step, with its neighbours
+  pub data Command : Type 0 where
+    store : (place : Place) → (memory : ℕ) → (indices : Terms) → (value : Term) → Command
+    assign : (depth : ℕ) → (entity : ℕ) → (value : Term) → Command
+    choose : (test : Term) → (chosen other : Commands) → Command
+
+  -- commands, one after the other
+  pub data Commands : Type 0 where
+    no_commands : Commands
+    command : Command → Commands → Commands
 
 -- a phase, which takes at least one logical step
 pub data Phase : Type 0 where
-  straight : List Command → Phase
+  straight : Commands → Phase
 
 -- a program: its memories, and the phases of its body in order
 pub record Tree : Type 0 where

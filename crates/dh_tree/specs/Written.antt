@@ -1,6 +1,7 @@
--- What holds of the tree of a text of the built forms, whatever other rules it breaks: names are names,
--- what a type does not write is 1, commands are numbered in text order, and there are no more names and
--- accesses than the text has tokens.
+-- What holds of the tree of a text, whatever rules it breaks: names are names, what a type does not write
+-- is 1, kinds have their widths, and there are no more names than the text has tokens. Of a text of the
+-- built forms also that commands are numbered in text order, and that there are no more accesses than
+-- tokens.
 use Rattle.std.specs.Prelude.{◌≡◌, ℕ, ◌≤◌, List, [], ◌∷◌, length, Option, Some, None}
 use Rattle.std.specs.List.{AllByRecursion}
 use Rattle.dh_base.specs.declared.places.Place.{Place}
@@ -11,6 +12,7 @@ use Rattle.dh_tree.specs.PlainTrees.{Declared, Program}
 use Rattle.dh_tree.specs.FirstForms.{IsCounted}
 use Rattle.dh_tree.specs.NameCounts.{names_declared}
 use Rattle.dh_tree.specs.Accesses.{accesses}
+use Rattle.dh_tree.specs.Widths.{HasWidths}
 
 -- a number that is not written is 1
 abbrev pub IsOneUnless : Option Place → ℕ → Type 0
@@ -28,10 +30,15 @@ pub record IsDeclared (d : Declared) : Type 0 where
   pub ports : IsOneUnless d.shape_places.braces_place d.shape.ports
   pub dims : AreDims d.shape.dims d.shape_places.dims
 
--- the tree of a text of at most so many tokens
-pub record IsWritten (tokens : ℕ) (p : Program) : Type 0 where
+-- what holds of the tree of any text of at most so many tokens
+pub record IsOfText (tokens : ℕ) (p : Program) : Type 0 where
   pub decls : AllByRecursion IsDeclared p.decls
+  pub names : names_declared p ≤ tokens
+  pub widths : HasWidths p
+
+-- the tree of a text of the built forms, of at most so many tokens
+pub record IsWritten (tokens : ℕ) (p : Program) : Type 0 where
+  pub of_text : IsOfText tokens p
   pub first_number : ℕ
   pub counted : IsCounted first_number p.body
-  pub names : names_declared p ≤ tokens
   pub accesses : length (accesses p.body) ≤ tokens

@@ -10,9 +10,10 @@ ghost use Rattle.dh_tree.specs.declared.trees.commands.CommandForm.TheVariants.{
 ghost use Rattle.dh_tree.specs.declared.breaches.Breach.{Breach};
 ghost use Rattle.dh_tree.specs.LeastBreach.{IsLeast, least_of};
 ghost use Rattle.dh_tree.specs.Forms.{unbuilt_forms};
+ghost use Rattle.dh_tree.specs.UncheckedForms.{unchecked_forms};
 ghost use Rattle.dh_tree.specs.PlainTrees.{Program, accessed, blocks};
 ghost use Rattle.dh_tree.specs.Resolved.{resolved};
-ghost use Rattle.dh_tree.specs.Written.{IsWritten};
+ghost use Rattle.dh_tree.specs.Written.{IsOfText, IsWritten};
 ghost use Rattle.dh_tree.specs.Seen.{term_seen, form_seen, terms, action_seen, action_form_seen, part_seen, groups};
 
 /// The plain tree of an access has the plain trees of its indices in order, and that of a block those
@@ -34,5 +35,7 @@ pub fn kept_is_least()
 /// was.
 pub fn resolving_keeps_forms()
     ensures forms { (p : Program) → unbuilt_forms (resolved p) ≡ unbuilt_forms p }
+    ensures unchecked { (p : Program) → unchecked_forms (resolved p) ≡ unchecked_forms p }
+    ensures of_text { (tokens : ℕ) (p : Program) → IsOfText tokens p → IsOfText tokens (resolved p) }
     ensures written { (tokens : ℕ) (p : Program) → IsWritten tokens p → IsWritten tokens (resolved p) }
 {}

@@ -8,8 +8,10 @@ mod commands;
 mod expressions;
 mod named;
 mod programs;
+mod typed;
 
 pub use commands::{Command, CommandForm, ViewForm};
 pub use expressions::{Expr, ExprForm, Ref};
 pub use named::Named;
 pub use programs::{Decl, DimPlaces, Entity, Function, Parameter, ShapePlaces, Sort, Tree};
+pub use typed::Typed;
