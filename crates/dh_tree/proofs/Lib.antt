@@ -5,3 +5,6 @@ pub mod FirstBreaches
 pub mod ResolvedForms
 pub mod ResolvedTexts
 pub mod SpentOnce
+pub mod TypedAgain
+pub mod TypedForms
+pub mod TypedTexts
