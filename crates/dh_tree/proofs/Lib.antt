@@ -8,3 +8,5 @@ pub mod SpentOnce
 pub mod TypedAgain
 pub mod TypedForms
 pub mod TypedTexts
+pub mod TypedNames
+pub mod TypedEntities

@@ -1,13 +1,11 @@
 -- Filling in the kinds of a program that has them changes nothing. What the place of an operand asks for
 -- looks at the kind of the other operand only where that one is not bare; then its own place asks for
 -- nothing, and the kind stays. By recursion over the tree.
-use Rattle.std.proofs.Common.{◌≡◌, ℕ, ◌&&◌, Bool, true, false, if◌then◌else◌, List, [], ◌∷◌, ◌++◌, map, length, Option, Some, None, refl, ap, ◌∙◌}
-use Rattle.std.specs.Prelude.{option_map}
+use Rattle.std.proofs.Common.{◌≡◌, ◌&&◌, Bool, true, false, if◌then◌else◌, List, [], ◌∷◌, ◌++◌, map, Option, Some, None, refl, ap, ◌∙◌}
 use Rattle.dh_value.specs.declared.kinds.Kind.{Kind}
 use Rattle.dh_value.specs.declared.kinds.Kind.TheVariants as kind
 use Rattle.dh_value.specs.declared.operators.Op.{Op}
-use Rattle.dh_tree.specs.declared.trees.expressions.Ref.{Ref}
-use Rattle.dh_tree.specs.PlainTrees.{Term, term, TermForm, number, truth_value, named, accessed, in_bank, applied, converted, Terms, no_terms, term_then, Suffixed, ViewPlan, shrinks, splits, suffixes, shifts, Action, action, ActionForm, lets, lets_memory, views, assigns, stores, reduces, calls, blocks, decides, repeats, counts, MaybeAction, no_action, one_action, Actions, no_actions, action_then, Groups, no_groups, group_then, Declared, Formal, Defined, Program}
+use Rattle.dh_tree.specs.PlainTrees.{Term, term, TermForm, number, truth_value, named, accessed, in_bank, applied, converted, Terms, no_terms, term_then, Suffixed, ViewPlan, shrinks, splits, suffixes, shifts, Action, action, ActionForm, lets, lets_memory, views, assigns, stores, reduces, calls, blocks, decides, repeats, counts, MaybeAction, no_action, one_action, Actions, no_actions, action_then, Groups, no_groups, group_then, Defined, Program}
 use Rattle.dh_tree.specs.Kinds.{Facts, fact_of, of_iterator, is_shift, keeps_bare, is_bare, is_bare_form, for_numbers, found, left_want, right_want, form_found, typed_term, typed_form, typed_terms, typed_maybe, typed_offset, typed_plan, typed_arguments, parameters_of, target_kind, iterator_kind, facts_after, facts_after_actions, typed_action, typed_action_form, typed_other, typed_actions, typed_groups, declared_facts, function_fact, formal_facts, first_facts, typed_function, facts_after_function, facts_after_functions, typed_functions, typed, HasKinds}
 
 module _ (facts : Facts) where
@@ -48,7 +46,7 @@ module _ (facts : Facts) where
   right_again o want false true left right h = ap (λ t. if is_shift o then Some (kind.Unsigned 32) else for_numbers (found t)) (h None)
 
   mutual
-    pub term_again : (t : Term) (want : Option Kind) → typed_term facts want (typed_term facts want t) ≡ typed_term facts want t
+    term_again : (t : Term) (want : Option Kind) → typed_term facts want (typed_term facts want t) ≡ typed_term facts want t
     term_again (term place kind form) want = ap (λ f. term place (form_found facts want f) f) (form_again form want)
 
     form_again : (f : TermForm) (want : Option Kind) → typed_form facts want (typed_form facts want f) ≡ typed_form facts want f
@@ -70,13 +68,13 @@ module _ (facts : Facts) where
         let same_left : is_bare tl ≡ bl = bare_kept l left in
         let same_right : is_bare tr ≡ br = bare_kept r right in
         let asks_left : left_want o want (is_bare tl) (is_bare tr) (found (typed_term facts None tr)) ≡ l =
-            ap (λ b. left_want o want b (is_bare tr) (found (typed_term facts None tr))) same_left
-            ∙ (ap (λ b. left_want o want bl b (found (typed_term facts None tr))) same_right
-            ∙ left_again o want bl br fl right (term_again right)) in
+        ap (λ b. left_want o want b (is_bare tr) (found (typed_term facts None tr))) same_left
+        ∙ (ap (λ b. left_want o want bl b (found (typed_term facts None tr))) same_right
+        ∙ left_again o want bl br fl right (term_again right)) in
         let asks_right : right_want o want (is_bare tl) (is_bare tr) (found (typed_term facts None tl)) ≡ r =
-            ap (λ b. right_want o want b (is_bare tr) (found (typed_term facts None tl))) same_left
-            ∙ (ap (λ b. right_want o want bl b (found (typed_term facts None tl))) same_right
-            ∙ right_again o want bl br left fr (term_again left)) in
+        ap (λ b. right_want o want b (is_bare tr) (found (typed_term facts None tl))) same_left
+        ∙ (ap (λ b. right_want o want bl b (found (typed_term facts None tl))) same_right
+        ∙ right_again o want bl br left fr (term_again left)) in
         ap (λ w. applied o (typed_term facts w tl) (typed_term facts (right_want o want (is_bare tl) (is_bare tr) (found (typed_term facts None tl))) tr)) asks_left
         ∙ (ap (λ t. applied o t (typed_term facts (right_want o want (is_bare tl) (is_bare tr) (found (typed_term facts None tl))) tr)) (term_again left l)
         ∙ (ap (λ w. applied o tl (typed_term facts w tr)) asks_right
@@ -118,7 +116,7 @@ module _ (facts : Facts) where
       ap (λ x. x ∷ typed_arguments facts ks (typed_arguments facts ks ts)) (term_again t want) ∙ ap (λ l. typed_term facts want t ∷ l) (arguments_again ks ts)
 
 mutual
-  pub action_again : (facts : Facts) (a : Action) → typed_action facts (typed_action facts a) ≡ typed_action facts a
+  action_again : (facts : Facts) (a : Action) → typed_action facts (typed_action facts a) ≡ typed_action facts a
   action_again facts (action id place form) = ap (λ f. action id place f) (action_form_again facts form)
 
   action_form_again : (facts : Facts) (f : ActionForm) → typed_action_form facts (typed_action_form facts f) ≡ typed_action_form facts f

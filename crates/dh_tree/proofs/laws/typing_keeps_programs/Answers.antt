@@ -1,4 +1,6 @@
 use Rattle.dh_tree.proofs.TypedAgain.{typed_again}
+use Rattle.dh_tree.proofs.TypedNames.{names_kept}
+use Rattle.dh_tree.proofs.TypedEntities.{entities_kept}
 use Rattle.dh_tree.proofs.TypedForms.{forms_kept, of_text_kept, written_kept}
 use Rattle.dh_tree.proofs.TypedTexts.{widths_kept, unchecked_forms_kept}
 use Rattle.dh_tree.proofs.laws.typing_keeps_programs.Goals as goal
@@ -17,3 +19,9 @@ returns-clause-of_text c = λ tokens p h. of_text_kept tokens p (widths_kept p h
 
 pub returns-clause-written : goal.returns-clause-written
 returns-clause-written c = λ tokens p h. written_kept tokens p (widths_kept p h.of_text.widths) h
+
+pub returns-clause-names : goal.returns-clause-names
+returns-clause-names c = names_kept
+
+pub returns-clause-entities : goal.returns-clause-entities
+returns-clause-entities c = entities_kept
