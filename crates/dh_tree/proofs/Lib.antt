@@ -5,3 +5,9 @@ pub mod FirstBreaches
 pub mod ResolvedForms
 pub mod ResolvedTexts
 pub mod SpentOnce
+pub mod UncheckedBuilt
+pub mod SuitedOperands
+pub mod SuitedTerms
+pub mod SuitedNames
+pub mod SuitedActions
+pub mod SuitedPrograms
