@@ -10,3 +10,9 @@ pub mod TypedForms
 pub mod TypedTexts
 pub mod TypedNames
 pub mod TypedEntities
+pub mod UncheckedBuilt
+pub mod SuitedOperands
+pub mod SuitedTerms
+pub mod SuitedNames
+pub mod SuitedActions
+pub mod SuitedPrograms

@@ -338,10 +338,11 @@ parameters_of _ = []
 abbrev pub target_kind : Option Fact → Option Kind
 target_kind fact = value_kind fact
 
--- what is known of a variable: its kind as it is written, or that of its right side
+-- what is known of a variable: its kind as it is written, or that of its right side; no text has a `let`
+-- with neither, whose variable is Bool
 abbrev pub variable_fact : Option Kind → Option Term → Fact
 variable_fact (Some k) value = of_variable (Some k)
-variable_fact None None = of_variable None
+variable_fact None None = of_variable (Some kind.Bool)
 variable_fact None (Some value) = of_variable (found value)
 
 -- an iterator is of `ubit<32>` where no kind is written

@@ -15,6 +15,10 @@ ghost use Rattle.dh_tree.specs.PlainTrees.{Program, accessed, blocks};
 ghost use Rattle.dh_tree.specs.Resolved.{HasEntities, resolved};
 ghost use Rattle.dh_tree.specs.Breaches.{KeepsNames};
 ghost use Rattle.dh_tree.specs.Kinds.{HasKinds, typed};
+ghost use Rattle.dh_tree.specs.KindBreaches.{KeepsKinds};
+ghost use Rattle.dh_tree.specs.Meaning.{meaning_of};
+ghost use Rattle.dh_tree.specs.Suited.{IsSuitedTree};
+ghost use Rattle.dh_tree.specs.Widths.{HasWidths};
 ghost use Rattle.dh_tree.specs.Written.{IsOfText, IsWritten};
 ghost use Rattle.dh_tree.specs.Seen.{term_seen, form_seen, terms, action_seen, action_form_seen, part_seen, groups};
 
@@ -53,4 +57,13 @@ pub fn typing_keeps_programs()
     ensures unchecked { (p : Program) → unchecked_forms (typed p) ≡ unchecked_forms p }
     ensures of_text { (tokens : ℕ) (p : Program) → IsOfText tokens p → IsOfText tokens (typed p) }
     ensures written { (tokens : ℕ) (p : Program) → IsWritten tokens p → IsWritten tokens (typed p) }
+{}
+
+/// A typed program that breaks no rule on names or kinds, whose kinds have their widths and whose forms are
+/// built for a run without the check of ports, means terms that suit their operators: each has a value of
+/// its kind, whatever memories and variables hold. Forms that are built for check and compile are built for
+/// such a run.
+pub fn typed_programs_suit()
+    ensures suits { (p : Program) → KeepsNames p → HasEntities p → HasKinds p → KeepsKinds p → HasWidths p → unchecked_forms p ≡ [] → IsSuitedTree (meaning_of p) }
+    ensures built { (p : Program) → unbuilt_forms p ≡ [] → unchecked_forms p ≡ [] }
 {}
