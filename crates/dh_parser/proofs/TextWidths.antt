@@ -1,5 +1,5 @@
 -- The kinds in the tree of any text have from 1 to 64 bits, as the grammar allows no other width.
-use Rattle.std.proofs.Common.{ℕ, suc, ◌+◌, Bool, true, false, List, [], ◌∷◌, map, Option, Some, None, arith}
+use Rattle.std.proofs.Common.{ℕ, suc, ◌+◌, Bool, true, false, List, [], ◌∷◌, map, arith}
 use Rattle.std.specs.List.{AllByRecursion}
 use Rattle.dh_value.specs.Words.{IsKind}
 use Rattle.dh_tree.specs.Widths.{IsSized, AreSized, AreAllSized, MaybeSized, PlanSized, ActionSized, FormSized, OtherSized, ActionsSized, GroupsSized, DefinedSized, HasWidths}

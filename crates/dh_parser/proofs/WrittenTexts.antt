@@ -2,29 +2,20 @@
 -- text order, and each access has a token of its own.
 -- A program of the built forms has no functions, and its commands are stores and blocks; all else has a
 -- form that is not built.
-use Rattle.std.proofs.Common.{◌≡◌, ℕ, zero, suc, ◌+◌, ◌≤◌, ◌&&◌, ◌||◌, Bool, true, false, if◌then◌else◌, List, [], ◌∷◌, ◌++◌, length, Option, Some, None, refl, ap, sym, ◌∙◌, subst, arith, length-append}
-use Rattle.std.specs.List.{AllByRecursion}
-use Rattle.std.specs.Option.{is_some}
+use Rattle.std.proofs.Common.{◌≡◌, ℕ, suc, ◌+◌, ◌≤◌, ◌&&◌, ◌||◌, Bool, true, false, if◌then◌else◌, List, [], ◌∷◌, ◌++◌, length, refl, ap, sym, ◌∙◌, subst, arith, length-append}
 use Rattle.dh_base.specs.declared.places.Place.{Place}
 use Rattle.dh_lexer.specs.declared.tokens.Token.{Token}
-use Rattle.dh_lexer.specs.declared.tokens.TokenKind.{TokenKind}
 use Rattle.dh_lexer.specs.declared.tokens.TokenKind.TheVariants as kind
-use Rattle.dh_lexer.specs.LexedText.{IsSound, AreEnded}
-use Rattle.dh_value.specs.declared.operators.Op.{Op}
-use Rattle.dh_value.specs.declared.operators.Op.TheVariants as op
-use Rattle.dh_tree.specs.declared.breaches.Breach.{Breach}
-use Rattle.dh_tree.specs.declared.tables.Dim.{Dim}
-use Rattle.dh_tree.specs.Accesses.{Access, term_accesses, form_accesses, terms_accesses, target_accesses, store_accesses, accesses, command_accesses, groups_accesses, part_accesses}
+use Rattle.dh_lexer.specs.LexedText.{AreEnded}
+use Rattle.dh_tree.specs.Accesses.{Access, term_accesses, terms_accesses, target_accesses, store_accesses, accesses, command_accesses, groups_accesses, part_accesses}
 use Rattle.dh_tree.specs.FirstForms.{number_after, form_after, groups_after, part_after, IsCounted, IsCountedForm, AreCountedGroups, AreCounted}
-use Rattle.dh_tree.specs.Forms.{unbuilt, plain_number, is_small, is_stored, is_element, is_access, further_indices, unbuilt_index, unbuilt_indices, unbuilt_access, is_sum_of, unbuilt_sum, unbuilt_value, form_holds, unbuilt_action, unbuilt_form, unbuilt_groups, unbuilt_part, unbuilt_decl, unbuilt_decls, unbuilt_functions, unbuilt_forms}
-use Rattle.dh_tree.specs.NameCounts.{declared_in, declared_in_form, declared_in_groups, declared_in_actions, declared_in_functions, names_declared}
-use Rattle.dh_tree.specs.Names.{IsName}
-use Rattle.dh_tree.specs.PlainTrees.{Term, term, TermForm, number, truth_value, named, accessed, in_bank, applied, converted, Terms, no_terms, term_then, Action, action, ActionForm, lets, lets_memory, views, assigns, stores, reduces, calls, blocks, decides, repeats, counts, MaybeAction, no_action, one_action, Actions, no_actions, action_then, Groups, no_groups, group_then, Declared, Defined, Program}
-use Rattle.dh_tree.specs.Written.{IsOneUnless, AreDims, IsDeclared, IsWritten}
-use Rattle.dh_parser.specs.Grammar.{NameText, PortsText, no_ports, some_ports, BanksText, no_banks, some_banks, DimsText, no_dims, dim_then, TypeText, ExprText, AccessText, element, physical, ValueText, SimpleText, let_typed, let_value, view, assign, store, reduce, call, BlockText, block, PartsText, last_part, part_then, PartText, end_of_part, last_simple, simple_then, compound_then, semicolon_then, CompoundText, block_alone, if_alone, while_loop, for_loop, IfText, if_else, ItemsText, no_items, decl_then, def_then, ProgramText}
+use Rattle.dh_tree.specs.Forms.{unbuilt, is_stored, is_access, further_indices, unbuilt_index, unbuilt_indices, unbuilt_access, is_sum_of, unbuilt_value, form_holds, unbuilt_action, unbuilt_form, unbuilt_groups, unbuilt_part, unbuilt_decls, unbuilt_functions, unbuilt_forms}
+use Rattle.dh_tree.specs.PlainTrees.{Term, term, number, truth_value, named, accessed, in_bank, applied, converted, Terms, no_terms, term_then, blocks, Program}
+use Rattle.dh_tree.specs.Written.{IsWritten}
+use Rattle.dh_parser.specs.Grammar.{NameText, TypeText, AccessText, element, physical, ValueText, SimpleText, let_typed, let_value, view, assign, store, reduce, call, BlockText, block, PartsText, last_part, part_then, PartText, end_of_part, last_simple, simple_then, compound_then, semicolon_then, block_alone, if_alone, while_loop, for_loop, if_else, ProgramText}
 use Rattle.dh_parser.specs.Programs.{Spells}
-use Rattle.dh_parser.specs.Spelling.{put, spell_type, spell, spell_access, spell_index, spell_indices, spell_value, spell_simple, spell_block, spell_parts, spell_part, spell_compound, spell_items, spell_program}
-use Rattle.dh_parser.specs.TreesOfTexts.{ports_of, banks_of, word_of, braces_of, dims_of, places_of, shape_of, shape_places_of, kind_place, term_of, access_of, is_memory_type, let_of, simple_form, simple_place, count_block, count_parts, count_part, count_compound, count_if, block_of, parts_of, part_of, compound_of, if_of, decls_of, functions_of, declared_at, body_of, count_items, program_of}
+use Rattle.dh_parser.specs.Spelling.{put, spell, spell_access, spell_index, spell_indices, spell_simple, spell_block, spell_parts, spell_part, spell_items, spell_program}
+use Rattle.dh_parser.specs.TreesOfTexts.{term_of, access_of, is_memory_type, let_of, simple_form, simple_place, count_block, count_parts, count_part, block_of, parts_of, part_of, decls_of, functions_of, count_items, program_of}
 use Rattle.dh_parser.specs.Allowed.{ProgramFits}
 use Rattle.dh_parser.proofs.Fronts.{front_of, expression_front, index_front, indices_front, items_front}
 use Rattle.dh_parser.proofs.TextNames.{longer, of_text}
