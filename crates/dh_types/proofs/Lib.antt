@@ -1,1 +1,5 @@
-
+pub mod InPlace
+pub mod LeastKept
+pub mod Indices
+pub mod Forms
+pub mod Lists

@@ -1,10 +1,11 @@
 -- What the definitions see of the facts that the code keeps of entities, and of a breach that may lack.
 use Rattle.std.specs.Prelude.{Bool, true, false, List, [], ◌∷◌, map, Option, Some, None}
+use Rattle.dh_value.specs.declared.kinds.Kind.{Kind}
 use Rattle.dh_types.specs.declared.facts.Fact.{Fact}
 use Rattle.dh_types.specs.declared.facts.Fact.TheVariants as known
 use Rattle.dh_tree.specs.declared.breaches.Breach.{Breach}
 use Rattle.dh_tree.specs.Kinds as kinds
-use Rattle.dh_tree.specs.Kinds.{Facts}
+use Rattle.dh_tree.specs.Kinds.{Facts, is_integer}
 use Rattle.dh_tree.specs.KindBreaches.{name_fact}
 use Rattle.dh_tree.specs.PlainTrees.{Term, term}
 
@@ -31,3 +32,8 @@ is_memory _ = false
 
 abbrev pub is_memory_name : Facts → Term → Bool
 is_memory_name facts (term place kind form) = is_memory (name_fact facts form)
+
+-- whether a kind was found that is an integer one
+abbrev pub has_integer : Option Kind → Bool
+has_integer None = false
+has_integer (Some k) = is_integer k

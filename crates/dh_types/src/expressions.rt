@@ -5,7 +5,7 @@ ghost use Rattle.dh_tree.specs.PlainTrees.{applied};
 ghost use Rattle.dh_tree.specs.Seen.{term_seen, form_seen, terms};
 ghost use Rattle.dh_tree.specs.Kinds as rules;
 ghost use Rattle.dh_types.specs.Facts.{facts_seen};
-ghost use Rattle.dh_types.specs.Bare.{settled, settled_form};
+ghost use Rattle.dh_types.specs.Bare.{settled, settled_form, AreFilled};
 
 use crate::facts::Fact;
 use crate::finding::kind_found;
@@ -18,8 +18,7 @@ use std::mem;
 /// Gives a bare expression its kinds: its numbers take the kind that is wanted.
 #[cycle(bare)]
 pub fn fill(facts: &[Fact], want: Option<Kind>, term: &mut Expr)
-    requires bare { rules.is_bare (term_seen term.old) ≡ true }
-    ensures { term_seen term.new ≡ rules.typed_term (facts_seen facts.now) want (term_seen term.old) }
+    ensures { rules.is_bare (term_seen term.old) ≡ true → term_seen term.new ≡ rules.typed_term (facts_seen facts.now) want (term_seen term.old) }
 {
     let form = mem::replace(&mut term.form, ExprForm::Truth { value: false });
     term.form = filled_form(facts, want, form);
@@ -30,8 +29,7 @@ pub fn fill(facts: &[Fact], want: Option<Kind>, term: &mut Expr)
 #[cycle(bare)]
 #[tactic(auto, using(dh_tree::proofs::SeenTerms::terms_are))]
 fn filled_form(facts: &[Fact], want: Option<Kind>, form: ExprForm) -> ExprForm
-    requires bare { rules.is_bare_form (form_seen form) ≡ true }
-    ensures { form_seen result ≡ rules.typed_form (facts_seen facts.now) want (form_seen form) }
+    ensures { rules.is_bare_form (form_seen form) ≡ true → form_seen result ≡ rules.typed_form (facts_seen facts.now) want (form_seen form) }
 {
     match form {
         ExprForm::Binary {
@@ -43,8 +41,23 @@ fn filled_form(facts: &[Fact], want: Option<Kind>, form: ExprForm) -> ExprForm
             fill(facts, right_want(op, want, true, None), &mut right);
             ExprForm::Binary { op, left, right }
         }
-        // numbers stay as they are, and no other form is bare
-        other => other,
+        ExprForm::Number { negative, value } => ExprForm::Number { negative, value },
+        // no other form is bare
+        ExprForm::Truth { value } => ExprForm::Truth { value },
+        ExprForm::Variable { of } => ExprForm::Variable { of },
+        ExprForm::Access { of, indices } => ExprForm::Access { of, indices },
+        ExprForm::Physical {
+            of,
+            bank,
+            bank_place,
+            row,
+        } => ExprForm::Physical {
+            of,
+            bank,
+            bank_place,
+            row,
+        },
+        ExprForm::Cast { inner, to } => ExprForm::Cast { inner, to },
     }
 }
 
@@ -104,10 +117,7 @@ fn settle_form(facts: &[Fact], form: ExprForm) -> (ExprForm, bool)
             if is_bare(op, bare_left, bare_right) {
                 return (ExprForm::Binary { op, left, right }, true);
             }
-            let want = left_want(op, None, bare_right, right.kind);
-            fill_bare(facts, bare_left, want, &mut left);
-            let want = right_want(op, None, bare_left, left.kind);
-            fill_bare(facts, bare_right, want, &mut right);
+            fill_operands(facts, op, (bare_left, bare_right), &mut left, &mut right);
             (ExprForm::Binary { op, left, right }, false)
         }
         ExprForm::Cast { mut inner, to } => {
@@ -146,10 +156,23 @@ fn is_bare(op: Op, bare_left: bool, bare_right: bool) -> bool
 
 // Gives a bare operand its kinds, and leaves one that has its kinds.
 fn fill_bare(facts: &[Fact], bare: bool, want: Option<Kind>, operand: &mut Expr)
-    requires bare { bare ≡ rules.is_bare (term_seen operand.old) }
-    ensures { term_seen operand.new ≡ (if bare then rules.typed_term (facts_seen facts.now) want (term_seen operand.old) else term_seen operand.old) }
+    ensures { bare ≡ rules.is_bare (term_seen operand.old) → term_seen operand.new ≡ (if bare then rules.typed_term (facts_seen facts.now) want (term_seen operand.old) else term_seen operand.old) }
 {
     if bare {
         fill(facts, want, operand);
     }
+}
+
+// Gives the bare operands of an operation that is not bare their kinds, where the others have theirs.
+fn fill_operands(
+    facts: &[Fact],
+    op: Op,
+    bare: (bool, bool),
+    left: &mut Expr,
+    right: &mut Expr,
+)
+    ensures { AreFilled (facts_seen facts.now) op bare.0 bare.1 (term_seen left.old) (term_seen right.old) (term_seen left.new) (term_seen right.new) }
+{
+    fill_bare(facts, bare.0, left_want(op, None, bare.1, right.kind), left);
+    fill_bare(facts, bare.1, right_want(op, None, bare.0, left.kind), right);
 }

@@ -108,14 +108,22 @@ pub fn parameter_fact(parameter: &Parameter) -> Fact
     }
 }
 
+// The kinds of parameters, in order.
+fn kinds_of(alloc: Global, parameters: &[Parameter]) -> Result<Items<Kind>, NoMemory>
+    ensures { IfOk result (λ kinds. kinds ≡ map (λ m. m.kind) (map formal_seen parameters.now)) }
+{
+    let mut kinds = Items::new(alloc);
+    for parameter in parameters {
+        kinds.push(parameter.kind)?;
+    }
+    Ok(kinds)
+}
+
 /// What is known of a function.
 pub fn function_fact(alloc: Global, function: &Function) -> Result<Fact, NoMemory>
     ensures { IfOk result (λ fact. fact_seen fact ≡ rules.function_fact (defined_seen function.now)) }
 {
-    let mut parameters = Items::new(alloc);
-    for parameter in &function.parameters {
-        parameters.push(parameter.kind)?;
-    }
+    let parameters = kinds_of(alloc, function.parameters.as_slice())?;
     Ok(Fact::Function { parameters })
 }
 

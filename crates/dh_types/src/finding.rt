@@ -1,9 +1,9 @@
 //! The kind of an expression, by its parts, which have their kinds.
 
-ghost use Rattle.std.specs.Prelude.{◌≡◌, option_map, map};
+ghost use Rattle.std.specs.Prelude.{◌≡◌, ◌&&◌, ◌==◌, option_map, map};
 ghost use Rattle.dh_tree.specs.Seen.{term_seen, form_seen, terms};
 ghost use Rattle.dh_tree.specs.Kinds as rules;
-ghost use Rattle.dh_types.specs.Facts.{fact_seen, facts_seen};
+ghost use Rattle.dh_types.specs.Facts.{fact_seen, facts_seen, has_integer};
 
 use crate::facts::{Fact, fact_of};
 use crate::operands::applied_kind;
@@ -36,17 +36,34 @@ pub fn value_kind(fact: Option<&Fact>) -> Option<Kind>
     }
 }
 
+// Whether an expression is of an integer kind.
+fn is_number(term: &Expr) -> bool
+    ensures { result ≡ has_integer (rules.found (term_seen term.now)) }
+{
+    match term.kind {
+        Some(kind) => is_integer(kind),
+        None => false,
+    }
+}
+
 // Whether every index is of an integer kind.
 fn all_integer(indices: &[Expr]) -> bool
     ensures { result ≡ rules.all_integer (terms (map term_seen indices.now)) }
 {
     for index in indices {
-        match index.kind {
-            Some(kind) if is_integer(kind) => {}
-            _ => return false,
+        if !is_number(index) {
+            return false;
         }
     }
     true
+}
+
+// Whether indices are integers and as many as the dimensions.
+#[tactic(auto, using(crate::proofs::Indices::counted))]
+fn suit(indices: &[Expr], dims: usize) -> bool
+    ensures { result ≡ (rules.all_integer (terms (map term_seen indices.now)) && (rules.count_of (terms (map term_seen indices.now)) == dims)) }
+{
+    all_integer(indices) && indices.len() == dims
 }
 
 // The kind of an access.
@@ -54,8 +71,12 @@ fn access_kind(fact: Option<&Fact>, indices: &[Expr]) -> Option<Kind>
     ensures { result ≡ rules.access_found (option_map (λ f. fact_seen f.now) fact.entry) (terms (map term_seen indices.now)) }
 {
     match fact {
-        Some(Fact::Memory { kind, dims }) if all_integer(indices) && indices.len() == *dims => {
-            *kind
+        Some(Fact::Memory { kind, dims }) => {
+            if suit(indices, *dims) {
+                *kind
+            } else {
+                None
+            }
         }
         _ => None,
     }

@@ -1,13 +1,13 @@
 //! Breaches of the rules on kinds in expressions that have their kinds, and at the places of commands
 //! where they stand.
 
-ghost use Rattle.std.specs.Prelude.{◌≡◌, option_map, map};
-ghost use Rattle.dh_base.specs.declared.places.Place.{Place};
+ghost use Rattle.std.specs.Prelude.{◌≡◌, ◌&&◌, ◌==◌, true, false, if◌then◌else◌, option_map, map};
+ghost use Rattle.std.specs.Option.{is_some};
 ghost use Rattle.dh_tree.specs.Seen.{term_seen, terms, factor_seen, plan_seen, placed};
 ghost use Rattle.dh_tree.specs.LeastBreach.{least_of};
 ghost use Rattle.dh_tree.specs.Kinds as rules;
 ghost use Rattle.dh_tree.specs.KindBreaches as breaches;
-ghost use Rattle.dh_types.specs.Facts.{fact_seen, facts_seen, listed, is_memory_name};
+ghost use Rattle.dh_types.specs.Facts.{fact_seen, facts_seen, listed, is_memory as names_it, is_memory_name};
 
 use crate::facts::{Fact, fact_of};
 use crate::keeping::{keep, lost_unless, mismatch_unless};
@@ -26,16 +26,31 @@ fn value_breach(fact: Option<&Fact>, place: Place) -> Option<Breach>
     }
 }
 
+// Whether an expression has a kind.
+fn has_kind(term: &Expr) -> bool
+    ensures { result ≡ is_some (rules.found (term_seen term.now)) }
+{
+    term.kind.is_some()
+}
+
 // Whether each of the indices has a kind.
 fn all_found(indices: &[Expr]) -> bool
     ensures { result ≡ rules.all_found (terms (map term_seen indices.now)) }
 {
     for index in indices {
-        if index.kind.is_none() {
+        if !has_kind(index) {
             return false;
         }
     }
     true
+}
+
+// Whether indices have kinds and are not as many as the dimensions.
+#[tactic(auto, using(crate::proofs::Indices::counted))]
+fn are_miscounted(indices: &[Expr], dims: usize) -> bool
+    ensures { result ≡ (rules.all_found (terms (map term_seen indices.now)) && (if rules.count_of (terms (map term_seen indices.now)) == dims then false else true)) }
+{
+    all_found(indices) && indices.len() != dims
 }
 
 // The breach at the name of an access.
@@ -44,7 +59,7 @@ fn access_breach(fact: Option<&Fact>, place: Place, indices: &[Expr]) -> Option<
 {
     match fact {
         Some(Fact::Memory { dims, .. }) => {
-            mismatch_unless(indices.len() == *dims || !all_found(indices), place)
+            mismatch_unless(!are_miscounted(indices, *dims), place)
         }
         Some(_) => mismatch_unless(false, place),
         None => None,
@@ -83,7 +98,7 @@ fn cast_breach(place: Place, inner: Option<Kind>, to: Kind) -> Option<Breach>
 
 /// Keeps the breaches of an expression.
 #[cycle(breaches)]
-#[tactic(auto, using(dh_tree::proofs::SeenTerms::terms_are))]
+#[tactic(auto, using(dh_tree::proofs::SeenTerms::terms_are, crate::proofs::LeastKept::least_then))]
 pub fn keep_term(facts: &[Fact], kept: &mut Option<Breach>, term: &Expr)
     ensures { kept.new ≡ least_of kept.old (breaches.term_kind_breaches (facts_seen facts.now) (term_seen term.now)) }
 {
@@ -126,6 +141,7 @@ fn keep_indices(facts: &[Fact], kept: &mut Option<Breach>, indices: &[Expr])
 }
 
 /// Keeps the breaches of an offset.
+#[tactic(auto, using(crate::proofs::LeastKept::least_then))]
 pub fn keep_offset(facts: &[Fact], kept: &mut Option<Breach>, offset: &Expr)
     ensures { kept.new ≡ least_of kept.old (breaches.offset_breaches (facts_seen facts.now) (term_seen offset.now)) }
 {
@@ -150,6 +166,7 @@ fn assigned_breach(target: Option<Kind>, value: Option<Kind>, place: Place) -> O
 }
 
 /// Keeps the breaches of a right side for a target of this kind.
+#[tactic(auto, using(crate::proofs::LeastKept::least_then))]
 pub fn keep_right_side(
     facts: &[Fact],
     kept: &mut Option<Breach>,
@@ -173,11 +190,22 @@ fn truth_breach(kind: Option<Kind>, place: Place) -> Option<Breach>
 }
 
 /// Keeps the breaches of a condition.
+#[tactic(auto, using(crate::proofs::LeastKept::least_then))]
 pub fn keep_condition(facts: &[Fact], kept: &mut Option<Breach>, test: &Expr)
     ensures { kept.new ≡ least_of kept.old (breaches.condition_breaches (facts_seen facts.now) (term_seen test.now)) }
 {
     keep(kept, truth_breach(test.kind, test.place));
     keep_term(facts, kept, test);
+}
+
+// Whether it is a memory or a view.
+fn is_memory(fact: Option<&Fact>) -> bool
+    ensures { result ≡ names_it (option_map (λ f. fact_seen f.now) fact.entry) }
+{
+    match fact {
+        Some(Fact::Memory { .. }) => true,
+        _ => false,
+    }
 }
 
 // Whether an expression is the name of a memory or a view.
@@ -186,11 +214,13 @@ fn names_memory(facts: &[Fact], term: &Expr) -> bool
     ensures { result ≡ is_memory_name (facts_seen facts.now) (term_seen term.now) }
 {
     match &term.form {
-        ExprForm::Variable { of } => match fact_of(facts, of) {
-            Some(Fact::Memory { .. }) => true,
-            _ => false,
-        },
-        _ => false,
+        ExprForm::Variable { of } => is_memory(fact_of(facts, of)),
+        ExprForm::Number { .. }
+        | ExprForm::Truth { .. }
+        | ExprForm::Access { .. }
+        | ExprForm::Physical { .. }
+        | ExprForm::Binary { .. }
+        | ExprForm::Cast { .. } => false,
     }
 }
 
@@ -239,19 +269,19 @@ pub fn iterator_breach(iterator: &Ref, kind: Kind) -> Option<Breach>
 }
 
 /// The breach of a lower bound that is no value of the iterator's kind.
-pub fn low_breach(kind: Kind, low: u64, place: Place) -> Option<Breach>
-    ensures { listed result ≡ breaches.low_breaches kind (placed low place) }
+pub fn low_breach(kind: Kind, low: (u64, Place)) -> Option<Breach>
+    ensures { listed result ≡ breaches.low_breaches kind (placed low.0 low.1) }
 {
-    lost_unless(is_value(kind, false, low), place)
+    lost_unless(is_value(kind, false, low.0), low.1)
 }
 
 /// The breach of an upper bound above the lower one, where the number before it is no value of the
 /// iterator's kind.
-pub fn high_breach(kind: Kind, low: u64, high: u64, place: Place) -> Option<Breach>
-    ensures { (at : Place) → listed result ≡ breaches.high_breaches kind (placed low at) (placed high place) }
+pub fn high_breach(kind: Kind, low: (u64, Place), high: (u64, Place)) -> Option<Breach>
+    ensures { listed result ≡ breaches.high_breaches kind (placed low.0 low.1) (placed high.0 high.1) }
 {
-    if low < high {
-        lost_unless(is_value(kind, false, high - 1), place)
+    if low.0 < high.0 {
+        lost_unless(is_value(kind, false, high.0 - 1), high.1)
     } else {
         None
     }

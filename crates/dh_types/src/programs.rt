@@ -16,15 +16,15 @@ use std::alloc::Global;
 /// `Refused` with `TypeMismatch` where an operand, a right side, a condition, an index or a name is of
 /// the wrong sort or sign, or with `WidthLost` at a number that is no value of its kind and at a right
 /// side that is wider than its target. `NoMemory` where an allocation was refused.
-pub fn type_program(alloc: Global, n: Named) -> Result<Typed, PassFault>
-    ensures { Answers (program_seen n) result }
+pub fn type_program(alloc: Global, named: Named) -> Result<Typed, PassFault>
+    ensures { Answers (program_seen named) result }
 {
     let Tree {
         decls,
         mut functions,
         mut body,
         entities,
-    } = n.into_tree();
+    } = named.into_tree();
     let mut walk = Walk {
         facts: Vec::new(alloc),
         least: None,

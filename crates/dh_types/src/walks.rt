@@ -80,6 +80,7 @@ impl Walk {
     }
 
     /// Gives the right side of an assignment its kinds.
+    #[tactic(auto, using(crate::proofs::LeastKept::least_then))]
     pub fn assignment(&mut self, target: &Ref, value: &mut Expr)
         ensures tree { term_seen value.new ≡ rules.typed_term (state_of self.old).facts (rules.for_numbers (rules.target_kind (rules.fact_of (state_of self.old).facts target.now))) (term_seen value.old) }
         ensures state { state_of self.new ≡ noted (state_of self.old) (breaches.target_breaches (rules.fact_of (state_of self.old).facts target.now) target.now.place ++ breaches.right_side_breaches (state_of self.old).facts (rules.target_kind (rules.fact_of (state_of self.old).facts target.now)) (term_seen value.new)) }
@@ -92,6 +93,7 @@ impl Walk {
     }
 
     /// Gives the right side of a reducer its kinds.
+    #[tactic(auto, using(crate::proofs::LeastKept::least_then))]
     pub fn reduction(&mut self, target: &Ref, value: &mut Expr)
         ensures tree { term_seen value.new ≡ rules.typed_term (state_of self.old).facts (rules.for_numbers (rules.target_kind (rules.fact_of (state_of self.old).facts target.now))) (term_seen value.old) }
         ensures state { state_of self.new ≡ noted (state_of self.old) (breaches.target_breaches (rules.fact_of (state_of self.old).facts target.now) target.now.place ++ (breaches.reducer_breaches (rules.target_kind (rules.fact_of (state_of self.old).facts target.now)) (rules.found (term_seen value.new)) target.now.place ++ breaches.right_side_breaches (state_of self.old).facts (rules.target_kind (rules.fact_of (state_of self.old).facts target.now)) (term_seen value.new))) }
@@ -129,6 +131,7 @@ impl Walk {
     }
 
     /// Looks at the kind and the bounds of an iterator.
+    #[tactic(auto, using(crate::proofs::LeastKept::least_then))]
     pub fn bounds(
         &mut self,
         iterator: &Ref,
@@ -139,8 +142,8 @@ impl Walk {
         ensures { state_of self.new ≡ noted (state_of self.old) (breaches.iterator_breaches iterator.now kind ++ (breaches.low_breaches kind (placed low.0 low.1) ++ breaches.high_breaches kind (placed low.0 low.1) (placed high.0 high.1))) }
     {
         keep(&mut self.least, iterator_breach(iterator, kind));
-        keep(&mut self.least, low_breach(kind, low.0, low.1));
-        keep(&mut self.least, high_breach(kind, low.0, high.0, high.1));
+        keep(&mut self.least, low_breach(kind, low));
+        keep(&mut self.least, high_breach(kind, low, high));
     }
 }
 
