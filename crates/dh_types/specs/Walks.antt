@@ -1,5 +1,6 @@
 -- What the code's walk over a tree keeps, as the definitions see it, and what each part of the walk does.
-use Rattle.std.specs.Prelude.{◌≡◌, List, [], ◌∷◌, ◌++◌, Option}
+use Rattle.std.specs.Prelude.{◌≡◌, List, [], ◌∷◌, ◌++◌, Option, Some, None}
+use Rattle.dh_value.specs.declared.kinds.Kind.{Kind}
 use Rattle.dh_tree.specs.declared.breaches.Breach.{Breach}
 use Rattle.dh_tree.specs.LeastBreach.{least_of}
 use Rattle.dh_tree.specs.PlainTrees.{Action, ActionForm, MaybeAction, Actions, Groups, Defined}
@@ -31,6 +32,15 @@ learned s fact = record { facts = s.facts ++ fact ∷ []; least = s.least }
 -- the state where further facts are known
 abbrev pub knows : State → List Fact → State
 knows s facts = record { facts = s.facts ++ facts; least = s.least }
+
+-- the first of these kinds, and the others
+abbrev pub first_of : List Kind → Option Kind
+first_of [] = None
+first_of (k ∷ ks) = Some k
+
+abbrev pub others_of : List Kind → List Kind
+others_of [] = []
+others_of (k ∷ ks) = ks
 
 -- a walk over a command, up to its end
 pub record Types (old new : State) (a b : Action) : Type 0 where

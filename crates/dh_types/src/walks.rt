@@ -6,7 +6,7 @@ ghost use Rattle.dh_tree.specs.Kinds as rules;
 ghost use Rattle.dh_tree.specs.KindBreaches as breaches;
 ghost use Rattle.dh_tree.specs.LeastBreach.{least_of};
 ghost use Rattle.dh_types.specs.Facts.{fact_seen, facts_seen};
-ghost use Rattle.dh_types.specs.Walks.{state_of, noted, learned};
+ghost use Rattle.dh_types.specs.Walks.{state_of, noted, learned, first_of, others_of};
 
 use crate::expressions::type_term;
 use crate::facts::{Fact, fact_of, parameters_of, view_fact};
@@ -147,6 +147,17 @@ impl Walk {
     }
 }
 
+// The first of these kinds, if there is one, and the others.
+fn next_kind<'a>(kinds: &'a [Kind]) -> (Option<Kind>, &'a [Kind])
+    ensures first { result.0 ≡ first_of kinds.now }
+    ensures others { result.1.now ≡ others_of kinds.now }
+{
+    match kinds.split_first() {
+        Some((first, others)) => (Some(*first), others),
+        None => (None, kinds),
+    }
+}
+
 // Gives arguments the kinds of the parameters, which are in the same order.
 fn type_arguments(
     facts: &[Fact],
@@ -157,10 +168,11 @@ fn type_arguments(
     ensures tree { map term_seen arguments.new.items ≡ rules.typed_arguments (facts_seen facts.now) parameters.now (map term_seen arguments.old.items) }
     ensures least { kept.new ≡ least_of kept.old (breaches.arguments_breaches (facts_seen facts.now) (map term_seen arguments.new.items)) }
 {
-    let mut number = 0;
+    let mut rest = parameters;
     for argument in arguments.iter_mut() {
-        type_term(facts, for_numbers(parameters.get(number).copied()), argument);
+        let (kind, others) = next_kind(rest);
+        rest = others;
+        type_term(facts, for_numbers(kind), argument);
         keep_argument(facts, kept, argument);
-        number += 1;
     }
 }
