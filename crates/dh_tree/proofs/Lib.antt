@@ -5,3 +5,8 @@ pub mod FirstBreaches
 pub mod ResolvedForms
 pub mod ResolvedTexts
 pub mod SpentOnce
+pub mod TypedAgain
+pub mod TypedForms
+pub mod TypedTexts
+pub mod TypedNames
+pub mod TypedEntities

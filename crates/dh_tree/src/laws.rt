@@ -12,7 +12,9 @@ ghost use Rattle.dh_tree.specs.LeastBreach.{IsLeast, least_of};
 ghost use Rattle.dh_tree.specs.Forms.{unbuilt_forms};
 ghost use Rattle.dh_tree.specs.UncheckedForms.{unchecked_forms};
 ghost use Rattle.dh_tree.specs.PlainTrees.{Program, accessed, blocks};
-ghost use Rattle.dh_tree.specs.Resolved.{resolved};
+ghost use Rattle.dh_tree.specs.Resolved.{HasEntities, resolved};
+ghost use Rattle.dh_tree.specs.Breaches.{KeepsNames};
+ghost use Rattle.dh_tree.specs.Kinds.{HasKinds, typed};
 ghost use Rattle.dh_tree.specs.Written.{IsOfText, IsWritten};
 ghost use Rattle.dh_tree.specs.Seen.{term_seen, form_seen, terms, action_seen, action_form_seen, part_seen, groups};
 
@@ -38,4 +40,17 @@ pub fn resolving_keeps_forms()
     ensures unchecked { (p : Program) → unchecked_forms (resolved p) ≡ unchecked_forms p }
     ensures of_text { (tokens : ℕ) (p : Program) → IsOfText tokens p → IsOfText tokens (resolved p) }
     ensures written { (tokens : ℕ) (p : Program) → IsWritten tokens p → IsWritten tokens (resolved p) }
+{}
+
+/// Filling in the kinds of expressions changes kinds alone: every expression then has the kind that it is
+/// found to have, names and entities stay as they were, the same forms are not built, and the tree is
+/// written as it was.
+pub fn typing_keeps_programs()
+    ensures kinds { (p : Program) → HasKinds (typed p) }
+    ensures names { (p : Program) → KeepsNames p → KeepsNames (typed p) }
+    ensures entities { (p : Program) → HasEntities p → HasEntities (typed p) }
+    ensures forms { (p : Program) → unbuilt_forms (typed p) ≡ unbuilt_forms p }
+    ensures unchecked { (p : Program) → unchecked_forms (typed p) ≡ unchecked_forms p }
+    ensures of_text { (tokens : ℕ) (p : Program) → IsOfText tokens p → IsOfText tokens (typed p) }
+    ensures written { (tokens : ℕ) (p : Program) → IsWritten tokens p → IsWritten tokens (typed p) }
 {}
