@@ -3,6 +3,7 @@ use Rattle.std.specs.Box.{with_value}
 use Rattle.std.specs.Vec.{with_items}
 use Rattle.dh_tree.specs.Seen.{term_seen, plan_seen, action_seen, action_form_seen, part_seen, groups, maybe_seen, placed}
 use Rattle.dh_tree.proofs.SeenActions.{let_is, let_memory_is, view_is, assign_is, store_is, reduce_is, call_is, block_is, if_is, while_is, for_is}
+use Rattle.dh_tree.specs.Kinds.{of_iterator}
 use Rattle.dh_types.specs.Walks.{state_of}
 use Rattle.dh_types.proofs.InPlace.{start, turn}
 use Rattle.dh_types.proofs.ListsDone.{action_step, action_made, part_step, part_made, action_turn, part_turn, part_done, parts_done}
@@ -16,10 +17,18 @@ form-returns-in_ok-learn-in-Let t c =
     c.value-value.ensures.tree c.value-value.ensures.state c.variable_fact.ensures c.in_ok-learn-in-Let.ensures)
 
 pub form-returns-in_ok-learn-in-LetMemory : goal.form-returns-in_ok-learn-in-LetMemory
-form-returns-in_ok-learn-in-LetMemory t c = ?
+form-returns-in_ok-learn-in-LetMemory t c =
+    form_done _ _ _ _ _ _ (ap action_form_seen c.in-LetMemory.is ∙ let_memory_is c.in-LetMemory.name c.in-LetMemory.shape c.in-LetMemory.shape_places c.in-LetMemory.value)
+    (let_memory_is c.in-LetMemory.name c.in-LetMemory.shape c.in-LetMemory.shape_places c.value-value-in-LetMemory.result)
+    (memory_done (state_of c.args.self.now) (state_of c.value-value-in-LetMemory.new.self) (state_of c.learn-in-LetMemory.new.self) c.in-LetMemory.name c.in-LetMemory.shape c.in-LetMemory.shape_places
+    (option_map term_seen c.in-LetMemory.value) (option_map term_seen c.value-value-in-LetMemory.result) _
+    c.value-value-in-LetMemory.ensures.tree c.value-value-in-LetMemory.ensures.state c.memory_fact.ensures c.in_ok-learn-in-LetMemory.ensures)
 
 pub form-returns-in_ok-learn-in-View : goal.form-returns-in_ok-learn-in-View
-form-returns-in_ok-learn-in-View t c = ?
+form-returns-in_ok-learn-in-View t c =
+    form_done _ _ _ _ _ _ (ap action_form_seen c.in-View.is ∙ view_is c.in-View.name c.in-View.parent c.in-View.form) (view_is c.in-View.name c.in-View.parent c.plan-form.result)
+    (views_done (state_of c.args.self.now) (state_of c.parent.new.self) (state_of c.plan-form.new.self) (state_of c.learn-in-View.new.self) c.in-View.name c.in-View.parent (plan_seen c.in-View.form) (plan_seen c.plan-form.result) _
+    c.parent.ensures c.plan-form.ensures.tree c.plan-form.ensures.state c.view.ensures c.in_ok-learn-in-View.ensures)
 
 pub form-returns-in-Assign : goal.form-returns-in-Assign
 form-returns-in-Assign t c =
@@ -64,7 +73,16 @@ form-returns-in_ok-command-in-While t c =
     c.condition-in-While.ensures.tree c.condition-in-While.ensures.state (types_at _ _ _ _ _ c.deref_mut-in-While.ensures.value c.in_ok-command-in-While.ensures))
 
 pub form-returns-in_ok-combine-in-For : goal.form-returns-in_ok-combine-in-For
-form-returns-in_ok-combine-in-For t c = ?
+form-returns-in_ok-combine-in-For t c =
+    form_done _ _ _ _ _ _
+    (ap action_form_seen c.in-For.is ∙ for_is c.in-For.iterator c.in-For.declared c.in-For.low c.in-For.low_place c.in-For.high c.in-For.high_place c.in-For.factor c.in-For.factor_place c.in-For.body c.in-For.combine c.in-For.combine_place)
+    (for_is c.in-For.iterator c.in-For.declared c.in-For.low c.in-For.low_place c.in-For.high c.in-For.high_place c.in-For.factor c.in-For.factor_place (with_value c.in-For.body c.command-in-For.new.command) c.in_ok-combine-in-For.combine c.in-For.combine_place)
+    (counts_done (state_of c.args.self.now) (state_of c.bounds.new.self) (state_of c.learn-in-For.new.self) (state_of c.command-in-For.new.self) (state_of c.optional-in-For.new.self)
+    c.in-For.iterator c.in-For.declared c.iterator_kind-kind.result (placed c.in-For.low c.in-For.low_place) (placed c.in-For.high c.in-For.high_place) (placed c.in-For.factor c.in-For.factor_place)
+    (action_seen c.in-For.body.value) (action_seen c.command-in-For.new.command)
+    (maybe_seen (option_map (λ b. action_seen b.value) c.in-For.combine)) (maybe_seen (option_map (λ b. action_seen b.value) c.in_ok-combine-in-For.combine)) c.in-For.combine_place (of_iterator c.iterator_kind-kind.result)
+    c.iterator_kind-kind.ensures c.bounds.ensures refl c.in_ok-learn-in-For.ensures
+    (types_at _ _ _ _ _ c.deref_mut-in-For.ensures.value c.in_ok-command-in-For.ensures) c.in_ok-combine-in-For.ensures)
 
 pub part-loop-command-init : goal.part-loop-command-init
 part-loop-command-init t c = ((refl, λ k d past. refl), start action_seen action_step action_made _ _)

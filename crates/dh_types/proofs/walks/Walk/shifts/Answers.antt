@@ -22,4 +22,4 @@ returns-clause-tree c =
 
 pub returns-clause-state : goal.returns-clause-state
 returns-clause-state c =
-    items_noted term_seen shift_step shift_made _ c.args.by.now _ _ _ _ _ _ (shifts_made (state_of c.args.self.now)) (shifts_run (state_of c.args.self.now)) c.deref_mut-offset-items.ensures.value c.deref_mut-offset-items.ensures.len c.loop-offset-test.false c.loop-offset.invariant.0 c.loop-offset.invariant.1
+    items_noted term_seen shift_step shift_made _ c.args.by.now _ _ _ _ _ (λ l. noted (state_of c.args.self.now) (shifts_breaches (state_of c.args.self.now).facts l)) (shifts_made (state_of c.args.self.now)) (shifts_run (state_of c.args.self.now)) c.deref_mut-offset-items.ensures.value c.deref_mut-offset-items.ensures.len c.loop-offset-test.false c.loop-offset.invariant.0 c.loop-offset.invariant.1

@@ -23,4 +23,4 @@ returns-clause-tree c =
 
 pub returns-clause-state : goal.returns-clause-state
 returns-clause-state c =
-    items_noted factor_seen suffix_step suffix_made _ c.args.by.now _ _ _ _ _ _ (suffixes_made (state_of c.args.self.now)) (suffixes_run (state_of c.args.self.now)) c.deref_mut-pair-items.ensures.value c.deref_mut-pair-items.ensures.len c.loop-pair-test.false c.loop-pair.invariant.0 c.loop-pair.invariant.1
+    items_noted factor_seen suffix_step suffix_made _ c.args.by.now _ _ _ _ _ (λ l. noted (state_of c.args.self.now) (suffixes_breaches (state_of c.args.self.now).facts l)) (suffixes_made (state_of c.args.self.now)) (suffixes_run (state_of c.args.self.now)) c.deref_mut-pair-items.ensures.value c.deref_mut-pair-items.ensures.len c.loop-pair-test.false c.loop-pair.invariant.0 c.loop-pair.invariant.1
