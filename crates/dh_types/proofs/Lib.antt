@@ -6,3 +6,4 @@ pub mod Lists
 pub mod Known
 pub mod FormsDone
 pub mod ListsDone
+pub mod ProgramsDone
