@@ -1,0 +1,3 @@
+//! Programs whose trees are built by hand.
+
+use super::*;
