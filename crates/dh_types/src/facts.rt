@@ -46,14 +46,17 @@ pub fn fact_of<'a>(facts: &'a [Fact], name: &Ref) -> Option<&'a Fact>
     }
 }
 
-/// What is known of a variable: its kind as it is written, or that of its right side.
+/// What is known of a variable: its kind as it is written, or that of its right side; Bool where
+/// neither is there.
 pub fn variable_fact(declared: Option<Kind>, value: &Option<Expr>) -> Fact
     ensures { fact_seen result ≡ rules.variable_fact declared (option_map term_seen value.now) }
 {
     match (declared, value) {
         (Some(kind), _) => Fact::Variable { kind: Some(kind) },
         (None, Some(value)) => Fact::Variable { kind: value.kind },
-        (None, None) => Fact::Variable { kind: None },
+        (None, None) => Fact::Variable {
+            kind: Some(Kind::Bool),
+        },
     }
 }
 
