@@ -8,9 +8,9 @@ ghost use Rattle.dh_tree.specs.Tables.{IsTable, IsEntry, FitsEntry, Fits};
 ghost use Rattle.dh_value.specs.Words.{IsInteger, width_of};
 ghost use Rattle.dh_data.specs.Reports.{report_text, report_data, outside_data, with_outside, memory_data, element_data, is_signed, outcome_text as outcome_bytes, name_at, fault_name as fault_bytes};
 
-use crate::thin_data::width;
 use dh_base::{FaultKind, NoMemory, Outcome, Place};
 use dh_tree::{Kind, MemEntry, MemTable, Memories};
+use dh_value::width;
 use serde_json::{Map, Value, json};
 use std::alloc::{AllocError, Global};
 
@@ -151,7 +151,8 @@ fn signed_number(bits: u64, width: u8) -> i64
     }
 }
 
-fn signed(kind: Kind) -> bool
+/// Whether the numbers of the kind have a sign.
+pub fn signed(kind: Kind) -> bool
     ensures { result ≡ is_signed kind }
 {
     matches!(kind, Kind::Signed(_))
