@@ -7,3 +7,4 @@ pub mod Names
 pub mod Contents
 pub mod OneMeaning
 pub mod Fitting
+pub mod Rows

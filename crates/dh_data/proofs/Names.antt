@@ -212,7 +212,7 @@ pub first_is_least : (table : List MemEntry) (es : List Entry) (u : Option (List
     → first_other (outside_names table) (names_of (members_view es)) ≡ u → FindsUnknown table (members_view es) u
 first_is_least table es None h e =
     λ q u. u.other ((is_member-Decides bytes_eq-Decides (outside_names table) q).0
-        (member_at (λ n. is_member bytes_eq (outside_names table) n ≡ true) (names_of (members_view es)) q (all_known (outside_names table) (names_of (members_view es)) e) ((is_member-Decides bytes_eq-Decides (names_of (members_view es)) q).1 u.there)))
+    (member_at (λ n. is_member bytes_eq (outside_names table) n ≡ true) (names_of (members_view es)) q (all_known (outside_names table) (names_of (members_view es)) e) ((is_member-Decides bytes_eq-Decides (names_of (members_view es)) q).1 u.there)))
 first_is_least table es (Some n) h e = least_some table (members_view es) n (first_found (outside_names table) (names_of (members_view es)) n (ascending es h) e)
 
 -- ---- a member that was looked for

@@ -157,7 +157,10 @@ fn least_unknown(
 }
 
 /// The names of the outside memories.
-fn outside_names<'t>(alloc: Global, entries: &'t [MemEntry]) -> Result<BTreeSet<&'t str>, AllocError>
+fn outside_names<'t>(
+    alloc: Global,
+    entries: &'t [MemEntry],
+) -> Result<BTreeSet<&'t str>, AllocError>
     ensures { IfOk result (λ known. KnowsNames entries.now known) }
 {
     let mut known = BTreeSet::new(alloc);

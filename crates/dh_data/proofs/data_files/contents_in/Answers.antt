@@ -11,4 +11,4 @@ contents_by-requires-clause-few c = subst (λ (es : List MemEntry). length es < 
 pub returns-in-Some : goal.returns-in-Some
 returns-in-Some c =
     said_shows c.args.table.now (view c.args.value.now) (members_view c.in-Some.members.now.entries) c.contents_by.result (of_object (view c.args.value.now) (members_view c.in-Some.members.now.entries) c.in-Some.ensures)
-        (subst (λ (es : List MemEntry). IfTold c.contents_by.result (Says es (members_view c.in-Some.members.now.entries) c.contents_by.result)) c.as_slice.ensures c.contents_by.ensures)
+    (subst (λ (es : List MemEntry). IfTold c.contents_by.result (Says es (members_view c.in-Some.members.now.entries) c.contents_by.result)) c.as_slice.ensures c.contents_by.ensures)

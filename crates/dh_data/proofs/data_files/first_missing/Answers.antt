@@ -19,11 +19,11 @@ loop-i-preserved c =
     let es = c.args.entries.now in
     let list = at_item es c.loop-i.i c.index-entries-i.result c.loop-i-test.true c.index-entries-i.is in
     elim c.else-entry.branch [
-      else-entry-via-then-entry+else-is_none w ↦
-      leads_on _ _ (drop (c.loop-i.i + 1) es) es c.index-entries-i.result c.loop-i.i list
+      | else-entry-via-then-entry+else-is_none w ↦
+          leads_on _ _ (drop (c.loop-i.i + 1) es) es c.index-entries-i.result c.loop-i.i list
           (λ h. some_found (λ v. view v.now) w.member.result w.is_none.result _ w.is_none.ensures w.if-is_none.false (w.member.ensures ∙ ap (λ n. get_member n (members_view c.args.members.now.entries)) w.as_str.ensures) h.none) c.loop-i.invariant
       | else-entry-via-else-entry w ↦
-      leads_on _ _ (drop (c.loop-i.i + 1) es) es c.index-entries-i.result c.loop-i.i list (λ h. true≢false (sym h.outside ∙ w.if-entry.false)) c.loop-i.invariant
+          leads_on _ _ (drop (c.loop-i.i + 1) es) es c.index-entries-i.result c.loop-i.i list (λ h. true≢false (sym h.outside ∙ w.if-entry.false)) c.loop-i.invariant
     ]
 
 pub returns : goal.returns

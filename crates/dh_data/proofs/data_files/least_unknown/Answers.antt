@@ -18,6 +18,6 @@ loop-name-preserved c =
     sym (ap (λ es. first_other others (names_of (members_view es))) c.in-Some.ensures.steps ∙ known_first others (string_bytes c.in-Some.name.now) (names_of (members_view c.next.new.self)) (sym (ap (is_member bytes_eq others) c.as_str.ensures.value) ∙ (sym (c.in_ok-known.ensures c.as_str.result.now) ∙ (sym c.contains.ensures ∙ c.if-not-contains.false)))) ∙ c.loop-name.invariant
 
 pub returns : goal.returns
-returns c = 
+returns c =
     let others = outside_names c.args.entries.now in
     first_is_least c.args.entries.now c.args.members.now.entries None c.iter-name-items.ensures.ordered (sym c.loop-name.invariant ∙ ap (λ es. first_other others (names_of (members_view es))) c.in-None.ensures.steps.0)

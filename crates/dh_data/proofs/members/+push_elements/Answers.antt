@@ -15,7 +15,7 @@ returns-then-not-branch t c =
     let here = subst (λ b. Pushes c.args.kind (in_order c.in-Some.rest.now (view c.item-item.result)) c.loop-item.values.items c.push_elements.new.values.items b) c.if-not-branch.true c.in_ok-push_elements.ensures in
     let order = ap (λ xs. joined (in_order c.in-Some.rest.now) (items_view xs)) c.deref-item-items.ensures.value ∙ order_of c.args.dims.now _ c.in-Some.rest.now (view c.args.value.now) c.in-Some-as_array.items.now.items c.in-Some.ensures.cases.0 c.in-Some-as_array.ensures in
     subst (λ (ds : List Data). Pushes c.args.kind ds c.args.values.now.items c.push_elements.new.values.items false) order
-        (c.loop-item.invariant c.push_elements.new.values.items false (pushes_stopped c.args.kind c.in-Some.rest.now _ (drop (c.loop-item.item-index + 1) vs) c.item-item.result c.loop-item.values.items c.push_elements.new.values.items list here))
+    (c.loop-item.invariant c.push_elements.new.values.items false (pushes_stopped c.args.kind c.in-Some.rest.now _ (drop (c.loop-item.item-index + 1) vs) c.item-item.result c.loop-item.values.items c.push_elements.new.values.items list here))
 
 pub loop-item-preserved : goal.loop-item-preserved
 loop-item-preserved t c =
@@ -29,4 +29,4 @@ returns t c =
     let vs = c.deref-item-items.result.now in
     let order = ap (λ xs. joined (in_order c.in-Some.rest.now) (items_view xs)) c.deref-item-items.ensures.value ∙ order_of c.args.dims.now _ c.in-Some.rest.now (view c.args.value.now) c.in-Some-as_array.items.now.items c.in-Some.ensures.cases.0 c.in-Some-as_array.ensures in
     subst (λ (ds : List Data). Pushes c.args.kind ds c.args.values.now.items c.loop-item.values.items true) order
-        (c.loop-item.invariant c.loop-item.values.items true (pushes_all c.args.kind c.in-Some.rest.now _ c.loop-item.values.items (drop_all c.loop-item.item-index vs c.loop-item-test.false)))
+    (c.loop-item.invariant c.loop-item.values.items true (pushes_all c.args.kind c.in-Some.rest.now _ c.loop-item.values.items (drop_all c.loop-item.item-index vs c.loop-item-test.false)))
