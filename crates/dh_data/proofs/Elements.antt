@@ -1,5 +1,5 @@
 -- Nested lists, item by item: sizes, and the elements in order of indices.
-use Rattle.std.proofs.Common.{◌≡◌, ℕ, zero, suc, ◌+◌, List, [], ◌∷◌, ◌++◌, length, Bool, true, false, Option, Some, None, unwrap_or, subst, refl, sym, ap, ◌∙◌, arith, append_assoc, append-nil, zero-add}
+use Rattle.std.proofs.Common.{◌≡◌, ℕ, zero, suc, ◌+◌, List, [], ◌∷◌, ◌++◌, length, Bool, true, false, Option, Some, None, unwrap_or, subst, sym, ap, ◌∙◌, arith, append_assoc, append-nil, zero-add}
 use Rattle.std.proofs.lemmas.Option.{none-some, same_Some}
 use Rattle.serde_json.specs.Data.{Data, null, boolean, number, string, array, object, Items, no_items}
 use Rattle.serde_json.specs.Events.{items_len}
@@ -10,7 +10,7 @@ use Rattle.serde_json.proofs.Views.{items_len-items_view}
 use Rattle.std.proofs.lemmas.List.{length-append}
 use Rattle.dh_value.specs.declared.kinds.Kind.{Kind}
 use Rattle.dh_tree.specs.declared.tables.Dim.{Dim}
-use Rattle.dh_data.specs.DataFiles.{IsSized, EachItem, joined, items_in, in_order, IsNoElement, AreElements, IsFirst}
+use Rattle.dh_data.specs.DataFiles.{IsSized, EachItem, joined, in_order, IsNoElement, AreElements, IsFirst}
 use Rattle.dh_data.specs.Reading.{Pushes, PushesBits}
 
 of_array : (d : Data) (ds : Items) → Some ds ≡ as_array d → d ≡ array ds

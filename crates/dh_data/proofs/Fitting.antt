@@ -1,23 +1,23 @@
 -- The contents that a file says fit the table. And a table has fewer memories than a number of 32
 -- bits tells.
-use Rattle.std.proofs.Common.{◌≡◌, ℕ, zero, suc, ◌+◌, ◌*◌, ◌<◌, ◌≤◌, ◌^◌, List, [], ◌∷◌, ◌++◌, length, Bool, true, false, Some, Result, Ok, Err, IfOk, refl, sym, ap, subst, ◌∙◌, arith}
-use Rattle.std.specs.List.{AllByRecursion, All}
+use Rattle.std.proofs.Common.{◌≡◌, ℕ, zero, suc, ◌+◌, ◌*◌, ◌<◌, ◌≤◌, ◌^◌, List, [], ◌∷◌, length, Bool, true, false, Some, Result, Ok, Err, IfOk, refl, sym, ap, subst, ◌∙◌, arith}
+use Rattle.std.specs.List.{AllByRecursion}
 use Rattle.std.proofs.Math.ListN.{replicate}
 use Rattle.std.proofs.lemmas.List.{length-append, length-replicate}
 use Rattle.std.proofs.lemmas.Nat.{pow_pos}
 use Rattle.std.proofs.lemmas.Option.{none-some, same_Some}
 use Rattle.serde_json.specs.Data.{Data, null, boolean, number, string, array, Items, no_items, item, Members, object}
 use Rattle.serde_json.specs.Events.{items_len}
-use Rattle.serde_json.specs.Find.{get_member, as_object}
-use Rattle.dh_value.specs.Words.{width_of, IsInteger, word_of}
+use Rattle.serde_json.specs.Find.{as_object}
+use Rattle.dh_value.specs.Words.{width_of, IsInteger}
 use Rattle.dh_value.specs.declared.kinds.Kind.{Kind}
 use Rattle.dh_value.proofs.Values.{integer_width}
 use Rattle.dh_value.proofs.WordLaws.{word_of_is_word}
-use Rattle.dh_tree.specs.Tables.{elements_of, elements_in, line_of, IsEntry, IsTable, FitsEntry, Fits}
+use Rattle.dh_tree.specs.Tables.{elements_of, elements_in, IsEntry, IsTable, FitsEntry, Fits}
 use Rattle.dh_tree.specs.declared.tables.Dim.{Dim}
 use Rattle.dh_tree.specs.declared.tables.MemEntry.{MemEntry}
-use Rattle.dh_data.specs.DataFiles.{ReadsAs, EachItem, IsSized, joined, in_order, IsElement, AreElements, IsContents, AreContents, Says, AreSaid, Means, Reads, IfTold}
-use Rattle.dh_data.specs.Reading.{Shows, IsSaid, SaysLists, FindsMissing, FindsUnknown}
+use Rattle.dh_data.specs.DataFiles.{ReadsAs, EachItem, IsSized, joined, in_order, AreElements, IsContents, AreContents, Says, AreSaid, Reads, IfTold}
+use Rattle.dh_data.specs.Reading.{Shows, IsSaid}
 use Rattle.dh_data.specs.declared.data_files.DataFault.{DataFault}
 use Rattle.dh_data.specs.declared.data_files.DataFault.TheVariants.{NotJson, Missing, Unknown, Format, Size, Value, NoMemory}
 

@@ -1,6 +1,6 @@
 -- The names of members and of outside memories: the first memory without a member, and the first
 -- member in byte order that no memory has.
-use Rattle.std.proofs.Common.{◌≡◌, ℕ, zero, suc, ◌+◌, List, [], ◌∷◌, ◌++◌, length, Bool, true, false, ◌||◌, cond, if◌then◌else◌, Option, Some, None, string_bytes, Ordering, Less, Equal, Greater, nat_cmp, string_cmp, is_eq, bytes_eq, Contains, not, is_some, option_map, true≢false, refl, sym, ap, subst, ◌∙◌, arith, zero-add}
+use Rattle.std.proofs.Common.{◌≡◌, ℕ, suc, ◌+◌, List, [], ◌∷◌, Bool, true, false, ◌||◌, cond, if◌then◌else◌, Option, Some, None, string_bytes, Ordering, Less, Equal, Greater, nat_cmp, string_cmp, is_eq, bytes_eq, Contains, not, is_some, option_map, true≢false, refl, sym, ap, subst, ◌∙◌, arith, zero-add}
 use Rattle.std.specs.List.{AllByRecursion}
 use Rattle.std.specs.Map.{keys_of}
 use Rattle.std.specs.Set.{is_member}
@@ -15,12 +15,11 @@ use Rattle.std.proofs.lemmas.Cmp.{nat_list_cmp_total}
 use Rattle.std.proofs.lemmas.Slice.Eq.{bytes_eq-Decides}
 use Rattle.std.proofs.lemmas.Map.Made.{is_member-Decides}
 use Rattle.std.proofs.lemmas.Map.Text.{is_eq-slice_cmp}
-use Rattle.serde_json.specs.Data.{Data, Members}
-use Rattle.serde_json.specs.Find.{get_member}
+use Rattle.serde_json.specs.Data.{Members}
 use Rattle.serde_json.specs.View.{members_view}
 use Rattle.serde_json.proofs.Views.{Entry}
 use Rattle.dh_tree.specs.declared.tables.MemEntry.{MemEntry}
-use Rattle.dh_data.specs.DataFiles.{names_of, outside_names, Lacks, IsUnknown, IsLeastUnknown, HasNoOther, IsFirst}
+use Rattle.dh_data.specs.DataFiles.{names_of, outside_names, Lacks, IsLeastUnknown, IsFirst}
 use Rattle.dh_data.specs.Reading.{first_other, FindsUnknown}
 
 -- ---- the first memory without a member

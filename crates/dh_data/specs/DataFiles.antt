@@ -1,6 +1,6 @@
 -- What a data file says of the memories of a table: their contents, or its first fault (this
 -- project's format of data).
-use Rattle.std.specs.Prelude.{◌≡◌, ℕ, zero, suc, ◌^◌, ℤ, List, [], ◌∷◌, ◌++◌, Bool, true, false, if◌then◌else◌, codes, Contains, Option, Some, None, option_and_then, unwrap_or, Result, Ok, Err, IsUtf8}
+use Rattle.std.specs.Prelude.{◌≡◌, ℕ, zero, suc, ℤ, List, [], ◌∷◌, ◌++◌, true, false, if◌then◌else◌, codes, Contains, Option, Some, None, option_and_then, unwrap_or, Result, Ok, Err, IsUtf8}
 use Rattle.std.specs.List.{AllByRecursion}
 use Rattle.std.specs.Cmp.Lexicographic.{slice_cmp}
 use Rattle.std.specs.Ordering.{nat_cmp}

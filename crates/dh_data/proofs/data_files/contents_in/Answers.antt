@@ -1,4 +1,4 @@
-use Rattle.std.proofs.Common.{◌≡◌, ◌<◌, ◌^◌, List, length, ap, sym, subst}
+use Rattle.std.proofs.Common.{◌<◌, ◌^◌, List, length, sym, subst}
 use Rattle.serde_json.specs.View.{view, members_view}
 use Rattle.dh_tree.specs.declared.tables.MemEntry.{MemEntry}
 use Rattle.dh_data.specs.DataFiles.{Says, IfTold}

@@ -1,4 +1,4 @@
-use Rattle.std.proofs.Common.{◌≡◌, ◌∙◌, Some, None, string_bytes, ap, sym, subst, bytes_eq}
+use Rattle.std.proofs.Common.{◌∙◌, Some, None, string_bytes, ap, sym, bytes_eq}
 use Rattle.std.specs.Set.{is_member}
 use Rattle.dh_data.specs.DataFiles.{names_of, outside_names}
 use Rattle.dh_data.specs.Reading.{first_other}

@@ -1,8 +1,7 @@
-use Rattle.std.proofs.Common.{◌≡◌, ◌+◌, ◌++◌, [], ◌∷◌, ◌∙◌, List, ℕ, take, length, map, ap, sym, subst, Result, Err}
+use Rattle.std.proofs.Common.{◌+◌, [], ◌∷◌, ◌∙◌, List, ℕ, take, map, ap, sym, subst}
 use Rattle.std.proofs.lemmas.List.{map-append}
 use Rattle.serde_json.specs.View.{members_view}
 use Rattle.dh_data.specs.DataFiles.{AreContents}
-use Rattle.dh_data.specs.Reading.{SaysLists}
 use Rattle.dh_data.proofs.Contents.{contents_more, stopped}
 use Rattle.dh_data.proofs.data_files.lists_by.Goals as goal
 

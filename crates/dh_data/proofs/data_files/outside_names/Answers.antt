@@ -1,4 +1,4 @@
-use Rattle.std.proofs.Common.{◌≡◌, ◌+◌, ◌||◌, ◌∙◌, drop, length, ap, sym, bytes_eq, nat_cmp}
+use Rattle.std.proofs.Common.{◌+◌, ◌||◌, ◌∙◌, drop, ap, bytes_eq, nat_cmp}
 use Rattle.std.specs.Set.{is_member}
 use Rattle.std.specs.BTreeSet.{contains_by}
 use Rattle.std.specs.Cmp.Lexicographic.{slice_cmp}

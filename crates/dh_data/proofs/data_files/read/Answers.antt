@@ -1,4 +1,3 @@
-use Rattle.std.proofs.Common.{ap}
 use Rattle.dh_data.proofs.Fitting.{shows_means, shown_fits}
 use Rattle.dh_data.proofs.OneMeaning.{told_one}
 use Rattle.dh_data.proofs.data_files.read.Goals as goal

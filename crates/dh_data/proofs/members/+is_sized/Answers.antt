@@ -1,4 +1,4 @@
-use Rattle.std.proofs.Common.{◌≡◌, ◌+◌, ◌∷◌, [], ◌∙◌, drop, length, ap, subst, sym, true≢false, refl}
+use Rattle.std.proofs.Common.{◌+◌, ◌∙◌, drop, subst, sym, true≢false, refl}
 use Rattle.std.proofs.lemmas.List.{drop_all}
 use Rattle.serde_json.specs.View.{items_view}
 use Rattle.dh_data.specs.DataFiles.{IsSized, EachItem}

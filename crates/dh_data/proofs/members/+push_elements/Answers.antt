@@ -1,4 +1,4 @@
-use Rattle.std.proofs.Common.{◌≡◌, ◌+◌, ◌∷◌, [], ◌++◌, ◌∙◌, List, true, false, drop, length, ap, subst, sym, refl}
+use Rattle.std.proofs.Common.{◌+◌, ◌∙◌, List, true, false, drop, ap, subst}
 use Rattle.std.proofs.lemmas.List.{drop_all}
 use Rattle.serde_json.specs.Data.{Data}
 use Rattle.serde_json.specs.View.{view, items_view}

@@ -1,11 +1,11 @@
-use Rattle.std.proofs.Common.{◌≡◌, ◌-◌, ◌+◌, ◌*◌, ◌<◌, ◌^◌, ◌++◌, [], ◌∷◌, ◌∙◌, List, ℕ, length, map, take, drop, ap, sym, subst, arith}
+use Rattle.std.proofs.Common.{◌<◌, ◌^◌, [], ◌∷◌, ◌∙◌, List, ℕ, length, map, take, drop, ap, sym, subst, arith}
 use Rattle.std.specs.List.{AllByRecursion}
 use Rattle.std.proofs.lemmas.List.{map-append}
 use Rattle.serde_json.specs.View.{view}
 use Rattle.dh_tree.specs.Tables.{elements_of}
 use Rattle.dh_value.specs.Words.{width_of}
-use Rattle.dh_data.specs.Reports.{nested_data, rows}
-use Rattle.dh_data.proofs.Rows.{next_row, width_is, rest_small, rows_on, row_added}
+use Rattle.dh_data.specs.Reports.{nested_data}
+use Rattle.dh_data.proofs.Rows.{next_row, width_is, rest_small, row_added}
 use Rattle.dh_data.proofs.reports.+nested.Goals as goal
 
 pub loop-preserved : goal.loop-preserved
