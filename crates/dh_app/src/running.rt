@@ -288,10 +288,7 @@ fn memories_of(alloc: Global, table: &MemTable, bytes: &[u8]) -> Result<Memories
 {
     match dh_data::read(alloc, table, bytes) {
         Ok(memories) => Ok(memories),
-        Err(fault) => Err(answer_with(
-            Status::BadData,
-            bad_data_line(alloc, table, &fault),
-        )),
+        Err(fault) => Err(answer_with(Status::BadData, bad_data_line(alloc, table, &fault))),
     }
 }
 

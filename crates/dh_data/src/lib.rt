@@ -4,10 +4,12 @@
 #![tactic(auto)]
 
 mod data_files;
+mod laws;
 mod members;
 mod reports;
 #[cfg(test)]
 mod tests;
 
 pub use data_files::{DataFault, read};
+pub use laws::bytes_mean_one_thing;
 pub use reports::{Ending, report};
