@@ -164,15 +164,14 @@ fn fill_bare(facts: &[Fact], bare: bool, want: Option<Kind>, operand: &mut Expr)
 }
 
 // Gives the bare operands of an operation that is not bare their kinds, where the others have theirs.
-fn fill_operands(
-    facts: &[Fact],
-    op: Op,
-    bare: (bool, bool),
-    left: &mut Expr,
-    right: &mut Expr,
-)
+fn fill_operands(facts: &[Fact], op: Op, bare: (bool, bool), left: &mut Expr, right: &mut Expr)
     ensures { AreFilled (facts_seen facts.now) op bare.0 bare.1 (term_seen left.old) (term_seen right.old) (term_seen left.new) (term_seen right.new) }
 {
     fill_bare(facts, bare.0, left_want(op, None, bare.1, right.kind), left);
-    fill_bare(facts, bare.1, right_want(op, None, bare.0, left.kind), right);
+    fill_bare(
+        facts,
+        bare.1,
+        right_want(op, None, bare.0, left.kind),
+        right,
+    );
 }

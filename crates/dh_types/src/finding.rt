@@ -71,13 +71,7 @@ fn access_kind(fact: Option<&Fact>, indices: &[Expr]) -> Option<Kind>
     ensures { result ≡ rules.access_found (option_map (λ f. fact_seen f.now) fact.entry) (terms (map term_seen indices.now)) }
 {
     match fact {
-        Some(Fact::Memory { kind, dims }) => {
-            if suit(indices, *dims) {
-                *kind
-            } else {
-                None
-            }
-        }
+        Some(Fact::Memory { kind, dims }) => { if suit(indices, *dims) { *kind } else { None } }
         _ => None,
     }
 }

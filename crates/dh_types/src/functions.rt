@@ -51,7 +51,11 @@ impl Walk {
     }
 
     /// Gives the expressions of functions their kinds.
-    pub fn functions(&mut self, alloc: Global, functions: &mut Vec<Function>) -> Result<(), NoMemory>
+    pub fn functions(
+        &mut self,
+        alloc: Global,
+        functions: &mut Vec<Function>,
+    ) -> Result<(), NoMemory>
         ensures { OnOk result (TypesFunctions (state_of self.old) (state_of self.new) (map defined_seen functions.old.items) (map defined_seen functions.new.items)) }
     {
         for function in functions.iter_mut() {

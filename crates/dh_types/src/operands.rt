@@ -5,7 +5,9 @@ ghost use Rattle.dh_tree.specs.Kinds as rules;
 ghost use Rattle.dh_types.specs.Facts.{listed};
 
 use crate::keeping::mismatch_unless;
-use crate::sorts::{are_alike, for_numbers, is_integer, is_shift, is_truth, is_unsigned, keeps_bare, wider};
+use crate::sorts::{
+    are_alike, for_numbers, is_integer, is_shift, is_truth, is_unsigned, keeps_bare, wider,
+};
 use dh_base::Place;
 use dh_tree::{Breach, Kind};
 use dh_value::Op;

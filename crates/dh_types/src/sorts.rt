@@ -104,14 +104,7 @@ pub fn keeps_bare(op: Op) -> bool
     ensures { result ≡ rules.keeps_bare op }
 {
     match op {
-        Op::Add
-        | Op::Sub
-        | Op::Mul
-        | Op::And
-        | Op::Or
-        | Op::Xor
-        | Op::Shl
-        | Op::Shr => true,
+        Op::Add | Op::Sub | Op::Mul | Op::And | Op::Or | Op::Xor | Op::Shl | Op::Shr => true,
         _ => false,
     }
 }

@@ -102,7 +102,10 @@ impl Walk {
         let kind = value_kind(fact);
         keep(&mut self.least, target_breach(fact, target.place));
         type_term(&self.facts, for_numbers(kind), value);
-        keep(&mut self.least, reducer_breach(kind, value.kind, target.place));
+        keep(
+            &mut self.least,
+            reducer_breach(kind, value.kind, target.place),
+        );
         keep_right_side(&self.facts, &mut self.least, kind, value);
     }
 
@@ -132,13 +135,7 @@ impl Walk {
 
     /// Looks at the kind and the bounds of an iterator.
     #[tactic(auto, using(crate::proofs::LeastKept::least_then))]
-    pub fn bounds(
-        &mut self,
-        iterator: &Ref,
-        kind: Kind,
-        low: (u64, Place),
-        high: (u64, Place),
-    )
+    pub fn bounds(&mut self, iterator: &Ref, kind: Kind, low: (u64, Place), high: (u64, Place))
         ensures { state_of self.new ≡ noted (state_of self.old) (breaches.iterator_breaches iterator.now kind ++ (breaches.low_breaches kind (placed low.0 low.1) ++ breaches.high_breaches kind (placed low.0 low.1) (placed high.0 high.1))) }
     {
         keep(&mut self.least, iterator_breach(iterator, kind));

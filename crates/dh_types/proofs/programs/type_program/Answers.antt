@@ -39,4 +39,3 @@ of-requires-clause-kinds c =
     (walk_done c.into_tree-decls.result (state_of (record { facts = c.new.result; least = None })) (state_of c.learn_memories.new.self) (state_of c.learn_functions.new.self) (state_of c.functions.new.self) (state_of c.command.new.self)
     c.deref.result.now c.deref-2.result.now (map defined_seen c.functions.new.functions.items) (action_seen c.command.new.command)
     (ap (λ l. record { facts = facts_seen l; least = None }) c.new.ensures.items) c.deref.ensures.value c.deref-2.ensures.value c.in_ok-learn_memories.ensures c.in_ok-learn_functions.ensures c.in_ok-functions.ensures c.in_ok-command.ensures)
-
