@@ -117,12 +117,14 @@ if_kept kept tested chosen others all place t a o s r e f steps g steps' h =
   where
     inner : List Breach
     inner = unchecked_term t ++ (unchecked_action a ++ unchecked_other o)
+
     parts : others ≡ least_of kept inner
     parts =
         g
         ∙ (ap (λ k. least_of k (unchecked_other o)) (f ∙ ap (λ k. least_of k (unchecked_action a)) e)
         ∙ (sym (least_append (least_of kept (unchecked_term t)) (unchecked_action a) (unchecked_other o))
         ∙ sym (least_append kept (unchecked_term t) (unchecked_action a ++ unchecked_other o))))
+
     own_last : (b : Bool) → least_of (least_of kept inner) (if b then unbuilt place else []) ≡ least_of kept ((if b then unbuilt place else []) ++ inner)
     own_last true = kept_last kept (breach Unsupported place) inner
     own_last false = refl

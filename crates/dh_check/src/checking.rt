@@ -114,11 +114,7 @@ pub fn check(alloc: Global, text: &[u8], forms: Forms) -> Result<Accepted, Check
 /// # Errors
 ///
 /// As `check`, without the rule on ports.
-pub fn check_without_ports(
-    alloc: Global,
-    text: &[u8],
-    forms: Forms,
-) -> Result<Typed, CheckFault>
+pub fn check_without_ports(alloc: Global, text: &[u8], forms: Forms) -> Result<Typed, CheckFault>
     requires { length text.now ≤ 1048576 }
     ensures { ChecksWithoutPorts forms text.now result }
 {

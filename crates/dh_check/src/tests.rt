@@ -47,7 +47,11 @@ fn each_pass_refuses_and_the_columns_differ(rt: HostRuntime) -> Result<(), Fail>
         ("decl A: bool[1]; A[0] := true;", "K3 1:9", "K3 1:9"),
         ("decl A: ubit<32>[1]; B[0] := 7;", "K4 1:22", "K4 1:22"),
         ("let x = 1; x[0] := 2;", "K3 1:1", "K6 1:12"),
-        ("decl A: ubit<32>[1]; A[2147483648] := 7;", "K7 1:24", "K7 1:24"),
+        (
+            "decl A: ubit<32>[1]; A[2147483648] := 7;",
+            "K7 1:24",
+            "K7 1:24",
+        ),
         ("decl A: ubit<8>[1]; A[0] := 256;", "K3 1:9", "K7 1:29"),
         ("decl A: ubit<32>[1]; A[1] := 7;", "K12 1:24", "K12 1:24"),
         ("decl A: ubit<32>[1]; A[-1] := 7;", "K3 1:24", "K12 1:24"),
@@ -56,7 +60,11 @@ fn each_pass_refuses_and_the_columns_differ(rt: HostRuntime) -> Result<(), Fail>
             "Elements 1048577",
             "Elements 1048577",
         ),
-        ("decl A: ubit<32>[1]; A[0] := A[0] + 1;", "K19 1:22", "accepted"),
+        (
+            "decl A: ubit<32>[1]; A[0] := A[0] + 1;",
+            "K19 1:22",
+            "accepted",
+        ),
     ] {
         let bytes = text.as_bytes();
         assert!(rt; bytes.len() <= LONGEST);
@@ -64,7 +72,10 @@ fn each_pass_refuses_and_the_columns_differ(rt: HostRuntime) -> Result<(), Fail>
         assert_eq!(rt; got.as_str(), with_ports, "checked: {text}");
         let got = told(alloc, check(alloc, bytes, Forms::Compiled).err())?;
         assert_eq!(rt; got.as_str(), with_ports, "compiled: {text}");
-        let got = told(alloc, check_without_ports(alloc, bytes, Forms::Unchecked).err())?;
+        let got = told(
+            alloc,
+            check_without_ports(alloc, bytes, Forms::Unchecked).err(),
+        )?;
         assert_eq!(rt; got.as_str(), without, "unchecked: {text}");
     }
     Ok(())
@@ -76,7 +87,10 @@ fn ports_are_judged_where_they_are_asked_for(rt: HostRuntime) -> Result<(), Fail
     let alloc = rt.alloc();
     let bytes = "decl A: ubit<32>[1]; A[0] := A[0] + 1;".as_bytes();
     assert!(rt; bytes.len() <= LONGEST);
-    let got = told(alloc, check_without_ports(alloc, bytes, Forms::Checked).err())?;
+    let got = told(
+        alloc,
+        check_without_ports(alloc, bytes, Forms::Checked).err(),
+    )?;
     assert_eq!(rt; got.as_str(), "accepted");
     Ok(())
 }
