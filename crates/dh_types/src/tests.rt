@@ -10,9 +10,7 @@ use super::*;
 use crate::facts::Fact;
 use crate::walks::Walk;
 use dh_base::{NoMemory, PassFault, Place, Rule};
-use dh_tree::{
-    Breach, Command, CommandForm, Expr, ExprForm, Kind, Name, Named, Ref, Tree,
-};
+use dh_tree::{Breach, Command, CommandForm, Expr, ExprForm, Kind, Name, Named, Ref, Tree};
 use dh_value::Op;
 use std::alloc::Global;
 use std::test::Fail;
@@ -114,10 +112,16 @@ fn numbers_take_the_kinds_of_their_places(rt: HostRuntime) -> Result<(), Fail> {
     walk.command(alloc, &mut second)?;
     let mut shown = String::new(alloc);
     show_kinds(&mut shown, &first)?;
-    assert_eq!(rt; shown.as_str(), "[Some(Signed(32))] Some(Unsigned(32)) := Some(Unsigned(32))");
+    assert_eq!(rt;
+        shown.as_str(),
+        "[Some(Signed(32))] Some(Unsigned(32)) := Some(Unsigned(32))"
+    );
     let mut shown = String::new(alloc);
     show_kinds(&mut shown, &second)?;
-    assert_eq!(rt; shown.as_str(), "[Some(Signed(32))] Some(Unsigned(32)) := Some(Unsigned(32)) of Some(Unsigned(32)), Some(Unsigned(32))");
+    assert_eq!(rt;
+        shown.as_str(),
+        "[Some(Signed(32))] Some(Unsigned(32)) := Some(Unsigned(32)) of Some(Unsigned(32)), Some(Unsigned(32))"
+    );
     assert!(rt; walk.least.is_none());
     Ok(())
 }
