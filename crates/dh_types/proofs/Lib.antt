@@ -7,4 +7,3 @@ pub mod Known
 pub mod FormsDone
 pub mod ListsDone
 pub mod ProgramsDone
-pub mod EmptyTrees

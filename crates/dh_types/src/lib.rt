@@ -13,8 +13,6 @@ mod keeping;
 mod operands;
 mod programs;
 mod sorts;
-#[cfg(test)]
-mod tests;
 mod views;
 mod walks;
 
