@@ -1,5 +1,5 @@
 -- Expressions whose parts have their kinds.
-use Rattle.std.proofs.Common.{◌≡◌, ℕ, ◌&&◌, Bool, true, false, List, [], ◌∷◌, map, Option, Some, None, Vec, if◌then◌else◌, refl, sym, ap, ◌∙◌}
+use Rattle.std.proofs.Common.{◌≡◌, ℕ, ◌&&◌, Bool, true, false, map, Option, Some, None, Vec, if◌then◌else◌, refl, sym, ap, ◌∙◌}
 use Rattle.std.specs.Global.{Global, Box}
 use Rattle.std.specs.Box.{with_value}
 use Rattle.dh_base.specs.declared.places.Place.{Place}
@@ -10,7 +10,7 @@ use Rattle.dh_tree.specs.declared.trees.expressions.Ref.{Ref}
 use Rattle.dh_tree.specs.declared.trees.expressions.Expr.{Expr}
 use Rattle.dh_tree.specs.declared.trees.expressions.ExprForm.{ExprForm}
 use Rattle.dh_tree.specs.declared.trees.expressions.ExprForm.TheVariants.{Access, Physical, Binary, Cast}
-use Rattle.dh_tree.specs.PlainTrees.{Term, term, TermForm, number, truth_value, named, accessed, in_bank, applied, converted, Terms}
+use Rattle.dh_tree.specs.PlainTrees.{Term, term, TermForm, number, truth_value, named, accessed, in_bank, applied, converted}
 use Rattle.dh_tree.specs.Seen.{form_seen, term_seen, terms}
 use Rattle.dh_tree.specs.Kinds.{Facts, is_bare, is_bare_form, keeps_bare, is_shift, found, form_found, left_want, right_want, for_numbers, typed_term, typed_form}
 use Rattle.dh_tree.proofs.SeenTerms.{access_is, physical_is, binary_is, cast_is}

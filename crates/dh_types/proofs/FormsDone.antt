@@ -1,5 +1,5 @@
 -- What a walk over a form does, from what its steps do.
-use Rattle.std.proofs.Common.{◌≡◌, ℕ, List, [], ◌∷◌, ◌++◌, Option, Some, None, option_map, refl, sym, ap, subst, ◌∙◌}
+use Rattle.std.proofs.Common.{◌≡◌, List, [], ◌∷◌, ◌++◌, Option, Some, None, sym, ap, subst, ◌∙◌}
 use Rattle.std.proofs.lemmas.List.{append_assoc}
 use Rattle.dh_base.specs.declared.places.Place.{Place}
 use Rattle.dh_value.specs.declared.kinds.Kind.{Kind}
@@ -10,7 +10,6 @@ use Rattle.dh_tree.specs.declared.trees.expressions.Ref.{Ref}
 use Rattle.dh_tree.specs.declared.trees.programs.ShapePlaces.{ShapePlaces}
 use Rattle.dh_tree.specs.declared.trees.commands.Command.{Command}
 use Rattle.dh_tree.specs.Seen.{action_seen}
-use Rattle.dh_tree.specs.LeastBreach.{least_of}
 use Rattle.dh_tree.specs.PlainTrees.{Term, ViewPlan, Placed, Action, ActionForm, lets, lets_memory, views, assigns, stores, reduces, calls, blocks, decides, repeats, counts, MaybeAction, Groups}
 use Rattle.dh_tree.specs.Kinds.{Fact, of_iterator, Facts, fact_of, found, for_numbers, parameters_of, target_kind, variable_fact, parameter_fact, view_fact, iterator_kind, facts_after, facts_after_other, typed_term, typed_maybe, typed_plan, typed_arguments, typed_action, typed_other}
 use Rattle.dh_tree.specs.KindBreaches.{term_kind_breaches, right_side_breaches, maybe_breaches, condition_breaches, plan_breaches, target_breaches, parent_breaches, reducer_breaches, arguments_breaches, iterator_breaches, low_breaches, high_breaches, action_kind_breaches, other_kind_breaches}

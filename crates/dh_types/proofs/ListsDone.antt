@@ -1,12 +1,12 @@
 -- Walks over the commands of a part, over the parts of a block and over functions.
-use Rattle.std.proofs.Common.{◌≡◌, ℕ, ◌≤◌, List, [], ◌∷◌, ◌++◌, length, map, Vec, refl, sym, ap, ◌∙◌, arith}
+use Rattle.std.proofs.Common.{◌≡◌, ℕ, ◌≤◌, List, [], ◌∷◌, length, map, Vec, refl, sym, ap, ◌∙◌, arith}
 use Rattle.std.specs.Global.{Global}
 use Rattle.std.specs.Vec.{with_items}
 use Rattle.dh_tree.specs.declared.trees.commands.Command.{Command}
 use Rattle.dh_tree.specs.declared.trees.programs.Function.{Function}
 use Rattle.dh_tree.specs.PlainTrees.{Action, Actions, action_then, group_then, Defined}
 use Rattle.dh_tree.specs.Seen.{action_seen, part_seen, actions, groups, defined_seen}
-use Rattle.dh_tree.specs.Kinds.{Facts, facts_after, facts_after_actions, facts_after_groups, facts_after_function, facts_after_functions, typed_action, typed_actions, typed_groups, typed_function, typed_functions}
+use Rattle.dh_tree.specs.Kinds.{facts_after, facts_after_actions, facts_after_groups, facts_after_function, facts_after_functions, typed_action, typed_actions, typed_groups, typed_function, typed_functions}
 use Rattle.dh_tree.specs.KindBreaches.{action_kind_breaches, actions_kind_breaches, groups_kind_breaches, function_kind_breaches, functions_kind_breaches}
 use Rattle.dh_types.specs.Walks.{State, walked, Types, TypesActions, TypesGroups, TypesFunction, TypesFunctions}
 use Rattle.dh_types.proofs.InPlace.{Unvisited, SoFar, run, made, finish, written}

@@ -1,5 +1,5 @@
 -- A walk over a whole program.
-use Rattle.std.proofs.Common.{◌≡◌, List, [], ◌∷◌, ◌++◌, length, map, Option, Some, None, refl, sym, ap, subst, ◌∙◌}
+use Rattle.std.proofs.Common.{◌≡◌, List, [], ◌∷◌, ◌++◌, map, Option, Some, None, refl, sym, ap, subst, ◌∙◌}
 use Rattle.dh_tree.specs.declared.breaches.Breach.{Breach}
 use Rattle.dh_tree.specs.declared.trees.programs.Decl.{Decl}
 use Rattle.dh_tree.specs.declared.trees.programs.Function as code
@@ -9,13 +9,13 @@ use Rattle.dh_tree.specs.Seen.{declared_seen, defined_seen, action_seen, program
 use Rattle.dh_tree.specs.LeastBreach.{IsLeast, least_of}
 use Rattle.dh_tree.specs.Breaches.{KeepsNames}
 use Rattle.dh_tree.specs.Resolved.{HasEntities}
-use Rattle.dh_tree.specs.Kinds.{Fact, Facts, declared_facts, function_fact, first_facts, facts_after, facts_after_function, facts_after_functions, typed_action, typed_function, typed_functions, typed, HasKinds}
+use Rattle.dh_tree.specs.Kinds.{Facts, declared_facts, function_fact, first_facts, facts_after, facts_after_function, facts_after_functions, typed_action, typed_function, typed_functions, typed, HasKinds}
 use Rattle.dh_tree.specs.KindBreaches.{action_kind_breaches, functions_kind_breaches, kind_breaches, KeepsKinds}
 use Rattle.dh_tree.proofs.TypedAgain.{typed_again}
 use Rattle.dh_tree.proofs.TypedNames.{names_kept}
 use Rattle.dh_tree.proofs.TypedEntities.{entities_kept}
 use Rattle.dh_tree.proofs.FirstBreaches.{none_is_kept, least_is_kept}
-use Rattle.dh_types.specs.Walks.{State, walked, knows, Types, TypesFunctions}
+use Rattle.dh_types.specs.Walks.{State, knows, Types, TypesFunctions}
 use Rattle.dh_types.proofs.FormsDone.{next_step}
 
 -- the kinds of parameters stay

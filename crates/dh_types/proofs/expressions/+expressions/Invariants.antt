@@ -1,4 +1,3 @@
-use Rattle.std.specs.Prelude.{None}
 use Rattle.dh_tree.specs.Seen.{term_seen}
 use Rattle.dh_types.specs.Facts.{facts_seen}
 use Rattle.dh_types.proofs.InPlace.{SoFar}

@@ -1,8 +1,8 @@
-use Rattle.std.proofs.Common.{None, map, ap, ◌∙◌}
+use Rattle.std.proofs.Common.{None, map, ap}
 use Rattle.dh_tree.specs.Seen.{defined_seen, action_seen}
 use Rattle.dh_types.specs.Facts.{facts_seen}
-use Rattle.dh_types.specs.Walks.{State, state_of}
-use Rattle.dh_types.proofs.ProgramsDone.{walk_done, refused, suits, has_names, has_entities, has_kinds, typed_is}
+use Rattle.dh_types.specs.Walks.{state_of}
+use Rattle.dh_types.proofs.ProgramsDone.{walk_done, refused, suits, has_names, has_entities, has_kinds}
 use Rattle.dh_types.proofs.programs.type_program.Goals as goal
 
 pub returns-in-Some : goal.returns-in-Some

@@ -1,4 +1,4 @@
-use Rattle.std.proofs.Common.{◌∙◌, ap, sym, map, refl, length, get_or, arith, None}
+use Rattle.std.proofs.Common.{refl, arith}
 use Rattle.dh_tree.specs.Seen.{term_seen}
 use Rattle.dh_types.specs.Facts.{facts_seen}
 use Rattle.dh_types.proofs.InPlace.{start, turn}

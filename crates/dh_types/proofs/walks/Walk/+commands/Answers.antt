@@ -1,4 +1,4 @@
-use Rattle.std.proofs.Common.{◌∙◌, ap, sym, refl, map, option_map, arith}
+use Rattle.std.proofs.Common.{◌∙◌, ap, refl, map, option_map, arith}
 use Rattle.std.specs.Box.{with_value}
 use Rattle.std.specs.Vec.{with_items}
 use Rattle.dh_tree.specs.Seen.{term_seen, plan_seen, action_seen, action_form_seen, part_seen, groups, maybe_seen, placed}

@@ -1,5 +1,5 @@
 use Rattle.std.specs.Prelude.{◌≡◌, Some, length, map, drop}
-use Rattle.dh_tree.specs.Kinds.{of_memory, function_fact, parameter_fact}
+use Rattle.dh_tree.specs.Kinds.{of_memory}
 use Rattle.dh_tree.specs.Seen.{declared_seen}
 use Rattle.dh_types.specs.Walks.{state_of, knows}
 use Rattle.dh_types.proofs.walks.Walk.learn_memories.Given as goal

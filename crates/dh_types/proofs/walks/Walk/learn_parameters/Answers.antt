@@ -1,5 +1,5 @@
-use Rattle.std.proofs.Common.{◌∙◌, ap, length, Some}
-use Rattle.dh_tree.specs.Kinds.{of_memory, function_fact, parameter_fact}
+use Rattle.std.proofs.Common.{◌∙◌, ap}
+use Rattle.dh_tree.specs.Kinds.{parameter_fact}
 use Rattle.dh_tree.specs.Seen.{formal_seen}
 use Rattle.dh_types.specs.Walks.{state_of, learned}
 use Rattle.dh_types.proofs.Known.{known_next, known_all}

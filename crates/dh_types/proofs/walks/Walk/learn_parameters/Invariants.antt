@@ -1,5 +1,5 @@
-use Rattle.std.specs.Prelude.{◌≡◌, Some, length, map, drop}
-use Rattle.dh_tree.specs.Kinds.{of_memory, function_fact, parameter_fact}
+use Rattle.std.specs.Prelude.{◌≡◌, map, drop}
+use Rattle.dh_tree.specs.Kinds.{parameter_fact}
 use Rattle.dh_tree.specs.Seen.{formal_seen}
 use Rattle.dh_types.specs.Walks.{state_of, knows}
 use Rattle.dh_types.proofs.walks.Walk.learn_parameters.Given as goal
