@@ -16,7 +16,7 @@ use Rattle.dh_check.specs.declared.checking.Forms.TheVariants.{Unchecked, Checke
 use Rattle.dh_check.specs.declared.checking.CheckFault.{CheckFault}
 use Rattle.dh_check.specs.Acceptance.{IsAccepted, most_tokens}
 use Rattle.dh_check.specs.Ready.{GoesOn, Stops, IsReadyBy, TellsText}
-use Rattle.dh_check.specs.Verdicts.{Verdict, accepts, refuses, IsVerdict, FaultTells, asked_of, Checks, ChecksWithoutPorts}
+use Rattle.dh_check.specs.Verdicts.{accepts, refuses, IsVerdict, FaultTells, asked_of, Checks, ChecksWithoutPorts}
 use Rattle.dh_check.proofs.FirstPrograms.{first_forms}
 
 -- a command that checks ports has only the forms that these are judged of

@@ -5,7 +5,6 @@ use Rattle.std.specs.Prelude.{Bool, true, false, ◌&&◌, ◌||◌, if◌then�
 use Rattle.std.specs.List.{AllByRecursion}
 use Rattle.std.specs.Option.{is_some}
 use Rattle.dh_base.specs.declared.places.Place.{Place}
-use Rattle.dh_value.specs.declared.operators.Op.{Op}
 use Rattle.dh_value.specs.declared.kinds.Kind.{Kind}
 use Rattle.dh_tree.specs.declared.tables.Dim.{Dim}
 use Rattle.dh_tree.specs.declared.trees.programs.DimPlaces.{DimPlaces}
@@ -14,7 +13,7 @@ use Rattle.dh_tree.specs.Scopes.{Binding, entity_of, Scope, form_at_end, actions
 use Rattle.dh_tree.specs.Breaches as names
 use Rattle.dh_tree.specs.Breaches.{KeepsNames}
 use Rattle.dh_tree.specs.Resolved.{resolved_term, resolved_term_form, resolved_action, resolved_form, resolved_actions, resolved_groups, HasEntities}
-use Rattle.dh_tree.specs.Forms.{unbuilt, plain_number, is_small, is_stored, is_access, is_element, further_indices, unbuilt_index, unbuilt_indices, unbuilt_element, unbuilt_access, is_sum_of, is_word, unbuilt_stored, unbuilt_value, form_holds, unbuilt_action, unbuilt_form, unbuilt_groups, unbuilt_part, further_dims, unbuilt_where, unbuilt_dims, unbuilt_decl, unbuilt_decls, unbuilt_functions, unbuilt_forms}
+use Rattle.dh_tree.specs.Forms.{unbuilt, is_stored, is_element, further_indices, unbuilt_index, unbuilt_indices, unbuilt_element, unbuilt_access, is_sum_of, unbuilt_stored, unbuilt_value, form_holds, unbuilt_action, unbuilt_form, unbuilt_groups, unbuilt_part, further_dims, unbuilt_where, unbuilt_dims, unbuilt_decls, unbuilt_functions, unbuilt_forms}
 use Rattle.dh_tree.specs.FirstForms.{IsNumber, IsOneNumber, IsMemory, IsElement, IsRightSide, IsBuilt, IsBuiltForm, AreBuilt, AreBuiltGroups, HasFirstForms}
 use Rattle.dh_tree.specs.Kinds.{typed}
 use Rattle.dh_tree.specs.UncheckedForms.{is_number_kind, unchecked_decl, unchecked_decls, unchecked_action, unchecked_forms}

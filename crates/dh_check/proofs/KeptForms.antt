@@ -1,14 +1,12 @@
 -- The least form that is not built, kept while the code's lists are walked over: what is left of a part,
 -- and the parts behind it.
-use Rattle.std.proofs.Common.{◌≡◌, ℕ, ◌+◌, ◌<◌, ◌≤◌, ◌||◌, ◌&&◌, Bool, true, false, if◌then◌else◌, List, [], ◌∷◌, ◌++◌, length, get_or, drop, map, Option, refl, ap, sym, ◌∙◌}
+use Rattle.std.proofs.Common.{◌≡◌, ℕ, ◌+◌, ◌<◌, ◌≤◌, ◌||◌, ◌&&◌, Bool, true, false, if◌then◌else◌, List, [], ◌++◌, length, get_or, drop, map, Option, refl, ap, sym, ◌∙◌}
 use Rattle.std.specs.Prelude.{Vec}
 use Rattle.std.specs.Global.{Global}
 use Rattle.std.proofs.lemmas.List.{drop_all, append_assoc}
-use Rattle.dh_base.specs.declared.places.Place.{Place}
 use Rattle.dh_tree.specs.declared.breaches.Breach.{Breach}
 use Rattle.dh_tree.specs.declared.trees.commands.Command.{Command}
 use Rattle.dh_tree.specs.LeastBreach.{least_of}
-use Rattle.dh_tree.specs.PlainTrees.{Actions}
 use Rattle.dh_tree.specs.Seen.{action_seen, action_form_seen, actions, groups, part_seen}
 use Rattle.dh_tree.specs.Forms.{unbuilt, unbuilt_form, unbuilt_part, unbuilt_groups, form_holds, part_holds, groups_hold}
 use Rattle.dh_check.proofs.Leasts.{least_append, at_item}

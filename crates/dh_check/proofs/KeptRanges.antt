@@ -1,19 +1,18 @@
 -- The least size or index that is out of range, kept while the code's lists are walked over: what is left
 -- of a part, and the parts behind it; and what is left of two lists side by side.
-use Rattle.std.proofs.Common.{◌≡◌, ℕ, ◌+◌, ◌<◌, ◌⊎◌, inl, inr, List, [], ◌∷◌, ◌++◌, length, get_or, drop, map, ◌==◌, if◌then◌else◌, Option, refl, ap, sym, ◌∙◌}
+use Rattle.std.proofs.Common.{◌≡◌, ℕ, ◌+◌, ◌<◌, ◌⊎◌, inl, inr, List, [], ◌∷◌, ◌++◌, length, get_or, drop, map, Option, refl, ap, sym, ◌∙◌}
 use Rattle.std.specs.Prelude.{Vec}
 use Rattle.std.specs.Global.{Global}
 use Rattle.std.proofs.lemmas.List.{append_assoc}
-use Rattle.dh_base.specs.declared.rules.Rule.TheVariants.{ConstantRange}
 use Rattle.dh_tree.specs.declared.breaches.Breach.{Breach}
 use Rattle.dh_tree.specs.declared.tables.Dim.{Dim}
 use Rattle.dh_tree.specs.declared.trees.commands.Command.{Command}
 use Rattle.dh_tree.specs.declared.trees.expressions.Expr.{Expr}
 use Rattle.dh_tree.specs.declared.trees.programs.DimPlaces.{DimPlaces}
-use Rattle.dh_tree.specs.LeastBreach.{least_of, breach}
+use Rattle.dh_tree.specs.LeastBreach.{least_of}
 use Rattle.dh_tree.specs.PlainTrees.{Declared}
-use Rattle.dh_tree.specs.Ranges.{literal_breaches, literals_breaches, action_range_breaches, actions_range_breaches, groups_range_breaches, sizes_breaches}
-use Rattle.dh_tree.specs.Seen.{term_seen, form_seen, terms, action_seen, actions, groups, part_seen}
+use Rattle.dh_tree.specs.Ranges.{literals_breaches, action_range_breaches, actions_range_breaches, groups_range_breaches, sizes_breaches}
+use Rattle.dh_tree.specs.Seen.{term_seen, terms, action_seen, actions, groups, part_seen}
 use Rattle.dh_check.proofs.Leasts.{least_append, at_item}
 
 -- the least of what is kept, of the rest of a part, and of the parts from a place on

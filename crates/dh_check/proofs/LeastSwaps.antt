@@ -6,7 +6,7 @@ use Rattle.dh_base.specs.declared.places.Place.{Place}
 use Rattle.dh_base.specs.declared.rules.Rule.TheVariants.{Unsupported}
 use Rattle.dh_base.specs.Rules.{number_of}
 use Rattle.dh_tree.specs.declared.breaches.Breach.{Breach}
-use Rattle.dh_tree.specs.LeastBreach.{Precedes, precedes, IsLeast, lesser, least_of, breach}
+use Rattle.dh_tree.specs.LeastBreach.{Precedes, precedes, lesser, least_of, breach}
 use Rattle.dh_tree.specs.PlainTrees.{Term, Action, decides, MaybeAction}
 use Rattle.dh_tree.specs.Forms.{unbuilt, holds_steps, other_holds}
 use Rattle.dh_tree.specs.UncheckedForms.{unchecked_term, unchecked_action, unchecked_other, unchecked_form}

@@ -1,20 +1,15 @@
 -- A text comes to one verdict: it has one list of tokens or one place where it has none, these are
 -- spelled by one tree or have one token out of place, and of each pass one breach is the least.
-use Rattle.std.proofs.Common.{◌≡◌, ◌⊎◌, inl, inr, Bool, true, false, List, [], Option, Some, None, refl, ap, sym, ◌∙◌, subst}
+use Rattle.std.proofs.Common.{◌≡◌, inl, inr, Bool, true, false, List, Option, Some, None, ap, sym, ◌∙◌, subst}
 use Rattle.dh_base.specs.declared.limits.Excess.{Excess}
-use Rattle.dh_base.specs.declared.places.Place.{Place}
 use Rattle.dh_base.specs.declared.rules.Rule.TheVariants.{Lex, PortsSpent}
 use Rattle.dh_lexer.specs.declared.tokens.Token.{Token}
-use Rattle.dh_lexer.specs.LexedText.{HasTokens, IsBreach}
 use Rattle.dh_lexer.proofs.CutOnce.{one_list, one_breach, not_both}
-use Rattle.dh_parser.specs.Programs.{Spells, OutOfPlace, rule_at}
+use Rattle.dh_parser.specs.Programs.{rule_at}
 use Rattle.dh_parser.proofs.AgainPrograms.{one_tree}
 use Rattle.dh_parser.proofs.OnePlace.{one_place, spelled_in_place}
 use Rattle.dh_tree.specs.declared.breaches.Breach.{Breach}
-use Rattle.dh_tree.specs.LeastBreach.{IsLeast}
 use Rattle.dh_tree.specs.PlainTrees.{Program}
-use Rattle.dh_tree.specs.Accesses as accesses
-use Rattle.dh_tree.specs.Accesses.{KeepsPorts}
 use Rattle.dh_tree.specs.Breaches.{breaches_of}
 use Rattle.dh_tree.specs.Kinds.{typed}
 use Rattle.dh_tree.specs.KindBreaches.{kind_breaches}
@@ -26,7 +21,7 @@ use Rattle.dh_tree.proofs.FirstBreaches.{least_is_one, least_not_none}
 use Rattle.dh_tree.proofs.SpentOnce.{spent_once, kept_not_spent}
 use Rattle.dh_check.specs.Acceptance.{unbuilt_by}
 use Rattle.dh_check.specs.Elements.{excess_of}
-use Rattle.dh_check.specs.Verdicts.{Verdict, accepts, refuses, exceeds, tokens_excess, Passes, JudgedPorts, Asked, JudgedLast, JudgedElements, JudgedTyped, JudgedTree, JudgedToken, JudgedTokens, Judged, IsVerdict}
+use Rattle.dh_check.specs.Verdicts.{Verdict, refuses, tokens_excess, Passes, JudgedPorts, Asked, JudgedLast, JudgedElements, JudgedTyped, JudgedTree, JudgedToken, JudgedTokens, Judged, IsVerdict}
 
 -- of two verdicts one is possible
 abbrev OneOf : (Verdict → Type 0) → Type 0

@@ -1,17 +1,14 @@
 -- What the passes over a tree tell, one after the other: each keeps its least breach, so that it refuses
 -- the tree or lets the next pass follow.
-use Rattle.std.proofs.Common.{◌≡◌, ℕ, ◌≤◌, ◌<◌, nat_lt, inl, inr, Bool, true, false, if◌then◌else◌, List, [], Option, Some, None, Result, Ok, Err, refl, ap, sym, ◌∙◌, subst, arith}
+use Rattle.std.proofs.Common.{◌≡◌, ℕ, ◌≤◌, nat_lt, inl, inr, Bool, true, false, if◌then◌else◌, List, [], Option, Some, None, Result, Ok, Err, refl, ap, sym, ◌∙◌, subst, arith}
 use Rattle.std.proofs.lemmas.Bool.Decides.{nat_tests}
 use Rattle.dh_base.specs.declared.limits.Excess.{Excess}
 use Rattle.dh_base.specs.declared.places.Place.{Place}
 use Rattle.dh_base.specs.declared.rules.Rule.{Rule}
-use Rattle.dh_base.specs.declared.rules.Rule.TheVariants.{PortsSpent}
 use Rattle.dh_tree.specs.declared.breaches.Breach.{Breach}
 use Rattle.dh_tree.specs.declared.trees.typed.Typed.{Typed}
 use Rattle.dh_tree.specs.LeastBreach.{IsLeast, least_of, breach}
 use Rattle.dh_tree.specs.PlainTrees.{Program}
-use Rattle.dh_tree.specs.Accesses as accesses
-use Rattle.dh_tree.specs.Accesses.{KeepsPorts}
 use Rattle.dh_tree.specs.Breaches.{breaches_of, KeepsNames}
 use Rattle.dh_tree.specs.Forms.{unbuilt_forms}
 use Rattle.dh_tree.specs.UncheckedForms.{unchecked_forms}
@@ -34,10 +31,10 @@ use Rattle.dh_check.specs.declared.checking.Forms.{Forms}
 use Rattle.dh_check.specs.declared.checking.Forms.TheVariants.{Unchecked, Checked, Compiled}
 use Rattle.dh_check.specs.declared.checking.CheckFault.{CheckFault}
 use Rattle.dh_check.specs.declared.checking.CheckFault.TheVariants as fault
-use Rattle.dh_check.specs.Acceptance.{unbuilt_by, IsReady, IsAccepted, most_tokens}
+use Rattle.dh_check.specs.Acceptance.{unbuilt_by, IsReady, most_tokens}
 use Rattle.dh_check.specs.Elements.{excess_of}
-use Rattle.dh_check.specs.Ready.{GoesOn, Stops, TellsSizes, TellsNamed, IsReadyBy, TellsTree}
-use Rattle.dh_check.specs.Verdicts.{Verdict, accepts, refuses, exceeds, Passes, JudgedLast, JudgedElements, JudgedTyped, JudgedTree, asked_of}
+use Rattle.dh_check.specs.Ready.{GoesOn, Stops, TellsSizes, TellsNamed, TellsTree}
+use Rattle.dh_check.specs.Verdicts.{Verdict, refuses, exceeds, Passes, JudgedLast, JudgedElements, JudgedTyped, JudgedTree, asked_of}
 
 -- a pass that keeps a breach refuses, and one that keeps none lets the next follow
 refused_at : (bs : List Breach) (r : Rule) (place : Place) (next : Type 0) → IsLeast bs (breach r place) → Passes bs (refuses r place) next

@@ -13,13 +13,12 @@ use Rattle.dh_tree.specs.Forms.{unbuilt_forms}
 use Rattle.dh_tree.specs.PlainTrees.{Program}
 use Rattle.dh_tree.specs.Written.{IsOfText, IsWritten}
 use Rattle.dh_tree.specs.declared.trees.typed.Typed.{Typed}
-use Rattle.dh_check.specs.declared.accepted.Accepted.{Accepted}
 use Rattle.dh_check.specs.declared.checking.Forms.{Forms}
 use Rattle.dh_check.specs.declared.checking.CheckFault.{CheckFault}
 use Rattle.dh_check.specs.declared.checking.CheckFault.TheVariants as fault
 use Rattle.dh_check.specs.Acceptance.{most_tokens}
 use Rattle.dh_check.specs.Ready.{Stops, TellsTree, TellsText}
-use Rattle.dh_check.specs.Verdicts.{Verdict, accepts, refuses, exceeds, tokens_excess, JudgedPorts, JudgedTree, JudgedTokens, IsVerdict, asked_of, Asked, Checks, ChecksWithoutPorts}
+use Rattle.dh_check.specs.Verdicts.{Verdict, refuses, exceeds, tokens_excess, JudgedTree, JudgedTokens, IsVerdict, asked_of, Asked}
 use Rattle.dh_check.proofs.OneVerdict.{is_verdict}
 
 pub no_tokens : (forms : Forms) (text : List ℕ) (rule : Rule) (place : Place) → Lexed text (Err (pass.Refused rule place)) → Stops (λ ports v. IsVerdict (asked_of forms ports) text v) (fault.Refused rule place)

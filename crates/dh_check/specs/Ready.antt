@@ -1,7 +1,6 @@
 -- What the passes before that over ports tell: a fault, or a program that comes to what its ports come
 -- to, where these are asked for.
 use Rattle.std.specs.Prelude.{◌≡◌, ℕ, List, [], Bool, Option, Some, None, Result, Ok, Err}
-use Rattle.dh_base.specs.declared.limits.Excess.{Excess}
 use Rattle.dh_tree.specs.declared.trees.typed.Typed.{Typed}
 use Rattle.dh_tree.specs.LeastBreach.{IsLeast, breach}
 use Rattle.dh_tree.specs.PlainTrees.{Program}

@@ -1,4 +1,4 @@
-use Rattle.std.proofs.Common.{◌≡◌, ap}
+use Rattle.std.proofs.Common.{ap}
 use Rattle.dh_tree.specs.Seen.{program_seen}
 use Rattle.dh_check.proofs.Checked.{ports_judged, accepted_is, keeps_ports, spends_ports, handed_on}
 use Rattle.dh_check.proofs.checking.check.Goals as goal

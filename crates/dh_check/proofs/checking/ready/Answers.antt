@@ -1,4 +1,4 @@
-use Rattle.std.proofs.Common.{◌≡◌, ap, sym, ◌∙◌}
+use Rattle.std.proofs.Common.{ap, sym, ◌∙◌}
 use Rattle.dh_check.specs.Verdicts.{tokens_excess}
 use Rattle.dh_tree.specs.Seen.{program_seen}
 use Rattle.dh_check.proofs.Texts.{no_tokens, tokens_exceed, token_refused, tells_text, of_text, written_text}

@@ -1,4 +1,4 @@
-use Rattle.std.proofs.Common.{◌≡◌, ap, ◌∙◌}
+use Rattle.std.proofs.Common.{ap, ◌∙◌}
 use Rattle.dh_tree.specs.Seen.{program_seen}
 use Rattle.dh_check.specs.Acceptance.{most_tokens}
 use Rattle.dh_check.proofs.FirstPrograms.{has_one_dims}

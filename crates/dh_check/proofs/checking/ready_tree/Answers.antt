@@ -1,4 +1,4 @@
-use Rattle.std.proofs.Common.{◌≡◌, sym, ◌∙◌}
+use Rattle.std.proofs.Common.{sym, ◌∙◌}
 use Rattle.dh_tree.specs.Seen.{program_seen}
 use Rattle.dh_check.proofs.Passing.{forms_stop, names_stop, tells_tree, built_still, of_text_still, few_names}
 use Rattle.dh_check.proofs.checking.ready_tree.Goals as goal

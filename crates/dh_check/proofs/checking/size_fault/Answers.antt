@@ -1,4 +1,4 @@
-use Rattle.std.proofs.Common.{◌≡◌, List, ap, sym, ◌∙◌, map}
+use Rattle.std.proofs.Common.{List, ap, sym, ◌∙◌, map}
 use Rattle.dh_tree.specs.declared.trees.programs.Decl.{Decl}
 use Rattle.dh_tree.specs.Meaning.{entry_of}
 use Rattle.dh_tree.specs.Ranges.{range_breaches}

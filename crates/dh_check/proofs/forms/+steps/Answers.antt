@@ -1,4 +1,4 @@
-use Rattle.std.proofs.Common.{◌+◌, ◌∙◌, arith}
+use Rattle.std.proofs.Common.{◌+◌, ◌∙◌}
 use Rattle.dh_check.proofs.StepsHeld.{holds_begin, holds_next, holds_found, holds_end}
 use Rattle.dh_check.proofs.forms.+steps.Goals as goal
 

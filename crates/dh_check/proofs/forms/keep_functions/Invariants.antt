@@ -1,7 +1,7 @@
 use Rattle.std.proofs.Common.{◌≡◌, map, drop}
 use Rattle.dh_tree.specs.LeastBreach.{least_of}
-use Rattle.dh_tree.specs.Seen.{term_seen, terms, declared_seen, defined_seen}
-use Rattle.dh_tree.specs.Forms.{further_dims, unbuilt_decls, unbuilt_functions, further_indices}
+use Rattle.dh_tree.specs.Seen.{defined_seen}
+use Rattle.dh_tree.specs.Forms.{unbuilt_functions}
 use Rattle.dh_check.proofs.forms.keep_functions.Given as goal
 
 -- what is left leads to what all leads to
