@@ -1,0 +1,4 @@
+pub mod Applied
+pub mod Rows
+pub mod Spent
+pub mod Scenes

@@ -1,6 +1,13 @@
 //! Values of expressions from those of their parts.
 
-use dh_base::Place;
+ghost use Rattle.std.specs.Prelude.{◌≡◌, map};
+ghost use Rattle.dh_value.specs.Words.{IsKind, IsWord, value_of, with_bits, word_of};
+ghost use Rattle.dh_value.specs.Operations.{binary_of, truth as truth_of};
+ghost use Rattle.dh_tree.specs.Effects.{bits_of};
+ghost use Rattle.dh_tree.specs.Meaning.{entity_number, kind_or_first, wider as wider_of};
+ghost use Rattle.dh_sem.specs.Applied.{extended_word, IsExtension, applied_of, SuitsApplied, SuitsExtended};
+ghost use Rattle.dh_sem.specs.Rows.{row_found, contents_of, element_in};
+
 use dh_tree::{Dim, Kind, Ref};
 use dh_value::{Op, Word, binary, cast};
 
@@ -11,7 +18,9 @@ pub const UNSET: Word = Word {
 };
 
 /// The kind that was found; every expression of a typed program has one.
-pub fn kind_found(kind: Option<Kind>) -> Kind {
+pub fn kind_found(kind: Option<Kind>) -> Kind
+    ensures { result ≡ kind_or_first kind }
+{
     match kind {
         Some(kind) => kind,
         None => Kind::Bool,
@@ -19,7 +28,9 @@ pub fn kind_found(kind: Option<Kind>) -> Kind {
 }
 
 /// The number of what a name stands for; every name of a resolved program stands for something.
-pub fn entity_of(of: &Ref) -> u32 {
+pub fn entity_of(of: &Ref) -> u32
+    ensures { result ≡ entity_number of.now.entity }
+{
     match of.entity {
         Some(number) => number,
         None => 0,
@@ -27,7 +38,11 @@ pub fn entity_of(of: &Ref) -> u32 {
 }
 
 /// The word of a kind that has the value of another word, modulo 2^width.
-pub fn converted(a: Word, to: Kind) -> Word {
+pub fn converted(a: Word, to: Kind) -> Word
+    requires word { IsWord a }
+    requires to { IsKind to }
+    ensures { result ≡ word_of to (value_of a) }
+{
     match to {
         Kind::Bool => Word {
             kind: to,
@@ -38,8 +53,11 @@ pub fn converted(a: Word, to: Kind) -> Word {
 }
 
 /// The bits from the lowest, in two's complement, of a number of a kind.
-pub fn literal(kind: Kind, negative: bool, value: u64) -> Word {
-    let bits = if negative { value.wrapping_neg() } else { value };
+pub fn literal(kind: Kind, negative: bool, value: u64) -> Word
+    requires { IsKind kind }
+    ensures { result ≡ with_bits kind (bits_of kind negative value) }
+{
+    let bits = if negative { 0u64.wrapping_sub(value) } else { value };
     converted(
         Word {
             kind: Kind::Unsigned(64),
@@ -50,7 +68,9 @@ pub fn literal(kind: Kind, negative: bool, value: u64) -> Word {
 }
 
 /// The word of a truth.
-pub fn truth(value: bool) -> Word {
+pub fn truth(value: bool) -> Word
+    ensures { result ≡ truth_of value }
+{
     Word {
         kind: Kind::Bool,
         bits: u64::from(value),
@@ -58,7 +78,9 @@ pub fn truth(value: bool) -> Word {
 }
 
 /// The wider of two kinds of one sign; Bool where there is none.
-pub fn wider(a: Kind, b: Kind) -> Kind {
+pub fn wider(a: Kind, b: Kind) -> Kind
+    ensures { result ≡ wider_of a b }
+{
     match (a, b) {
         (Kind::Unsigned(m), Kind::Unsigned(n)) => Kind::Unsigned(m.max(n)),
         (Kind::Signed(m), Kind::Signed(n)) => Kind::Signed(m.max(n)),
@@ -67,39 +89,61 @@ pub fn wider(a: Kind, b: Kind) -> Kind {
 }
 
 /// An operand, extended to an integer kind; as it is for Bool.
-fn extended(to: Kind, a: Word) -> Word {
+fn extended(to: Kind, a: Word) -> Word
+    requires word { IsWord a }
+    requires to { IsExtension to }
+    ensures { result ≡ extended_word to a }
+{
     match to {
         Kind::Bool => a,
         Kind::Unsigned(_) | Kind::Signed(_) => cast(a, to),
     }
 }
 
+/// What an operation gives for operands that are extended to a kind.
+fn extended_first(op: Op, to: Kind, a: Word, b: Word) -> Word
+    requires left { IsWord a }
+    requires right { IsWord b }
+    requires suits { SuitsExtended op to a b }
+    ensures { result ≡ binary_of op (extended_word to a) (extended_word to b) }
+{
+    binary(op, extended(to, a), extended(to, b))
+}
+
 /// What an operation gives for operands of kinds that were found: they are extended to the wider kind,
 /// but not those of shifts and of truths.
-pub fn applied(op: Op, left_kind: Kind, right_kind: Kind, a: Word, b: Word) -> Word {
+pub fn applied(op: Op, left_kind: Kind, right_kind: Kind, a: Word, b: Word) -> Word
+    requires left { IsWord a }
+    requires right { IsWord b }
+    requires suits { SuitsApplied op left_kind right_kind a b }
+    ensures { result ≡ applied_of op left_kind right_kind a b }
+{
+    let to = wider(left_kind, right_kind);
     match op {
-        Op::Shl | Op::Shr | Op::Both | Op::Either => binary(op, a, b),
-        Op::Add
-        | Op::Sub
-        | Op::Mul
-        | Op::And
-        | Op::Or
-        | Op::Xor
-        | Op::Lt
-        | Op::Gt
-        | Op::Le
-        | Op::Ge
-        | Op::Eq
-        | Op::Ne => {
-            let to = wider(left_kind, right_kind);
-            binary(op, extended(to, a), extended(to, b))
-        }
+        Op::Add => extended_first(op, to, a, b),
+        Op::Sub => extended_first(op, to, a, b),
+        Op::Mul => extended_first(op, to, a, b),
+        Op::And => extended_first(op, to, a, b),
+        Op::Or => extended_first(op, to, a, b),
+        Op::Xor => extended_first(op, to, a, b),
+        Op::Lt => extended_first(op, to, a, b),
+        Op::Gt => extended_first(op, to, a, b),
+        Op::Le => extended_first(op, to, a, b),
+        Op::Ge => extended_first(op, to, a, b),
+        Op::Eq => extended_first(op, to, a, b),
+        Op::Ne => extended_first(op, to, a, b),
+        Op::Shl => binary(op, a, b),
+        Op::Shr => binary(op, a, b),
+        Op::Both => binary(op, a, b),
+        Op::Either => binary(op, a, b),
     }
 }
 
 /// The row of an index, which in one dimension and one bank is the index; None where the index is not
 /// within the size, and where there is not one index for each dimension.
-pub fn row_at(dims: &[Dim], index: Option<i128>) -> Option<u64> {
+pub fn row_at(dims: &[Dim], index: Option<i128>) -> Option<u64>
+    ensures { result ≡ row_found dims.now index }
+{
     let [dim] = dims else {
         return None;
     };
@@ -112,7 +156,9 @@ pub fn row_at(dims: &[Dim], index: Option<i128>) -> Option<u64> {
 }
 
 /// An element of memories; 0 where there is none.
-pub fn element_of(memories: &[Vec<u64>], memory: u32, position: u64) -> u64 {
+pub fn element_of(memories: &[Vec<u64>], memory: u32, position: u64) -> u64
+    ensures { result ≡ element_in (contents_of memories.now) memory position }
+{
     match memories.get(memory as usize) {
         Some(values) => match values.get(position as usize) {
             Some(value) => *value,

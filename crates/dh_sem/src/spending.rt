@@ -1,5 +1,8 @@
 //! What a bank has spent in a logical step.
 
+ghost use Rattle.std.specs.Prelude.{◌≡◌};
+ghost use Rattle.dh_sem.specs.Spent.{rows_now, left_now, ReadsRow, WritesRow};
+
 use dh_base::NoMemory;
 
 /// What a bank has spent of its ports in the step that last used it.
@@ -17,7 +20,12 @@ pub struct Bank {
 }
 
 /// Gives a bank all its ports at its first use in a step.
-fn enter(bank: &mut Bank, step: u64) {
+fn enter(bank: &mut Bank, step: u64)
+    ensures ports { bank.new.ports ≡ bank.old.ports }
+    ensures step { bank.new.step ≡ step }
+    ensures rows { bank.new.rows.items ≡ rows_now bank.old step }
+    ensures left { bank.new.left ≡ left_now bank.old step }
+{
     if bank.step != step {
         bank.step = step;
         bank.left = bank.ports;
@@ -30,7 +38,11 @@ fn enter(bank: &mut Bank, step: u64) {
 /// # Errors
 ///
 /// `NoMemory` where an allocation was refused.
-pub fn read_row(bank: &mut Bank, step: u64, row: u64) -> Result<bool, NoMemory> {
+pub fn read_row(bank: &mut Bank, step: u64, row: u64) -> Result<bool, NoMemory>
+    ensures ports { bank.new.ports ≡ bank.old.ports }
+    ensures step { bank.new.step ≡ step }
+    ensures reads { ReadsRow (rows_now bank.old step) (left_now bank.old step) row result bank.new.rows.items bank.new.left }
+{
     enter(bank, step);
     if bank.rows.contains(&row) {
         return Ok(true);
@@ -44,7 +56,11 @@ pub fn read_row(bank: &mut Bank, step: u64, row: u64) -> Result<bool, NoMemory> 
 }
 
 /// Writes to a bank in a step. False where no port is left.
-pub fn write_row(bank: &mut Bank, step: u64) -> bool {
+pub fn write_row(bank: &mut Bank, step: u64) -> bool
+    ensures ports { bank.new.ports ≡ bank.old.ports }
+    ensures step { bank.new.step ≡ step }
+    ensures writes { WritesRow (rows_now bank.old step) (left_now bank.old step) result bank.new.rows.items bank.new.left }
+{
     enter(bank, step);
     if bank.left == 0 {
         return false;

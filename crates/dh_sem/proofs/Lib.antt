@@ -1,0 +1,4 @@
+pub mod Literals
+pub mod RowsRead
+pub mod BanksSpent
+pub mod RowAccesses
