@@ -2,3 +2,6 @@ pub mod Literals
 pub mod RowsRead
 pub mod BanksSpent
 pub mod RowAccesses
+pub mod TermsMeant
+pub mod IndexLoops
+pub mod Evaluated

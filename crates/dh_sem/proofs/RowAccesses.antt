@@ -9,6 +9,7 @@ use Rattle.dh_base.specs.declared.lists.NoMemory.{NoMemory}
 use Rattle.dh_base.specs.declared.outcomes.FaultKind.TheVariants.{OutOfRange}
 use Rattle.dh_base.specs.declared.outcomes.Outcome.{Outcome}
 use Rattle.dh_base.specs.declared.outcomes.Outcome.TheVariants.{Faulted, Stuck}
+use Rattle.dh_value.specs.declared.kinds.Kind.TheVariants as kind
 use Rattle.dh_value.specs.declared.words.Word.{Word}
 use Rattle.dh_value.specs.Words.{with_bits}
 use Rattle.dh_tree.specs.declared.tables.Dim.{Dim}
@@ -44,6 +45,10 @@ module _ (table : List MemEntry) (memory : ℕ) (entries : AllByRecursion IsEntr
 
   pub line_at : dims_at table memory ≡ line_of entry_at.size
   line_at = ap (λ o. Rattle.dh_tree.specs.Elements.entry_dims o) there ∙ entry_at.line
+
+-- an entry that is read nowhere
+abbrev pub no_entry : MemEntry
+no_entry = record { name = []; shape = record { kind = kind.Bool; ports = 0; dims = [] }; outside = false }
 
 chosen_row : (t : Bool) (i : ℤ) (row : ℕ) → (if t then Some (unsigned_abs i) else None) ≡ Some row → (t ≡ true) × (unsigned_abs i ≡ row)
 chosen_row true i row e = (refl, some e)

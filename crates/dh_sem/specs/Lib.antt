@@ -2,3 +2,4 @@ pub mod Applied
 pub mod Rows
 pub mod Spent
 pub mod Scenes
+pub mod Weights
