@@ -5,3 +5,5 @@ pub mod RowAccesses
 pub mod TermsMeant
 pub mod IndexLoops
 pub mod Evaluated
+pub mod Undoing
+pub mod Making

@@ -3,3 +3,5 @@ pub mod Rows
 pub mod Spent
 pub mod Scenes
 pub mod Weights
+pub mod States
+pub mod Runs

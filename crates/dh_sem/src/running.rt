@@ -1,5 +1,18 @@
 //! What commands do in a logical step.
 
+ghost use Rattle.std.specs.Prelude.{◌≡◌, ◌<◌, ◌++◌, [], ◌∷◌, ℤ, List, Option, Some, None, IfOk, OnOk, length, map, slice_set};
+ghost use Rattle.std.specs.List.{AllByRecursion};
+ghost use Rattle.dh_value.specs.Words.{IsWord, value_of as word_value};
+ghost use Rattle.dh_tree.specs.Effects.{Effect, value_of, with_events, access_made, writes, kept_bits, set_variable, assigned_at, stored_at, commands_run, outer_paths};
+ghost use Rattle.dh_tree.specs.Meaning.{term_meant, store_meant, action_meant, commands_meant, entity_number};
+ghost use Rattle.dh_tree.specs.PlainTrees as plain;
+ghost use Rattle.dh_tree.specs.Seen.{term_seen, action_seen};
+ghost use Rattle.dh_tree.specs.Suited.{IsSuited};
+ghost use Rattle.dh_tree.specs.Tree.{no_commands, command as one_command};
+ghost use Rattle.dh_sem.specs.Rows.{sole_of, contents_of};
+ghost use Rattle.dh_sem.specs.Scenes.{unset_word};
+ghost use Rattle.dh_sem.specs.States.{AreRunnable, IsReady, KeepsBack, Keeps, Ends, undone, written_by};
+
 use crate::evaluating::{Scene, Stop, evaluate, row_or_fault, sole_index, stuck};
 use crate::operands::{UNSET, entity_of};
 use crate::spending::{Bank, write_row};
@@ -42,7 +55,15 @@ pub struct State {
 }
 
 /// Sets a variable.
-fn set(state: &mut State, entity: u32, value: Word) -> Result<(), AllocFailed<Change>> {
+fn set(state: &mut State, entity: u32, value: Word) -> Result<(), AllocFailed<Change>>
+    requires entity { entity < length state.old.variables.items }
+    ensures banks { state.new.banks ≡ state.old.banks }
+    ensures writes { state.new.writes ≡ state.old.writes }
+    ensures kept { length state.new.variables.items ≡ length state.old.variables.items }
+    ensures set { IfOk result (λ _. state.new.variables.items ≡ slice_set state.old.variables.items entity value) }
+    ensures words { AllByRecursion IsWord state.old.variables.items → IsWord value → AllByRecursion IsWord state.new.variables.items }
+    ensures back { undone state.new.changes.items state.new.variables.items ≡ undone state.old.changes.items state.old.variables.items }
+{
     let before = state.variables[entity as usize];
     state.changes.push(Change { entity, before })?;
     state.variables[entity as usize] = value;
@@ -50,7 +71,14 @@ fn set(state: &mut State, entity: u32, value: Word) -> Result<(), AllocFailed<Ch
 }
 
 /// Evaluates a right side and sets a variable to it.
-fn assign(scene: &Scene<'_>, state: &mut State, target: &Ref, value: &Expr) -> Result<(), Stop> {
+fn assign(scene: &Scene<'_>, state: &mut State, target: &Ref, value: &Expr) -> Result<(), Stop>
+    requires ready { IsReady scene.now.entries.now (contents_of scene.now.memories.now) state.old }
+    requires suited { IsSuited scene.now.entries.now (term_meant (term_seen value.now)) }
+    requires entity { entity_number target.now.entity < length state.old.variables.items }
+    ensures ready { IsReady scene.now.entries.now (contents_of scene.now.memories.now) state.new }
+    ensures back { KeepsBack state.old state.new }
+    ensures ran { (e : Effect) → Keeps scene.now.entries.now e scene.now.step state.old → Ends scene.now.entries.now (assigned_at scene.now.entries.now (contents_of scene.now.memories.now) 0 (entity_number target.now.entity) (term_meant (term_seen value.now)) [] e) scene.now.step result state.new }
+{
     let word = evaluate(scene, state.variables.as_slice(), state.banks.as_mut_slice(), value)?;
     set(state, entity_of(target), word)?;
     Ok(())
@@ -64,7 +92,15 @@ fn put(
     memory: u32,
     index: Option<i128>,
     value: Word,
-) -> Result<(), Stop> {
+) -> Result<(), Stop>
+    requires ready { IsReady scene.now.entries.now (contents_of scene.now.memories.now) state.old }
+    requires memory { memory < length scene.now.entries.now }
+    requires word { IsWord value }
+    ensures ready { IsReady scene.now.entries.now (contents_of scene.now.memories.now) state.new }
+    ensures back { KeepsBack state.old state.new }
+    ensures ran { (e : Effect) (indices : List ℤ) → index ≡ sole_of indices → Keeps scene.now.entries.now e scene.now.step state.old
+        → Ends scene.now.entries.now (with_events e (access_made scene.now.entries.now place memory indices (λ s. writes place s (kept_bits scene.now.entries.now memory value)) ∷ [])) scene.now.step result state.new }
+{
     let position = row_or_fault(scene, place, memory, index)?;
     if !write_row(&mut state.banks[memory as usize], scene.step) {
         return Err(stuck(place, memory));
@@ -79,7 +115,14 @@ fn put(
 }
 
 /// Evaluates a right side, then the indices of the target, and writes the one to the other.
-fn store(scene: &Scene<'_>, state: &mut State, target: &Expr, value: &Expr) -> Result<(), Stop> {
+#[tactic(auto, using(dh_tree::proofs::SeenTerms::terms_are))]
+fn store(scene: &Scene<'_>, state: &mut State, target: &Expr, value: &Expr) -> Result<(), Stop>
+    requires ready { IsReady scene.now.entries.now (contents_of scene.now.memories.now) state.old }
+    requires runnable { AreRunnable scene.now.entries.now (length state.old.variables.items) (one_command (store_meant (term_seen target.now) (term_seen value.now)) no_commands) }
+    ensures ready { IsReady scene.now.entries.now (contents_of scene.now.memories.now) state.new }
+    ensures back { KeepsBack state.old state.new }
+    ensures ran { (e : Effect) → Keeps scene.now.entries.now e scene.now.step state.old → Ends scene.now.entries.now (commands_run scene.now.entries.now (contents_of scene.now.memories.now) outer_paths (one_command (store_meant (term_seen target.now) (term_seen value.now)) no_commands) e) scene.now.step result state.new }
+{
     match &target.form {
         ExprForm::Access { of, indices } => {
             let word = evaluate(scene, state.variables.as_slice(), state.banks.as_mut_slice(), value)?;
@@ -97,7 +140,14 @@ fn store(scene: &Scene<'_>, state: &mut State, target: &Expr, value: &Expr) -> R
 
 /// Runs a command.
 #[cycle(run)]
-pub fn run(scene: &Scene<'_>, state: &mut State, command: &Command) -> Result<(), Stop> {
+#[tactic(auto, using(dh_tree::proofs::SeenActions::actions_are))]
+pub fn run(scene: &Scene<'_>, state: &mut State, command: &Command) -> Result<(), Stop>
+    requires ready { IsReady scene.now.entries.now (contents_of scene.now.memories.now) state.old }
+    requires runnable { AreRunnable scene.now.entries.now (length state.old.variables.items) (action_meant (action_seen command.now) no_commands) }
+    ensures ready { IsReady scene.now.entries.now (contents_of scene.now.memories.now) state.new }
+    ensures back { KeepsBack state.old state.new }
+    ensures ran { (e : Effect) → Keeps scene.now.entries.now e scene.now.step state.old → Ends scene.now.entries.now (commands_run scene.now.entries.now (contents_of scene.now.memories.now) outer_paths (action_meant (action_seen command.now) no_commands) e) scene.now.step result state.new }
+{
     match &command.form {
         CommandForm::Let { name, value, .. } => match value {
             Some(value) => assign(scene, state, name, value),
@@ -134,27 +184,60 @@ pub fn run(scene: &Scene<'_>, state: &mut State, command: &Command) -> Result<()
 }
 
 /// Runs the commands of a phase, in order.
-pub fn run_phase(scene: &Scene<'_>, state: &mut State, commands: &[&Command]) -> Result<(), Stop> {
+pub fn run_phase(scene: &Scene<'_>, state: &mut State, commands: &[&Command]) -> Result<(), Stop>
+    requires ready { IsReady scene.now.entries.now (contents_of scene.now.memories.now) state.old }
+    requires runnable { AreRunnable scene.now.entries.now (length state.old.variables.items) (commands_meant (map (λ c. action_seen c.now) commands.now)) }
+    ensures ready { IsReady scene.now.entries.now (contents_of scene.now.memories.now) state.new }
+    ensures back { KeepsBack state.old state.new }
+    ensures ran { (e : Effect) → Keeps scene.now.entries.now e scene.now.step state.old → Ends scene.now.entries.now (commands_run scene.now.entries.now (contents_of scene.now.memories.now) outer_paths (commands_meant (map (λ c. action_seen c.now) commands.now)) e) scene.now.step result state.new }
+{
     for command in commands {
         run(scene, state, command)?;
     }
     Ok(())
 }
 
-/// Takes all assignments of the step back.
-pub fn undo(state: &mut State) {
-    while let Some(change) = state.changes.pop() {
-        state.variables[change.entity as usize] = change.before;
+/// Gives a variable the value before a change.
+fn restore(variables: &mut Vec<Word>, change: Change)
+    ensures { variables.new.items ≡ slice_set variables.old.items change.entity change.before }
+{
+    if let Some(value) = variables.get_mut(change.entity as usize) {
+        *value = change.before;
+    }
+}
+
+/// Takes changes back, the last one first.
+pub fn undo(variables: &mut Vec<Word>, changes: &[Change])
+    ensures { variables.new.items ≡ undone changes.now variables.old.items }
+{
+    for i in (0..changes.len()).rev() {
+        restore(variables, changes[i]);
+    }
+}
+
+/// Sets an element, where there is one.
+fn set_element(values: &mut Vec<u64>, position: u64, bits: u64)
+    ensures { values.new.items ≡ slice_set values.old.items position bits }
+{
+    if let Some(value) = values.get_mut(position as usize) {
+        *value = bits;
+    }
+}
+
+/// Makes a write, where its element is.
+fn make(memories: &mut Vec<Vec<u64>>, write: Write)
+    ensures { contents_of memories.new.items ≡ written_by (write ∷ []) (contents_of memories.old.items) }
+{
+    if let Some(values) = memories.get_mut(write.memory as usize) {
+        set_element(values, write.position, write.bits);
     }
 }
 
 /// Makes writes, in order.
-pub fn write_all(memories: &mut [Vec<u64>], writes: &[Write]) {
+pub fn write_all(memories: &mut Vec<Vec<u64>>, writes: &[Write])
+    ensures { contents_of memories.new.items ≡ written_by writes.now (contents_of memories.old.items) }
+{
     for write in writes {
-        if let Some(values) = memories.get_mut(write.memory as usize) {
-            if let Some(value) = values.get_mut(write.position as usize) {
-                *value = write.bits;
-            }
-        }
+        make(memories, *write);
     }
 }

@@ -1,5 +1,8 @@
-use Rattle.std.proofs.Common.{◌≡◌, ℤ, Option, ℕ, refl, ap, sym, subst, ◌∙◌, Ok, Err, [], ◌∷◌, ◌++◌, map}
+use Rattle.std.proofs.Common.{◌≡◌, ℤ, Option, Some, ℕ, ◌+◌, refl, ap, sym, subst, ◌∙◌, Ok, Err, [], ◌∷◌, ◌++◌, map}
 use Rattle.std.proofs.lemmas.Result.{err_from_is_err_and}
+use Rattle.std.proofs.lemmas.Int.{to_z-of_z}
+use Rattle.std.specs.Int.{w128}
+use Rattle.std.proofs.Math.Facts.{sfits_lit, yes_ltb}
 use Rattle.dh_value.specs.declared.words.Word.{Word}
 use Rattle.dh_value.specs.Words.{IsWord}
 use Rattle.dh_tree.specs.declared.trees.expressions.Expr.{Expr}
@@ -12,7 +15,7 @@ use Rattle.dh_sem.specs.Rows.{contents_of}
 use Rattle.dh_sem.specs.Scenes.{variables_of, Spends}
 use Rattle.dh_sem.proofs.TermsMeant.{value_word}
 use Rattle.dh_sem.proofs.Evaluated.{binary_form, stops_first, stops_second, spent_second, spent_none, spends_second, binary_events, binary_value, binary_operands, suits_words, words_applied, cast_inner, access_events, lighter_left, lighter_right}
-use Rattle.dh_sem.proofs.IndexLoops.{begun, item_light, item_suited, item_stops, item_done, one_value, no_value, all_spent}
+use Rattle.dh_sem.proofs.IndexLoops.{IndexLoop, begun, item_light, item_suited, item_stops, item_done, one_value, no_value, all_spent}
 use Rattle.dh_sem.proofs.evaluating.+evaluate.Goals as goal
 
 pub evaluate-returns-in_err-index-in-Access-clause-spends : goal.evaluate-returns-in_err-index-in-Access-clause-spends
@@ -91,7 +94,8 @@ pub sole_index-loop-index-init : goal.sole_index-loop-index-init
 sole_index-loop-index-init t c = begun c.args.scene.now.entries.now (contents_of c.args.scene.now.memories.now) (variables_of c.args.variables.now) c.args.scene.now.step c.args.banks.now c.args.indices.now c.requires.long c.requires.suited
 
 pub sole_index-loop-index-preserved : goal.sole_index-loop-index-preserved
-sole_index-loop-index-preserved t c = let x = item_done c.args.scene.now.entries.now (contents_of c.args.scene.now.memories.now) (variables_of c.args.variables.now) c.args.scene.now.step c.args.banks.now c.args.indices.now c.loop-index.banks c.loop-index.last c.loop-index.index-index c.index-item.result c.loop-index-test.true c.index-item.is c.loop-index.invariant c.evaluate.new.banks c.in_ok-evaluate.field-0 c.evaluate.ensures.long c.in_ok-evaluate.ensures.value c.in_ok-evaluate.ensures.spends in let y = c.number.auto in let z = c.number.type_inv in ?
+sole_index-loop-index-preserved t c = let x = item_done c.args.scene.now.entries.now (contents_of c.args.scene.now.memories.now) (variables_of c.args.variables.now) c.args.scene.now.step c.args.banks.now c.args.indices.now c.loop-index.banks c.loop-index.last c.loop-index.index-index c.index-item.result c.loop-index-test.true c.index-item.is c.loop-index.invariant c.evaluate.new.banks c.in_ok-evaluate.field-0 c.evaluate.ensures.long c.in_ok-evaluate.ensures.value c.in_ok-evaluate.ensures.spends in
+    subst (λ (z : ℤ). IndexLoop c.args.scene.now.entries.now (contents_of c.args.scene.now.memories.now) (variables_of c.args.variables.now) c.args.scene.now.step c.args.banks.now c.args.indices.now c.evaluate.new.banks (Some z) (c.loop-index.index-index + 1)) (sym (to_z-of_z w128 c.number.result (sfits_lit (yes_ltb c.number.type_inv)) ∙ c.number.ensures)) x
 
 pub sole_index-returns-then-indices-eq1-clause-value : goal.sole_index-returns-then-indices-eq1-clause-value
 sole_index-returns-then-indices-eq1-clause-value t c = one_value c.args.scene.now.entries.now (contents_of c.args.scene.now.memories.now) (variables_of c.args.variables.now) c.args.scene.now.step c.args.banks.now c.args.indices.now c.loop-index.banks c.loop-index.last c.loop-index.index-index c.loop-index-test.false c.loop-index.invariant c.if-indices-eq1.true
