@@ -7,3 +7,4 @@ pub mod IndexLoops
 pub mod Evaluated
 pub mod Undoing
 pub mod Making
+pub mod Ran

@@ -1,16 +1,19 @@
 //! What commands do in a logical step.
 
-ghost use Rattle.std.specs.Prelude.{◌≡◌, ◌<◌, ◌++◌, [], ◌∷◌, ℤ, List, Option, Some, None, IfOk, OnOk, length, map, slice_set};
+ghost use Rattle.std.specs.Prelude.{◌≡◌, ℕ, ◌<◌, ◌++◌, [], ◌∷◌, ℤ, List, Option, Some, None, IfOk, OnOk, length, map, slice_set};
 ghost use Rattle.std.specs.List.{AllByRecursion};
 ghost use Rattle.dh_value.specs.Words.{IsWord, value_of as word_value};
-ghost use Rattle.dh_tree.specs.Effects.{Effect, value_of, with_events, access_made, writes, kept_bits, set_variable, assigned_at, stored_at, commands_run, outer_paths};
+ghost use Rattle.dh_tree.specs.Effects.{Effect, value_of, with_events, access_made, writes, kept_bits, Event, set_variable, assigned_at, stored_at, commands_run, outer_paths};
 ghost use Rattle.dh_tree.specs.Meaning.{term_meant, store_meant, action_meant, commands_meant, entity_number};
 ghost use Rattle.dh_tree.specs.PlainTrees as plain;
 ghost use Rattle.dh_tree.specs.Seen.{term_seen, action_seen};
 ghost use Rattle.dh_tree.specs.Suited.{IsSuited};
 ghost use Rattle.dh_tree.specs.Tree.{no_commands, command as one_command};
-ghost use Rattle.dh_sem.specs.Rows.{sole_of, contents_of};
-ghost use Rattle.dh_sem.specs.Scenes.{unset_word};
+ghost use Rattle.dh_sem.specs.Rows.{sole_of, row_found, contents_of};
+ghost use Rattle.dh_sem.specs.Scenes.{Spends, unset_word};
+ghost use Rattle.dh_tree.specs.Elements.{dims_at};
+ghost use Rattle.dh_tree.specs.Tables.{IsEntry};
+ghost use Rattle.dh_sem.specs.Spent.{HaveSpent};
 ghost use Rattle.dh_sem.specs.States.{AreRunnable, IsReady, KeepsBack, Keeps, Ends, undone, written_by};
 
 use crate::evaluating::{Scene, Stop, evaluate, row_or_fault, sole_index, stuck};
@@ -84,6 +87,29 @@ fn assign(scene: &Scene<'_>, state: &mut State, target: &Ref, value: &Expr) -> R
     Ok(())
 }
 
+/// Takes the port that a write needs. Gives the place of the element.
+fn claim(
+    scene: &Scene<'_>,
+    banks: &mut [Bank],
+    place: Place,
+    memory: u32,
+    index: Option<i128>,
+) -> Result<u64, Stop>
+    requires memory { memory < length scene.now.entries.now }
+    requires table { AllByRecursion IsEntry scene.now.entries.now }
+    requires long { length banks.old ≡ length scene.now.entries.now }
+    ensures long { length banks.new ≡ length banks.old }
+    ensures row { IfOk result (λ row. row_found (dims_at scene.now.entries.now memory) index ≡ Some row) }
+    ensures spends { (indices : List ℤ) (es : List Event) (value : ℕ) → index ≡ sole_of indices → HaveSpent scene.now.entries.now es scene.now.step banks.old
+        → Spends scene.now.entries.now (es ++ access_made scene.now.entries.now place memory indices (λ s. writes place s value) ∷ []) scene.now.step result banks.new }
+{
+    let row = row_or_fault(scene, place, memory, index)?;
+    if !write_row(&mut banks[memory as usize], scene.step) {
+        return Err(stuck(place, memory));
+    }
+    Ok(row)
+}
+
 /// Writes a value to an element at the end of the step.
 fn put(
     scene: &Scene<'_>,
@@ -101,10 +127,8 @@ fn put(
     ensures ran { (e : Effect) (indices : List ℤ) → index ≡ sole_of indices → Keeps scene.now.entries.now e scene.now.step state.old
         → Ends scene.now.entries.now (with_events e (access_made scene.now.entries.now place memory indices (λ s. writes place s (kept_bits scene.now.entries.now memory value)) ∷ [])) scene.now.step result state.new }
 {
-    let position = row_or_fault(scene, place, memory, index)?;
-    if !write_row(&mut state.banks[memory as usize], scene.step) {
-        return Err(stuck(place, memory));
-    }
+    let banks = state.banks.as_mut_slice();
+    let position = claim(scene, banks, place, memory, index)?;
     let bits = cast(value, scene.entries[memory as usize].shape.kind).bits;
     state.writes.push(Write {
         memory,
