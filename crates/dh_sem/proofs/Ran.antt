@@ -1,14 +1,16 @@
 -- Commands that were run.
-use Rattle.std.proofs.Common.{◌≡◌, ℕ, zero, suc, ◌+◌, ◌<◌, ◌==◌, ◌&&◌, Bool, true, false, if◌then◌else◌, List, [], ◌∷◌, ◌++◌, length, map, get_or, Ok, Err, Option, Some, None, ℤ, ◌⊎◌, inl, inr, refl, ap, sym, ◌∙◌, subst, arith, append_assoc, append-nil}
+use Rattle.std.proofs.Common.{◌≡◌, ℕ, zero, suc, ◌+◌, ◌<◌, ◌==◌, ◌&&◌, Bool, true, false, if◌then◌else◌, List, [], ◌∷◌, ◌++◌, length, map, get_or, Ok, Err, Option, Some, None, ℤ, ◌⊎◌, inl, inr, pos, refl, ap, sym, ◌∙◌, subst, arith, append_assoc, append-nil}
 use Rattle.std.specs.Prelude.{Result, slice_set, slice_index_or}
 use Rattle.std.specs.List.{AllByRecursion}
+use Rattle.std.proofs.lemmas.Bool.{eqb-true, eq-eqb, cases_Bool}
+use Rattle.std.proofs.lemmas.List.{get_or-set_same, get_or-set_other}
 use Rattle.dh_base.specs.declared.places.Place.{Place}
 use Rattle.dh_value.specs.declared.words.Word.{Word}
-use Rattle.dh_value.specs.Words.{word_of, value_of}
+use Rattle.dh_value.specs.Words.{word_of, value_of, IsWord}
 use Rattle.dh_tree.specs.declared.tables.MemEntry.{MemEntry}
 use Rattle.dh_tree.specs.Elements.{dims_at}
 use Rattle.dh_tree.specs.Tables.{IsEntry}
-use Rattle.dh_tree.specs.Effects.{Event, reads, writes, faults, Effect, with_events, access_made, kind_in, kept_bits, stop_after}
+use Rattle.dh_tree.specs.Effects.{Event, reads, writes, faults, Effect, with_events, access_made, kind_in, kept_bits, stop_after, set_variable}
 use Rattle.dh_sem.specs.declared.spending.Bank.{Bank}
 use Rattle.dh_sem.specs.declared.running.Write.{Write}
 use Rattle.dh_sem.specs.declared.running.State.{State}
@@ -16,7 +18,7 @@ use Rattle.dh_sem.specs.declared.evaluating.Stop.{Stop}
 use Rattle.dh_sem.specs.declared.evaluating.Stop.TheVariants as stop
 use Rattle.dh_sem.specs.Rows.{sole_of, row_found}
 use Rattle.dh_sem.specs.Spent.{HaveSpent}
-use Rattle.dh_sem.specs.Scenes.{Spends, variables_of}
+use Rattle.dh_sem.specs.Scenes.{Spends, variables_of, unset_word}
 use Rattle.dh_sem.specs.States.{writes_in, Keeps, Ends}
 use Rattle.dh_sem.proofs.BanksSpent.{spot_at}
 use Rattle.dh_sem.proofs.RowAccesses.{kind_is, made_is}
@@ -51,3 +53,31 @@ put_writes table memory entries within d place indices index sole es row bits va
 
 fun_same : {A B : Type 0} (f g : A → B) → ((x : A) → f x ≡ g x) → f ≡ g
 fun_same f g h = λ i x. h x i
+
+-- a variable that is set, among the words that are kept
+pub variables_set : (words : List Word) (n : ℕ) (w : Word) → n < length words → variables_of (slice_set words n w) ≡ set_variable (variables_of words) n [] (value_of w)
+variables_set words n w within = fun_same _ _ (λ e. fun_same _ _ (λ path. at e path))
+  where
+    one : (e : ℕ) → ((e == n) ≡ true) ⊎ ((e == n) ≡ false) → value_of (slice_index_or (slice_set words n w) e unset_word) ≡ (if (e == n) && true then value_of w else value_of (slice_index_or words e unset_word))
+    one e (inl same) =
+        ap (λ k. value_of (slice_index_or (slice_set words n w) k unset_word)) (eqb-true e n same)
+        ∙ (ap value_of (get_or-set_same words n w unset_word within) ∙ ap (λ (b : Bool). if b && true then value_of w else value_of (slice_index_or words e unset_word)) (sym same))
+    one e (inr other) =
+        ap value_of (get_or-set_other words n e w unset_word (λ i. elim (apart e n other i) [ ]))
+        ∙ ap (λ (b : Bool). if b && true then value_of w else value_of (slice_index_or words e unset_word)) (sym other)
+      where
+        apart : (a b : ℕ) → (a == b) ≡ false → a ≡ b → ⊥
+        apart a b o i = let g : (a == b) ≡ true = eq-eqb a b i in cc
+
+    none : (t : Bool) → pos 0 ≡ (if t && false then value_of w else pos 0)
+    none true = refl
+    none false = refl
+
+    at : (e : ℕ) (path : List ℕ) → variables_of (slice_set words n w) e path ≡ set_variable (variables_of words) n [] (value_of w) e path
+    at e [] = one e (cases_Bool (e == n))
+    at e (copy ∷ path) = none (e == n)
+
+pub set_all : (words : List Word) (n : ℕ) (w : Word) → AllByRecursion IsWord words → IsWord w → AllByRecursion IsWord (slice_set words n w)
+set_all [] n w h i = tt
+set_all (x ∷ words) zero w h i = (i, h.1)
+set_all (x ∷ words) (suc n) w h i = (h.0, set_all words n w h.1 i)
