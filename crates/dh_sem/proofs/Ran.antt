@@ -8,9 +8,12 @@ use Rattle.dh_base.specs.declared.places.Place.{Place}
 use Rattle.dh_value.specs.declared.words.Word.{Word}
 use Rattle.dh_value.specs.Words.{word_of, value_of, IsWord}
 use Rattle.dh_tree.specs.declared.tables.MemEntry.{MemEntry}
-use Rattle.dh_tree.specs.Elements.{dims_at}
+use Rattle.dh_tree.specs.Elements.{Spot, dims_at}
 use Rattle.dh_tree.specs.Tables.{IsEntry}
-use Rattle.dh_tree.specs.Effects.{Event, reads, writes, faults, Effect, with_events, access_made, kind_in, kept_bits, stop_after, set_variable}
+use Rattle.dh_tree.specs.Effects.{Event, reads, writes, faults, Effect, with_events, access_made, kind_in, kept_bits, stop_after, set_variable, Variables, term_events, terms_events, values_of, is_inside, assigned_at}
+use Rattle.dh_tree.specs.Effects as effects
+use Rattle.dh_tree.specs.Tree.{Term, number, truth_value, variable, access, binary, convert, Terms, no_terms, term}
+use Rattle.dh_base.specs.declared.outcomes.FaultKind.TheVariants.{OutOfRange}
 use Rattle.dh_sem.specs.declared.spending.Bank.{Bank}
 use Rattle.dh_sem.specs.declared.running.Write.{Write}
 use Rattle.dh_sem.specs.declared.running.State.{State}
@@ -81,3 +84,53 @@ pub set_all : (words : List Word) (n : ℕ) (w : Word) → AllByRecursion IsWord
 set_all [] n w h i = tt
 set_all (x ∷ words) zero w h i = (i, h.1)
 set_all (x ∷ words) (suc n) w h i = (h.0, set_all words n w h.1 i)
+
+writes_then : (es fs : List Event) → writes_in (es ++ fs) ≡ writes_in es ++ writes_in fs
+writes_then [] fs = refl
+writes_then (reads q s ∷ es) fs = writes_then es fs
+writes_then (writes q s v ∷ es) fs = ap (λ l. record { memory = s.memory; position = s.position; bits = v } ∷ l) (writes_then es fs)
+writes_then (faults kind q ∷ es) fs = writes_then es fs
+
+none_twice : (xs ys : List Write) → xs ≡ [] → ys ≡ [] → xs ++ ys ≡ []
+none_twice xs ys e f = ap (λ l. l ++ ys) e ∙ f
+
+module _ (table : List MemEntry) (memories : List (List ℕ)) (variables : Variables) (path : List ℕ) where
+  read_only : (place : Place) (t : Bool) (s : Spot) → writes_in ((if t then reads place s else faults OutOfRange place) ∷ []) ≡ []
+  read_only place true s = refl
+  read_only place false s = refl
+
+  -- an expression makes no write
+  mutual
+    pub no_writes : (t : Term) → writes_in (term_events table memories variables path t) ≡ []
+    no_writes (number kind negative n) = refl
+    no_writes (truth_value b) = refl
+    no_writes (variable kind depth entity) = refl
+    no_writes (access place memory indices) =
+        writes_then (terms_events table memories variables path indices) _
+        ∙ none_twice _ _ (no_writes_in indices) (read_only place (is_inside (dims_at table memory) (values_of table memories variables path indices)) _)
+    no_writes (binary o left right) = writes_then (term_events table memories variables path left) _ ∙ none_twice _ _ (no_writes left) (no_writes right)
+    no_writes (convert to inner) = no_writes inner
+
+    pub no_writes_in : (ts : Terms) → writes_in (terms_events table memories variables path ts) ≡ []
+    no_writes_in no_terms = refl
+    no_writes_in (term t ts) = writes_then (term_events table memories variables path t) _ ∙ none_twice _ _ (no_writes t) (no_writes_in ts)
+
+pub same_writes : (es fs : List Event) → writes_in fs ≡ [] → writes_in (es ++ fs) ≡ writes_in es
+same_writes es fs none = writes_then es fs ∙ (ap (λ l. writes_in es ++ l) none ∙ append-nil (writes_in es))
+
+pub assigned_keeps : (table : List MemEntry) (memories : List (List ℕ)) (now : ℕ) (e : Effect) (entity n : ℕ) (t : Term) (words : List Word) (w : Word) (s : State) (banks : List Bank)
+    → variables_of words ≡ e.variables → n ≡ entity → n < length words → w ≡ effects.value_of table memories (variables_of words) [] t
+    → HaveSpent table (e.events ++ term_events table memories (variables_of words) [] t) now banks
+    → s.variables.items ≡ slice_set words n w → s.banks.items ≡ banks → s.writes.items ≡ writes_in e.events
+    → Keeps table (assigned_at table memories 0 entity t [] e) now s
+assigned_keeps table memories now e entity n t words w s banks same named within value spent set kept made = record {
+  variables =
+    ap variables_of set
+    ∙ (variables_set words n w within
+    ∙ (ap (λ k. set_variable (variables_of words) k [] (value_of w)) named
+    ∙ (ap (λ v. set_variable (variables_of words) entity [] (value_of v)) value
+    ∙ ap (λ (v : Variables). set_variable v entity [] (value_of (effects.value_of table memories v [] t))) same)));
+  spent = subst (λ (l : List Bank). HaveSpent table (e.events ++ term_events table memories e.variables [] t) now l) (sym kept)
+    (subst (λ (v : Variables). HaveSpent table (e.events ++ term_events table memories v [] t) now banks) same spent);
+  writes = made ∙ sym (same_writes e.events _ (no_writes table memories e.variables [] t));
+}
