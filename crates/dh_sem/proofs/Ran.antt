@@ -10,7 +10,7 @@ use Rattle.dh_value.specs.Words.{word_of, value_of, IsWord}
 use Rattle.dh_tree.specs.declared.tables.MemEntry.{MemEntry}
 use Rattle.dh_tree.specs.Elements.{Spot, dims_at}
 use Rattle.dh_tree.specs.Tables.{IsEntry}
-use Rattle.dh_tree.specs.Effects.{Event, reads, writes, faults, Effect, with_events, access_made, kind_in, kept_bits, stop_after, set_variable, Variables, term_events, terms_events, values_of, is_inside, assigned_at}
+use Rattle.dh_tree.specs.Effects.{Event, reads, writes, faults, Effect, with_events, access_made, kind_in, kept_bits, stop_after, set_variable, Variables, term_events, terms_events, values_of, is_inside, assigned_at, stored_at}
 use Rattle.dh_tree.specs.Effects as effects
 use Rattle.dh_tree.specs.Tree.{Term, number, truth_value, variable, access, binary, convert, Terms, no_terms, term}
 use Rattle.dh_base.specs.declared.outcomes.FaultKind.TheVariants.{OutOfRange}
@@ -23,6 +23,7 @@ use Rattle.dh_sem.specs.Rows.{sole_of, row_found}
 use Rattle.dh_sem.specs.Spent.{HaveSpent}
 use Rattle.dh_sem.specs.Scenes.{Spends, variables_of, unset_word}
 use Rattle.dh_sem.specs.States.{writes_in, Keeps, Ends}
+use Rattle.dh_sem.proofs.Evaluated.{stops_first, stops_second}
 use Rattle.dh_sem.proofs.BanksSpent.{spot_at}
 use Rattle.dh_sem.proofs.RowAccesses.{kind_is, made_is}
 
@@ -134,3 +135,54 @@ assigned_keeps table memories now e entity n t words w s banks same named within
     (subst (λ (v : Variables). HaveSpent table (e.events ++ term_events table memories v [] t) now banks) same spent);
   writes = made ∙ sym (same_writes e.events _ (no_writes table memories e.variables [] t));
 }
+
+-- the accesses of a store
+abbrev pub stored_events : List MemEntry → List (List ℕ) → Place → (memory : ℕ) → Terms → Term → Variables → List Event
+stored_events table memories place memory indices value v =
+    term_events table memories v [] value
+    ++ (terms_events table memories v [] indices
+    ++ access_made table place memory (values_of table memories v [] indices) (λ s. writes place s (kept_bits table memory (effects.value_of table memories v [] value))) ∷ [])
+
+module _ (table : List MemEntry) (memories : List (List ℕ)) (place : Place) (memory : ℕ) (indices : Terms) (value : Term) (now : ℕ) (e : Effect) (v : Variables) (same : v ≡ e.variables) where
+  abbrev evs : List Event
+  evs = term_events table memories v [] value
+
+  abbrev eis : List Event
+  eis = terms_events table memories v [] indices
+
+  abbrev last_write : Word → Event
+  last_write w = access_made table place memory (values_of table memories v [] indices) (λ s. writes place s (kept_bits table memory w))
+
+  pub store_stops_first : (A : Type 0) (banks : List Bank) (s : State) (x : Stop) (result : Result (Unit {0}) Stop) → result ≡ Err x → Spends {A = A} table (e.events ++ evs) now (Err x) banks
+      → Ends table (stored_at table memories place memory indices value [] e) now result s
+  store_stops_first A banks s x result is h =
+      ends_early A (Unit {0}) table (stored_at table memories place memory indices value [] e) (e.events ++ stored_events table memories place memory indices value v) now banks s x result
+          (ap (λ (u : Variables). e.events ++ stored_events table memories place memory indices value u) same) is
+          (stops_first A A table e.events evs _ (stored_events table memories place memory indices value v) now banks banks x (Err x) refl refl h)
+
+  pub store_stops_second : (A : Type 0) (banks : List Bank) (s : State) (x : Stop) (result : Result (Unit {0}) Stop) → result ≡ Err x → Spends {A = A} table ((e.events ++ evs) ++ eis) now (Err x) banks
+      → Ends table (stored_at table memories place memory indices value [] e) now result s
+  store_stops_second A banks s x result is h =
+      ends_early A (Unit {0}) table (stored_at table memories place memory indices value [] e) (e.events ++ stored_events table memories place memory indices value v) now banks s x result
+          (ap (λ (u : Variables). e.events ++ stored_events table memories place memory indices value u) same) is
+          (stops_first A A table e.events (evs ++ eis) (last_write (effects.value_of table memories v [] value) ∷ []) (stored_events table memories place memory indices value v) now banks banks x (Err x) (sym (append_assoc evs eis _)) refl
+              (stops_second A A table e.events evs eis (evs ++ eis) now banks banks x (Err x) refl refl h))
+
+  abbrev pub evaluated : Effect
+  evaluated = record { variables = e.variables; events = (e.events ++ evs) ++ eis }
+
+  pub store_ready : (s s2 : State) → Keeps table e now s → s2.variables.items ≡ s.variables.items → s2.writes.items ≡ s.writes.items → HaveSpent table ((e.events ++ evs) ++ eis) now s2.banks.items → Keeps table evaluated now s2
+  store_ready s s2 h kept made spent = record {
+    variables = ap variables_of kept ∙ h.variables;
+    spent = spent;
+    writes = made ∙ (h.writes ∙ sym (same_writes (e.events ++ evs) eis (no_writes_in table memories v [] indices) ∙ same_writes e.events evs (no_writes table memories v [] value)));
+  }
+
+  pub store_ends : (w : Word) (result : Result (Unit {0}) Stop) (s : State) → w ≡ effects.value_of table memories v [] value → Ends table (with_events evaluated (last_write w ∷ [])) now result s
+      → Ends table (stored_at table memories place memory indices value [] e) now result s
+  store_ends w result s is h =
+      subst (λ (l : List Event). Ends table (record { variables = e.variables; events = l }) now result s)
+          (ap (λ x. ((e.events ++ evs) ++ eis) ++ last_write x ∷ []) is
+          ∙ (append_assoc (e.events ++ evs) eis _
+          ∙ (append_assoc e.events evs _
+          ∙ ap (λ (u : Variables). e.events ++ stored_events table memories place memory indices value u) same))) h

@@ -4,10 +4,10 @@ ghost use Rattle.std.specs.Prelude.{◌≡◌, ℕ, ◌<◌, ◌++◌, [], ◌�
 ghost use Rattle.std.specs.List.{AllByRecursion};
 ghost use Rattle.dh_value.specs.Words.{IsWord, value_of as word_value};
 ghost use Rattle.dh_tree.specs.Effects.{Effect, value_of, with_events, access_made, writes, kept_bits, Event, set_variable, assigned_at, stored_at, commands_run, outer_paths};
-ghost use Rattle.dh_tree.specs.Meaning.{term_meant, store_meant, action_meant, commands_meant, entity_number};
+ghost use Rattle.dh_tree.specs.Meaning.{term_meant, terms_meant, store_meant, action_meant, commands_meant, entity_number};
 ghost use Rattle.dh_tree.specs.PlainTrees as plain;
-ghost use Rattle.dh_tree.specs.Seen.{term_seen, action_seen};
-ghost use Rattle.dh_tree.specs.Suited.{IsSuited};
+ghost use Rattle.dh_tree.specs.Seen.{term_seen, terms, action_seen};
+ghost use Rattle.dh_tree.specs.Suited.{IsSuited, AreSuited};
 ghost use Rattle.dh_tree.specs.Tree.{no_commands, command as one_command};
 ghost use Rattle.dh_sem.specs.Rows.{sole_of, row_found, contents_of};
 ghost use Rattle.dh_sem.specs.Scenes.{Spends, unset_word};
@@ -138,7 +138,30 @@ fn put(
     Ok(())
 }
 
-/// Evaluates a right side, then the indices of the target, and writes the one to the other.
+/// Evaluates a right side, then the indices of an element, and writes the one to the other.
+fn store_element(
+    scene: &Scene<'_>,
+    state: &mut State,
+    place: Place,
+    memory: u32,
+    indices: &[Expr],
+    value: &Expr,
+) -> Result<(), Stop>
+    requires ready { IsReady scene.now.entries.now (contents_of scene.now.memories.now) state.old }
+    requires memory { memory < length scene.now.entries.now }
+    requires indices { AreSuited scene.now.entries.now (terms_meant (terms (map term_seen indices.now))) }
+    requires value { IsSuited scene.now.entries.now (term_meant (term_seen value.now)) }
+    ensures ready { IsReady scene.now.entries.now (contents_of scene.now.memories.now) state.new }
+    ensures back { KeepsBack state.old state.new }
+    ensures ran { (e : Effect) → Keeps scene.now.entries.now e scene.now.step state.old → Ends scene.now.entries.now (stored_at scene.now.entries.now (contents_of scene.now.memories.now) place memory (terms_meant (terms (map term_seen indices.now))) (term_meant (term_seen value.now)) [] e) scene.now.step result state.new }
+{
+    let variables = state.variables.as_slice();
+    let word = evaluate(scene, variables, state.banks.as_mut_slice(), value)?;
+    let index = sole_index(scene, variables, state.banks.as_mut_slice(), indices)?;
+    put(scene, state, place, memory, index, word)
+}
+
+/// Stores a value at an access.
 #[tactic(auto, using(dh_tree::proofs::SeenTerms::terms_are))]
 fn store(scene: &Scene<'_>, state: &mut State, target: &Expr, value: &Expr) -> Result<(), Stop>
     requires ready { IsReady scene.now.entries.now (contents_of scene.now.memories.now) state.old }
@@ -149,16 +172,15 @@ fn store(scene: &Scene<'_>, state: &mut State, target: &Expr, value: &Expr) -> R
 {
     match &target.form {
         ExprForm::Access { of, indices } => {
-            let word = evaluate(scene, state.variables.as_slice(), state.banks.as_mut_slice(), value)?;
-            let index = sole_index(
-                scene,
-                state.variables.as_slice(),
-                state.banks.as_mut_slice(),
-                indices.as_slice(),
-            )?;
-            put(scene, state, target.place, entity_of(of), index, word)
+            let memory = entity_of(of);
+            store_element(scene, state, target.place, memory, indices.as_slice(), value)
         }
-        _ => put(scene, state, target.place, 0, None, UNSET),
+        ExprForm::Number { .. }
+        | ExprForm::Truth { .. }
+        | ExprForm::Variable { .. }
+        | ExprForm::Physical { .. }
+        | ExprForm::Binary { .. }
+        | ExprForm::Cast { .. } => put(scene, state, target.place, 0, None, UNSET),
     }
 }
 
