@@ -174,7 +174,7 @@ module _ (table : List MemEntry) (es : List Event) (memory now : ℕ) (old new :
     more_writes : spent after_write memory 0 ≡ suc (spent es memory 0)
     more_writes =
         sums _ _ _ _ (ap (λ rows. length rows) (write_rows memory 0 es place (spot_at memory row) value))
-            (write_writes memory 0 es place (spot_at memory row) value ∙ ap (λ (a : Bool). extra a + writes_made es memory 0) (at_itself memory row))
+        (write_writes memory 0 es place (spot_at memory row) value ∙ ap (λ (a : Bool). extra a + writes_made es memory 0) (at_itself memory row))
       where
         sums : (l l' w w' : ℕ) → l' ≡ l → w' ≡ 1 + w → l' + w' ≡ suc (l + w)
         sums l l' w w' e f = omega (arith, e, f)

@@ -53,7 +53,14 @@ pub record IndexLoop (table : List MemEntry) (memories : List (List ℕ)) (varia
 module _ (table : List MemEntry) (memories : List (List ℕ)) (variables : Variables) (now : ℕ) (start : List Bank) (indices : List Expr) where
   pub begun : length start ≡ length table → AreSuited table (meant indices) → IndexLoop table memories variables now start indices start None 0
   begun long suited = record {
-    long = long; suited = suited; light = same (terms_weight (terms (map term_seen indices))); made = []; all_made = refl; found = []; all_found = refl; last_found = refl;
+    long = long;
+    suited = suited;
+    light = same (terms_weight (terms (map term_seen indices)));
+    made = [];
+    all_made = refl;
+    found = [];
+    all_found = refl;
+    last_found = refl;
     spent = λ es h. subst (λ (l : List Event). HaveSpent table l now start) (sym (append-nil es)) h;
   }
     where
@@ -103,9 +110,9 @@ module _ (table : List MemEntry) (memories : List (List ℕ)) (variables : Varia
       all_made = sym made_then;
       found = h.found ++ words.value_of w ∷ [];
       all_found =
-        append_assoc h.found (words.value_of w ∷ []) (values_of table memories variables [] (meant Rest))
-        ∙ (ap (λ v. h.found ++ words.value_of v ∷ values_of table memories variables [] (meant Rest)) value
-        ∙ (ap (λ l. h.found ++ values_of table memories variables [] (meant l)) (sym at) ∙ h.all_found));
+          append_assoc h.found (words.value_of w ∷ []) (values_of table memories variables [] (meant Rest))
+          ∙ (ap (λ v. h.found ++ words.value_of v ∷ values_of table memories variables [] (meant Rest)) value
+          ∙ (ap (λ l. h.found ++ values_of table memories variables [] (meant l)) (sym at) ∙ h.all_found));
       last_found = sym (last_more h.found (words.value_of w));
       spent = λ es before. spent_second table es h.made item_events (h.made ++ item_events) now banks' refl (spends (es ++ h.made) (h.spent es before));
     }
@@ -117,7 +124,7 @@ module _ (table : List MemEntry) (memories : List (List ℕ)) (variables : Varia
     pub all_spent : (es : List Event) → HaveSpent table es now start → HaveSpent table (es ++ terms_events table memories variables [] (meant indices)) now banks
     all_spent es before =
         subst (λ (l : List Event). HaveSpent table (es ++ l) now banks)
-            (sym (append-nil h.made) ∙ (ap (λ l. h.made ++ terms_events table memories variables [] (meant l)) (sym (drop_all i indices over)) ∙ h.all_made)) (h.spent es before)
+        (sym (append-nil h.made) ∙ (ap (λ l. h.made ++ terms_events table memories variables [] (meant l)) (sym (drop_all i indices over)) ∙ h.all_made)) (h.spent es before)
 
     found_all : h.found ≡ values_of table memories variables [] (meant indices)
     found_all = sym (append-nil h.found) ∙ (ap (λ l. h.found ++ values_of table memories variables [] (meant l)) (sym (drop_all i indices over)) ∙ h.all_found)

@@ -8,3 +8,4 @@ pub mod Evaluated
 pub mod Undoing
 pub mod Making
 pub mod Ran
+pub mod RunLoops

@@ -126,13 +126,13 @@ pub assigned_keeps : (table : List MemEntry) (memories : List (List ℕ)) (now :
     → Keeps table (assigned_at table memories 0 entity t [] e) now s
 assigned_keeps table memories now e entity n t words w s banks same named within value spent set kept made = record {
   variables =
-    ap variables_of set
-    ∙ (variables_set words n w within
-    ∙ (ap (λ k. set_variable (variables_of words) k [] (value_of w)) named
-    ∙ (ap (λ v. set_variable (variables_of words) entity [] (value_of v)) value
-    ∙ ap (λ (v : Variables). set_variable v entity [] (value_of (effects.value_of table memories v [] t))) same)));
+      ap variables_of set
+      ∙ (variables_set words n w within
+      ∙ (ap (λ k. set_variable (variables_of words) k [] (value_of w)) named
+      ∙ (ap (λ v. set_variable (variables_of words) entity [] (value_of v)) value
+      ∙ ap (λ (v : Variables). set_variable v entity [] (value_of (effects.value_of table memories v [] t))) same)));
   spent = subst (λ (l : List Bank). HaveSpent table (e.events ++ term_events table memories e.variables [] t) now l) (sym kept)
-    (subst (λ (v : Variables). HaveSpent table (e.events ++ term_events table memories v [] t) now banks) same spent);
+      (subst (λ (v : Variables). HaveSpent table (e.events ++ term_events table memories v [] t) now banks) same spent);
   writes = made ∙ sym (same_writes e.events _ (no_writes table memories e.variables [] t));
 }
 
@@ -157,16 +157,16 @@ module _ (table : List MemEntry) (memories : List (List ℕ)) (place : Place) (m
       → Ends table (stored_at table memories place memory indices value [] e) now result s
   store_stops_first A banks s x result is h =
       ends_early A (Unit {0}) table (stored_at table memories place memory indices value [] e) (e.events ++ stored_events table memories place memory indices value v) now banks s x result
-          (ap (λ (u : Variables). e.events ++ stored_events table memories place memory indices value u) same) is
-          (stops_first A A table e.events evs _ (stored_events table memories place memory indices value v) now banks banks x (Err x) refl refl h)
+      (ap (λ (u : Variables). e.events ++ stored_events table memories place memory indices value u) same) is
+      (stops_first A A table e.events evs _ (stored_events table memories place memory indices value v) now banks banks x (Err x) refl refl h)
 
   pub store_stops_second : (A : Type 0) (banks : List Bank) (s : State) (x : Stop) (result : Result (Unit {0}) Stop) → result ≡ Err x → Spends {A = A} table ((e.events ++ evs) ++ eis) now (Err x) banks
       → Ends table (stored_at table memories place memory indices value [] e) now result s
   store_stops_second A banks s x result is h =
       ends_early A (Unit {0}) table (stored_at table memories place memory indices value [] e) (e.events ++ stored_events table memories place memory indices value v) now banks s x result
-          (ap (λ (u : Variables). e.events ++ stored_events table memories place memory indices value u) same) is
-          (stops_first A A table e.events (evs ++ eis) (last_write (effects.value_of table memories v [] value) ∷ []) (stored_events table memories place memory indices value v) now banks banks x (Err x) (sym (append_assoc evs eis _)) refl
-              (stops_second A A table e.events evs eis (evs ++ eis) now banks banks x (Err x) refl refl h))
+      (ap (λ (u : Variables). e.events ++ stored_events table memories place memory indices value u) same) is
+      (stops_first A A table e.events (evs ++ eis) (last_write (effects.value_of table memories v [] value) ∷ []) (stored_events table memories place memory indices value v) now banks banks x (Err x) (sym (append_assoc evs eis _)) refl
+      (stops_second A A table e.events evs eis (evs ++ eis) now banks banks x (Err x) refl refl h))
 
   abbrev pub evaluated : Effect
   evaluated = record { variables = e.variables; events = (e.events ++ evs) ++ eis }
@@ -182,7 +182,7 @@ module _ (table : List MemEntry) (memories : List (List ℕ)) (place : Place) (m
       → Ends table (stored_at table memories place memory indices value [] e) now result s
   store_ends w result s is h =
       subst (λ (l : List Event). Ends table (record { variables = e.variables; events = l }) now result s)
-          (ap (λ x. ((e.events ++ evs) ++ eis) ++ last_write x ∷ []) is
-          ∙ (append_assoc (e.events ++ evs) eis _
-          ∙ (append_assoc e.events evs _
-          ∙ ap (λ (u : Variables). e.events ++ stored_events table memories place memory indices value u) same))) h
+      (ap (λ x. ((e.events ++ evs) ++ eis) ++ last_write x ∷ []) is
+      ∙ (append_assoc (e.events ++ evs) eis _
+      ∙ (append_assoc e.events evs _
+      ∙ ap (λ (u : Variables). e.events ++ stored_events table memories place memory indices value u) same))) h

@@ -147,7 +147,7 @@ module _ (table : List MemEntry) (memory : ℕ) (entries : AllByRecursion IsEntr
       → HaveSpent table (es ++ access_made table place memory indices (reads place) ∷ []) now (slice_set banks memory new)
   read_on es now row banks b new e h long ports step r =
       subst (λ (x : Event). HaveSpent table (es ++ x ∷ []) now (slice_set banks memory new)) (sym (made_is (reads place) row e))
-          (banks_read table es now memory row banks (get_or banks memory b) new h (slice_get-get_or banks memory b (subst (λ (n : ℕ). memory < n) (sym long) within)) ports step place r)
+      (banks_read table es now memory row banks (get_or banks memory b) new h (slice_get-get_or banks memory b (subst (λ (n : ℕ). memory < n) (sym long) within)) ports step place r)
 
   pub read_stuck : (es : List Event) (now row : ℕ) (banks : List Bank) (b new : Bank) → row_found (dims_at table memory) index ≡ Some row → HaveSpent table es now banks → length banks ≡ length table
       → new.ports ≡ (get_or banks memory b).ports → new.step ≡ now → ReadsRow (rows_now (get_or banks memory b) now) (left_now (get_or banks memory b) now) row (Ok false) new.rows.items new.left
@@ -161,7 +161,7 @@ module _ (table : List MemEntry) (memory : ℕ) (entries : AllByRecursion IsEntr
       → HaveSpent table (es ++ access_made table place memory indices (λ s. writes place s value) ∷ []) now (slice_set banks memory new)
   write_on es now row value banks b new e h long ports step r =
       subst (λ (x : Event). HaveSpent table (es ++ x ∷ []) now (slice_set banks memory new)) (sym (made_is (λ s. writes place s value) row e))
-          (banks_written table es now memory row banks (get_or banks memory b) new h (slice_get-get_or banks memory b (subst (λ (n : ℕ). memory < n) (sym long) within)) ports step place value r)
+      (banks_written table es now memory row banks (get_or banks memory b) new h (slice_get-get_or banks memory b (subst (λ (n : ℕ). memory < n) (sym long) within)) ports step place value r)
 
   pub write_full : (es : List Event) (now row value : ℕ) (banks : List Bank) (b new : Bank) → row_found (dims_at table memory) index ≡ Some row → HaveSpent table es now banks → length banks ≡ length table
       → new.ports ≡ (get_or banks memory b).ports → new.step ≡ now → WritesRow (rows_now (get_or banks memory b) now) (left_now (get_or banks memory b) now) false new.rows.items new.left

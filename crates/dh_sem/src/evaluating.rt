@@ -191,5 +191,9 @@ pub fn sole_index(
     for index in indices {
         last = Some(number(evaluate(scene, variables, banks, index)?));
     }
-    if indices.len() == 1 { Ok(last) } else { Ok(None) }
+    if indices.len() == 1 {
+        Ok(last)
+    } else {
+        Ok(None)
+    }
 }

@@ -57,7 +57,11 @@ pub fn literal(kind: Kind, negative: bool, value: u64) -> Word
     requires { IsKind kind }
     ensures { result ≡ with_bits kind (bits_of kind negative value) }
 {
-    let bits = if negative { 0u64.wrapping_sub(value) } else { value };
+    let bits = if negative {
+        0u64.wrapping_sub(value)
+    } else {
+        value
+    };
     converted(
         Word {
             kind: Kind::Unsigned(64),

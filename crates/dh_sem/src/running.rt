@@ -82,7 +82,12 @@ fn assign(scene: &Scene<'_>, state: &mut State, target: &Ref, value: &Expr) -> R
     ensures back { KeepsBack state.old state.new }
     ensures ran { (e : Effect) → Keeps scene.now.entries.now e scene.now.step state.old → Ends scene.now.entries.now (assigned_at scene.now.entries.now (contents_of scene.now.memories.now) 0 (entity_number target.now.entity) (term_meant (term_seen value.now)) [] e) scene.now.step result state.new }
 {
-    let word = evaluate(scene, state.variables.as_slice(), state.banks.as_mut_slice(), value)?;
+    let word = evaluate(
+        scene,
+        state.variables.as_slice(),
+        state.banks.as_mut_slice(),
+        value,
+    )?;
     set(state, entity_of(target), word)?;
     Ok(())
 }
@@ -173,7 +178,14 @@ fn store(scene: &Scene<'_>, state: &mut State, target: &Expr, value: &Expr) -> R
     match &target.form {
         ExprForm::Access { of, indices } => {
             let memory = entity_of(of);
-            store_element(scene, state, target.place, memory, indices.as_slice(), value)
+            store_element(
+                scene,
+                state,
+                target.place,
+                memory,
+                indices.as_slice(),
+                value,
+            )
         }
         ExprForm::Number { .. }
         | ExprForm::Truth { .. }
@@ -202,7 +214,12 @@ pub fn run(scene: &Scene<'_>, state: &mut State, command: &Command) -> Result<()
         CommandForm::Assign { target, value } => assign(scene, state, target, value),
         CommandForm::Store { target, value } => store(scene, state, target, value),
         CommandForm::If { test, then, other } => {
-            let word = evaluate(scene, state.variables.as_slice(), state.banks.as_mut_slice(), test)?;
+            let word = evaluate(
+                scene,
+                state.variables.as_slice(),
+                state.banks.as_mut_slice(),
+                test,
+            )?;
             if word.bits == 1 {
                 run(scene, state, then)
             } else {

@@ -154,7 +154,10 @@ fn store(target: Expr, value: Expr) -> Command {
 #[test]
 fn a_step_for_each_phase(rt: HostRuntime) -> Result<(), Fail> {
     let alloc = rt.alloc();
-    let first = store(element(alloc, at(1, 1), 0, literal(at(1, 3), 0))?, literal(at(1, 9), 7));
+    let first = store(
+        element(alloc, at(1, 1), 0, literal(at(1, 3), 0))?,
+        literal(at(1, 9), 7),
+    );
     let source = element(alloc, at(2, 9), 0, literal(at(2, 11), 0))?;
     let sum = binary(alloc, WIDE, Op::Add, source, literal(at(2, 16), 1))?;
     let second = store(element(alloc, at(2, 1), 1, literal(at(2, 3), 0))?, sum);
@@ -177,7 +180,10 @@ fn a_step_for_each_phase(rt: HostRuntime) -> Result<(), Fail> {
 #[test]
 fn a_faulty_step_writes_nothing(rt: HostRuntime) -> Result<(), Fail> {
     let alloc = rt.alloc();
-    let first = store(element(alloc, at(1, 1), 0, literal(at(1, 3), 0))?, literal(at(1, 9), 7));
+    let first = store(
+        element(alloc, at(1, 1), 0, literal(at(1, 3), 0))?,
+        literal(at(1, 9), 7),
+    );
     let source = element(alloc, at(2, 9), 0, literal(at(2, 11), 2))?;
     let second = store(element(alloc, at(2, 1), 1, literal(at(2, 3), 0))?, source);
     let mut parts = Vec::new(alloc);
@@ -211,8 +217,17 @@ fn assignments_are_seen_at_once(rt: HostRuntime) -> Result<(), Fail> {
     });
     let again = element(alloc, at(2, 9), 0, literal(at(2, 11), 0))?;
     let test = binary(alloc, Kind::Bool, Op::Lt, variable(alloc, 2)?, again)?;
-    let chosen = store(element(alloc, at(2, 1), 1, literal(at(2, 3), 0))?, literal(at(2, 9), 1));
-    let sum = binary(alloc, WIDE, Op::Add, variable(alloc, 2)?, literal(at(3, 9), 3))?;
+    let chosen = store(
+        element(alloc, at(2, 1), 1, literal(at(2, 3), 0))?,
+        literal(at(2, 9), 1),
+    );
+    let sum = binary(
+        alloc,
+        WIDE,
+        Op::Add,
+        variable(alloc, 2)?,
+        literal(at(3, 9), 3),
+    )?;
     let mut otherwise = list(
         alloc,
         command(CommandForm::Assign {
@@ -220,7 +235,10 @@ fn assignments_are_seen_at_once(rt: HostRuntime) -> Result<(), Fail> {
             value: sum,
         }),
     )?;
-    otherwise.push(store(element(alloc, at(3, 9), 1, literal(at(3, 11), 1))?, variable(alloc, 2)?))?;
+    otherwise.push(store(
+        element(alloc, at(3, 9), 1, literal(at(3, 11), 1))?,
+        variable(alloc, 2)?,
+    ))?;
     let mut then_parts = Vec::new(alloc);
     then_parts.push(list(alloc, chosen)?)?;
     let mut other_parts = Vec::new(alloc);
@@ -244,8 +262,14 @@ fn assignments_are_seen_at_once(rt: HostRuntime) -> Result<(), Fail> {
 #[test]
 fn a_bank_is_stuck_beyond_its_ports(rt: HostRuntime) -> Result<(), Fail> {
     let alloc = rt.alloc();
-    let first = store(element(alloc, at(1, 1), 0, literal(at(1, 3), 0))?, literal(at(1, 9), 1));
-    let second = store(element(alloc, at(2, 1), 0, literal(at(2, 3), 1))?, literal(at(2, 9), 2));
+    let first = store(
+        element(alloc, at(1, 1), 0, literal(at(1, 3), 0))?,
+        literal(at(1, 9), 1),
+    );
+    let second = store(
+        element(alloc, at(2, 1), 0, literal(at(2, 3), 1))?,
+        literal(at(2, 9), 2),
+    );
     let mut part = list(alloc, first)?;
     part.push(second)?;
     let mut parts = Vec::new(alloc);

@@ -22,8 +22,8 @@ returns-in_err-row-clause-spends c indices es sole h =
 pub returns-then-not-branch-clause-spends : goal.returns-then-not-branch-clause-spends
 returns-then-not-branch-clause-spends c indices es sole h =
     let stuck = read_stuck c.args.scene.now.entries.now c.args.memory c.requires.table c.requires.memory no_entry c.args.place indices c.args.index sole es c.args.scene.now.step c.in_ok-row.row c.args.banks.now c.index-banks-memory.result c.read_row.new.bank
-        c.in_ok-row.ensures h c.requires.long c.in_ok-read_row.ensures.ports c.in_ok-read_row.ensures.step
-        (subst (λ (b : Bool). ReadsRow (rows_now (get_or c.args.banks.now c.args.memory c.index-banks-memory.result) c.args.scene.now.step) (left_now (get_or c.args.banks.now c.args.memory c.index-banks-memory.result) c.args.scene.now.step) c.in_ok-row.row (Ok b) c.read_row.new.bank.rows.items c.read_row.new.bank.left) c.if-not-branch.true c.in_ok-read_row.ensures.reads) in
+    c.in_ok-row.ensures h c.requires.long c.in_ok-read_row.ensures.ports c.in_ok-read_row.ensures.step
+    (subst (λ (b : Bool). ReadsRow (rows_now (get_or c.args.banks.now c.args.memory c.index-banks-memory.result) c.args.scene.now.step) (left_now (get_or c.args.banks.now c.args.memory c.index-banks-memory.result) c.args.scene.now.step) c.in_ok-row.row (Ok b) c.read_row.new.bank.rows.items c.read_row.new.bank.left) c.if-not-branch.true c.in_ok-read_row.ensures.reads) in
     subst (λ (e : Stop). Spends {A = Word} c.args.scene.now.entries.now (es ++ access_made c.args.scene.now.entries.now c.args.place c.args.memory indices (λ x. reads c.args.place x) ∷ []) c.args.scene.now.step (Err e) (slice_set c.args.banks.now c.args.memory c.read_row.new.bank)) (sym c.stuck.ensures) stuck
 
 pub returns-clause-value : goal.returns-clause-value
@@ -33,5 +33,5 @@ returns-clause-value c indices sole =
 pub returns-clause-spends : goal.returns-clause-spends
 returns-clause-spends c indices es sole h =
     read_on c.args.scene.now.entries.now c.args.memory c.requires.table c.requires.memory c.index-scene-memory.result c.args.place indices c.args.index sole es c.args.scene.now.step c.in_ok-row.row c.args.banks.now c.index-banks-memory.result c.read_row.new.bank
-        c.in_ok-row.ensures h c.requires.long c.in_ok-read_row.ensures.ports c.in_ok-read_row.ensures.step
-        (subst (λ (b : Bool). ReadsRow (rows_now (get_or c.args.banks.now c.args.memory c.index-banks-memory.result) c.args.scene.now.step) (left_now (get_or c.args.banks.now c.args.memory c.index-banks-memory.result) c.args.scene.now.step) c.in_ok-row.row (Ok b) c.read_row.new.bank.rows.items c.read_row.new.bank.left) c.if-not-branch.false c.in_ok-read_row.ensures.reads)
+    c.in_ok-row.ensures h c.requires.long c.in_ok-read_row.ensures.ports c.in_ok-read_row.ensures.step
+    (subst (λ (b : Bool). ReadsRow (rows_now (get_or c.args.banks.now c.args.memory c.index-banks-memory.result) c.args.scene.now.step) (left_now (get_or c.args.banks.now c.args.memory c.index-banks-memory.result) c.args.scene.now.step) c.in_ok-row.row (Ok b) c.read_row.new.bank.rows.items c.read_row.new.bank.left) c.if-not-branch.false c.in_ok-read_row.ensures.reads)

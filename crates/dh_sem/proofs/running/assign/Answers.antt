@@ -41,5 +41,5 @@ pub returns-in_err-word-clause-ran : goal.returns-in_err-word-clause-ran
 returns-in_err-word-clause-ran c e h =
     let u = err_from_is_err_and c.from_residual.result c.from_residual.ensures.1 in
     ends_early Word (Unit {0}) c.args.scene.now.entries.now (assigned_at c.args.scene.now.entries.now (contents_of c.args.scene.now.memories.now) 0 (entity_number c.args.target.now.entity) (term_meant (term_seen c.args.value.now)) [] e) (e.events ++ term_events c.args.scene.now.entries.now (contents_of c.args.scene.now.memories.now) (variables_of c.as_slice.result.now) [] (term_meant (term_seen c.args.value.now))) c.args.scene.now.step c.evaluate.new.banks _
-        c.in_err-word.field-0.0 c.from_residual.result (ap (λ (v : Variables). e.events ++ term_events c.args.scene.now.entries.now (contents_of c.args.scene.now.memories.now) v [] (term_meant (term_seen c.args.value.now))) (ap (λ l. variables_of l) c.as_slice.ensures.value ∙ h.variables)) (u.1 ∙ ap (λ x. Err x) u.2)
-        (c.in_err-word.ensures.spends e.events (subst (λ (l : List Bank). HaveSpent c.args.scene.now.entries.now e.events c.args.scene.now.step l) (sym c.as_mut_slice.ensures.value) h.spent))
+    c.in_err-word.field-0.0 c.from_residual.result (ap (λ (v : Variables). e.events ++ term_events c.args.scene.now.entries.now (contents_of c.args.scene.now.memories.now) v [] (term_meant (term_seen c.args.value.now))) (ap (λ l. variables_of l) c.as_slice.ensures.value ∙ h.variables)) (u.1 ∙ ap (λ x. Err x) u.2)
+    (c.in_err-word.ensures.spends e.events (subst (λ (l : List Bank). HaveSpent c.args.scene.now.entries.now e.events c.args.scene.now.step l) (sym c.as_mut_slice.ensures.value) h.spent))

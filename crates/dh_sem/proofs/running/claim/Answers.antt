@@ -17,10 +17,10 @@ returns-in_err-row-clause-spends c indices es value sole h =
 pub returns-then-not-write_row-clause-spends : goal.returns-then-not-write_row-clause-spends
 returns-then-not-write_row-clause-spends c indices es value sole h =
     let full = write_full c.args.scene.now.entries.now c.args.memory c.requires.table c.requires.memory no_entry c.args.place indices c.args.index sole es c.args.scene.now.step c.in_ok-row.row value c.args.banks.now c.index-banks-memory.result c.write_row.new.bank
-        c.in_ok-row.ensures h c.requires.long c.if-not-write_row.ensures.ports c.if-not-write_row.ensures.step c.if-not-write_row.ensures.writes in
+    c.in_ok-row.ensures h c.requires.long c.if-not-write_row.ensures.ports c.if-not-write_row.ensures.step c.if-not-write_row.ensures.writes in
     subst (λ (e : Stop). Spends {A = ℕ} c.args.scene.now.entries.now (es ++ access_made c.args.scene.now.entries.now c.args.place c.args.memory indices (λ s. writes c.args.place s value) ∷ []) c.args.scene.now.step (Err e) (slice_set c.args.banks.now c.args.memory c.write_row.new.bank)) (sym c.stuck.ensures) full
 
 pub returns-clause-spends : goal.returns-clause-spends
 returns-clause-spends c indices es value sole h =
     write_on c.args.scene.now.entries.now c.args.memory c.requires.table c.requires.memory no_entry c.args.place indices c.args.index sole es c.args.scene.now.step c.in_ok-row.row value c.args.banks.now c.index-banks-memory.result c.write_row.new.bank
-        c.in_ok-row.ensures h c.requires.long c.if-not-write_row.ensures.ports c.if-not-write_row.ensures.step c.if-not-write_row.ensures.writes
+    c.in_ok-row.ensures h c.requires.long c.if-not-write_row.ensures.ports c.if-not-write_row.ensures.step c.if-not-write_row.ensures.writes
