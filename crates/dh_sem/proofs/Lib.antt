@@ -1,3 +1,4 @@
+pub mod Gathered
 pub mod Literals
 pub mod RowsRead
 pub mod BanksSpent

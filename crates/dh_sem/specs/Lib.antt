@@ -4,4 +4,5 @@ pub mod Spent
 pub mod Scenes
 pub mod Weights
 pub mod States
+pub mod Straight
 pub mod Runs
