@@ -37,7 +37,7 @@ parts_are : (cs : List Action) → map (λ ps. map commands_in ps) (parts_straig
 parts_are [] = refl
 parts_are (c ∷ cs) = ap (λ l. gathered_in c ∷ l) (parts_are cs)
 
-map_twice : {A B C : Type 0} (g : B → C) (f : A → B) (xs : List A) → map g (map f xs) ≡ map (λ x. g (f x)) xs
+pub map_twice : {A B C : Type 0} (g : B → C) (f : A → B) (xs : List A) → map g (map f xs) ≡ map (λ x. g (f x)) xs
 map_twice g f [] = refl
 map_twice g f (x ∷ xs) = ap (λ l. g (f x) ∷ l) (map_twice g f xs)
 

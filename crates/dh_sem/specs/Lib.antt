@@ -6,3 +6,4 @@ pub mod Weights
 pub mod States
 pub mod Straight
 pub mod Runs
+pub mod Starting
