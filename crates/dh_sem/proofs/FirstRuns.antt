@@ -1,8 +1,9 @@
 -- The run of a program before its first step.
 use Rattle.std.proofs.Common.{◌≡◌, ℕ, zero, suc, ◌+◌, ◌<◌, ◌^◌, ◌⊎◌, inl, inr, Bool, true, false, List, [], ◌∷◌, ◌++◌, length, map, get_or, replicate, Some, refl, ap, sym, ◌∙◌, subst, arith, length-append}
-use Rattle.std.specs.Prelude.{Vec, slice_get, slice_index, slice_index_or, ℤ, pos}
+use Rattle.std.specs.Prelude.{Vec, slice_get, slice_index, slice_index_or, ◌==◌, ℤ, pos}
 use Rattle.std.specs.Global.{Global}
 use Rattle.std.specs.List.{AllByRecursion}
+use Rattle.std.proofs.lemmas.Bool.{eqb-true, eqb-false}
 use Rattle.std.proofs.lemmas.Nat.{pow_pos}
 use Rattle.std.proofs.lemmas.Option.{slice_get-get_or}
 use denote.Ref.{Bor}
@@ -200,3 +201,14 @@ first_stands p table memories gathered words outcome h tabled same unset first =
       ∙ (ap (λ vs. stands (outcome_of (phases_of (rest_of gathered) ∷ [])) memories vs (phases_of (rest_of gathered) ∷ [])) (none_set (length p.entities))
       ∙ ap (λ ps. stands (outcome_of (ps ∷ [])) memories Rattle.dh_tree.specs.Effects.unset (ps ∷ [])) (are_meant p h gathered same)));
 }
+
+pub is_ended : (gathered : List (Vec (Bor Command) Global)) (len : ℕ) (empty : Bool) (outcome : Outcome) → len ≡ length gathered → empty ≡ (len == 0) → empty ≡ true → outcome ≡ Ended → outcome ≡ first_outcome gathered
+is_ended [] len empty outcome long is e f = f
+is_ended (phase ∷ gathered) len empty outcome long is e f = let none = eqb-true len 0 (sym is ∙ e) in absurd (differ (sym long ∙ none))
+  where
+    differ : suc (length gathered) ≡ 0 → ⊥
+    differ e = omega (arith, e)
+
+pub is_going : (gathered : List (Vec (Bor Command) Global)) (len : ℕ) (empty : Bool) (outcome : Outcome) → len ≡ length gathered → empty ≡ (len == 0) → empty ≡ false → outcome ≡ Going → outcome ≡ first_outcome gathered
+is_going [] len empty outcome long is e f = absurd (eqb-false len 0 (sym is ∙ e) long)
+is_going (phase ∷ gathered) len empty outcome long is e f = f
