@@ -1,0 +1,16 @@
+pub mod Gathered
+pub mod StraightPhases
+pub mod Assigned
+pub mod BelowEntities
+pub mod FirstRuns
+pub mod Literals
+pub mod RowsRead
+pub mod BanksSpent
+pub mod RowAccesses
+pub mod TermsMeant
+pub mod IndexLoops
+pub mod Evaluated
+pub mod Undoing
+pub mod Making
+pub mod Ran
+pub mod RunLoops

@@ -1,0 +1,9 @@
+pub mod Applied
+pub mod Rows
+pub mod Spent
+pub mod Scenes
+pub mod Weights
+pub mod States
+pub mod Straight
+pub mod Runs
+pub mod Starting

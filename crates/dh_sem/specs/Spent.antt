@@ -1,0 +1,42 @@
+-- What banks keep of what a step has spent of their ports.
+use Rattle.std.specs.Prelude.{◌≡◌, ℕ, ◌+◌, ◌==◌, suc, Bool, true, false, if◌then◌else◌, List, [], ◌∷◌, ◌++◌, length, slice_get, Some, None, Result, Ok, Err}
+use Rattle.std.specs.List.{list_any}
+use Rattle.dh_base.specs.declared.lists.NoMemory.{NoMemory}
+use Rattle.dh_tree.specs.declared.tables.MemEntry.{MemEntry}
+use Rattle.dh_tree.specs.Elements.{ports_at}
+use Rattle.dh_tree.specs.Effects.{Event, rows_read, spent, stop_after}
+use Rattle.dh_sem.specs.declared.spending.Bank.{Bank}
+
+-- the distinct rows of a bank that were read in a step
+abbrev pub rows_now : Bank → (step : ℕ) → List ℕ
+rows_now b step = if b.step == step then b.rows.items else []
+
+-- the ports of a bank that are left in a step
+abbrev pub left_now : Bank → (step : ℕ) → ℕ
+left_now b step = if b.step == step then b.left else b.ports
+
+abbrev pub has_row : List ℕ → ℕ → Bool
+has_row rows row = list_any (λ r. r == row) rows
+
+-- a read of a row shares its port with an earlier read of the row, or takes one
+abbrev pub ReadsRow : (rows : List ℕ) → (left row : ℕ) → Result Bool NoMemory → (rows' : List ℕ) → (left' : ℕ) → Type 0
+ReadsRow rows left row (Ok true) rows' left' =
+    (rows' ≡ (if has_row rows row then rows else rows ++ row ∷ [])) × (left ≡ (if has_row rows row then left' else suc left'))
+ReadsRow rows left row (Ok false) rows' left' = (has_row rows row ≡ false) × (left ≡ 0)
+ReadsRow rows left row (Err e) rows' left' = Unit {0}
+
+-- a write takes a port
+abbrev pub WritesRow : (rows : List ℕ) → (left : ℕ) → Bool → (rows' : List ℕ) → (left' : ℕ) → Type 0
+WritesRow rows left true rows' left' = (rows' ≡ rows) × (left ≡ suc left')
+WritesRow rows left false rows' left' = left ≡ 0
+
+-- a bank keeps what these events have spent of the bank of a memory
+pub record HasSpent (table : List MemEntry) (es : List Event) (memory now : ℕ) (b : Bank) : Type 0 where
+  pub ports : b.ports ≡ ports_at table memory
+  pub rows : (row : ℕ) → has_row (rows_now b now) row ≡ has_row (rows_read es memory 0) row
+  pub left : left_now b now + spent es memory 0 ≡ ports_at table memory
+
+-- the banks keep what these events of a step have spent, which is within the ports, without a fault
+pub record HaveSpent (table : List MemEntry) (es : List Event) (now : ℕ) (banks : List Bank) : Type 0 where
+  pub each : (memory : ℕ) (b : Bank) → slice_get banks memory ≡ Some b → HasSpent table es memory now b
+  pub clear : stop_after table [] es ≡ None

@@ -1,0 +1,72 @@
+-- What a step keeps of what its commands did so far.
+use Rattle.std.specs.Prelude.{◌≡◌, ℕ, ◌<◌, List, [], ◌∷◌, length, map, slice_set, slice_index_or, Some, Result, Ok, Err, Vec}
+use Rattle.std.specs.List.{AllByRecursion}
+use Rattle.dh_base.specs.declared.places.Place.{Place}
+use Rattle.dh_value.specs.declared.words.Word.{Word}
+use Rattle.dh_value.specs.Words.{IsWord}
+use Rattle.dh_tree.specs.declared.tables.MemEntry.{MemEntry}
+use Rattle.dh_tree.specs.Tables.{IsEntry}
+use Rattle.dh_tree.specs.Tree.{Command, store, assign, choose, Commands, no_commands, command}
+use Rattle.dh_tree.specs.Effects.{Event, reads, writes, faults, Effect, stop_after}
+use Rattle.dh_tree.specs.Suited.{AreSuitedCommands}
+use Rattle.dh_sem.specs.declared.running.Write.{Write}
+use Rattle.dh_sem.specs.declared.running.Change.{Change}
+use Rattle.dh_sem.specs.declared.running.State.{State}
+use Rattle.dh_sem.specs.declared.evaluating.Stop.{Stop}
+use Rattle.dh_sem.specs.declared.evaluating.Stop.TheVariants as stop
+use Rattle.dh_sem.specs.Spent.{HaveSpent}
+use Rattle.dh_sem.specs.Scenes.{AreSmall, IsSound, variables_of}
+
+-- the writes among events, in order
+abbrev pub writes_in : List Event → List Write
+writes_in [] = []
+writes_in (reads place s ∷ es) = writes_in es
+writes_in (writes place s value ∷ es) = record { memory = s.memory; position = s.position; bits = value } ∷ writes_in es
+writes_in (faults kind place ∷ es) = writes_in es
+
+-- the memories after writes, in order
+abbrev pub written_by : List Write → List (List ℕ) → List (List ℕ)
+written_by [] memories = memories
+written_by (w ∷ ws) memories = written_by ws (slice_set memories w.memory (slice_set (slice_index_or memories w.memory []) w.position w.bits))
+
+-- the values of variables before changes were made to them, in order
+abbrev pub undone : List Change → List Word → List Word
+undone [] words = words
+undone (c ∷ cs) words = slice_set (undone cs words) c.entity c.before
+
+abbrev mutual
+  -- every variable that is assigned to is one of so many
+  pub AssignsBelow : ℕ → Command → Type 0
+  AssignsBelow n (store place memory indices value) = Unit {0}
+  AssignsBelow n (assign depth entity value) = entity < n
+  AssignsBelow n (choose test chosen other) = AllAssignBelow n chosen × AllAssignBelow n other
+
+  pub AllAssignBelow : ℕ → Commands → Type 0
+  AllAssignBelow n no_commands = Unit {0}
+  AllAssignBelow n (command c cs) = AssignsBelow n c × AllAssignBelow n cs
+
+-- commands of terms that suit, for so many variables
+abbrev pub AreRunnable : List MemEntry → ℕ → Commands → Type 0
+AreRunnable table n cs = AreSuitedCommands table cs × AllAssignBelow n cs
+
+-- a state of a step of these memories
+pub record IsReady (table : List MemEntry) (memories : List (List ℕ)) (s : State) : Type 0 where
+  pub sound : IsSound table memories s.variables.items
+  pub long : length s.banks.items ≡ length table
+
+-- so many variables as before, and their values before the step are the same
+pub record KeepsBack (old new : State) : Type 0 where
+  pub long : length new.variables.items ≡ length old.variables.items
+  pub back : undone new.changes.items new.variables.items ≡ undone old.changes.items old.variables.items
+
+-- the state keeps an effect, which has no stop
+pub record Keeps (table : List MemEntry) (e : Effect) (now : ℕ) (s : State) : Type 0 where
+  pub variables : variables_of s.variables.items ≡ e.variables
+  pub spent : HaveSpent table e.events now s.banks.items
+  pub writes : s.writes.items ≡ writes_in e.events
+
+-- commands with this effect end so: at the first stop
+abbrev pub Ends : {A : Type 0} → List MemEntry → Effect → (now : ℕ) → Result A Stop → State → Type 0
+Ends table e now (Ok a) s = Keeps table e now s
+Ends table e now (Err (stop.At outcome)) s = stop_after table [] e.events ≡ Some outcome
+Ends table e now (Err stop.NoMemory) s = Unit {0}
