@@ -9,3 +9,4 @@ pub mod Undoing
 pub mod Making
 pub mod Ran
 pub mod RunLoops
+pub mod RunParts

@@ -35,7 +35,7 @@ module _ (table : List MemEntry) (memories : List (List ℕ)) (paths : List (Lis
     form_then (repeats test body) rest e = refl
     form_then (counts iterator declared low high factor body combine combine_place) rest e = refl
 
-    part_then : (parts : Actions) (rest : Commands) (e : Effect) → after (part_meant parts rest) e ≡ after rest (after (part_meant parts no_commands) e)
+    pub part_then : (parts : Actions) (rest : Commands) (e : Effect) → after (part_meant parts rest) e ≡ after rest (after (part_meant parts no_commands) e)
     part_then no_actions rest e = refl
     part_then (action_then a behind) rest e =
         run_then a (part_meant behind rest) e
