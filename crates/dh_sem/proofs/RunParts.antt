@@ -1,5 +1,5 @@
 -- Parts of commands that are run one after the other, and the loops over them.
-use Rattle.std.proofs.Common.{◌≡◌, ℕ, zero, suc, ◌+◌, ◌-◌, ◌*◌, ◌/◌, ◌%◌, ◌^◌, ◌<◌, nat_lt, Bool, true, false, if◌then◌else◌, List, [], ◌∷◌, ◌++◌, length, map, drop, get_or, Err, Option, Some, None, option_map, pos, ◌-ℤ◌, refl, ap, sym, ◌∙◌, subst, arith, append-nil}
+use Rattle.std.proofs.Common.{◌≡◌, ℕ, zero, suc, ◌+◌, ◌-◌, ◌*◌, ◌/◌, ◌%◌, ◌^◌, ◌<◌, nat_lt, Bool, true, false, if◌then◌else◌, List, [], ◌∷◌, ◌++◌, length, map, drop, get_or, Err, Option, Some, None, option_map, pos, ◌-ℤ◌, refl, ap, sym, ◌∙◌, subst, arith, append-nil, Bor}
 use Rattle.std.specs.Prelude.{Result, Vec, slice_set}
 use Rattle.std.specs.Global.{Global}
 use Rattle.std.proofs.lemmas.Bool.Decides.{nat_tests}
@@ -227,18 +227,17 @@ block_order table memories = record {
 }
 
 -- the commands of a phase, behind references
-module _ {X : Type 0} (of : X → code.Command) where
-  abbrev pub phase_whole : List X → Commands
-  phase_whole xs = commands_meant (map (λ c. action_seen (of c)) xs)
+abbrev pub phase_whole : List (Bor code.Command) → Commands
+phase_whole xs = commands_meant (map (λ c. action_seen c.now) xs)
 
-  abbrev pub phase_one : X → Commands
-  phase_one x = action_meant (action_seen (of x)) no_commands
+abbrev pub phase_one : Bor code.Command → Commands
+phase_one x = action_meant (action_seen x.now) no_commands
 
-  pub phase_order : (table : List MemEntry) (memories : List (List ℕ)) → Order table memories phase_whole phase_one
-  phase_order table memories = record {
-    runs = λ x xs e. run_then table memories outer_paths (action_seen (of x)) (phase_whole xs) e;
-    splits = λ n x xs h. action_splits table n (action_seen (of x)) (phase_whole xs) h;
-  }
+pub phase_order : (table : List MemEntry) (memories : List (List ℕ)) → Order table memories phase_whole phase_one
+phase_order table memories = record {
+  runs = λ x xs e. run_then table memories outer_paths (action_seen x.now) (phase_whole xs) e;
+  splits = λ n x xs h. action_splits table n (action_seen x.now) (phase_whole xs) h;
+}
 
 module _ (table : List MemEntry) (memories : List (List ℕ)) (now : ℕ) (start s : State) (body : List (Vec code.Command Global)) (i : ℕ) (item : Vec code.Command Global) (within : i < length body) (is : item ≡ get_or body i item) (part : List code.Command) (same : part ≡ item.items) where
   pub block_light : (t : ℕ) → groups_weight (groups (map part_seen body)) ≡ t → part_weight (actions (map action_seen part)) < t
