@@ -1,5 +1,5 @@
 -- Parts of commands that are run one after the other, and the loops over them.
-use Rattle.std.proofs.Common.{◌≡◌, ℕ, zero, suc, ◌+◌, ◌-◌, ◌*◌, ◌/◌, ◌%◌, ◌^◌, ◌<◌, nat_lt, Bool, true, false, if◌then◌else◌, List, [], ◌∷◌, ◌++◌, length, map, drop, get_or, Err, Option, Some, None, option_map, pos, ◌-ℤ◌, refl, ap, sym, ◌∙◌, subst, arith, append-nil, Bor}
+use Rattle.std.proofs.Common.{◌≡◌, ℕ, zero, suc, ◌+◌, ◌-◌, ◌*◌, ◌/◌, ◌%◌, ◌^◌, ◌<◌, nat_lt, Bool, true, false, if◌then◌else◌, List, [], ◌∷◌, ◌++◌, length, map, drop, get_or, Err, Some, None, option_map, pos, ◌-ℤ◌, refl, ap, sym, ◌∙◌, subst, arith, append-nil, Bor}
 use Rattle.std.specs.Prelude.{Result, Vec, slice_set}
 use Rattle.std.specs.Global.{Global}
 use Rattle.std.proofs.lemmas.Bool.Decides.{nat_tests}
@@ -135,20 +135,6 @@ back_then a b c h k = record { long = k.long ∙ h.long; back = k.back ∙ h.bac
 pub record Order {X : Type 0} (table : List MemEntry) (memories : List (List ℕ)) (whole : List X → Commands) (one : X → Commands) : Type 0 where
   pub runs : (x : X) (xs : List X) (e : Effect) → commands_run table memories outer_paths (whole (x ∷ xs)) e ≡ commands_run table memories outer_paths (whole xs) (commands_run table memories outer_paths (one x) e)
   pub splits : (n : ℕ) (x : X) (xs : List X) → AreRunnable table n (whole (x ∷ xs)) → AreRunnable table n (one x) × AreRunnable table n (whole xs)
-
-pub run_begun : (table : List MemEntry) (memories : List (List ℕ)) (now : ℕ) (all : Commands) (s : State) → IsReady table memories s → AreRunnable table (length s.variables.items) all → RunLoop table memories now all s all s
-run_begun table memories now all s ready runnable = record {
-  ready = ready;
-  back = record { long = refl; back = refl };
-  runnable = runnable;
-  reaches = λ e h. record { so_far = e; keeps = h; same = refl };
-}
-
-pub run_over : (table : List MemEntry) (memories : List (List ℕ)) (now : ℕ) (all : Commands) (start : State) (rest : Commands) (s : State) → RunLoop table memories now all start rest s → rest ≡ no_commands
-    → (e : Effect) → Keeps table e now start → Keeps table (commands_run table memories outer_paths all e) now s
-run_over table memories now all start rest s here over e h =
-    let r = here.reaches e h in
-    subst (λ (x : Effect). Keeps table x now s) (ap (λ c. commands_run table memories outer_paths c r.so_far) (sym over) ∙ r.same) r.keeps
 
 module _ {X : Type 0} (table : List MemEntry) (memories : List (List ℕ)) (now : ℕ) (whole : List X → Commands) (one : X → Commands) (order : Order table memories whole one) (all : Commands) (start s : State) (xs : List X) (i : ℕ) (item : X) (within : i < length xs) (is : item ≡ get_or xs i item) (here : RunLoop table memories now all start (whole (drop i xs)) s) where
   abbrev after : Commands → Effect → Effect

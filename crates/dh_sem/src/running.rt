@@ -203,7 +203,6 @@ fn decide(scene: &Scene<'_>, state: &mut State, test: &Expr) -> Result<bool, Sto
     requires suited { IsSuited scene.now.entries.now (term_meant (term_seen test.now)) }
     ensures ready { IsReady scene.now.entries.now (contents_of scene.now.memories.now) state.new }
     ensures back { KeepsBack state.old state.new }
-    ensures kept { length state.new.variables.items ≡ length state.old.variables.items }
     ensures holds { (e : Effect) → Keeps scene.now.entries.now e scene.now.step state.old → IfOk result (λ b. holds_at scene.now.entries.now (contents_of scene.now.memories.now) e.variables (term_meant (term_seen test.now)) [] ≡ b) }
     ensures ran { (e : Effect) → Keeps scene.now.entries.now e scene.now.step state.old → Ends scene.now.entries.now (tested_at scene.now.entries.now (contents_of scene.now.memories.now) (term_meant (term_seen test.now)) [] e) scene.now.step result state.new }
 {

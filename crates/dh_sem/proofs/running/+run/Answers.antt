@@ -1,9 +1,9 @@
-use Rattle.std.proofs.Common.{◌≡◌, ap, sym, ◌∙◌, Ok, Err, map, option_map, refl}
+use Rattle.std.proofs.Common.{ap, ◌∙◌, Ok, Err, option_map, refl}
 use Rattle.std.proofs.lemmas.Result.{err_from_is_err_and}
 use Rattle.dh_tree.specs.PlainTrees.{no_action, one_action}
 use Rattle.dh_tree.specs.Seen.{term_seen, action_form_seen, action_seen, maybe_seen}
 use Rattle.dh_sem.specs.Rows.{contents_of}
-use Rattle.dh_sem.proofs.RunParts.{part_whole, part_one, part_order, block_whole, item_runnable, item_ran, item_stopped, block_light, block_runnable, block_ran, block_stopped, part_light, if_then, if_else, if_stopped, then_form, other_form, lone_form}
+use Rattle.dh_sem.proofs.RunParts.{part_whole, part_one, part_order, item_runnable, item_ran, item_stopped, block_light, block_runnable, block_ran, block_stopped, part_light, if_then, if_else, if_stopped, then_form, other_form, lone_form}
 use Rattle.dh_sem.proofs.running.+run.Goals as goal
 
 pub run-returns-in_err-decide-in-If-clause-ran : goal.run-returns-in_err-decide-in-If-clause-ran

@@ -1,4 +1,4 @@
-use Rattle.std.proofs.Common.{◌≡◌, ap, sym, subst, ◌∙◌, List, refl}
+use Rattle.std.proofs.Common.{sym, subst, ◌∙◌, List, refl}
 use Rattle.std.proofs.lemmas.List.{with_items_is}
 use Rattle.dh_tree.specs.Meaning.{term_meant}
 use Rattle.dh_tree.specs.Seen.{term_seen}
