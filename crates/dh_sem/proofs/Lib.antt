@@ -14,3 +14,4 @@ pub mod Undoing
 pub mod Making
 pub mod Ran
 pub mod RunLoops
+pub mod RunParts
