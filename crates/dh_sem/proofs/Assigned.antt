@@ -1,12 +1,11 @@
 -- Every variable that a program assigns to is one of its entities: by recursion over the tree, with the
 -- names that are visible at each point of the text.
-use Rattle.std.proofs.Common.{◌≡◌, ℕ, ◌+◌, ◌<◌, ◌≤◌, ◌&&◌, ◌||◌, Bool, true, false, if◌then◌else◌, List, [], ◌∷◌, ◌++◌, length, Option, Some, None, refl, ap, sym, ◌∙◌, subst, arith, length-append}
+use Rattle.std.proofs.Common.{◌≡◌, ℕ, ◌+◌, ◌≤◌, ◌&&◌, ◌||◌, Bool, true, false, if◌then◌else◌, List, [], ◌∷◌, ◌++◌, length, Option, Some, None, refl, ap, ◌∙◌, arith, length-append}
 use Rattle.std.specs.List.{AllByRecursion}
 use Rattle.std.specs.Option.{is_some}
 use Rattle.dh_base.specs.declared.places.Place.{Place}
 use Rattle.dh_tree.specs.declared.breaches.Breach.{Breach}
 use Rattle.dh_tree.specs.declared.tables.MemEntry.{MemEntry}
-use Rattle.dh_tree.specs.declared.trees.expressions.Ref.{Ref}
 use Rattle.dh_tree.specs.declared.trees.programs.Sort.TheVariants.{Variable}
 use Rattle.dh_tree.specs.Breaches.{unknown, term_breaches, form_breaches, other_breaches, actions_breaches, groups_breaches}
 use Rattle.dh_tree.specs.Forms.{unbuilt, other_holds, form_holds}

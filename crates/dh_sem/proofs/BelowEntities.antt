@@ -1,24 +1,20 @@
 -- Every variable that a program of the built forms assigns to is one of its entities.
-use Rattle.std.proofs.Common.{◌≡◌, ℕ, ◌≤◌, suc, List, [], ◌∷◌, ◌++◌, length, map, refl, ap, sym, ◌∙◌, arith}
+use Rattle.std.proofs.Common.{◌≡◌, suc, List, [], ◌∷◌, ◌++◌, length, map, refl, ap, sym, ◌∙◌, arith}
 use Rattle.std.specs.List.{AllByRecursion}
-use Rattle.dh_value.specs.Words.{IsKind}
 use Rattle.dh_tree.specs.declared.trees.programs.Entity.{Entity}
 use Rattle.dh_tree.specs.declared.trees.programs.Sort.TheVariants.{Memory}
 use Rattle.dh_tree.specs.Breaches.{KeepsNames, items_breaches}
 use Rattle.dh_tree.specs.Kinds.{declared_facts}
-use Rattle.dh_tree.specs.Meaning.{entry_of, commands_meant, phase_meant, meaning_of}
-use Rattle.dh_tree.specs.Phases as source
+use Rattle.dh_tree.specs.Meaning.{entry_of}
 use Rattle.dh_tree.specs.Phases.{phases}
 use Rattle.dh_tree.specs.PlainTrees.{Action, action, Declared, Defined, Program}
 use Rattle.dh_tree.specs.Resolved.{resolved_action, resolved_form, HasEntities}
 use Rattle.dh_tree.specs.Scopes.{entity, items_of, body_scope, at_end}
-use Rattle.dh_tree.specs.Tree.{Phase, straight}
 use Rattle.dh_tree.specs.UncheckedForms.{unchecked_decls, unchecked_forms}
 use Rattle.dh_tree.specs.Widths.{HasWidths}
 use Rattle.dh_tree.proofs.SuitedNames.{Stands, body_begins}
 use Rattle.dh_tree.proofs.UncheckedBuilt.{second_none, not_none}
-use Rattle.dh_sem.specs.States.{AllAssignBelow}
-use Rattle.dh_sem.proofs.Assigned.{Below, PhaseBelow, form_reaches}
+use Rattle.dh_sem.proofs.Assigned.{PhaseBelow, form_reaches}
 
 declared_long : (ds : List Declared) → length (map (λ (d : Declared). entity d.name Memory) ds ++ []) ≡ length ds
 declared_long [] = refl

@@ -1,11 +1,10 @@
 -- The run of a program before its first step.
-use Rattle.std.proofs.Common.{◌≡◌, ℕ, zero, suc, ◌+◌, ◌<◌, ◌^◌, ◌⊎◌, inl, inr, Bool, true, false, List, [], ◌∷◌, ◌++◌, length, map, get_or, replicate, Some, refl, ap, sym, ◌∙◌, subst, arith, length-append}
-use Rattle.std.specs.Prelude.{Vec, slice_get, slice_index, slice_index_or, ◌==◌, ℤ, pos}
+use Rattle.std.proofs.Common.{◌≡◌, ℕ, zero, suc, ◌<◌, ◌^◌, Bool, true, false, List, [], ◌∷◌, length, map, replicate, Some, refl, ap, sym, ◌∙◌, subst, arith}
+use Rattle.std.specs.Prelude.{Vec, slice_get, slice_index, slice_index_or, ◌==◌}
 use Rattle.std.specs.Global.{Global}
 use Rattle.std.specs.List.{AllByRecursion}
 use Rattle.std.proofs.lemmas.Bool.{eqb-true, eqb-false}
 use Rattle.std.proofs.lemmas.Nat.{pow_pos}
-use Rattle.std.proofs.lemmas.Option.{slice_get-get_or}
 use denote.Ref.{Bor}
 use Rattle.dh_base.specs.declared.outcomes.Outcome.{Outcome}
 use Rattle.dh_base.specs.declared.outcomes.Outcome.TheVariants.{Going, Ended}
@@ -15,19 +14,18 @@ use Rattle.dh_tree.specs.declared.tables.MemEntry.{MemEntry}
 use Rattle.dh_tree.specs.declared.trees.commands.Command.{Command}
 use Rattle.dh_tree.specs.Breaches.{KeepsNames}
 use Rattle.dh_tree.specs.Effects.{Variables, unset, kind_in}
-use Rattle.dh_tree.specs.Elements.{entry_ports, ports_at}
 use Rattle.dh_tree.specs.KindBreaches.{KeepsKinds}
 use Rattle.dh_tree.specs.Kinds.{HasKinds}
-use Rattle.dh_tree.specs.Meaning.{commands_meant, phase_meant, meaning_of, table_of, action_meant}
+use Rattle.dh_tree.specs.Meaning.{commands_meant, phase_meant, meaning_of, table_of}
 use Rattle.dh_tree.specs.Phases as source
 use Rattle.dh_tree.specs.Phases.{phases}
 use Rattle.dh_tree.specs.PlainTrees.{Action, Program}
 use Rattle.dh_tree.specs.Resolved.{HasEntities}
 use Rattle.dh_tree.specs.Seen.{action_seen}
-use Rattle.dh_tree.specs.Steps.{Standing, Threads, standing, outcome_of}
-use Rattle.dh_tree.specs.Suited.{IsSuitedPhase, AreSuitedCommands, IsSuitedTree}
-use Rattle.dh_tree.specs.Tables.{IsTable, Fits, FitsEntry}
-use Rattle.dh_tree.specs.Tree.{Phase, straight}
+use Rattle.dh_tree.specs.Steps.{Standing, Threads, outcome_of}
+use Rattle.dh_tree.specs.Suited.{IsSuitedPhase}
+use Rattle.dh_tree.specs.Tables.{IsTable, Fits}
+use Rattle.dh_tree.specs.Tree.{straight}
 use Rattle.dh_tree.specs.UncheckedForms.{unchecked_decls, unchecked_forms}
 use Rattle.dh_tree.specs.Forms.{unbuilt_functions}
 use Rattle.dh_tree.specs.Widths.{HasWidths}
@@ -35,44 +33,20 @@ use Rattle.dh_tree.proofs.SuitedOperands.{bool_sized}
 use Rattle.dh_tree.proofs.SuitedPrograms.{program_suits}
 use Rattle.dh_tree.proofs.UncheckedBuilt.{second_none}
 use Rattle.dh_sem.specs.declared.spending.Bank.{Bank}
-use Rattle.dh_sem.specs.Rows.{element_in}
-use Rattle.dh_sem.specs.Runs.{Run, meant_of, phases_of, standing_of, StandsAt, IsFree, IsSteady}
+use Rattle.dh_sem.specs.Runs.{Run, meant_of, phases_of, StandsAt, IsFree, IsSteady}
 use Rattle.dh_sem.specs.Scenes.{unset_word, variables_of, AreSmall}
 use Rattle.dh_sem.specs.Starting.{AreUnused}
 use Rattle.dh_sem.specs.States.{AllAssignBelow, AreRunnable}
-use Rattle.dh_sem.specs.Straight.{straight_phases, commands_in, gathered_in, phase_seen, phases_seen}
+use Rattle.dh_sem.specs.Straight.{commands_in, gathered_in, phase_seen, phases_seen}
 use Rattle.dh_sem.proofs.Gathered.{map_twice}
 use Rattle.dh_sem.proofs.StraightPhases.{straight_are}
 use Rattle.dh_sem.proofs.Assigned.{Below, PhaseBelow}
 use Rattle.dh_sem.proofs.BelowEntities.{phases_below}
 
--- banks
-snoc_at : {A : Type 0} (xs : List A) (x y : A) (n : ℕ) → slice_get (xs ++ x ∷ []) n ≡ Some y → (slice_get xs n ≡ Some y) ⊎ ((n ≡ length xs) × (x ≡ y))
-snoc_at [] x y zero e = inr (refl, cc)
-snoc_at [] x y (suc n) e = inl e
-snoc_at (z ∷ xs) x y zero e = inl e
-snoc_at (z ∷ xs) x y (suc n) e = elim (snoc_at xs x y n e) [ inl f ↦ inl f | inr f ↦ inr (ap suc f.0, f.1) ]
-
 -- banks of the first memories that no step has used
 pub record AreUnusedTo (table : List MemEntry) (count : ℕ) (banks : List Bank) : Type 0 where
   pub long : length banks ≡ count
   pub free : (memory : ℕ) (b : Bank) → slice_get banks memory ≡ Some b → IsFree table 0 memory b
-
-pub one_more : (table : List MemEntry) (i : ℕ) (e : MemEntry) (b : Bank) (banks banks' : List Bank) → i < length table → e ≡ get_or table i e → banks' ≡ banks ++ b ∷ [] → b.ports ≡ e.shape.ports → b.step ≡ 0
-    → AreUnusedTo table i banks → AreUnusedTo table (i + 1) banks'
-one_more table i e b banks banks' within is added ports step before = record {
-  long = ap length added ∙ (length-append banks (b ∷ []) ∙ ap (λ n. n + 1) before.long);
-  free = λ memory x f. elim (snoc_at banks b x memory (ap (λ l. slice_get l memory) (sym added) ∙ f)) [
-    | inl old ↦ before.free memory x old
-    | inr last ↦ subst (λ (y : Bank). IsFree table 0 memory y) last.1 (fresh memory (last.0 ∙ before.long))
-  ];
-}
-  where
-    fresh : (memory : ℕ) → memory ≡ i → IsFree table 0 memory b
-    fresh memory same = record {
-      ports = ports ∙ (sym (ap entry_ports (slice_get-get_or table i e within ∙ ap Some (sym is))) ∙ ap (λ n. ports_at table n) (sym same));
-      used = omega (arith, step);
-    }
 
 -- variables that were not set
 unset_at : (n i : ℕ) → slice_index_or (replicate n unset_word) i unset_word ≡ unset_word
@@ -175,9 +149,9 @@ pub first_steady : (p : Program) (table : List MemEntry) (memories : List (List 
     → IsRunnable p → IsTable (table_of p) → Fits (table_of p) memories
     → table ≡ table_of p → phases_seen gathered ≡ gathered_in p.body → words ≡ replicate (length p.entities) unset_word → AreUnused table banks → outcome ≡ first_outcome gathered
     → IsSteady (first_run table outcome memories words gathered) banks
-first_steady p table memories gathered words banks outcome h t fits tabled same unset free first =
+first_steady p table memories gathered words banks outcome h t fits tabled same none_yet free first =
     subst (λ (x : List MemEntry). AreUnused x banks → IsSteady (first_run x outcome memories words gathered) banks) (sym tabled)
-    (λ free. subst (λ (ws : List Word). IsSteady (first_run (table_of p) outcome memories ws gathered) banks) (sym unset)
+    (λ free. subst (λ (ws : List Word). IsSteady (first_run (table_of p) outcome memories ws gathered) banks) (sym none_yet)
     (record {
       sound = record { entries = t.entries; small = fits_small (table_of p) memories fits; sized = unset_words (length p.entities) };
       long = free.long;
@@ -193,13 +167,13 @@ stands outcome memories variables threads = record { outcome = outcome; steps = 
 pub first_stands : (p : Program) (table : List MemEntry) (memories : List (List ℕ)) (gathered : List (Vec (Bor Command) Global)) (words : List Word) (outcome : Outcome)
     → IsRunnable p → table ≡ table_of p → phases_seen gathered ≡ gathered_in p.body → words ≡ replicate (length p.entities) unset_word → outcome ≡ first_outcome gathered
     → StandsAt p memories 0 (first_run table outcome memories words gathered)
-first_stands p table memories gathered words outcome h tabled same unset first = record {
+first_stands p table memories gathered words outcome h tabled same none_yet first = record {
   tabled = tabled;
   stands =
       ap (λ o. stands o memories (variables_of words) (phases_of (rest_of gathered) ∷ [])) (first ∙ first_is gathered)
-      ∙ (ap (λ ws. stands (outcome_of (phases_of (rest_of gathered) ∷ [])) memories (variables_of ws) (phases_of (rest_of gathered) ∷ [])) unset
+      ∙ (ap (λ ws. stands (outcome_of (phases_of (rest_of gathered) ∷ [])) memories (variables_of ws) (phases_of (rest_of gathered) ∷ [])) none_yet
       ∙ (ap (λ vs. stands (outcome_of (phases_of (rest_of gathered) ∷ [])) memories vs (phases_of (rest_of gathered) ∷ [])) (none_set (length p.entities))
-      ∙ ap (λ ps. stands (outcome_of (ps ∷ [])) memories Rattle.dh_tree.specs.Effects.unset (ps ∷ [])) (are_meant p h gathered same)));
+      ∙ ap (λ ps. stands (outcome_of (ps ∷ [])) memories unset (ps ∷ [])) (are_meant p h gathered same)));
 }
 
 pub is_ended : (gathered : List (Vec (Bor Command) Global)) (len : ℕ) (empty : Bool) (outcome : Outcome) → len ≡ length gathered → empty ≡ (len == 0) → empty ≡ true → outcome ≡ Ended → outcome ≡ first_outcome gathered

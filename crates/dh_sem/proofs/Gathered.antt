@@ -12,7 +12,7 @@ use Rattle.dh_tree.specs.PlainTrees.{Action, Actions, no_actions, action_then}
 use Rattle.dh_tree.specs.Phases.{Phase, straight, one_straight, joined}
 use Rattle.dh_tree.specs.Seen.{actions, groups, action_seen, action_form_seen, part_seen}
 use Rattle.dh_tree.specs.declared.trees.commands.Command.{Command}
-use Rattle.dh_sem.specs.Straight.{form_straight_phases, groups_straight_phases, parts_straight_phases, commands_in, gathered_in, phase_seen, phases_seen, one_phase, done_by, current_after, gathered, part_gathered, parts_gathered}
+use Rattle.dh_sem.specs.Straight.{form_straight_phases, groups_straight_phases, parts_straight_phases, commands_in, gathered_in, phase_seen, one_phase, done_by, current_after, gathered, part_gathered, parts_gathered}
 
 pub map_append : {A B : Type 0} (f : A → B) (xs ys : List A) → map f (xs ++ ys) ≡ map f xs ++ map f ys
 map_append f [] ys = refl

@@ -7,7 +7,7 @@ use Rattle.dh_tree.specs.declared.breaches.Breach.{Breach}
 use Rattle.dh_tree.specs.PlainTrees.{Action, action, ActionForm, lets, lets_memory, views, assigns, stores, reduces, calls, blocks, decides, repeats, counts, MaybeAction, no_action, one_action, Actions, no_actions, action_then, Groups, no_groups, group_then}
 use Rattle.dh_tree.specs.Phases.{Phase, straight, are_straight, one_straight, one_command, phases, form_phases, other_phases, joined, parts_phases, groups_phases}
 use Rattle.dh_tree.specs.Forms.{unbuilt, has_dashes, holds_steps, form_holds, other_holds, groups_hold, part_holds}
-use Rattle.dh_tree.specs.UncheckedForms.{unchecked_term, unchecked_action, unchecked_form, unchecked_other, unchecked_groups, unchecked_part}
+use Rattle.dh_tree.specs.UncheckedForms.{unchecked_action, unchecked_form, unchecked_groups, unchecked_part}
 use Rattle.dh_tree.proofs.UncheckedBuilt.{first_none, second_none, not_none}
 use Rattle.dh_sem.specs.Straight.{straight_phases, form_straight_phases, groups_straight_phases, parts_straight_phases}
 

@@ -4,7 +4,7 @@ use Rattle.std.specs.Prelude.{ℕ, List, [], ◌∷◌, ◌++◌, map, Vec}
 use Rattle.std.specs.Global.{Global}
 use denote.Ref.{Bor}
 use Rattle.dh_base.specs.declared.places.Place.{Place}
-use Rattle.dh_tree.specs.PlainTrees.{Action, action, ActionForm, lets, lets_memory, views, assigns, stores, reduces, calls, blocks, decides, repeats, counts, Actions, no_actions, action_then}
+use Rattle.dh_tree.specs.PlainTrees.{Action, action, ActionForm, lets, assigns, stores, blocks, decides, Actions, no_actions, action_then}
 use Rattle.dh_tree.specs.PlainTrees as plain
 use Rattle.dh_tree.specs.Phases.{Phase, straight, joined, one_command}
 use Rattle.dh_tree.specs.Seen.{action_seen}

@@ -1,5 +1,5 @@
 -- What the run begins with is steady, and stands as the program does before its first step.
-use Rattle.std.proofs.Common.{◌≡◌, length, replicate, sym, ap, subst, ◌∙◌}
+use Rattle.std.proofs.Common.{◌≡◌, length, replicate, ap, ◌∙◌}
 use Rattle.dh_tree.specs.declared.trees.programs.Tree.{Tree}
 use Rattle.dh_tree.specs.Meaning.{table_of}
 use Rattle.dh_tree.specs.Seen.{action_seen, program_seen}
