@@ -5,3 +5,4 @@ pub mod Scenes
 pub mod Weights
 pub mod States
 pub mod Runs
+pub mod Advances
