@@ -9,3 +9,6 @@ pub mod Undoing
 pub mod Making
 pub mod Ran
 pub mod RunLoops
+pub mod Advanced
+pub mod SmallWrites
+pub mod StandsOn

@@ -1,5 +1,5 @@
 -- What the commands of a phase do in a step, from a state in which no bank was used by it.
-use Rattle.std.specs.Prelude.{◌≡◌, ℕ, ◌+◌, ◌<◌, List, [], Some, None, slice_get, Unit, Result, Ok, Err}
+use Rattle.std.specs.Prelude.{◌≡◌, ℕ, ◌+◌, ◌<◌, List, [], Some, None, slice_get, Result, Ok, Err}
 use Rattle.dh_tree.specs.declared.tables.MemEntry.{MemEntry}
 use Rattle.dh_tree.specs.Elements.{ports_at}
 use Rattle.dh_tree.specs.Tree.{Commands}

@@ -1,6 +1,6 @@
 //! One logical step.
 
-ghost use Rattle.std.specs.Prelude.{◌≡◌, ◌<◌, if◌then◌else◌, length, map};
+ghost use Rattle.std.specs.Prelude.{◌≡◌, ◌<◌, ◌==◌, if◌then◌else◌, length, map};
 ghost use Rattle.dh_base.specs.declared.outcomes.Outcome.TheVariants.{Going, Ended};
 ghost use Rattle.dh_tree.specs.Meaning.{commands_meant};
 ghost use Rattle.dh_tree.specs.Seen.{action_seen};
