@@ -12,3 +12,4 @@ pub mod RunLoops
 pub mod Advanced
 pub mod SmallWrites
 pub mod StandsOn
+pub mod RunParts

@@ -1,16 +1,15 @@
 -- Commands that are run one after the other.
-use Rattle.std.proofs.Common.{◌≡◌, ℕ, zero, suc, ◌+◌, ◌<◌, ◌≤◌, Bool, true, false, List, [], ◌∷◌, ◌++◌, length, map, drop, get_or, Ok, Err, Option, Some, None, refl, ap, sym, ◌∙◌, subst, arith, append_assoc, append-nil}
+use Rattle.std.proofs.Common.{◌≡◌, ℕ, true, false, List, [], ◌∷◌, ◌++◌, Err, refl, ap, sym, ◌∙◌, subst, append_assoc, append-nil}
 use Rattle.std.specs.Prelude.{Result}
-use Rattle.std.proofs.lemmas.List.{drop_all}
 use Rattle.dh_tree.specs.declared.tables.MemEntry.{MemEntry}
 use Rattle.dh_tree.specs.PlainTrees.{Action, action, ActionForm, lets, lets_memory, views, assigns, stores, reduces, calls, blocks, decides, repeats, counts, Actions, no_actions, action_then, Groups, no_groups, group_then}
 use Rattle.dh_tree.specs.Tree.{Command, store, assign, choose, Commands, no_commands, command}
-use Rattle.dh_tree.specs.Meaning.{action_meant, action_form_meant, part_meant, groups_meant, commands_meant}
+use Rattle.dh_tree.specs.Meaning.{action_meant, action_form_meant, part_meant, groups_meant}
 use Rattle.dh_tree.specs.Effects.{Event, Effect, at_each, stored_at, assigned_at, tested_at, command_run, commands_run, outer_paths, paths_where, holds_at, stop_after}
 use Rattle.dh_sem.specs.declared.running.State.{State}
 use Rattle.dh_sem.specs.declared.evaluating.Stop.{Stop}
 use Rattle.dh_sem.specs.declared.evaluating.Stop.TheVariants as stop
-use Rattle.dh_sem.specs.States.{AreRunnable, IsReady, KeepsBack, Keeps, Ends}
+use Rattle.dh_sem.specs.States.{Ends}
 use Rattle.dh_sem.proofs.BanksSpent.{stop_stays}
 
 module _ (table : List MemEntry) (memories : List (List ℕ)) (paths : List (List ℕ)) where
@@ -35,7 +34,7 @@ module _ (table : List MemEntry) (memories : List (List ℕ)) (paths : List (Lis
     form_then (repeats test body) rest e = refl
     form_then (counts iterator declared low high factor body combine combine_place) rest e = refl
 
-    part_then : (parts : Actions) (rest : Commands) (e : Effect) → after (part_meant parts rest) e ≡ after rest (after (part_meant parts no_commands) e)
+    pub part_then : (parts : Actions) (rest : Commands) (e : Effect) → after (part_meant parts rest) e ≡ after rest (after (part_meant parts no_commands) e)
     part_then no_actions rest e = refl
     part_then (action_then a behind) rest e =
         run_then a (part_meant behind rest) e

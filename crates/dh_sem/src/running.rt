@@ -1,14 +1,15 @@
 //! What commands do in a logical step.
 
-ghost use Rattle.std.specs.Prelude.{◌≡◌, ℕ, ◌<◌, ◌++◌, [], ◌∷◌, ℤ, List, Option, Some, None, IfOk, OnOk, length, map, slice_set};
+ghost use Rattle.std.specs.Prelude.{◌≡◌, ℕ, ◌<◌, ◌++◌, [], ◌∷◌, ℤ, false, List, Option, Some, None, IfOk, OnOk, length, map, slice_set};
 ghost use Rattle.std.specs.List.{AllByRecursion};
+ghost use Rattle.dh_value.specs.declared.kinds.Kind.{Kind};
 ghost use Rattle.dh_value.specs.Words.{IsWord, value_of as word_value};
-ghost use Rattle.dh_tree.specs.Effects.{Effect, value_of, with_events, access_made, writes, kept_bits, Event, set_variable, assigned_at, stored_at, commands_run, outer_paths};
-ghost use Rattle.dh_tree.specs.Meaning.{term_meant, terms_meant, store_meant, action_meant, commands_meant, entity_number};
+ghost use Rattle.dh_tree.specs.Effects.{Effect, value_of, with_events, access_made, writes, kept_bits, Event, set_variable, assigned_at, stored_at, commands_run, outer_paths, holds_at, tested_at};
+ghost use Rattle.dh_tree.specs.Meaning.{term_meant, terms_meant, store_meant, action_meant, part_meant, groups_meant, commands_meant, entity_number};
 ghost use Rattle.dh_tree.specs.PlainTrees as plain;
-ghost use Rattle.dh_tree.specs.Seen.{term_seen, terms, action_seen};
+ghost use Rattle.dh_tree.specs.Seen.{term_seen, terms, action_seen, part_seen, groups, actions};
 ghost use Rattle.dh_tree.specs.Suited.{IsSuited, AreSuited};
-ghost use Rattle.dh_tree.specs.Tree.{no_commands, command as one_command};
+ghost use Rattle.dh_tree.specs.Tree.{number as number_term, no_commands, command as one_command};
 ghost use Rattle.dh_sem.specs.Rows.{sole_of, row_found, contents_of};
 ghost use Rattle.dh_sem.specs.Scenes.{Spends, unset_word};
 ghost use Rattle.dh_tree.specs.Elements.{dims_at};
@@ -196,6 +197,36 @@ fn store(scene: &Scene<'_>, state: &mut State, target: &Expr, value: &Expr) -> R
     }
 }
 
+/// Evaluates the test of an `if`.
+fn decide(scene: &Scene<'_>, state: &mut State, test: &Expr) -> Result<bool, Stop>
+    requires ready { IsReady scene.now.entries.now (contents_of scene.now.memories.now) state.old }
+    requires suited { IsSuited scene.now.entries.now (term_meant (term_seen test.now)) }
+    ensures ready { IsReady scene.now.entries.now (contents_of scene.now.memories.now) state.new }
+    ensures back { KeepsBack state.old state.new }
+    ensures holds { (e : Effect) → Keeps scene.now.entries.now e scene.now.step state.old → IfOk result (λ b. holds_at scene.now.entries.now (contents_of scene.now.memories.now) e.variables (term_meant (term_seen test.now)) [] ≡ b) }
+    ensures ran { (e : Effect) → Keeps scene.now.entries.now e scene.now.step state.old → Ends scene.now.entries.now (tested_at scene.now.entries.now (contents_of scene.now.memories.now) (term_meant (term_seen test.now)) [] e) scene.now.step result state.new }
+{
+    let word = evaluate(
+        scene,
+        state.variables.as_slice(),
+        state.banks.as_mut_slice(),
+        test,
+    )?;
+    Ok(word.bits == 1)
+}
+
+/// Sets a variable without a right side to 0 or false.
+fn start(scene: &Scene<'_>, state: &mut State, name: &Ref) -> Result<(), Stop>
+    requires ready { IsReady scene.now.entries.now (contents_of scene.now.memories.now) state.old }
+    requires entity { entity_number name.now.entity < length state.old.variables.items }
+    ensures ready { IsReady scene.now.entries.now (contents_of scene.now.memories.now) state.new }
+    ensures back { KeepsBack state.old state.new }
+    ensures ran { (e : Effect) (k : Kind) → Keeps scene.now.entries.now e scene.now.step state.old → Ends scene.now.entries.now (assigned_at scene.now.entries.now (contents_of scene.now.memories.now) 0 (entity_number name.now.entity) (number_term k false 0) [] e) scene.now.step result state.new }
+{
+    set(state, entity_of(name), UNSET)?;
+    Ok(())
+}
+
 /// Runs a command.
 #[cycle(run)]
 #[tactic(auto, using(dh_tree::proofs::SeenActions::actions_are))]
@@ -209,18 +240,12 @@ pub fn run(scene: &Scene<'_>, state: &mut State, command: &Command) -> Result<()
     match &command.form {
         CommandForm::Let { name, value, .. } => match value {
             Some(value) => assign(scene, state, name, value),
-            None => Ok(set(state, entity_of(name), UNSET)?),
+            None => start(scene, state, name),
         },
         CommandForm::Assign { target, value } => assign(scene, state, target, value),
         CommandForm::Store { target, value } => store(scene, state, target, value),
         CommandForm::If { test, then, other } => {
-            let word = evaluate(
-                scene,
-                state.variables.as_slice(),
-                state.banks.as_mut_slice(),
-                test,
-            )?;
-            if word.bits == 1 {
+            if decide(scene, state, test)? {
                 run(scene, state, then)
             } else {
                 match other {
@@ -229,14 +254,7 @@ pub fn run(scene: &Scene<'_>, state: &mut State, command: &Command) -> Result<()
                 }
             }
         }
-        CommandForm::Block { body } => {
-            for part in body {
-                for inner in part {
-                    run(scene, state, inner)?;
-                }
-            }
-            Ok(())
-        }
+        CommandForm::Block { body } => run_block(scene, state, body.as_slice()),
         CommandForm::LetMemory { .. }
         | CommandForm::View { .. }
         | CommandForm::Reduce { .. }
@@ -244,6 +262,38 @@ pub fn run(scene: &Scene<'_>, state: &mut State, command: &Command) -> Result<()
         | CommandForm::While { .. }
         | CommandForm::For { .. } => Ok(()),
     }
+}
+
+/// Runs the parts of a block, in order.
+#[cycle(run)]
+#[tactic(auto, using(dh_tree::proofs::SeenActions::actions_are))]
+fn run_block(scene: &Scene<'_>, state: &mut State, body: &[Vec<Command>]) -> Result<(), Stop>
+    requires ready { IsReady scene.now.entries.now (contents_of scene.now.memories.now) state.old }
+    requires runnable { AreRunnable scene.now.entries.now (length state.old.variables.items) (groups_meant (groups (map part_seen body.now)) no_commands) }
+    ensures ready { IsReady scene.now.entries.now (contents_of scene.now.memories.now) state.new }
+    ensures back { KeepsBack state.old state.new }
+    ensures ran { (e : Effect) → Keeps scene.now.entries.now e scene.now.step state.old → Ends scene.now.entries.now (commands_run scene.now.entries.now (contents_of scene.now.memories.now) outer_paths (groups_meant (groups (map part_seen body.now)) no_commands) e) scene.now.step result state.new }
+{
+    for part in body {
+        run_part(scene, state, part.as_slice())?;
+    }
+    Ok(())
+}
+
+/// Runs the commands of a part, in order.
+#[cycle(run)]
+#[tactic(auto, using(dh_tree::proofs::SeenActions::actions_are))]
+fn run_part(scene: &Scene<'_>, state: &mut State, part: &[Command]) -> Result<(), Stop>
+    requires ready { IsReady scene.now.entries.now (contents_of scene.now.memories.now) state.old }
+    requires runnable { AreRunnable scene.now.entries.now (length state.old.variables.items) (part_meant (actions (map action_seen part.now)) no_commands) }
+    ensures ready { IsReady scene.now.entries.now (contents_of scene.now.memories.now) state.new }
+    ensures back { KeepsBack state.old state.new }
+    ensures ran { (e : Effect) → Keeps scene.now.entries.now e scene.now.step state.old → Ends scene.now.entries.now (commands_run scene.now.entries.now (contents_of scene.now.memories.now) outer_paths (part_meant (actions (map action_seen part.now)) no_commands) e) scene.now.step result state.new }
+{
+    for command in part {
+        run(scene, state, command)?;
+    }
+    Ok(())
 }
 
 /// Runs the commands of a phase, in order.

@@ -1,4 +1,4 @@
-use Rattle.std.proofs.Common.{◌≡◌, ap, sym, subst, ◌∙◌, Ok, Err, ℕ, ◌<◌, List, length, refl, [], ◌∷◌, ◌++◌}
+use Rattle.std.proofs.Common.{ap, sym, subst, ◌∙◌, Err, ℕ, ◌<◌, List, length, [], ◌++◌}
 use Rattle.std.specs.Prelude.{Vec, slice_set}
 use Rattle.std.specs.Global.{Global}
 use Rattle.std.proofs.lemmas.List.{with_items_is}

@@ -1,10 +1,9 @@
-use Rattle.std.proofs.Common.{◌≡◌, ap, sym, subst, ◌∙◌, Ok, Err, Bool, ℕ, length, get_or, [], ◌∷◌, ◌++◌}
-use Rattle.std.specs.Prelude.{Result, slice_set}
+use Rattle.std.proofs.Common.{ap, sym, subst, ◌∙◌, Err, ℕ, [], ◌∷◌, ◌++◌}
+use Rattle.std.specs.Prelude.{slice_set}
 use Rattle.std.proofs.lemmas.Result.{err_from_is_err_and}
 use Rattle.dh_tree.specs.Effects.{writes, access_made}
 use Rattle.dh_sem.specs.declared.evaluating.Stop.{Stop}
 use Rattle.dh_sem.specs.Scenes.{Spends}
-use Rattle.dh_sem.specs.Spent.{rows_now, left_now, WritesRow}
 use Rattle.dh_sem.proofs.RowAccesses.{fault_stops, write_on, write_full, no_entry}
 use Rattle.dh_sem.proofs.running.claim.Goals as goal
 

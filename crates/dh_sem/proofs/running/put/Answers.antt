@@ -1,11 +1,10 @@
-use Rattle.std.proofs.Common.{◌≡◌, ap, sym, subst, ◌∙◌, Ok, Err, Bool, ℕ, List, refl, length, get_or, [], ◌∷◌, ◌++◌}
+use Rattle.std.proofs.Common.{ap, sym, subst, ◌∙◌, Err, ℕ, List, refl, [], ◌∷◌, ◌++◌}
 use Rattle.std.proofs.lemmas.Result.{err_from_is_err_and}
 use Rattle.std.proofs.lemmas.List.{with_items_is}
 use Rattle.dh_tree.specs.Effects.{kept_bits, writes, access_made, with_events}
 use Rattle.dh_sem.specs.declared.spending.Bank.{Bank}
 use Rattle.dh_sem.specs.Spent.{HaveSpent}
 use Rattle.dh_sem.proofs.Ran.{ends_early, put_writes}
-use Rattle.dh_sem.proofs.RowAccesses.{no_entry}
 use Rattle.dh_sem.proofs.running.put.Goals as goal
 
 pub returns-in_err-position-clause-ran : goal.returns-in_err-position-clause-ran
