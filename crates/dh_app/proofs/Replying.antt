@@ -22,14 +22,15 @@ use Rattle.dh_net.specs.declared.nets.Net.{Net}
 use Rattle.dh_net.specs.Plays.{IsStuck}
 use Rattle.dh_net.proofs.Reporting.{reports_by}
 use Rattle.dh_compile.specs.Compiled.{PlaysProgram}
-use Rattle.dh_data.specs.ThinData.{ReadsAs, IsDataOf}
-use Rattle.serde_json.specs.Data.{Data}
+use Rattle.dh_data.specs.DataFiles.{Means, Holds, IfTold}
+use Rattle.dh_data.specs.declared.data_files.DataFault.{DataFault}
+use Rattle.dh_data.specs.declared.data_files.DataFault.TheVariants as fault
 use Rattle.dh_base.specs.declared.lists.NoMemory.{NoMemory}
 use Rattle.std.specs.declared.alloc.Global.{Global}
 use Rattle.dh_app.specs.Engines.{AnswersTo, AreRuns}
-use Rattle.dh_app.specs.Ends.{most_clocks, Names, NamesCheck, NamesLower, NamesProgram, MayRead, IsTooLong, FailsToRead, ComesTo, IsProgram, IsData, IsNoData, status_of, ending_of, IsReport, Reported, Answers, verdict_line, verdict_status}
-use Rattle.dh_app.specs.Lines.{not_json_line}
-use Rattle.dh_app.specs.Replies.{AnswersLine, AnswersWith, Replies, IsRefusal, ProgramOf, ProgramRead, DataOf, DataRead, RunReplies, ReportsFirst, LowerReplies, CheckReplies}
+use Rattle.dh_app.specs.Ends.{most_clocks, Names, NamesCheck, NamesLower, NamesProgram, MayRead, IsTooLong, FailsToRead, ComesTo, IsProgram, IsData, IsBadData, status_of, ending_of, IsReport, Reported, Answers, verdict_line, verdict_status}
+use Rattle.dh_app.specs.Lines.{bad_data_line}
+use Rattle.dh_app.specs.Replies.{AnswersLine, AnswersWith, WritesFault, Replies, IsRefusal, ProgramOf, ProgramRead, DataOf, DataRead, RunReplies, ReportsFirst, LowerReplies, CheckReplies}
 use Rattle.dh_app.specs.declared.engine.Finish.{Finish}
 use Rattle.dh_app.specs.declared.running.Answer.{Answer}
 use Rattle.dh_app.specs.declared.running.Reply.{Reply}
@@ -54,7 +55,7 @@ pub data_read : (old new : FilesSeen) (name bytes : List ℕ) (table : List MemE
     → DataOf bytes table r → DataRead old new name table r
 data_read old new name bytes table (Ok memories) m l h = (record { bytes = bytes; read = record { contents = m; within = l }; holds = h.0; only = h.1.0 }, h.1.1)
 data_read old new name bytes table (Err (reply.Answer a)) m l h =
-    inr (record { none = record { bytes = bytes; read = record { contents = m; within = l }; holds_none = h.holds_none }; status_is = h.status_is; text_is = h.text_is })
+    inr (record { fault = h.fault; bad_data = record { bytes = bytes; read = record { contents = m; within = l }; means = h.means; only = h.only }; status_is = h.status_is; text_is = h.text_is })
 data_read old new name bytes table (Err reply.ReadFault) m l h = absurd h
 data_read old new name bytes table (Err reply.NoMemory) m l h = tt
 
@@ -87,8 +88,8 @@ fails_before old mid new name k (inr a) = let P : Told → Type 0 = IsAbsent in 
 data_before : (old mid : FilesSeen) (name : List ℕ) (table : List MemEntry) (memories : List (List ℕ)) → KeepsFiles old mid → IsData mid name table memories → IsData old name table memories
 data_before old mid name table memories k h = record { bytes = h.bytes; read = read_before old mid name limit.Data h.bytes k h.read; holds = h.holds; only = h.only }
 
-no_data_before : (old mid : FilesSeen) (name : List ℕ) (table : List MemEntry) → KeepsFiles old mid → IsNoData mid name table → IsNoData old name table
-no_data_before old mid name table k h = record { bytes = h.bytes; read = read_before old mid name limit.Data h.bytes k h.read; holds_none = h.holds_none }
+bad_data_before : (old mid : FilesSeen) (name : List ℕ) (table : List MemEntry) (f : DataFault) → KeepsFiles old mid → IsBadData mid name table f → IsBadData old name table f
+bad_data_before old mid name table f k h = record { bytes = h.bytes; read = read_before old mid name limit.Data h.bytes k h.read; means = h.means; only = h.only }
 
 -- a report's status is that of an outcome
 report_answers : (words : List (List ℕ)) (old new : FilesSeen) (exact : Bool) (answers : List Finish) (o : Outcome) (text : List ℕ) → (IsStuck o → ⊥)
@@ -150,7 +151,7 @@ no_memories old mid new file data_ p exact answers (reply.Answer a) k program (i
     (inr (inr (record { file = file; data_ = data_; names = names; program = p; is_program = program; too_long = long_before old mid new data_ limit.Data k h.long; text_is = h.text_is })))
 no_memories old mid new file data_ p exact answers (reply.Answer a) k program (inr h) words names =
     with_status words old new exact answers a status.BadData h.status_is
-    (record { file = file; data_ = data_; names = names; program = p; is_program = program; no_data = no_data_before old mid data_ (table_of p) k h.none; text_is = h.text_is })
+    (record { file = file; data_ = data_; names = names; program = p; is_program = program; fault = h.fault; bad_data = bad_data_before old mid data_ (table_of p) h.fault k h.bad_data; text_is = h.text_is })
 no_memories old mid new file data_ p exact answers reply.ReadFault k program h words names =
     inr (record { file = file; data_ = data_; names = names; program = p; is_program = program; fails = fails_before old mid new data_ k h })
 no_memories old mid new file data_ p exact answers reply.NoMemory k program h words names = tt
@@ -207,8 +208,32 @@ with_line s text (Err f) (reply.Answer a) e h = absurd h
 with_line s text (Err f) reply.ReadFault e h = absurd h
 with_line s text (Err f) reply.NoMemory e h = tt
 
--- bytes that hold no memories
-pub bad_bytes : (bytes : List ℕ) (table : List MemEntry) (r : Reply) → ((d : Data) (m : List (List ℕ)) → ReadsAs bytes d → IsDataOf table d m → ⊥) → AnswersLine status.BadData not_json_line r → DataOf bytes table (Err r)
-bad_bytes bytes table (reply.Answer a) h l = record { holds_none = λ m held. h held.0 m held.1.0 held.1.1; status_is = l.0; text_is = l.1 }
-bad_bytes bytes table reply.ReadFault h l = absurd l
-bad_bytes bytes table reply.NoMemory h l = tt
+-- bytes with a fault, whose line is the answer
+bad_line : (bytes : List ℕ) (table : List MemEntry) (f : DataFault) (r : Reply) → Means table bytes (Err f) → ((other : Result (List (List ℕ)) DataFault) → Means table bytes other → other ≡ Err f)
+    → AnswersLine status.BadData (bad_data_line table f) r → DataOf bytes table (Err r)
+bad_line bytes table f (reply.Answer a) h g l = record { fault = f; means = h; only = g; status_is = l.0; text_is = l.1 }
+bad_line bytes table f reply.ReadFault h g l = absurd l
+bad_line bytes table f reply.NoMemory h g l = tt
+
+no_line : (bytes : List ℕ) (table : List MemEntry) (line : Result (Vec ℕ Global) NoMemory) (r : Reply) → IfOk line (λ v. ⊥) → AnswersWith status.BadData line r → DataOf bytes table (Err r)
+no_line bytes table (Ok v) r w l = absurd w
+no_line bytes table (Err e) (reply.Answer a) w l = absurd l
+no_line bytes table (Err e) reply.ReadFault w l = absurd l
+no_line bytes table (Err e) reply.NoMemory w l = tt
+
+pub bad_bytes : (bytes : List ℕ) (table : List MemEntry) (f : DataFault) (line : Result (Vec ℕ Global) NoMemory) (r : Reply) → IfTold {A = List (List ℕ)} (Err f) (Means table bytes (Err f))
+    → ((other : Result (List (List ℕ)) DataFault) → Means table bytes other → IfTold {A = List (List ℕ)} (Err f) (other ≡ Err f)) → WritesFault table f line → AnswersWith status.BadData line r → DataOf bytes table (Err r)
+bad_bytes bytes table fault.NotJson line r h g w l = bad_line bytes table fault.NotJson r h g (with_line status.BadData (bad_data_line table fault.NotJson) line r w l)
+bad_bytes bytes table (fault.Missing i) line r h g w l = bad_line bytes table (fault.Missing i) r h g (with_line status.BadData (bad_data_line table (fault.Missing i)) line r w l)
+bad_bytes bytes table (fault.Unknown n) line r h g w l = bad_line bytes table (fault.Unknown n) r h g (with_line status.BadData (bad_data_line table (fault.Unknown n)) line r w l)
+bad_bytes bytes table (fault.Format i) line r h g w l = bad_line bytes table (fault.Format i) r h g (with_line status.BadData (bad_data_line table (fault.Format i)) line r w l)
+bad_bytes bytes table (fault.Size i) line r h g w l = bad_line bytes table (fault.Size i) r h g (with_line status.BadData (bad_data_line table (fault.Size i)) line r w l)
+bad_bytes bytes table (fault.Value i p) line r h g w l = bad_line bytes table (fault.Value i p) r h g (with_line status.BadData (bad_data_line table (fault.Value i p)) line r w l)
+bad_bytes bytes table fault.NoMemory line r h g w l = no_line bytes table line r w l
+
+-- bytes with contents
+pub good_bytes : (bytes : List ℕ) (table : List MemEntry) (m : List (List ℕ)) → Means table bytes (Ok m) → ((other : Result (List (List ℕ)) DataFault) → Means table bytes other → other ≡ Ok m) → Fits table m → DataOf bytes table (Ok m)
+good_bytes bytes table m h g f = (h, (λ others held. same_ok others m (g (Ok others) held), f))
+  where
+    same_ok : (a b : List (List ℕ)) → ◌≡◌ {A = Result (List (List ℕ)) DataFault} (Ok a) (Ok b) → a ≡ b
+    same_ok a b e = cc

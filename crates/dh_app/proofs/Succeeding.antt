@@ -1,7 +1,7 @@
 -- A call in whose way nothing stands writes its whole answer. Each other status is ruled out by its own
 -- case: the words name one job and its files, the files are read as they are, a text comes to one
 -- verdict, and the data hold one list of memories.
-use Rattle.std.proofs.Common.{◌≡◌, ℕ, ◌<◌, ◌≤◌, ◌⊎◌, Bool, List, [], ◌∷◌, length, get_or, Option, Some, None, refl, sym, ap, ◌∙◌, arith, subst, inl, inr}
+use Rattle.std.proofs.Common.{◌≡◌, ℕ, ◌<◌, ◌≤◌, ◌⊎◌, Bool, List, [], ◌∷◌, length, get_or, Option, Some, None, Ok, is_ok, true≢false, refl, sym, ap, ◌∙◌, arith, subst, inl, inr}
 use Rattle.dh_base.specs.Limits.{greatest_of}
 use Rattle.dh_base.specs.Outside as outside
 use Rattle.dh_base.specs.Outside.{Told, FilesSeen, SinkSeen, Rose, MayBe, IsAbsent, MayExceed, Grew}
@@ -14,7 +14,7 @@ use Rattle.dh_tree.specs.declared.tables.MemEntry.{MemEntry}
 use Rattle.dh_check.specs.Verdicts.{Verdict, accepts, refuses, exceeds, Judged}
 use Rattle.dh_compile.specs.Compiled.{PlaysProgram}
 use Rattle.dh_verilog.specs.Ranges.{IsAlone}
-use Rattle.dh_data.specs.ThinData.{Holds}
+use Rattle.dh_data.specs.DataFiles.{Holds}
 use Rattle.dh_data.specs.Reports.{report_text}
 use Rattle.dh_app.specs.Words.{job_of}
 use Rattle.dh_app.specs.Lines.{ok_line, refused_line, too_large_line}
@@ -180,7 +180,7 @@ module _ (words : List (List ℕ)) (old new : FilesSeen) (before after : SinkSee
   whole status.BadData w =
       let a = w.answer in
       let e = program_is a.file a.data_ a.names a.program a.is_program in
-      absurd (a.no_data.holds_none memories (held_by a.program a.no_data.bytes e (bytes_is a.file a.data_ a.names a.no_data.bytes a.no_data.read)))
+      absurd (true≢false (ap is_ok (a.bad_data.only (Ok memories) (held_by a.program a.bad_data.bytes e (bytes_is a.file a.data_ a.names a.bad_data.bytes a.bad_data.read)))))
   whole status.TooLarge w = absurd (too_large w.text w.answer)
   whole status.ReadFault w = absurd (read_fails w.0)
   whole status.WriteFault w = absurd (n.writes w.1)

@@ -1,7 +1,7 @@
 -- How a call of the program ends: for each status what is the case and what was written. The cases
 -- exclude one another, so each status comes exactly where its case holds, but where reading or writing
 -- failed or memory was refused.
-use Rattle.std.specs.Prelude.{◌≡◌, ℕ, ◌+◌, ◌≤◌, ◌⊎◌, Bool, true, List, [], ◌∷◌, length, slice_index_or, Some, None}
+use Rattle.std.specs.Prelude.{◌≡◌, ℕ, ◌+◌, ◌≤◌, ◌⊎◌, Bool, true, List, [], ◌∷◌, length, slice_index_or, Some, None, Result, Err}
 use Rattle.dh_base.specs.Limits.{greatest_of}
 use Rattle.dh_base.specs.Outside as outside
 use Rattle.dh_base.specs.Outside.{FilesSeen, SinkSeen, Rose, RoseBy, MayBe, IsAbsent, MayExceed, Grew, GrewByPart}
@@ -24,11 +24,12 @@ use Rattle.dh_net.specs.declared.nets.Net.{Net}
 use Rattle.dh_compile.specs.Compiled.{PlaysProgram, run_of}
 use Rattle.dh_verilog.specs.Ranges.{IsAlone}
 use Rattle.dh_verilog.specs.Text.{text_of}
-use Rattle.dh_data.specs.ThinData.{Holds}
+use Rattle.dh_data.specs.DataFiles.{Holds, Means}
+use Rattle.dh_data.specs.declared.data_files.DataFault.{DataFault}
 use Rattle.dh_data.specs.Reports.{report_text}
 use Rattle.dh_data.specs.declared.reports.Ending.{Ending}
 use Rattle.dh_app.specs.Words.{job_of}
-use Rattle.dh_app.specs.Lines.{usage_line, ok_line, refused_line, too_large_line, not_json_line}
+use Rattle.dh_app.specs.Lines.{usage_line, ok_line, refused_line, too_large_line, bad_data_line}
 use Rattle.dh_app.specs.declared.engine.Finish.{Finish}
 use Rattle.dh_app.specs.declared.words.Job.TheVariants.{Check, Lower, Simulate}
 
@@ -91,11 +92,12 @@ pub record IsData (files : FilesSeen) (data_ : List ℕ) (table : List MemEntry)
   pub holds : Holds table bytes memories
   pub only : (others : List (List ℕ)) → Holds table bytes others → others ≡ memories
 
--- the file holds no memories of the table
-pub record IsNoData (files : FilesSeen) (data_ : List ℕ) (table : List MemEntry) : Type 0 where
+-- the file has this fault for the table, the first one, and so it means nothing else
+pub record IsBadData (files : FilesSeen) (data_ : List ℕ) (table : List MemEntry) (fault : DataFault) : Type 0 where
   pub bytes : List ℕ
   pub read : MayRead files data_ limit.Data bytes
-  pub holds_none : (memories : List (List ℕ)) → Holds table bytes memories → ⊥
+  pub means : Means table bytes (Err fault)
+  pub only : (other : Result (List (List ℕ)) DataFault) → Means table bytes other → other ≡ Err fault
 
 abbrev pub status_of : Outcome → Status
 status_of outcome.Going = status.Going
@@ -185,8 +187,9 @@ pub record HasBadData (words : List (List ℕ)) (files : FilesSeen) (text : List
   pub names : Names words file data_
   pub program : Program
   pub is_program : IsProgram files file program
-  pub no_data : IsNoData files data_ (table_of program)
-  pub text_is : text ≡ not_json_line
+  pub fault : DataFault
+  pub bad_data : IsBadData files data_ (table_of program) fault
+  pub text_is : text ≡ bad_data_line (table_of program) fault
 
 -- this status and this text answer the words
 abbrev pub Answers : List (List ℕ) → (old new : FilesSeen) → (exact : Bool) → List Finish → Status → List ℕ → Type 0

@@ -1,10 +1,16 @@
 -- The lines that the program writes where it writes no report (this project's formats).
-use Rattle.std.specs.Prelude.{ℕ, List, ◌++◌, codes, decimal}
+use Rattle.std.specs.Prelude.{ℕ, List, [], ◌++◌, codes, decimal}
 use Rattle.dh_base.specs.Rules.{number_of, name_of}
 use Rattle.dh_base.specs.Limits.{printed_name}
 use Rattle.dh_base.specs.declared.limits.Limit.{Limit}
 use Rattle.dh_base.specs.declared.places.Place.{Place}
 use Rattle.dh_base.specs.declared.rules.Rule.{Rule}
+use Rattle.serde_json.specs.Data.{string}
+use Rattle.serde_json.specs.Written.{compact_text}
+use Rattle.dh_tree.specs.declared.tables.MemEntry.{MemEntry}
+use Rattle.dh_data.specs.Reports.{name_at}
+use Rattle.dh_data.specs.declared.data_files.DataFault.{DataFault}
+use Rattle.dh_data.specs.declared.data_files.DataFault.TheVariants.{NotJson, Missing, Unknown, Format, Size, Value, NoMemory}
 
 abbrev pub usage_line : List ℕ
 usage_line =
@@ -23,6 +29,24 @@ too_large_line limit count = codes "too large " ++ (printed_name limit ++ (codes
 abbrev pub ok_line : List ℕ
 ok_line = codes "ok\n"
 
--- the data file does not fit the program
-abbrev pub not_json_line : List ℕ
-not_json_line = codes "bad data NotJson\n"
+-- a name as a JSON string, as `serde_json` writes it
+abbrev pub quoted : List ℕ → List ℕ
+quoted name = compact_text (string name)
+
+-- `bad data Missing "A"`
+abbrev pub named_line : (fault name : List ℕ) → List ℕ
+named_line fault name = codes "bad data " ++ (fault ++ (codes " " ++ (quoted name ++ codes "\n")))
+
+-- `bad data Value "A" 3`
+abbrev pub value_line : (name : List ℕ) → (position : ℕ) → List ℕ
+value_line name position = codes "bad data Value " ++ (quoted name ++ (codes " " ++ (decimal position ++ codes "\n")))
+
+-- what is wrong with a data file for a table; want of memory has no line
+abbrev pub bad_data_line : List MemEntry → DataFault → List ℕ
+bad_data_line table NotJson = codes "bad data NotJson\n"
+bad_data_line table (Missing memory) = named_line (codes "Missing") (name_at table memory)
+bad_data_line table (Unknown name) = named_line (codes "Unknown") name
+bad_data_line table (Format memory) = named_line (codes "Format") (name_at table memory)
+bad_data_line table (Size memory) = named_line (codes "Size") (name_at table memory)
+bad_data_line table (Value memory position) = value_line (name_at table memory) position
+bad_data_line table NoMemory = []

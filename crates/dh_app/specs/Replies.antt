@@ -1,5 +1,5 @@
 -- What the parts of the top call promise one another, step by step to what is written.
-use Rattle.std.specs.Prelude.{◌≡◌, ℕ, ◌+◌, ◌⊎◌, Bool, List, [], ◌∷◌, Result, Ok, Err, Vec}
+use Rattle.std.specs.Prelude.{◌≡◌, ℕ, ◌+◌, ◌⊎◌, Bool, List, [], ◌∷◌, Result, Ok, Err, IfOk, Vec}
 use Rattle.std.specs.declared.alloc.Global.{Global}
 use Rattle.dh_base.specs.Limits.{greatest_of}
 use Rattle.dh_base.specs.Outside.{FilesSeen, SinkSeen, Rose, Grew, GrewByPart}
@@ -19,10 +19,12 @@ use Rattle.dh_net.specs.declared.nets.Net.{Net}
 use Rattle.dh_compile.specs.Compiled.{PlaysProgram}
 use Rattle.dh_verilog.specs.Ranges.{IsAlone}
 use Rattle.dh_verilog.specs.Text.{text_of}
-use Rattle.dh_data.specs.ThinData.{Holds}
+use Rattle.dh_data.specs.DataFiles.{Holds, Means}
+use Rattle.dh_data.specs.declared.data_files.DataFault.{DataFault}
+use Rattle.dh_data.specs.declared.data_files.DataFault.TheVariants as fault
 use Rattle.dh_data.specs.Reports.{report_text}
-use Rattle.dh_app.specs.Ends.{IsTooLong, FailsToRead, ComesTo, IsProgram, IsData, IsNoData, IsReport, ReadFails, Answers, status_of, ending_of, verdict_line, verdict_status}
-use Rattle.dh_app.specs.Lines.{ok_line, too_large_line, not_json_line}
+use Rattle.dh_app.specs.Ends.{IsTooLong, FailsToRead, ComesTo, IsProgram, IsData, IsBadData, IsReport, ReadFails, Answers, status_of, ending_of, verdict_line, verdict_status}
+use Rattle.dh_app.specs.Lines.{ok_line, too_large_line, bad_data_line}
 use Rattle.dh_app.specs.declared.engine.Finish.{Finish}
 use Rattle.dh_app.specs.declared.running.Answer.{Answer}
 use Rattle.dh_app.specs.declared.running.Reply.{Reply}
@@ -98,11 +100,23 @@ ProgramRead old new name (Err (reply.Answer a)) = LongFile old new name limit.So
 ProgramRead old new name (Err reply.ReadFault) = FailsToRead old new name
 ProgramRead old new name (Err reply.NoMemory) = Unit {0}
 
--- bytes hold no memories of a table
+-- a line was written of a fault; want of memory has none
+abbrev pub WritesFault : List MemEntry → DataFault → Result (Vec ℕ Global) NoMemory → Type 0
+WritesFault table fault.NotJson line = IfOk line (λ v. v.items ≡ bad_data_line table fault.NotJson)
+WritesFault table (fault.Missing i) line = IfOk line (λ v. v.items ≡ bad_data_line table (fault.Missing i))
+WritesFault table (fault.Unknown name) line = IfOk line (λ v. v.items ≡ bad_data_line table (fault.Unknown name))
+WritesFault table (fault.Format i) line = IfOk line (λ v. v.items ≡ bad_data_line table (fault.Format i))
+WritesFault table (fault.Size i) line = IfOk line (λ v. v.items ≡ bad_data_line table (fault.Size i))
+WritesFault table (fault.Value i position) line = IfOk line (λ v. v.items ≡ bad_data_line table (fault.Value i position))
+WritesFault table fault.NoMemory line = IfOk line (λ v. ⊥)
+
+-- bytes have a fault for a table, whose line is the answer
 pub record BadBytes (bytes : List ℕ) (table : List MemEntry) (a : Answer) : Type 0 where
-  pub holds_none : (memories : List (List ℕ)) → Holds table bytes memories → ⊥
+  pub fault : DataFault
+  pub means : Means table bytes (Err fault)
+  pub only : (other : Result (List (List ℕ)) DataFault) → Means table bytes other → other ≡ Err fault
   pub status_is : a.status ≡ status.BadData
-  pub text_is : a.text.items ≡ not_json_line
+  pub text_is : a.text.items ≡ bad_data_line table fault
 
 abbrev pub DataOf : List ℕ → List MemEntry → Result (List (List ℕ)) Reply → Type 0
 DataOf bytes table (Ok m) = Holds table bytes m × (((others : List (List ℕ)) → Holds table bytes others → others ≡ m) × Fits table m)
@@ -110,11 +124,12 @@ DataOf bytes table (Err (reply.Answer a)) = BadBytes bytes table a
 DataOf bytes table (Err reply.ReadFault) = ⊥
 DataOf bytes table (Err reply.NoMemory) = Unit {0}
 
--- a file holds no memories of a table
+-- a file has a fault for a table, whose line is the answer
 pub record BadFile (old : FilesSeen) (name : List ℕ) (table : List MemEntry) (a : Answer) : Type 0 where
-  pub none : IsNoData old name table
+  pub fault : DataFault
+  pub bad_data : IsBadData old name table fault
   pub status_is : a.status ≡ status.BadData
-  pub text_is : a.text.items ≡ not_json_line
+  pub text_is : a.text.items ≡ bad_data_line table fault
 
 abbrev pub DataRead : (old new : FilesSeen) → (name : List ℕ) → List MemEntry → Result (List (List ℕ)) Reply → Type 0
 DataRead old new name table (Ok m) = IsData old name table m × Fits table m

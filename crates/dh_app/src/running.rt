@@ -16,12 +16,12 @@ ghost use Rattle.dh_base.specs.Limits.{greatest_of};
 ghost use Rattle.dh_base.specs.declared.statuses.Status.TheVariants as status;
 
 use crate::engine::{Engine, Finish};
-use crate::lines::{not_json_line, ok_line, refused_line, too_large_line, usage_line};
+use crate::lines::{bad_data_line, ok_line, refused_line, too_large_line, usage_line};
 use crate::words::Job;
 use dh_base::{Excess, FileFault, Files, Limit, NoMemory, Outcome, Sink, SinkFault, Status};
 use dh_check::{Accepted, CheckFault, Forms, check};
 use dh_compile::compile;
-use dh_data::{DataFault, Ending, report};
+use dh_data::{Ending, report};
 use dh_net::Net;
 use dh_tree::{MemTable, Memories};
 use std::alloc::Global;
@@ -288,8 +288,7 @@ fn memories_of(alloc: Global, table: &MemTable, bytes: &[u8]) -> Result<Memories
 {
     match dh_data::read(alloc, table, bytes) {
         Ok(memories) => Ok(memories),
-        Err(DataFault::NotJson) => Err(answer_with(Status::BadData, not_json_line(alloc))),
-        Err(DataFault::NoMemory) => Err(Reply::NoMemory),
+        Err(fault) => Err(answer_with(Status::BadData, bad_data_line(alloc, table, &fault))),
     }
 }
 

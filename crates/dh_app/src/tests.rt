@@ -138,15 +138,40 @@ fn each_text_gets_its_line(rt: HostRuntime) -> Result<(), Fail> {
             Status::Refused,
             "refused K19 PortsSpent 1:22\n",
         ),
-        (PROGRAM, "{}", Status::BadData, "bad data NotJson\n"),
+        (PROGRAM, "[]", Status::BadData, "bad data NotJson\n"),
+        (PROGRAM, "{}", Status::BadData, "bad data Missing \"A\"\n"),
+        (
+            PROGRAM,
+            "{\"A\":1,\"B\":1,\"\\u0001\\\"\":1}",
+            Status::BadData,
+            "bad data Unknown \"\\u0001\\\"\"\n",
+        ),
+        (
+            PROGRAM,
+            "{\"A\":{\"data\":[0]},\"B\":1}",
+            Status::BadData,
+            "bad data Format \"B\"\n",
+        ),
+        (
+            PROGRAM,
+            "{\"A\":{\"data\":0},\"B\":1}",
+            Status::BadData,
+            "bad data Size \"A\"\n",
+        ),
+        (
+            PROGRAM,
+            "{\"A\":{\"data\":[0]},\"B\":{\"data\":[-1]}}",
+            Status::BadData,
+            "bad data Value \"B\" 0\n",
+        ),
     ];
     for (text, data, status, written) in table {
         let mut files = files(alloc, text, data, &[])?;
         let mut out = MemSink::new(alloc, Vec::new(alloc), 0);
         let mut engine = NetEngine::new(alloc);
         let ended = run(alloc, words.as_slice(), &mut files, &mut out, &mut engine);
-        assert_eq!(rt; ended, status, "{text}");
-        assert_eq!(rt; out.bytes(), written.as_bytes(), "{text}");
+        assert_eq!(rt; ended, status, "{text} {data}");
+        assert_eq!(rt; out.bytes(), written.as_bytes(), "{text} {data}");
     }
     Ok(())
 }

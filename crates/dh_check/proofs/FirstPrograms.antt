@@ -16,7 +16,9 @@ use Rattle.dh_tree.specs.Breaches.{KeepsNames}
 use Rattle.dh_tree.specs.Resolved.{resolved_term, resolved_term_form, resolved_action, resolved_form, resolved_actions, resolved_groups, HasEntities}
 use Rattle.dh_tree.specs.Forms.{unbuilt, plain_number, is_small, is_stored, is_access, is_element, further_indices, unbuilt_index, unbuilt_indices, unbuilt_element, unbuilt_access, is_sum_of, is_word, unbuilt_stored, unbuilt_value, form_holds, unbuilt_action, unbuilt_form, unbuilt_groups, unbuilt_part, further_dims, unbuilt_where, unbuilt_dims, unbuilt_decl, unbuilt_decls, unbuilt_functions, unbuilt_forms}
 use Rattle.dh_tree.specs.FirstForms.{IsNumber, IsOneNumber, IsMemory, IsElement, IsRightSide, IsBuilt, IsBuiltForm, AreBuilt, AreBuiltGroups, HasFirstForms}
-use Rattle.dh_tree.specs.Written.{AreDims, IsDeclared, IsWritten}
+use Rattle.dh_tree.specs.Kinds.{typed}
+use Rattle.dh_tree.specs.UncheckedForms.{is_number_kind, unchecked_decl, unchecked_decls, unchecked_action, unchecked_forms}
+use Rattle.dh_tree.specs.Written.{AreDims, IsDeclared, IsOfText, IsWritten}
 use Rattle.dh_check.specs.Elements.{HasOneDim}
 use Rattle.dh_check.proofs.OuterNames.{no_rest, if_none, visible_declared}
 
@@ -183,7 +185,7 @@ body_is : (n : ℕ) (bs : List Binding) → Sees n bs → (a : Action) (s : Scop
 body_is n bs sees (action id place form) s at built visible resolved = (form_is n bs sees id place form s at built visible (ap action_form resolved)).0
 
 -- a program of the built forms, with its names resolved
-first_forms : (tokens : ℕ) (p : Program) → IsWritten tokens p → unbuilt_forms p ≡ [] → KeepsNames p → HasEntities p → HasFirstForms p
+pub first_forms : (tokens : ℕ) (p : Program) → IsWritten tokens p → unbuilt_forms p ≡ [] → KeepsNames p → HasEntities p → HasFirstForms p
 first_forms tokens p written built keeps entities =
     let decls = no_rest (unbuilt_decls p.decls) (unbuilt_functions p.functions ++ unbuilt_action p.body) built in
     let forms = no_rest (unbuilt_functions p.functions) (unbuilt_action p.body) decls.1 in
@@ -195,11 +197,6 @@ first_forms tokens p written built keeps entities =
       counted = written.counted;
     }
 
--- the same of the program as the code holds it
-pub has_first_forms : (tokens : ℕ) (p t : Program) → t ≡ p → IsWritten tokens p → unbuilt_forms p ≡ [] → KeepsNames p → HasEntities p → HasFirstForms t
-has_first_forms tokens p t same written built keeps entities =
-    subst (λ (x : Program). HasFirstForms x) (sym same) (first_forms tokens p written built keeps entities)
-
 dims_are : (start : Place) (dims : List Dim) (places : List DimPlaces) → AreDims dims places → unbuilt_dims start places ≡ [] → (dim : Dim) × (dims ≡ dim ∷ [])
 dims_are start [] [] are built = absurd (cc)
 dims_are start [] (p ∷ ps) are built = absurd are
@@ -209,16 +206,16 @@ dims_are start (d ∷ []) (p ∷ q ∷ ps) are built = absurd are.1
 dims_are start (d ∷ e ∷ ds) (p ∷ []) are built = absurd are.1
 dims_are start (d ∷ e ∷ ds) (p ∷ q ∷ ps) are built = absurd (let x = (no_rest (unbuilt_where p.word_place) (further_dims (q ∷ ps)) built).1 in cc)
 
-one_dims : (ds : List Declared) → AllByRecursion IsDeclared ds → unbuilt_decls ds ≡ [] → AllByRecursion HasOneDim ds
+one_dims : (ds : List Declared) → AllByRecursion IsDeclared ds → unchecked_decls ds ≡ [] → AllByRecursion HasOneDim ds
 one_dims [] declared built = tt
 one_dims (d ∷ ds) declared built =
-    let b = no_rest (unbuilt_decl d) (unbuilt_decls ds) built in
-    let first = no_rest (if is_word d.shape.kind then [] else unbuilt d.shape_places.kind_place) (unbuilt_where d.shape_places.braces_place ++ unbuilt_dims d.shape_places.kind_place d.shape_places.dims) b.0 in
+    let b = no_rest (unchecked_decl d) (unchecked_decls ds) built in
+    let first = no_rest (if is_number_kind d.shape.kind then [] else unbuilt d.shape_places.kind_place) (unbuilt_where d.shape_places.braces_place ++ unbuilt_dims d.shape_places.kind_place d.shape_places.dims) b.0 in
     let rest = no_rest (unbuilt_where d.shape_places.braces_place) (unbuilt_dims d.shape_places.kind_place d.shape_places.dims) first.1 in
     (dims_are d.shape_places.kind_place d.shape.dims d.shape_places.dims declared.0.dims rest.1, one_dims ds declared.1 b.1)
 
--- its memories have one dimension each
-pub has_one_dims : (tokens : ℕ) (p t : Program) → t ≡ p → IsWritten tokens p → unbuilt_forms p ≡ [] → AllByRecursion HasOneDim t.decls
-has_one_dims tokens p t same written built =
+-- the memories of a program have one dimension each, whatever command asks
+pub has_one_dims : (tokens : ℕ) (p t : Program) → t ≡ typed p → IsOfText tokens p → unchecked_forms p ≡ [] → AllByRecursion HasOneDim t.decls
+has_one_dims tokens p t same of_text built =
     let P : Program → Type 0 = λ x. AllByRecursion HasOneDim x.decls in
-    subst P (sym same) (one_dims p.decls written.decls (no_rest (unbuilt_decls p.decls) (unbuilt_functions p.functions ++ unbuilt_action p.body) built).0)
+    subst P (sym same) (one_dims p.decls of_text.decls (no_rest (unchecked_decls p.decls) (unbuilt_functions p.functions ++ unchecked_action p.body) built).0)

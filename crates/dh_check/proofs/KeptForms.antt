@@ -29,7 +29,7 @@ kept_begin kept parts i p cs within is same =
     ∙ ap (λ l. least_of kept (unbuilt_groups (groups (map part_seen l)))) (sym (at_item parts i p within is))
 
 -- three lists of breaches, kept one after the other
-in_turn : (kept first second : Option Breach) (xs bs cs : List Breach) → first ≡ least_of kept xs → second ≡ least_of first bs
+pub in_turn : (kept first second : Option Breach) (xs bs cs : List Breach) → first ≡ least_of kept xs → second ≡ least_of first bs
     → least_of second cs ≡ least_of kept (xs ++ (bs ++ cs))
 in_turn kept first second xs bs cs e f =
     ap (λ k. least_of k cs) (f ∙ ap (λ k. least_of k bs) e)

@@ -1,9 +1,13 @@
 pub mod Leasts
+pub mod LeastSwaps
 pub mod StepsHeld
 pub mod KeptForms
-pub mod KeptIndices
-pub mod OneVerdict
+pub mod KeptUnchecked
+pub mod KeptRanges
 pub mod OuterNames
 pub mod FirstPrograms
+pub mod OneVerdict
 pub mod Passing
 pub mod Texts
+pub mod TablesReady
+pub mod Checked

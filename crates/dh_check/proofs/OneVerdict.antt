@@ -1,6 +1,6 @@
 -- A text comes to one verdict: it has one list of tokens or one place where it has none, these are
 -- spelled by one tree or have one token out of place, and of each pass one breach is the least.
-use Rattle.std.proofs.Common.{◌≡◌, ◌⊎◌, inl, inr, List, [], Option, Some, None, refl, ap, sym, ◌∙◌, subst}
+use Rattle.std.proofs.Common.{◌≡◌, ◌⊎◌, inl, inr, Bool, true, false, List, [], Option, Some, None, refl, ap, sym, ◌∙◌, subst}
 use Rattle.dh_base.specs.declared.limits.Excess.{Excess}
 use Rattle.dh_base.specs.declared.places.Place.{Place}
 use Rattle.dh_base.specs.declared.rules.Rule.TheVariants.{Lex, PortsSpent}
@@ -16,15 +16,17 @@ use Rattle.dh_tree.specs.PlainTrees.{Program}
 use Rattle.dh_tree.specs.Accesses as accesses
 use Rattle.dh_tree.specs.Accesses.{KeepsPorts}
 use Rattle.dh_tree.specs.Breaches.{breaches_of}
-use Rattle.dh_tree.specs.Forms.{unbuilt_forms}
+use Rattle.dh_tree.specs.Kinds.{typed}
+use Rattle.dh_tree.specs.KindBreaches.{kind_breaches}
 use Rattle.dh_tree.specs.Meaning.{table_of}
-use Rattle.dh_tree.specs.Ranges.{kind_breaches, range_breaches}
+use Rattle.dh_tree.specs.Ranges.{range_breaches}
 use Rattle.dh_tree.specs.Resolved.{resolved}
 use Rattle.dh_tree.specs.Tables.{elements_in}
 use Rattle.dh_tree.proofs.FirstBreaches.{least_is_one, least_not_none}
 use Rattle.dh_tree.proofs.SpentOnce.{spent_once, kept_not_spent}
+use Rattle.dh_check.specs.Acceptance.{unbuilt_by}
 use Rattle.dh_check.specs.Elements.{excess_of}
-use Rattle.dh_check.specs.Verdicts.{Verdict, accepts, refuses, exceeds, tokens_excess, Passes, JudgedPorts, JudgedElements, JudgedNamed, JudgedTree, JudgedToken, JudgedTokens, Judged, IsVerdict}
+use Rattle.dh_check.specs.Verdicts.{Verdict, accepts, refuses, exceeds, tokens_excess, Passes, JudgedPorts, Asked, JudgedLast, JudgedElements, JudgedTyped, JudgedTree, JudgedToken, JudgedTokens, Judged, IsVerdict}
 
 -- of two verdicts one is possible
 abbrev OneOf : (Verdict → Type 0) → Type 0
@@ -42,19 +44,23 @@ ports_once p v w (inl (a, (h, e))) (inr (kept, f)) = absurd (kept_not_spent p a 
 ports_once p v w (inr (kept, e)) (inl (b, (k, f))) = absurd (kept_not_spent p b kept k)
 ports_once p v w (inr (kept, e)) (inr (kept', f)) = e ∙ sym f
 
-elements_once : (p : Program) (o : Option Excess) → OneOf (JudgedElements p o)
-elements_once p (Some x) v w e f = e ∙ sym f
-elements_once p None v w e f = ports_once p v w e f
+last_once : (ports : Bool) (p : Program) → OneOf (JudgedLast ports p)
+last_once true p v w e f = ports_once p v w e f
+last_once false p v w e f = e ∙ sym f
 
-named_once : (p : Program) → OneOf (JudgedNamed p)
-named_once p =
-    passes_once (kind_breaches p) (λ v. Passes (range_breaches p) v (JudgedElements p (excess_of (elements_in (table_of p))) v))
-    (passes_once (range_breaches p) (λ v. JudgedElements p (excess_of (elements_in (table_of p))) v) (elements_once p (excess_of (elements_in (table_of p)))))
+elements_once : (ports : Bool) (p : Program) (o : Option Excess) → OneOf (JudgedElements ports p o)
+elements_once ports p (Some x) v w e f = e ∙ sym f
+elements_once ports p None v w e f = last_once ports p v w e f
 
-tree_once : (p : Program) → OneOf (JudgedTree p)
-tree_once p =
-    passes_once (unbuilt_forms p) (λ v. Passes (breaches_of p) v (JudgedNamed (resolved p) v))
-    (passes_once (breaches_of p) (λ v. JudgedNamed (resolved p) v) (named_once (resolved p)))
+typed_once : (ports : Bool) (p : Program) → OneOf (JudgedTyped ports p)
+typed_once ports p =
+    passes_once (kind_breaches p) (λ v. Passes (range_breaches p) v (JudgedElements ports p (excess_of (elements_in (table_of p))) v))
+    (passes_once (range_breaches p) (λ v. JudgedElements ports p (excess_of (elements_in (table_of p))) v) (elements_once ports p (excess_of (elements_in (table_of p)))))
+
+tree_once : (asked : Asked) (p : Program) → OneOf (JudgedTree asked p)
+tree_once asked p =
+    passes_once (unbuilt_by asked.forms p) (λ v. Passes (breaches_of p) v (JudgedTyped asked.ports (typed (resolved p)) v))
+    (passes_once (breaches_of p) (λ v. JudgedTyped asked.ports (typed (resolved p)) v) (typed_once asked.ports (typed (resolved p))))
 
 token_once : (tokens : List Token) (v w : Verdict) → JudgedToken tokens v → JudgedToken tokens w → v ≡ w
 token_once tokens v w h k =
@@ -64,23 +70,23 @@ token_once tokens v w h k =
     ∙ (ap (λ (t : Token). refuses (rule_at k.before t) t.place) same.1
     ∙ sym k.verdict))
 
-tokens_once : (tokens : List Token) (o : Option Excess) → OneOf (JudgedTokens tokens o)
-tokens_once tokens (Some x) v w e f = e ∙ sym f
-tokens_once tokens None v w (inl h) (inl k) = token_once tokens v w h k
-tokens_once tokens None v w (inl h) (inr (q, (s, k))) = absurd (spelled_in_place q tokens h.before h.token h.after s h.out_of_place)
-tokens_once tokens None v w (inr (p, (s, h))) (inl k) = absurd (spelled_in_place p tokens k.before k.token k.after s k.out_of_place)
-tokens_once tokens None v w (inr (p, (s, h))) (inr (q, (t, k))) =
-    let P : Program → Type 0 = λ x. JudgedTree x w in
-    tree_once p v w h (subst P (sym (one_tree p q tokens s t)) k)
+tokens_once : (asked : Asked) (tokens : List Token) (o : Option Excess) → OneOf (JudgedTokens asked tokens o)
+tokens_once asked tokens (Some x) v w e f = e ∙ sym f
+tokens_once asked tokens None v w (inl h) (inl k) = token_once tokens v w h k
+tokens_once asked tokens None v w (inl h) (inr (q, (s, k))) = absurd (spelled_in_place q tokens h.before h.token h.after s h.out_of_place)
+tokens_once asked tokens None v w (inr (p, (s, h))) (inl k) = absurd (spelled_in_place p tokens k.before k.token k.after s k.out_of_place)
+tokens_once asked tokens None v w (inr (p, (s, h))) (inr (q, (t, k))) =
+    let P : Program → Type 0 = λ x. JudgedTree asked x w in
+    tree_once asked p v w h (subst P (sym (one_tree p q tokens s t)) k)
 
-one_verdict : (text : List _) → OneOf (Judged text)
-one_verdict text v w (inl (a, (h, e))) (inl (b, (k, f))) = e ∙ (ap (λ place. refuses Lex place) (one_breach text a b h k) ∙ sym f)
-one_verdict text v w (inl (a, (h, e))) (inr (ts, (k, f))) = absurd (not_both text ts a k h)
-one_verdict text v w (inr (ts, (h, e))) (inl (b, (k, f))) = absurd (not_both text ts b h k)
-one_verdict text v w (inr (ts, (h, e))) (inr (us, (k, f))) =
-    let P : List Token → Type 0 = λ x. JudgedTokens x (tokens_excess x) w in
-    tokens_once ts (tokens_excess ts) v w e (subst P (sym (one_list text ts us h k)) f)
+one_verdict : (asked : Asked) (text : List _) → OneOf (Judged asked text)
+one_verdict asked text v w (inl (a, (h, e))) (inl (b, (k, f))) = e ∙ (ap (λ place. refuses Lex place) (one_breach text a b h k) ∙ sym f)
+one_verdict asked text v w (inl (a, (h, e))) (inr (ts, (k, f))) = absurd (not_both text ts a k h)
+one_verdict asked text v w (inr (ts, (h, e))) (inl (b, (k, f))) = absurd (not_both text ts b h k)
+one_verdict asked text v w (inr (ts, (h, e))) (inr (us, (k, f))) =
+    let P : List Token → Type 0 = λ x. JudgedTokens asked x (tokens_excess x) w in
+    tokens_once asked ts (tokens_excess ts) v w e (subst P (sym (one_list text ts us h k)) f)
 
 -- what a text comes to it comes to alone
-pub is_verdict : (text : List _) (v : Verdict) → Judged text v → IsVerdict text v
-is_verdict text v h = record { judged = h; only = λ w k. one_verdict text w v k h }
+pub is_verdict : (asked : Asked) (text : List _) (v : Verdict) → Judged asked text v → IsVerdict asked text v
+is_verdict asked text v h = record { judged = h; only = λ w k. one_verdict asked text w v k h }

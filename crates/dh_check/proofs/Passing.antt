@@ -1,73 +1,78 @@
 -- What the passes over a tree tell, one after the other: each keeps its least breach, so that it refuses
 -- the tree or lets the next pass follow.
-use Rattle.std.proofs.Common.{◌≡◌, ℕ, ◌≤◌, ◌<◌, ◌^◌, nat_lt, ◌⊎◌, inl, inr, Bool, true, false, if◌then◌else◌, List, [], Option, Some, None, Result, Ok, Err, refl, ap, sym, ◌∙◌, subst, arith}
+use Rattle.std.proofs.Common.{◌≡◌, ℕ, ◌≤◌, ◌<◌, nat_lt, inl, inr, Bool, true, false, if◌then◌else◌, List, [], Option, Some, None, Result, Ok, Err, refl, ap, sym, ◌∙◌, subst, arith}
 use Rattle.std.proofs.lemmas.Bool.Decides.{nat_tests}
 use Rattle.dh_base.specs.declared.limits.Excess.{Excess}
 use Rattle.dh_base.specs.declared.places.Place.{Place}
 use Rattle.dh_base.specs.declared.rules.Rule.{Rule}
+use Rattle.dh_base.specs.declared.rules.Rule.TheVariants.{PortsSpent}
 use Rattle.dh_tree.specs.declared.breaches.Breach.{Breach}
+use Rattle.dh_tree.specs.declared.trees.typed.Typed.{Typed}
 use Rattle.dh_tree.specs.LeastBreach.{IsLeast, least_of, breach}
 use Rattle.dh_tree.specs.PlainTrees.{Program}
+use Rattle.dh_tree.specs.Accesses as accesses
 use Rattle.dh_tree.specs.Accesses.{KeepsPorts}
 use Rattle.dh_tree.specs.Breaches.{breaches_of, KeepsNames}
 use Rattle.dh_tree.specs.Forms.{unbuilt_forms}
+use Rattle.dh_tree.specs.UncheckedForms.{unchecked_forms}
+use Rattle.dh_tree.specs.KindBreaches.{kind_breaches, KeepsKinds}
+use Rattle.dh_tree.specs.Kinds.{typed, HasKinds}
 use Rattle.dh_tree.specs.Meaning.{table_of}
 use Rattle.dh_tree.specs.NameCounts.{HasFewNames}
-use Rattle.dh_tree.specs.Ranges.{kind_breaches, range_breaches}
+use Rattle.dh_tree.specs.Ranges.{range_breaches}
 use Rattle.dh_tree.specs.Resolved.{resolved, HasEntities}
+use Rattle.dh_tree.specs.Seen.{program_seen}
 use Rattle.dh_tree.specs.Tables.{elements_in, most_elements}
-use Rattle.dh_tree.specs.Written.{IsWritten}
+use Rattle.dh_tree.specs.Written.{IsOfText, IsWritten}
 use Rattle.dh_tree.proofs.FirstBreaches.{none_is_kept, least_is_kept}
-use Rattle.dh_tree.proofs.ResolvedForms.{forms_kept, written_kept}
-use Rattle.dh_check.specs.declared.accepted.Accepted.{Accepted}
+use Rattle.dh_tree.proofs.ResolvedForms as resolving
+use Rattle.dh_tree.proofs.ResolvedTexts as resolving_texts
+use Rattle.dh_tree.proofs.TypedForms as typing
+use Rattle.dh_tree.proofs.TypedTexts as typing_texts
+use Rattle.dh_tree.proofs.UncheckedBuilt.{forms_built}
+use Rattle.dh_check.specs.declared.checking.Forms.{Forms}
+use Rattle.dh_check.specs.declared.checking.Forms.TheVariants.{Unchecked, Checked, Compiled}
 use Rattle.dh_check.specs.declared.checking.CheckFault.{CheckFault}
 use Rattle.dh_check.specs.declared.checking.CheckFault.TheVariants as fault
-use Rattle.dh_check.specs.Acceptance.{IsAccepted, most_tokens}
+use Rattle.dh_check.specs.Acceptance.{unbuilt_by, IsReady, IsAccepted, most_tokens}
 use Rattle.dh_check.specs.Elements.{excess_of}
-use Rattle.dh_check.specs.Verdicts.{Verdict, accepts, refuses, exceeds, Passes, JudgedPorts, JudgedElements, JudgedNamed, JudgedTree, TellsBy, TellsTree, TellsNamed}
+use Rattle.dh_check.specs.Ready.{GoesOn, Stops, TellsSizes, TellsNamed, IsReadyBy, TellsTree}
+use Rattle.dh_check.specs.Verdicts.{Verdict, accepts, refuses, exceeds, Passes, JudgedLast, JudgedElements, JudgedTyped, JudgedTree, asked_of}
 
 -- a pass that keeps a breach refuses, and one that keeps none lets the next follow
-refused_at : (bs : List Breach) (b : Breach) (next : Type 0) → least_of None bs ≡ Some b → Passes bs (refuses b.rule b.place) next
-refused_at bs b next e = inl (b, (least_is_kept bs b e, refl))
+refused_at : (bs : List Breach) (r : Rule) (place : Place) (next : Type 0) → IsLeast bs (breach r place) → Passes bs (refuses r place) next
+refused_at bs r place next h = inl (breach r place, (h, refl))
 
-passed : (bs : List Breach) (v : Verdict) (next : Type 0) → least_of None bs ≡ None → next → Passes bs v next
-passed bs v next e h = inr (none_is_kept bs e, h)
+passed : (bs : List Breach) (v : Verdict) (next : Type 0) → bs ≡ [] → next → Passes bs v next
+passed bs v next none h = inr (none, h)
 
--- the passes over a program whose names are resolved; `t` is the same program as the code holds it
-after_kinds : (p t : Program) (v : Verdict) → t ≡ p → least_of None (kind_breaches t) ≡ None
-    → Passes (range_breaches p) v (JudgedElements p (excess_of (elements_in (table_of p))) v) → JudgedNamed p v
-after_kinds p t v same k h =
-    passed (kind_breaches p) v (Passes (range_breaches p) v (JudgedElements p (excess_of (elements_in (table_of p))) v)) (ap (λ x. least_of None (kind_breaches x)) (sym same) ∙ k) h
+-- the passes over a program whose expressions have their kinds
+after_kinds : (ports : Bool) (p : Program) (v : Verdict) → KeepsKinds p → Passes (range_breaches p) v (JudgedElements ports p (excess_of (elements_in (table_of p))) v) → JudgedTyped ports p v
+after_kinds ports p v keeps h = passed (kind_breaches p) v (Passes (range_breaches p) v (JudgedElements ports p (excess_of (elements_in (table_of p))) v)) keeps h
 
-after_ranges : (p t : Program) (v : Verdict) → t ≡ p → least_of None (kind_breaches t) ≡ None → least_of None (range_breaches t) ≡ None
-    → JudgedElements p (excess_of (elements_in (table_of p))) v → JudgedNamed p v
-after_ranges p t v same k r h =
-    after_kinds p t v same k
-    (passed (range_breaches p) v (JudgedElements p (excess_of (elements_in (table_of p))) v) (ap (λ x. least_of None (range_breaches x)) (sym same) ∙ r) h)
+after_ranges : (ports : Bool) (p : Program) (v : Verdict) → KeepsKinds p → range_breaches p ≡ [] → JudgedElements ports p (excess_of (elements_in (table_of p))) v → JudgedTyped ports p v
+after_ranges ports p v keeps within h = after_kinds ports p v keeps (passed (range_breaches p) v (JudgedElements ports p (excess_of (elements_in (table_of p))) v) within h)
 
-pub named_kinds : (p t : Program) (b : Breach) → t ≡ p → least_of None (kind_breaches t) ≡ Some b → JudgedNamed p (refuses b.rule b.place)
-named_kinds p t b same e =
-    refused_at (kind_breaches p) b (Passes (range_breaches p) (refuses b.rule b.place) (JudgedElements p (excess_of (elements_in (table_of p))) (refuses b.rule b.place)))
-    (ap (λ x. least_of None (kind_breaches x)) (sym same) ∙ e)
+after_elements : (ports : Bool) (p : Program) (v : Verdict) (o : Option Excess) → KeepsKinds p → range_breaches p ≡ [] → excess_of (elements_in (table_of p)) ≡ o → JudgedElements ports p o v → JudgedTyped ports p v
+after_elements ports p v o keeps within e h =
+    after_ranges ports p v keeps within (subst (λ (x : Option Excess). JudgedElements ports p x v) (sym e) h)
 
-pub named_ranges : (p t : Program) (b : Breach) → t ≡ p → least_of None (kind_breaches t) ≡ None → least_of None (range_breaches t) ≡ Some b → JudgedNamed p (refuses b.rule b.place)
-named_ranges p t b same k e =
-    after_kinds p t (refuses b.rule b.place) same k
-    (refused_at (range_breaches p) b (JudgedElements p (excess_of (elements_in (table_of p))) (refuses b.rule b.place))
-    (ap (λ x. least_of None (range_breaches x)) (sym same) ∙ e))
+-- a kind is wrong
+pub kinds_stop : (p : Program) (r : Rule) (place : Place) → IsLeast (kind_breaches (typed p)) (breach r place) → Stops (λ ports v. JudgedTyped ports (typed p) v) (fault.Refused r place)
+kinds_stop p r place h =
+    λ ports. refused_at (kind_breaches (typed p)) r place (Passes (range_breaches (typed p)) (refuses r place) (JudgedElements ports (typed p) (excess_of (elements_in (table_of (typed p)))) (refuses r place))) h
 
-pub named_elements : (p t : Program) (x : Excess) → t ≡ p → least_of None (kind_breaches t) ≡ None → least_of None (range_breaches t) ≡ None
-    → excess_of (elements_in (table_of t)) ≡ Some x → JudgedNamed p (exceeds x)
-named_elements p t x same k r e =
-    let P : Option Excess → Type 0 = λ o. JudgedElements p o (exceeds x) in
-    after_ranges p t (exceeds x) same k r (subst P (sym e ∙ ap (λ y. excess_of (elements_in (table_of y))) same) refl)
+-- a size or an index is out of range, or there are too many elements
+sizes_stop : (p : Program) (e : CheckFault) → KeepsKinds p → TellsSizes p (Some e) → Stops (λ ports v. JudgedTyped ports p v) e
+sizes_stop p (fault.Refused r place) keeps h =
+    λ ports. after_kinds ports p (refuses r place) keeps (refused_at (range_breaches p) r place (JudgedElements ports p (excess_of (elements_in (table_of p))) (refuses r place)) h)
+sizes_stop p (fault.TooLarge x) keeps h = λ ports. after_elements ports p (exceeds x) (Some x) keeps h.0 h.1 refl
+sizes_stop p fault.NoMemory keeps h = absurd h
 
-pub named_ports : (p t : Program) (v : Verdict) → t ≡ p → least_of None (kind_breaches t) ≡ None → least_of None (range_breaches t) ≡ None
-    → excess_of (elements_in (table_of t)) ≡ None → JudgedPorts t v → JudgedNamed p v
-named_ports p t v same k r e h =
-    let P : Option Excess → Type 0 = λ o. JudgedElements p o v in
-    let Q : Program → Type 0 = λ y. JudgedPorts y v in
-    after_ranges p t v same k r (subst P (sym e ∙ ap (λ y. excess_of (elements_in (table_of y))) same) (subst Q same h))
+-- the same of the typed program; `t` and `s` are that program as the code holds it
+pub named_stops : (p t s : Program) (e : CheckFault) → t ≡ typed p → s ≡ t → KeepsKinds t → TellsSizes s (Some e) → Stops (λ ports v. JudgedTyped ports (typed p) v) e
+named_stops p t s e same again keeps h =
+    subst (λ (x : Program). Stops (λ ports v. JudgedTyped ports x v) e) same (sizes_stop t e keeps (subst (λ (x : Program). TellsSizes x (Some e)) again h))
 
 -- no excess, and so no more elements than there may be
 no_excess : (t : Bool) (x : Excess) → (if t then Some x else None) ≡ None → t ≡ false
@@ -77,47 +82,92 @@ no_excess false x e = refl
 not_above : (n : ℕ) → nat_lt most_elements n ≡ false → n ≤ most_elements
 not_above n e = grind (arith, nat_tests)
 
--- what has passed them all is accepted
-pub is_accepted : (p t : Program) → t ≡ p → IsWritten most_tokens p → unbuilt_forms p ≡ [] → KeepsNames p → HasEntities p
-    → least_of None (kind_breaches t) ≡ None → least_of None (range_breaches t) ≡ None → excess_of (elements_in (table_of t)) ≡ None → KeepsPorts t → IsAccepted t
-is_accepted p t same written built names entities k r e ports = record {
-  written = subst (λ (x : Program). IsWritten most_tokens x) (sym same) written;
-  built = ap unbuilt_forms same ∙ built;
-  names = ap breaches_of same ∙ names;
-  entities = ap resolved same ∙ (entities ∙ sym same);
-  kinds = none_is_kept (kind_breaches t) k;
-  ranges = none_is_kept (range_breaches t) r;
-  elements = not_above (elements_in (table_of t)) (no_excess (nat_lt most_elements (elements_in (table_of t))) _ e);
-  ports = ports;
+-- what has passed them is ready, and goes on to its ports
+is_ready : (p t : Program) → t ≡ typed p → IsOfText most_tokens p → unchecked_forms p ≡ [] → KeepsNames t → HasEntities t → HasKinds t → KeepsKinds t → TellsSizes t None → IsReady t
+is_ready p t same of_text built names entities kinds suits sizes = record {
+  of_text = subst (λ (x : Program). IsOfText most_tokens x) (sym same) (typing.of_text_kept most_tokens p (typing_texts.widths_kept p of_text.widths) of_text);
+  built = ap unchecked_forms same ∙ (typing_texts.unchecked_forms_kept p ∙ built);
+  names = names;
+  entities = entities;
+  kinds = kinds;
+  suits = suits;
+  ranges = sizes.0;
+  elements = not_above (elements_in (table_of t)) (no_excess (nat_lt most_elements (elements_in (table_of t))) _ sizes.1);
 }
 
+pub named_ready : (p t s : Program) → t ≡ typed p → s ≡ t → IsOfText most_tokens p → unchecked_forms p ≡ [] → KeepsNames t → HasEntities t → HasKinds t → KeepsKinds t → TellsSizes s None
+    → (t ≡ typed p) × (IsReady (typed p) × GoesOn (λ ports v. JudgedTyped ports (typed p) v) (typed p))
+named_ready p t s same again of_text built names entities kinds suits h =
+    let sizes : TellsSizes t None = subst (λ (x : Program). TellsSizes x None) again h in (
+      same,
+      subst (λ (x : Program). IsReady x × GoesOn (λ ports v. JudgedTyped ports x v) x) same (
+        is_ready p t same of_text built names entities kinds suits sizes,
+        λ ports v j. after_elements ports t v None suits sizes.0 sizes.1 j,
+      ),
+    )
+
 -- the passes over a tree
-pub tree_forms : (p : Program) (b : Breach) → least_of None (unbuilt_forms p) ≡ Some b → JudgedTree p (refuses b.rule b.place)
-tree_forms p b e =
-    refused_at (unbuilt_forms p) b (Passes (breaches_of p) (refuses b.rule b.place) (JudgedNamed (resolved p) (refuses b.rule b.place))) e
+forms_passed : (forms : Forms) (ports : Bool) (p : Program) (v : Verdict) → least_of None (unbuilt_by forms p) ≡ None → Passes (breaches_of p) v (JudgedTyped ports (typed (resolved p)) v)
+    → JudgedTree (asked_of forms ports) p v
+forms_passed forms ports p v e h = passed (unbuilt_by forms p) v (Passes (breaches_of p) v (JudgedTyped ports (typed (resolved p)) v)) (none_is_kept (unbuilt_by forms p) e) h
 
-pub tree_names : (p : Program) (r : Rule) (place : Place) → least_of None (unbuilt_forms p) ≡ None → IsLeast (breaches_of p) (breach r place) → JudgedTree p (refuses r place)
-tree_names p r place e h =
-    passed (unbuilt_forms p) (refuses r place) (Passes (breaches_of p) (refuses r place) (JudgedNamed (resolved p) (refuses r place))) e (inl (breach r place, (h, refl)))
+pub forms_stop : (forms : Forms) (p : Program) (b : Breach) → least_of None (unbuilt_by forms p) ≡ Some b → Stops (λ ports v. JudgedTree (asked_of forms ports) p v) (fault.Refused b.rule b.place)
+forms_stop forms p b e =
+    λ ports. refused_at (unbuilt_by forms p) b.rule b.place (Passes (breaches_of p) (refuses b.rule b.place) (JudgedTyped ports (typed (resolved p)) (refuses b.rule b.place))) (least_is_kept (unbuilt_by forms p) b e)
 
-tree_named : (p q : Program) (v : Verdict) → least_of None (unbuilt_forms p) ≡ None → q ≡ resolved p → KeepsNames p → JudgedNamed q v → JudgedTree p v
-tree_named p q v e same keeps h =
-    let P : Program → Type 0 = λ y. JudgedNamed y v in
-    passed (unbuilt_forms p) v (Passes (breaches_of p) v (JudgedNamed (resolved p) v)) e (inr (keeps, subst P same h))
+pub names_stop : (forms : Forms) (p : Program) (r : Rule) (place : Place) → least_of None (unbuilt_by forms p) ≡ None → IsLeast (breaches_of p) (breach r place)
+    → Stops (λ ports v. JudgedTree (asked_of forms ports) p v) (fault.Refused r place)
+names_stop forms p r place e h =
+    λ ports. forms_passed forms ports p (refuses r place) e (refused_at (breaches_of p) r place (JudgedTyped ports (typed (resolved p)) (refuses r place)) h)
 
-pub tells_tree : (p q : Program) (r : Result Accepted CheckFault) → least_of None (unbuilt_forms p) ≡ None → q ≡ resolved p → KeepsNames p → TellsNamed q r → TellsTree p r
-tells_tree p q (Ok a) e same keeps h = tree_named p q _ e same keeps h
-tells_tree p q (Err (fault.Refused rule place)) e same keeps h = tree_named p q _ e same keeps h
-tells_tree p q (Err (fault.TooLarge excess)) e same keeps h = tree_named p q _ e same keeps h
-tells_tree p q (Err fault.NoMemory) e same keeps h = tt
+tree_named : (forms : Forms) (ports : Bool) (p q : Program) (v : Verdict) → least_of None (unbuilt_by forms p) ≡ None → q ≡ resolved p → KeepsNames p → JudgedTyped ports (typed q) v
+    → JudgedTree (asked_of forms ports) p v
+tree_named forms ports p q v e same keeps h =
+    let P : Program → Type 0 = λ y. JudgedTyped ports (typed y) v in
+    forms_passed forms ports p v e (inr (keeps, subst P same h))
 
--- what resolving takes over
-pub built_still : (p q : Program) → least_of None (unbuilt_forms p) ≡ None → q ≡ resolved p → unbuilt_forms q ≡ []
-built_still p q e same = ap unbuilt_forms same ∙ (forms_kept p ∙ none_is_kept (unbuilt_forms p) e)
+-- what resolving and typing take over
+built_typed : (forms : Forms) (p : Program) → unbuilt_by forms (typed p) ≡ unbuilt_by forms p
+built_typed Unchecked p = typing_texts.unchecked_forms_kept p
+built_typed Checked p = typing.forms_kept p
+built_typed Compiled p = typing.forms_kept p
 
-pub written_still : (p q : Program) → least_of None (unbuilt_forms p) ≡ None → q ≡ resolved p → (unbuilt_forms p ≡ [] → IsWritten most_tokens p) → IsWritten most_tokens q
-written_still p q e same written =
-    subst (λ (x : Program). IsWritten most_tokens x) (sym same) (written_kept most_tokens p (written (none_is_kept (unbuilt_forms p) e)))
+built_resolved : (forms : Forms) (p : Program) → unbuilt_by forms (resolved p) ≡ unbuilt_by forms p
+built_resolved Unchecked p = resolving_texts.unchecked_forms_kept p
+built_resolved Checked p = resolving.forms_kept p
+built_resolved Compiled p = resolving.forms_kept p
 
-pub few_names : (p : Program) → least_of None (unbuilt_forms p) ≡ None → (unbuilt_forms p ≡ [] → IsWritten most_tokens p) → HasFewNames p
-few_names p e written = let w = (written (none_is_kept (unbuilt_forms p) e)).names in omega (arith, w)
+written_after : (p q t : Program) → q ≡ resolved p → t ≡ typed q → (unbuilt_forms p ≡ [] → IsWritten most_tokens p) → unbuilt_forms t ≡ [] → IsWritten most_tokens t
+written_after p q t same is written built =
+    let first : IsWritten most_tokens p = written (sym (ap unbuilt_forms is ∙ (typing.forms_kept q ∙ (ap unbuilt_forms same ∙ resolving.forms_kept p))) ∙ built) in
+    let second : IsWritten most_tokens q = subst (λ (x : Program). IsWritten most_tokens x) (sym same) (resolving.written_kept most_tokens p (resolving_texts.widths_kept p first.of_text.widths) first) in
+    subst (λ (x : Program). IsWritten most_tokens x) (sym is) (typing.written_kept most_tokens q (typing_texts.widths_kept q second.of_text.widths) second)
+
+pub tells_tree : (forms : Forms) (p q : Program) (r : Result Typed CheckFault) → least_of None (unbuilt_by forms p) ≡ None → q ≡ resolved p → KeepsNames p
+    → (unbuilt_forms p ≡ [] → IsWritten most_tokens p) → TellsNamed q r → TellsTree forms p r
+tells_tree forms p q (Ok t) e same keeps written h = (
+  record {
+    ready = subst (λ (x : Program). IsReady x) (sym h.0) h.1.0;
+    built = ap (unbuilt_by forms) h.0 ∙ (built_typed forms q ∙ (ap (unbuilt_by forms) same ∙ (built_resolved forms p ∙ none_is_kept (unbuilt_by forms p) e)));
+    written = written_after p q (program_seen t) same h.0 written;
+  },
+  λ ports v j. tree_named forms ports p q v e same keeps (h.1.1 ports v (subst (λ (x : Program). JudgedLast ports x v) h.0 j)),
+)
+tells_tree forms p q (Err (fault.Refused rule place)) e same keeps written h = λ ports. tree_named forms ports p q (refuses rule place) e same keeps (h ports)
+tells_tree forms p q (Err (fault.TooLarge excess)) e same keeps written h = λ ports. tree_named forms ports p q (exceeds excess) e same keeps (h ports)
+tells_tree forms p q (Err fault.NoMemory) e same keeps written h = λ ports. tt
+
+-- what names are resolved in
+pub of_text_still : (p q : Program) → q ≡ resolved p → IsOfText most_tokens p → IsOfText most_tokens q
+of_text_still p q same h = subst (λ (x : Program). IsOfText most_tokens x) (sym same) (resolving.of_text_kept most_tokens p (resolving_texts.widths_kept p h.widths) h)
+
+unchecked_by : (forms : Forms) (p : Program) → unbuilt_by forms p ≡ [] → unchecked_forms p ≡ []
+unchecked_by Unchecked p h = h
+unchecked_by Checked p h = forms_built p h
+unchecked_by Compiled p h = forms_built p h
+
+pub built_still : (forms : Forms) (p q : Program) → least_of None (unbuilt_by forms p) ≡ None → q ≡ resolved p → unchecked_forms q ≡ []
+built_still forms p q e same = ap unchecked_forms same ∙ (resolving_texts.unchecked_forms_kept p ∙ unchecked_by forms p (none_is_kept (unbuilt_by forms p) e))
+
+pub few_names : (p : Program) → IsOfText most_tokens p → HasFewNames p
+few_names p h = let w = h.names in omega (arith, w)

@@ -1,4 +1,4 @@
-pub mod Judges
 pub mod Elements
 pub mod Acceptance
 pub mod Verdicts
+pub mod Ready

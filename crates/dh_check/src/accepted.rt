@@ -4,14 +4,14 @@ ghost use Rattle.std.specs.Prelude.{◌≡◌};
 ghost use Rattle.dh_tree.specs.Seen.{program_seen};
 ghost use Rattle.dh_check.specs.Acceptance.{IsAccepted};
 
-use dh_tree::Tree;
+use dh_tree::{Tree, Typed};
 use std::marker::Model;
 
-/// A program that breaks no rule and exceeds no limit, each of its names with what it stands for. A
-/// contract sees its tree.
+/// A program that breaks no rule and exceeds no limit, each of its names with what it stands for and
+/// each of its expressions with its kind. A contract sees its tree.
 #[derive(Debug, Drop)]
 pub struct Accepted {
-    tree: Tree,
+    typed: Typed,
 }
 
 impl Model for Accepted {
@@ -25,18 +25,26 @@ impl Model for Accepted {
 
     ghost coded = { Prim.hlevel (codes, command.the_row.coded) };
 
-    ghost view = { λ a. a.tree };
+    ghost view = { λ a. a.typed };
 
-    ghost invariant = { λ a. IsAccepted (program_seen a.tree) };
+    ghost invariant = { λ a. IsAccepted (program_seen a.typed) };
 }
 
 impl Accepted {
     /// The accepted program of this tree.
-    pub(crate) fn of(tree: Tree) -> Accepted
-        requires { IsAccepted (program_seen tree) }
-        ensures { result ≡ tree }
+    pub(crate) fn of(typed: Typed) -> Accepted
+        requires { IsAccepted (program_seen typed) }
+        ensures { result ≡ typed }
     {
-        Accepted { tree }
+        Accepted { typed }
+    }
+
+    /// Its typed tree, with the table of its memories.
+    pub fn typed(&self) -> &Typed
+        ensures typed { result.now ≡ self.now }
+        ensures accepted { IsAccepted (program_seen self.now) }
+    {
+        &self.typed
     }
 
     /// Its tree.
@@ -44,6 +52,6 @@ impl Accepted {
         ensures tree { result.now ≡ self.now }
         ensures accepted { IsAccepted (program_seen result.now) }
     {
-        &self.tree
+        self.typed.tree()
     }
 }

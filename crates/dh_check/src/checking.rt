@@ -1,29 +1,37 @@
 //! The passes over a text, in order.
 
-ghost use Rattle.std.specs.Prelude.{◌≡◌, ◌≤◌, List, [], false, length};
+ghost use Rattle.std.specs.Prelude.{◌≡◌, ◌≤◌, List, [], false, length, map, None};
+ghost use Rattle.std.specs.List.{AllByRecursion};
 ghost use Rattle.dh_lexer.specs.declared.tokens.Token.{Token as TokenSeen};
 ghost use Rattle.dh_lexer.specs.Counted.{most_open, most_operators, else_ifs_after};
 ghost use Rattle.dh_tree.specs.Forms.{unbuilt_forms};
-ghost use Rattle.dh_tree.specs.Seen.{program_seen};
-ghost use Rattle.dh_tree.specs.Written.{IsWritten};
-ghost use Rattle.dh_check.specs.Acceptance.{most_tokens};
+ghost use Rattle.dh_tree.specs.UncheckedForms.{unchecked_forms};
+ghost use Rattle.dh_tree.specs.LeastBreach.{least_of};
+ghost use Rattle.dh_tree.specs.Seen.{declared_seen, program_seen};
+ghost use Rattle.dh_tree.specs.Written.{IsOfText, IsWritten};
+ghost use Rattle.dh_check.specs.Acceptance.{most_tokens, unbuilt_by};
+ghost use Rattle.dh_check.specs.declared.checking.Forms.TheVariants as column;
 ghost use Rattle.dh_check.specs.Elements as elements;
+ghost use Rattle.dh_check.specs.Elements.{HasOneDim};
+ghost use Rattle.dh_check.specs.Ready.{TellsText, TellsTree, TellsNamed, TellsSizes};
 ghost use Rattle.dh_check.specs.Verdicts as verdicts;
-ghost use Rattle.dh_check.specs.Verdicts.{Checks, TellsTree, TellsNamed};
+ghost use Rattle.dh_check.specs.Verdicts.{Checks, ChecksWithoutPorts};
 
 use crate::accepted::Accepted;
 use crate::elements::elements_excess;
 use crate::forms::first_unbuilt;
-use crate::ranges::{first_lost, first_out_of_range};
+use crate::ranges::first_out_of_range;
+use crate::unchecked_forms::first_unchecked;
 use dh_base::{Excess, Limit, NoMemory, PassFault, Place, Rule};
 use dh_lexer::{Counts, counts, lex};
 use dh_names::resolve;
 use dh_parser::parse;
 use dh_ports::ports_kept;
-use dh_tree::{Breach, Named, Tree};
+use dh_tree::{Breach, Named, Tree, Typed};
+use dh_types::type_program;
 use std::alloc::Global;
 
-/// Which forms are built, by the command that asks. So far they are the same for all.
+/// Which forms may stand in a text, by the command that asks.
 #[derive(Clone, Copy, Debug, PartialEq, Eq)]
 pub enum Forms {
     /// Those of the interpreter without the check of ports.
@@ -78,15 +86,45 @@ fn tokens_excess(counts: Counts) -> Option<Excess>
 
 /// Checks a text of at most 1,048,576 bytes: its tokens, the limits on them, its tree, the forms that
 /// are built, names, kinds, sizes and indices, the limit on elements, and ports, in this order. The
-/// first of these with a breach or an excess refuses it, at the least place.
+/// first of these with a breach or an excess refuses it, at the least place. The forms are those of a
+/// command that checks ports.
 ///
 /// # Errors
 ///
 /// `Refused` with the rule that is broken and its place; `TooLarge` with the limit and the count above
 /// it, at most 1,000,000,000; `NoMemory` where an allocation was refused.
-pub fn check(alloc: Global, text: &[u8], _forms: Forms) -> Result<Accepted, CheckFault>
+pub fn check(alloc: Global, text: &[u8], forms: Forms) -> Result<Accepted, CheckFault>
+    requires short { length text.now ≤ 1048576 }
+    requires forms { forms ≡ column.Unchecked → ⊥ }
+    ensures { Checks forms text.now result }
+{
+    let typed = ready(alloc, text, forms)?;
+    match ports_kept(alloc, typed.tree()) {
+        Ok(None) => Ok(Accepted::of(typed)),
+        Ok(Some(place)) => {
+            let rule = Rule::PortsSpent;
+            Err(CheckFault::Refused { rule, place })
+        }
+        Err(NoMemory) => Err(CheckFault::NoMemory),
+    }
+}
+
+/// Checks a text as `check` does, but for its ports.
+///
+/// # Errors
+///
+/// As `check`, without the rule on ports.
+pub fn check_without_ports(alloc: Global, text: &[u8], forms: Forms) -> Result<Typed, CheckFault>
     requires { length text.now ≤ 1048576 }
-    ensures { Checks text.now result }
+    ensures { ChecksWithoutPorts forms text.now result }
+{
+    ready(alloc, text, forms)
+}
+
+/// The passes over a text before that over ports.
+fn ready(alloc: Global, text: &[u8], forms: Forms) -> Result<Typed, CheckFault>
+    requires { length text.now ≤ 1048576 }
+    ensures { TellsText forms text.now result }
 {
     let tokens = match lex(alloc, text) {
         Ok(tokens) => tokens,
@@ -97,49 +135,65 @@ pub fn check(alloc: Global, text: &[u8], _forms: Forms) -> Result<Accepted, Chec
         return Err(CheckFault::TooLarge { excess });
     }
     match parse(alloc, tokens.as_slice()) {
-        Ok(tree) => check_tree(alloc, tree),
+        Ok(tree) => ready_tree(alloc, tree, forms),
         Err(PassFault::Refused { rule, place }) => Err(CheckFault::Refused { rule, place }),
         Err(PassFault::NoMemory) => Err(CheckFault::NoMemory),
     }
 }
 
-/// The passes over a tree.
-fn check_tree(alloc: Global, tree: Tree) -> Result<Accepted, CheckFault>
-    requires { unbuilt_forms (program_seen tree) ≡ [] → IsWritten most_tokens (program_seen tree) }
-    ensures { TellsTree (program_seen tree) result }
+/// The first form of a program that is not built for the command that asks, if there is one.
+fn first_unbuilt_by(forms: Forms, tree: &Tree) -> Option<Breach>
+    ensures { result ≡ least_of None (unbuilt_by forms (program_seen tree.now)) }
 {
-    if let Some(Breach { rule, place }) = first_unbuilt(&tree) {
+    match forms {
+        Forms::Unchecked => first_unchecked(tree),
+        Forms::Checked | Forms::Compiled => first_unbuilt(tree),
+    }
+}
+
+/// The passes over a tree before that over ports.
+fn ready_tree(alloc: Global, tree: Tree, forms: Forms) -> Result<Typed, CheckFault>
+    requires of_text { IsOfText most_tokens (program_seen tree) }
+    requires written { unbuilt_forms (program_seen tree) ≡ [] → IsWritten most_tokens (program_seen tree) }
+    ensures { TellsTree forms (program_seen tree) result }
+{
+    if let Some(Breach { rule, place }) = first_unbuilt_by(forms, &tree) {
         return Err(CheckFault::Refused { rule, place });
     }
     match resolve(alloc, tree) {
-        Ok(named) => check_named(alloc, named),
+        Ok(named) => ready_named(alloc, named),
         Err(PassFault::Refused { rule, place }) => Err(CheckFault::Refused { rule, place }),
         Err(PassFault::NoMemory) => Err(CheckFault::NoMemory),
     }
 }
 
-/// The passes over a tree whose names are resolved.
-fn check_named(alloc: Global, named: Named) -> Result<Accepted, CheckFault>
-    requires built { unbuilt_forms (program_seen named) ≡ [] }
-    requires written { IsWritten most_tokens (program_seen named) }
+/// The passes over a tree whose names are resolved, before that over ports.
+fn ready_named(alloc: Global, named: Named) -> Result<Typed, CheckFault>
+    requires of_text { IsOfText most_tokens (program_seen named) }
+    requires built { unchecked_forms (program_seen named) ≡ [] }
     ensures { TellsNamed (program_seen named) result }
 {
-    let tree = named.into_tree();
-    if let Some(Breach { rule, place }) = first_lost(&tree) {
-        return Err(CheckFault::Refused { rule, place });
+    let typed = match type_program(alloc, named) {
+        Ok(typed) => typed,
+        Err(PassFault::Refused { rule, place }) => return Err(CheckFault::Refused { rule, place }),
+        Err(PassFault::NoMemory) => return Err(CheckFault::NoMemory),
+    };
+    match size_fault(typed.tree()) {
+        Some(fault) => Err(fault),
+        None => Ok(typed),
     }
-    if let Some(Breach { rule, place }) = first_out_of_range(&tree) {
-        return Err(CheckFault::Refused { rule, place });
+}
+
+/// The first size or index that is out of range, or else that the memories have too many elements.
+fn size_fault(tree: &Tree) -> Option<CheckFault>
+    requires { AllByRecursion HasOneDim (map declared_seen tree.now.decls.items) }
+    ensures { TellsSizes (program_seen tree.now) result }
+{
+    if let Some(Breach { rule, place }) = first_out_of_range(tree) {
+        return Some(CheckFault::Refused { rule, place });
     }
-    if let Some(excess) = elements_excess(tree.decls.as_slice()) {
-        return Err(CheckFault::TooLarge { excess });
-    }
-    match ports_kept(alloc, &tree) {
-        Ok(None) => Ok(Accepted::of(tree)),
-        Ok(Some(place)) => {
-            let rule = Rule::PortsSpent;
-            Err(CheckFault::Refused { rule, place })
-        }
-        Err(NoMemory) => Err(CheckFault::NoMemory),
+    match elements_excess(tree.decls.as_slice()) {
+        Some(excess) => Some(CheckFault::TooLarge { excess }),
+        None => None,
     }
 }

@@ -16,7 +16,7 @@ use dh_value::{Kind, Op};
 const GREATEST_NUMBER: u64 = 4_294_967_295;
 
 /// That a form which is not built begins here.
-fn keep_unbuilt(kept: &mut Option<Breach>, place: Place)
+pub(crate) fn keep_unbuilt(kept: &mut Option<Breach>, place: Place)
     ensures { kept.new ≡ least_of kept.old (unbuilt place) }
 {
     let rule = Rule::Unsupported;
@@ -24,7 +24,7 @@ fn keep_unbuilt(kept: &mut Option<Breach>, place: Place)
 }
 
 /// The same, where there is a place.
-fn keep_where(kept: &mut Option<Breach>, place: Option<Place>)
+pub(crate) fn keep_where(kept: &mut Option<Breach>, place: Option<Place>)
     ensures { kept.new ≡ least_of kept.old (unbuilt_where place) }
 {
     if let Some(place) = place {
@@ -44,7 +44,7 @@ fn keep_further_dims(kept: &mut Option<Breach>, dims: &[DimPlaces])
 
 /// The dimensions of a type whose kind begins at `start`: at least one, without the word `bank`.
 #[tactic(auto, using(crate::proofs::Leasts::least_append))]
-fn keep_dims(kept: &mut Option<Breach>, start: Place, dims: &[DimPlaces])
+pub(crate) fn keep_dims(kept: &mut Option<Breach>, start: Place, dims: &[DimPlaces])
     ensures { kept.new ≡ least_of kept.old (unbuilt_dims start dims.now) }
 {
     match dims {
@@ -88,7 +88,7 @@ fn keep_decls(kept: &mut Option<Breach>, decls: &[Decl])
 }
 
 #[tactic(auto, using(crate::proofs::Leasts::least_append))]
-fn keep_functions(kept: &mut Option<Breach>, functions: &[Function])
+pub(crate) fn keep_functions(kept: &mut Option<Breach>, functions: &[Function])
     ensures { kept.new ≡ least_of kept.old (unbuilt_functions (map defined_seen functions.now)) }
 {
     for function in functions {
@@ -220,7 +220,7 @@ fn keep_value(kept: &mut Option<Breach>, value: &Expr)
 }
 
 /// Whether the parts have a `---` between them.
-fn has_dashes(parts: &[Vec<Command>]) -> bool
+pub(crate) fn has_dashes(parts: &[Vec<Command>]) -> bool
     ensures { result ≡ forms.has_dashes (groups (map part_seen parts.now)) }
 {
     parts.len() > 1
@@ -256,7 +256,7 @@ fn keep_command(kept: &mut Option<Breach>, command: &Command) -> bool
 }
 
 /// What of a command of a further form is not built: all of it.
-fn keep_whole(kept: &mut Option<Breach>, place: Place, form: &CommandForm) -> bool
+pub(crate) fn keep_whole(kept: &mut Option<Breach>, place: Place, form: &CommandForm) -> bool
     ensures kept { kept.new ≡ least_of kept.old (unbuilt place) }
     ensures steps { result ≡ form_holds (action_form_seen form.now) }
 {
@@ -286,7 +286,7 @@ fn keep_groups(kept: &mut Option<Breach>, parts: &[Vec<Command>]) -> bool
 }
 
 /// That a command is a second one of its list which holds a `---`.
-fn keep_second(kept: &mut Option<Breach>, is_second: bool, place: Place)
+pub(crate) fn keep_second(kept: &mut Option<Breach>, is_second: bool, place: Place)
     ensures { kept.new ≡ least_of kept.old (if is_second then unbuilt place else []) }
 {
     if is_second {

@@ -6,7 +6,12 @@ mod accepted;
 mod checking;
 mod elements;
 mod forms;
+mod laws;
 mod ranges;
+#[cfg(test)]
+mod tests;
+mod unchecked_forms;
 
 pub use accepted::Accepted;
-pub use checking::{CheckFault, Forms, check};
+pub use checking::{CheckFault, Forms, check, check_without_ports};
+pub use laws::ready_programs_have_tables;

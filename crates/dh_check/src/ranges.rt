@@ -1,96 +1,55 @@
 //! Numbers that are out of range: sizes and literal indices.
 
-ghost use Rattle.std.specs.Prelude.{◌≡◌, map, None, List};
-ghost use Rattle.dh_tree.specs.declared.tables.Dim.{Dim};
-ghost use Rattle.dh_tree.specs.LeastBreach.{least_of};
+ghost use Rattle.std.specs.Prelude.{◌≡◌, map, None, option_map, if◌then◌else◌, [], ◌∷◌};
+ghost use Rattle.dh_tree.specs.LeastBreach.{least_of, breach};
+ghost use Rattle.dh_base.specs.declared.rules.Rule.TheVariants.{ConstantRange};
 ghost use Rattle.dh_tree.specs.Ranges as ranges;
-ghost use Rattle.dh_tree.specs.Ranges.{index_kind, index_range, first_dim, declared_dims, index_judged, indices_judged, term_judged, action_judged, groups_judged, size_judged, decls_judged, kind_breaches, range_breaches};
-ghost use Rattle.dh_tree.specs.Seen.{term_seen, form_seen, terms, action_seen, declared_seen, program_seen, groups, part_seen};
-ghost use Rattle.dh_check.specs.Judges.{judge_of};
+ghost use Rattle.dh_tree.specs.Ranges.{literal_breaches, literals_breaches, term_range_breaches, terms_range_breaches, maybe_range_breaches, action_range_breaches, other_range_breaches, groups_range_breaches, sizes_breaches, decls_range_breaches, range_breaches};
+ghost use Rattle.dh_tree.specs.Seen.{term_seen, form_seen, terms, action_seen, declared_seen, program_seen, groups, part_seen, maybe_seen};
 
 use dh_base::{Place, Rule};
 use dh_tree::{
     Breach, Command, CommandForm, Decl, Dim, DimPlaces, Expr, ExprForm, Tree, keep_least,
 };
 
-/// A rule on literal indices.
-#[derive(Clone, Copy, Debug, PartialEq, Eq)]
-pub(crate) enum Judging {
-    /// A number is a value of its kind.
-    Kinds,
-    /// An index is below its size.
-    Ranges,
-}
-
-/// The greatest value of the kind of a number alone in brackets.
-const GREATEST_INDEX: u64 = 2_147_483_647;
-
-/// An index that has to be a value of its kind.
-fn keep_kind(kept: &mut Option<Breach>, place: Place, index: u64, dim: Option<Dim>)
-    ensures { kept.new ≡ least_of kept.old (index_kind place index dim) }
+/// That a number is out of range.
+fn keep_beyond(kept: &mut Option<Breach>, is_beyond: bool, place: Place)
+    ensures { kept.new ≡ least_of kept.old (if is_beyond then breach ConstantRange place ∷ [] else []) }
 {
-    if index > GREATEST_INDEX {
-        let rule = Rule::WidthLost;
+    if is_beyond {
+        let rule = Rule::ConstantRange;
         keep_least(kept, Breach { rule, place });
     }
 }
 
-/// An index that has to be below its size, where that is not 0.
-fn keep_range(kept: &mut Option<Breach>, place: Place, index: u64, dim: Option<Dim>)
-    ensures { kept.new ≡ least_of kept.old (index_range place index dim) }
+/// Whether a literal is no index of a dimension of this size; no rule is broken where the size is 0.
+fn is_beyond(size: u64, negative: bool, value: u64) -> bool
+    ensures { result ≡ ranges.is_beyond size negative value }
 {
-    if let Some(dim) = dim {
-        if dim.size != 0 && index >= dim.size {
-            let rule = Rule::ConstantRange;
-            keep_least(kept, Breach { rule, place });
-        }
+    size != 0 && ((negative && value != 0) || (!negative && value >= size))
+}
+
+/// The dimensions of what a name stands for; memories from outside are the first entities.
+fn dims_of(decls: &[Decl], entity: Option<u32>) -> &[Dim]
+    ensures { result.now ≡ ranges.dims_of (map declared_seen decls.now) entity }
+{
+    match entity {
+        Some(entity) => match decls.get(entity as usize) {
+            Some(decl) => decl.shape.dims.as_slice(),
+            None => &[],
+        },
+        None => &[],
     }
 }
 
-fn keep_judged(
-    judging: Judging,
-    kept: &mut Option<Breach>,
-    place: Place,
-    index: u64,
-    dim: Option<Dim>,
-)
-    ensures { kept.new ≡ least_of kept.old (judge_of judging place index dim) }
-{
-    match judging {
-        Judging::Kinds => keep_kind(kept, place, index, dim),
-        Judging::Ranges => keep_range(kept, place, index, dim),
-    }
-}
-
-fn first_dim(dims: &[Dim]) -> Option<Dim>
-    ensures { result ≡ first_dim dims.now }
-{
-    match dims {
-        [] => None,
-        [dim, ..] => Some(*dim),
-    }
-}
-
-/// The first dimension of what a name stands for; memories from outside are the first entities.
-fn dim_of(decls: &[Decl], entity: Option<u32>) -> Option<Dim>
-    ensures { result ≡ first_dim (ranges.dims_of (map declared_seen decls.now) entity) }
-{
-    let entity = entity? as usize;
-    match decls.get(entity) {
-        Some(decl) => first_dim(decl.shape.dims.as_slice()),
-        None => None,
-    }
-}
-
+/// A literal that is no index of a dimension of this size.
 #[tactic(auto, using(dh_tree::proofs::SeenTerms::terms_are))]
-fn keep_index(judging: Judging, kept: &mut Option<Breach>, index: &Expr, dim: Option<Dim>)
-    ensures { kept.new ≡ least_of kept.old (index_judged (judge_of judging) dim index.now.place (form_seen index.now.form)) }
+fn keep_literal(kept: &mut Option<Breach>, size: u64, index: &Expr)
+    ensures { kept.new ≡ least_of kept.old (literal_breaches size index.now.place (form_seen index.now.form)) }
 {
     match &index.form {
         ExprForm::Number { negative, value } => {
-            if !*negative {
-                keep_judged(judging, kept, index.place, *value, dim);
-            }
+            keep_beyond(kept, is_beyond(size, *negative, *value), index.place);
         }
         ExprForm::Truth { .. } => {}
         ExprForm::Variable { .. } => {}
@@ -101,105 +60,116 @@ fn keep_index(judging: Judging, kept: &mut Option<Breach>, index: &Expr, dim: Op
     }
 }
 
-fn keep_indices(judging: Judging, kept: &mut Option<Breach>, indices: &[Expr], dim: Option<Dim>)
-    ensures { (dims : List Dim) → dim ≡ first_dim dims → kept.new ≡ least_of kept.old (indices_judged (judge_of judging) dims (terms (map term_seen indices.now))) }
+/// The literals among indices, each for its dimension.
+fn keep_literals(kept: &mut Option<Breach>, dims: &[Dim], indices: &[Expr])
+    ensures { kept.new ≡ least_of kept.old (literals_breaches dims.now (terms (map term_seen indices.now))) }
 {
-    match indices {
-        [] => {}
-        [index, ..] => keep_index(judging, kept, index, dim),
+    for (dim, index) in dims.iter().zip(indices.iter()) {
+        keep_literal(kept, dim.size, index);
     }
 }
 
+/// The indices in an expression.
+#[cycle(terms)]
 #[tactic(auto, using(dh_tree::proofs::SeenTerms::terms_are, crate::proofs::Leasts::least_append))]
-fn keep_term(judging: Judging, decls: &[Decl], kept: &mut Option<Breach>, value: &Expr)
-    ensures { kept.new ≡ least_of kept.old (term_judged (judge_of judging) (map declared_seen decls.now) (term_seen value.now)) }
+fn keep_term(decls: &[Decl], kept: &mut Option<Breach>, term: &Expr)
+    ensures { kept.new ≡ least_of kept.old (term_range_breaches (map declared_seen decls.now) (term_seen term.now)) }
 {
-    match &value.form {
-        ExprForm::Access { of, indices } => {
-            keep_indices(judging, kept, indices.as_slice(), dim_of(decls, of.entity))
-        }
-        ExprForm::Binary { left, right, .. } => {
-            keep_term(judging, decls, kept, left);
-            keep_term(judging, decls, kept, right);
-        }
+    match &term.form {
         ExprForm::Number { .. } => {}
         ExprForm::Truth { .. } => {}
         ExprForm::Variable { .. } => {}
+        ExprForm::Access { of, indices } => {
+            keep_literals(kept, dims_of(decls, of.entity), indices.as_slice());
+            keep_terms(decls, kept, indices.as_slice());
+        }
         ExprForm::Physical { .. } => {}
-        ExprForm::Cast { .. } => {}
+        ExprForm::Binary { left, right, .. } => {
+            keep_term(decls, kept, left);
+            keep_term(decls, kept, right);
+        }
+        ExprForm::Cast { inner, .. } => keep_term(decls, kept, inner),
     }
 }
 
-#[cycle(judged)]
+/// Those in expressions.
+#[cycle(terms)]
+#[tactic(auto, using(dh_tree::proofs::SeenTerms::terms_are, crate::proofs::Leasts::least_append))]
+fn keep_terms(decls: &[Decl], kept: &mut Option<Breach>, indices: &[Expr])
+    ensures { kept.new ≡ least_of kept.old (terms_range_breaches (map declared_seen decls.now) (terms (map term_seen indices.now))) }
+{
+    for index in indices {
+        keep_term(decls, kept, index);
+    }
+}
+
+/// Those in a command.
+#[cycle(commands)]
 #[tactic(auto, using(dh_tree::proofs::SeenActions::actions_are, crate::proofs::Leasts::least_append))]
-fn keep_command(judging: Judging, decls: &[Decl], kept: &mut Option<Breach>, command: &Command)
-    ensures { kept.new ≡ least_of kept.old (action_judged (judge_of judging) (map declared_seen decls.now) (action_seen command.now)) }
+fn keep_command(decls: &[Decl], kept: &mut Option<Breach>, command: &Command)
+    ensures { kept.new ≡ least_of kept.old (action_range_breaches (map declared_seen decls.now) (action_seen command.now)) }
 {
     match &command.form {
-        CommandForm::Store { target, value } => {
-            keep_term(judging, decls, kept, target);
-            keep_term(judging, decls, kept, value);
+        CommandForm::Let { value, .. } => {
+            if let Some(value) = value {
+                keep_term(decls, kept, value);
+            }
         }
-        CommandForm::Block { body } => keep_groups(judging, decls, kept, body.as_slice()),
-        CommandForm::Let { .. } => {}
+        CommandForm::Assign { value, .. } => keep_term(decls, kept, value),
+        CommandForm::Store { target, value } => {
+            keep_term(decls, kept, target);
+            keep_term(decls, kept, value);
+        }
+        CommandForm::If { test, then, other } => {
+            keep_term(decls, kept, test);
+            keep_command(decls, kept, then);
+            if let Some(block) = other {
+                keep_command(decls, kept, block);
+            }
+        }
+        CommandForm::Block { body } => keep_groups(decls, kept, body.as_slice()),
         CommandForm::LetMemory { .. } => {}
         CommandForm::View { .. } => {}
-        CommandForm::Assign { .. } => {}
         CommandForm::Reduce { .. } => {}
         CommandForm::Call { .. } => {}
-        CommandForm::If { .. } => {}
         CommandForm::While { .. } => {}
         CommandForm::For { .. } => {}
     }
 }
 
-#[cycle(judged)]
+/// Those in the parts between `---`.
+#[cycle(commands)]
 #[tactic(auto, using(dh_tree::proofs::SeenActions::actions_are, crate::proofs::Leasts::least_append))]
-fn keep_groups(judging: Judging, decls: &[Decl], kept: &mut Option<Breach>, parts: &[Vec<Command>])
-    ensures { kept.new ≡ least_of kept.old (groups_judged (judge_of judging) (map declared_seen decls.now) (groups (map part_seen parts.now))) }
+fn keep_groups(decls: &[Decl], kept: &mut Option<Breach>, parts: &[Vec<Command>])
+    ensures { kept.new ≡ least_of kept.old (groups_range_breaches (map declared_seen decls.now) (groups (map part_seen parts.now))) }
 {
     for part in parts {
         for command in part {
-            keep_command(judging, decls, kept, command);
+            keep_command(decls, kept, command);
         }
     }
 }
 
-fn keep_size(kept: &mut Option<Breach>, dims: &[Dim], places: &[DimPlaces])
-    ensures { kept.new ≡ least_of kept.old (size_judged dims.now places.now) }
+/// Sizes that are 0.
+fn keep_sizes(kept: &mut Option<Breach>, dims: &[Dim], places: &[DimPlaces])
+    ensures { kept.new ≡ least_of kept.old (sizes_breaches dims.now places.now) }
 {
-    match (dims, places) {
-        ([dim, ..], [places, ..]) => {
-            if dim.size == 0 {
-                let rule = Rule::ConstantRange;
-                let place = places.size_place;
-                keep_least(kept, Breach { rule, place });
-            }
-        }
-        _ => {}
+    for (dim, place) in dims.iter().zip(places.iter()) {
+        keep_beyond(kept, dim.size == 0, place.size_place);
     }
 }
 
 #[tactic(auto, using(crate::proofs::Leasts::least_append))]
-fn keep_sizes(kept: &mut Option<Breach>, decls: &[Decl])
-    ensures { kept.new ≡ least_of kept.old (decls_judged (map declared_seen decls.now)) }
+fn keep_decls(kept: &mut Option<Breach>, decls: &[Decl])
+    ensures { kept.new ≡ least_of kept.old (decls_range_breaches (map declared_seen decls.now)) }
 {
     for decl in decls {
-        keep_size(
+        keep_sizes(
             kept,
             decl.shape.dims.as_slice(),
             decl.shape_places.dims.as_slice(),
         );
     }
-}
-
-/// The first number of a program that is no value of its kind, if there is one.
-pub(crate) fn first_lost(tree: &Tree) -> Option<Breach>
-    ensures { result ≡ least_of None (kind_breaches (program_seen tree.now)) }
-{
-    let mut kept = None;
-    keep_command(Judging::Kinds, tree.decls.as_slice(), &mut kept, &tree.body);
-    kept
 }
 
 /// The first size or index of a program that is out of range, if there is one.
@@ -208,12 +178,7 @@ pub(crate) fn first_out_of_range(tree: &Tree) -> Option<Breach>
     ensures { result ≡ least_of None (range_breaches (program_seen tree.now)) }
 {
     let mut kept = None;
-    keep_sizes(&mut kept, tree.decls.as_slice());
-    keep_command(
-        Judging::Ranges,
-        tree.decls.as_slice(),
-        &mut kept,
-        &tree.body,
-    );
+    keep_decls(&mut kept, tree.decls.as_slice());
+    keep_command(tree.decls.as_slice(), &mut kept, &tree.body);
     kept
 }

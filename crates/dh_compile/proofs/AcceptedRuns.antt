@@ -3,7 +3,6 @@
 use Rattle.std.proofs.Common.{◌≡◌, ℕ, length, map, ap, sym, subst, ◌∙◌, Result, Ok, Err, IfOk}
 use Rattle.dh_base.specs.declared.lists.NoMemory.{NoMemory}
 use Rattle.dh_tree.specs.PlainTrees as plain
-use Rattle.dh_tree.specs.Phases.{phases}
 use Rattle.dh_tree.specs.Tables.{Fits}
 use Rattle.dh_tree.specs.Tree.{Tree}
 use Rattle.dh_tree.specs.Meaning.{meaning_of, table_of}
@@ -16,9 +15,9 @@ use Rattle.dh_compile.specs.Grouped.{IsGrouped, tree_of}
 use Rattle.dh_compile.specs.Built.{IsBuilt}
 use Rattle.dh_compile.specs.Compiled.{run_of_tree, PlaysProgram, EndsSoon}
 use Rattle.dh_compile.specs.GroupRun.{PlaysGroups}
-use Rattle.dh_compile.specs.Reading.{phase_read, program_read}
+use Rattle.dh_compile.specs.Reading.{phase_read, store_phases, program_read}
 use Rattle.dh_compile.proofs.PlayingPrograms.{plays_groups, groups_end}
-use Rattle.dh_compile.proofs.Accepting.{accepted_grouped, accepted_meant}
+use Rattle.dh_compile.proofs.Accepting.{accepted_alone, accepted_grouped, accepted_meant}
 use Rattle.std.proofs.lemmas.List.{length-map}
 
 plays_meaning : (p : plain.Program) (g : Program) (net : Net) → tree_of g ≡ meaning_of p → PlaysGroups net g → PlaysProgram net p
@@ -41,7 +40,7 @@ built_plays_program p g (Err e) same grouped built valid = tt
 pub accepted_ends : (p : plain.Program) → IsAccepted p → EndsSoon p
 accepted_ends p accepted = record {
   ends = λ memories fits.
-      subst (λ (n : ℕ). EndsAfter (run_of_tree (meaning_of p) memories) n) (length-map (phases p.body) phase_read)
-      (subst (λ (t : Tree). EndsAfter (run_of_tree t memories) (length (map phase_read (phases p.body)))) (accepted_meant p accepted)
+      subst (λ (n : ℕ). EndsAfter (run_of_tree (meaning_of p) memories) n) (length-map (store_phases p.body) phase_read ∙ ap length (accepted_alone p accepted))
+      (subst (λ (t : Tree). EndsAfter (run_of_tree t memories) (length (map phase_read (store_phases p.body)))) (accepted_meant p accepted)
       ((groups_end (program_read p) (accepted_grouped p accepted)).ends memories fits));
 }

@@ -4,27 +4,31 @@ use Rattle.std.proofs.Common.{◌≡◌, ℕ, ◌+◌, ◌≤◌, ◌<◌, Optio
 use Rattle.std.specs.Prelude.{Bool, true, false, ◌||◌, slice_get, if◌then◌else◌}
 use Rattle.std.specs.List.{AllByRecursion}
 use Rattle.std.proofs.lemmas.Option.{slice_get_cases}
-use Rattle.dh_value.specs.declared.kinds.Kind.TheVariants.{Unsigned}
-use Rattle.dh_tree.specs.PlainTrees.{Action, Declared, Defined, Program}
+use Rattle.dh_tree.specs.PlainTrees.{Action, Declared, Program}
 use Rattle.dh_tree.specs.Phases.{Phase, straight, phases, id_of, in_one_straight}
 use Rattle.dh_tree.specs.Accesses.{Access, accesses, declared_ports, KeepsPorts}
-use Rattle.dh_tree.specs.Scopes.{memory_items, function_items, merged, items_of, after_items, body_scope, entity_of}
+use Rattle.dh_tree.specs.Scopes.{memory_items, items_of, body_scope}
 use Rattle.dh_tree.specs.Breaches.{items_breaches, functions_breaches, breaches}
 use Rattle.dh_tree.specs.Scopes.{first_scope}
-use Rattle.dh_tree.specs.Ranges.{index_range, decls_judged, action_judged}
+use Rattle.dh_tree.specs.Ranges.{decls_range_breaches, action_range_breaches}
+use Rattle.dh_tree.specs.Kinds.{function_fact, first_facts, body_facts, facts_after_functions, typed_action, typed_functions}
+use Rattle.dh_tree.specs.KindBreaches.{action_kind_breaches, functions_kind_breaches}
 use Rattle.dh_tree.specs.Meaning.{meaning_of, table_of}
 use Rattle.dh_tree.specs.FirstForms.{number_after}
 use Rattle.dh_tree.specs.Forms.{unbuilt_decls, unbuilt_functions, unbuilt_action}
 use Rattle.dh_check.specs.Acceptance.{IsAccepted}
 use Rattle.dh_compile.specs.declared.stores.Operand.{Operand}
-use Rattle.dh_compile.specs.Grouped.{IsGroup, IsGrouped, tree_of}
+use Rattle.dh_compile.specs.Grouped.{IsGroup, IsGrouped, phases_from, tree_of}
 use Rattle.dh_compile.specs.Timetable.{any_read, is_read, total_length}
-use Rattle.dh_compile.specs.Reading.{action_read, phase_read, program_read}
+use Rattle.dh_compile.specs.Reading.{action_read, phase_read, store_phases, program_read}
 use Rattle.dh_compile.proofs.Groups.{at_place}
-use Rattle.dh_check.proofs.OuterNames.{no_rest, items_are, visible_declared}
+use Rattle.dh_compile.proofs.OuterNames.{no_rest, no_functions, items_are, visible_declared}
 use Rattle.dh_compile.proofs.Plain.{Known, CommandFits, PhasesFit, body_fits}
 use Rattle.dh_compile.proofs.Declarations.{IsLineDecl, distinct_names, decls_are, lines_are, entries_are}
-use Rattle.dh_compile.proofs.Meant.{AreWords, phases_are, stores_are}
+use Rattle.dh_compile.proofs.Meant.{phases_are, stores_are}
+use Rattle.dh_compile.proofs.StorePhases.{are_phases}
+use Rattle.dh_compile.proofs.Held.{PhasesHeld, body_held}
+use Rattle.dh_compile.proofs.Kinded.{PhaseKinds, lines_known, phases_kinds}
 use Rattle.dh_compile.proofs.Meeting.{commands_accesses, phases_accesses, phases_append, accesses_are}
 use Rattle.dh_compile.proofs.Ordering.{AllNumbered, Ordered, AllBelow, ordered, not_together, below_more}
 use Rattle.dh_compile.proofs.Portions.{AreReads, AreAccesses, store_has, charged_keep}
@@ -59,12 +63,10 @@ commands_between ds low high (c ∷ cs) h k =
 
 -- what is known of an accepted program
 record Facts (p : Program) : Type 0 where
+  pub alone : store_phases p.body ≡ phases p.body
   pub decls : AllByRecursion IsLineDecl p.decls
   pub fits : PhasesFit p.decls (phases p.body)
   pub keeps : KeepsPorts p
-
-words_are : (ds : List Declared) → AllByRecursion IsLineDecl ds → AreWords ds
-words_are ds h = all_map IsLineDecl (λ (d : Declared). d.shape.kind ≡ Unsigned 32) (λ d k. k.kind) ds h
 
 one_port : (ds : List Declared) (m : ℕ) → AllByRecursion IsLineDecl ds → declared_ports (slice_get ds m) ≤ 1
 one_port ds m h =
@@ -90,7 +92,7 @@ groups_are p facts before (straight cs ∷ behind) low high split below early o 
     let group : IsGroup (table_of p) (map action_read cs) = record {
       least = let e = length-map cs action_read in omega (arith, e, fits.0.0);
       stores = stores_are p.decls cs fits.0.1;
-      ports = charged_keep p.decls cs fits.0.1 (λ m. phase_spent p m before cs behind split facts.keeps (one_port p.decls m facts.decls) never_with);
+      ports = charged_keep p.decls cs fits.0.1 (λ m. phase_spent p m before cs behind facts.alone split facts.keeps (one_port p.decls m facts.decls) never_with);
     } in (
       group,
       groups_are p facts (before ++ straight cs ∷ []) behind o.0 high (split ∙ sym (append_assoc before (straight cs ∷ []) behind))
@@ -163,36 +165,59 @@ facts_are : (p : Program) → IsAccepted p → Facts p
 facts_are p a =
     let built = no_rest (unbuilt_decls p.decls) _ a.built in
     let forms = no_rest (unbuilt_functions p.functions) (unbuilt_action p.body) built.1 in
-    let ranges = no_rest (decls_judged p.decls) (action_judged index_range p.decls p.body) a.ranges in
-    let names = no_rest (items_breaches [] (items_of p)) _ a.names in
+    let ranges = no_rest (decls_range_breaches p.decls) (action_range_breaches p.decls p.body) a.ready.ranges in
+    let names = no_rest (items_breaches [] (items_of p)) _ a.ready.names in
     let body_names = no_rest (functions_breaches (length p.decls) (first_scope p) p.functions) (breaches (body_scope p) p.body) names.1 in
-    let decls = decls_are p.decls a.written.decls built.0 ranges.0 in
+    let decls = decls_are p.decls a.written.of_text.decls built.0 ranges.0 in
     let known : Known p.decls (body_scope p).visible = record {
       declared = visible_declared p forms.0;
       lines = lines_are p.decls decls;
     } in
     record {
+      alone = are_phases p.body forms.1;
       decls = decls;
-      fits = body_fits p.decls (body_scope p).visible known p.body (body_scope p) refl forms.1 ranges.1 body_names.1 (ap (λ q. q.body) a.entities);
+      fits = body_fits p.decls (body_scope p).visible known p.body (body_scope p) refl forms.1 ranges.1 body_names.1 (ap (λ q. q.body) a.ready.entities);
       keeps = a.ports;
     }
+
+-- all its phases are of stores
+pub accepted_alone : (p : Program) → IsAccepted p → store_phases p.body ≡ phases p.body
+accepted_alone p a = (facts_are p a).alone
 
 -- an accepted program's groups are such as the compiler takes
 pub accepted_grouped : (p : Program) → IsAccepted p → IsGrouped (program_read p)
 accepted_grouped p a =
     let facts = facts_are p a in
     record {
-      entries = entries_are p.decls a.written.decls facts.decls a.elements;
-      names = distinct_names [] 0 p.decls (ap (items_breaches []) (sym (accepted_items p a)) ∙ (no_rest (items_breaches [] (items_of p)) _ a.names).0);
-      elements = a.elements;
-      groups = groups_are p facts [] (phases p.body) a.written.first_number (number_after a.written.first_number p.body) refl tt tt (ordered p.body a.written.first_number a.written.counted) facts.fits;
+      entries = entries_are p.decls a.written.of_text.decls facts.decls a.ready.elements;
+      names = distinct_names [] 0 p.decls (ap (items_breaches []) (sym (accepted_items p a)) ∙ (no_rest (items_breaches [] (items_of p)) _ a.ready.names).0);
+      elements = a.ready.elements;
+      groups = subst (λ (ps : List Phase). AllByRecursion (IsGroup (table_of p)) (map phase_read ps)) (sym facts.alone)
+          (groups_are p facts [] (phases p.body) a.written.first_number (number_after a.written.first_number p.body) refl tt tt
+          (subst (λ (ps : List Phase). Ordered a.written.first_number (number_after a.written.first_number p.body) ps) facts.alone (ordered p.body a.written.first_number a.written.counted))
+          facts.fits);
       short = let clocks = clocks_are p.decls (phases p.body) facts.fits in
-          let e : length (accesses p.body) ≡ length (phases_accesses (phases p.body)) = ap length (accesses_are p.body) in
-          omega (arith, clocks, e, a.written.accesses);
+          let same : total_length (map phase_read (store_phases p.body)) ≡ total_length (map phase_read (phases p.body)) = ap (λ ps. total_length (map phase_read ps)) facts.alone in
+          let e : length (accesses p.body) ≡ length (phases_accesses (phases p.body)) = ap length (accesses_are p.body) ∙ ap (λ ps. length (phases_accesses ps)) facts.alone in
+          omega (arith, clocks, same, e, a.written.accesses);
     }
+
+-- its expressions have their kinds, and break no rule on kinds, in each phase
+accepted_held : (p : Program) → IsAccepted p → PhasesHeld (first_facts p) (phases p.body)
+accepted_held p a =
+    let built = no_rest (unbuilt_functions p.functions) (unbuilt_action p.body) (no_rest (unbuilt_decls p.decls) _ a.built).1 in
+    let none = no_functions p.functions built.0 in
+    let suits = no_rest (functions_kind_breaches (first_facts p) p.functions) (action_kind_breaches (body_facts p) p.body) a.ready.suits in
+    body_held (first_facts p) p.body built.1
+    (ap (λ fs. typed_action (facts_after_functions (first_facts p) (typed_functions (first_facts p) fs)) p.body) (sym none) ∙ ap (λ q. q.body) a.ready.kinds)
+    (ap (λ fs. action_kind_breaches (facts_after_functions (first_facts p) fs) p.body) (sym none) ∙ suits.1)
+
+accepted_kinds : (p : Program) → IsAccepted p → Facts p → AllByRecursion PhaseKinds (phases p.body)
+accepted_kinds p a facts =
+    phases_kinds (first_facts p) p.decls (lines_known p.decls (map function_fact p.functions) facts.decls) (phases p.body) facts.fits (accepted_held p a)
 
 -- they mean what it means
 pub accepted_meant : (p : Program) → IsAccepted p → tree_of (program_read p) ≡ meaning_of p
 accepted_meant p a =
     let facts = facts_are p a in
-    ap (λ ps. record { table = table_of p; phases = ps }) (phases_are p.decls (words_are p.decls facts.decls) (phases p.body) facts.fits)
+    ap (λ ps. record { table = table_of p; phases = ps }) (ap (λ ps. phases_from (map phase_read ps)) facts.alone ∙ phases_are p.decls (phases p.body) facts.fits (accepted_kinds p a facts))

@@ -1,6 +1,6 @@
 -- What acceptance says of the declarations of a program: each is of a line of `ubit<32>`, their names
 -- differ, and a visible name is that of one of them.
-use Rattle.std.proofs.Common.{◌≡◌, ℕ, ◌+◌, ◌*◌, ◌≤◌, ◌<◌, Option, Some, None, List, [], ◌∷◌, ◌++◌, length, map, refl, ap, ◌∙◌, arith}
+use Rattle.std.proofs.Common.{◌≡◌, ℕ, ◌+◌, ◌*◌, ◌≤◌, Option, Some, None, List, [], ◌∷◌, ◌++◌, map, refl, ap, ◌∙◌, arith}
 use Rattle.std.specs.Prelude.{Bool, true, false, ◌==◌, if◌then◌else◌}
 use Rattle.std.specs.List.{AllByRecursion}
 use Rattle.std.specs.Option.{is_some}
@@ -8,22 +8,24 @@ use Rattle.std.specs.Str.{bytes_eq}
 use Rattle.std.proofs.lemmas.Bool.Decides.{nat_tests}
 use Rattle.std.proofs.lemmas.Slice.Eq.{bytes_eq-Decides}
 use Rattle.dh_base.specs.declared.places.Place.{Place}
+use Rattle.dh_base.specs.declared.rules.Rule.TheVariants.{ConstantRange}
 use Rattle.dh_value.specs.declared.kinds.Kind.{Kind}
 use Rattle.dh_value.specs.declared.kinds.Kind.TheVariants as kind
 use Rattle.dh_tree.specs.declared.breaches.Breach.{Breach}
 use Rattle.dh_tree.specs.declared.tables.Dim.{Dim}
 use Rattle.dh_tree.specs.declared.tables.Shape.{Shape}
 use Rattle.dh_tree.specs.declared.trees.programs.DimPlaces.{DimPlaces}
-use Rattle.dh_tree.specs.PlainTrees.{Declared, Defined}
-use Rattle.dh_tree.specs.Scopes.{Binding, binding, entity_of, is_visible, bind, Item, memory_items, merged, after_items}
+use Rattle.dh_tree.specs.LeastBreach.{breach}
+use Rattle.dh_tree.specs.PlainTrees.{Declared}
+use Rattle.dh_tree.specs.Scopes.{Binding, binding, entity_of, is_visible, bind, memory_items}
 use Rattle.dh_tree.specs.Breaches.{twice, items_breaches}
-use Rattle.dh_tree.specs.Ranges.{size_judged, decls_judged}
+use Rattle.dh_tree.specs.Ranges.{sizes_breaches, decls_range_breaches}
 use Rattle.dh_tree.specs.Tables.{line_of, elements_of, elements_in, most_elements, HasNoName, HasDistinctNames}
 use Rattle.dh_tree.specs.Written.{IsOneUnless, AreDims, IsDeclared}
 use Rattle.dh_tree.specs.Meaning.{entry_of}
-use Rattle.dh_tree.specs.Forms.{is_word, unbuilt_where, further_dims, unbuilt_dims, unbuilt_decl, unbuilt_decls, unbuilt_functions}
+use Rattle.dh_tree.specs.Forms.{is_word, unbuilt_where, further_dims, unbuilt_dims, unbuilt_decl, unbuilt_decls}
 use Rattle.dh_compile.specs.Grouped as grouped
-use Rattle.dh_check.proofs.OuterNames.{no_rest, if_none}
+use Rattle.dh_compile.proofs.OuterNames.{no_rest, if_none}
 use Rattle.dh_compile.proofs.Plain.{LineFits}
 
 same_name : (name : List ℕ) → bytes_eq name name ≡ true
@@ -108,7 +110,7 @@ pub record IsLine (dims : List Dim) : Type 0 where
 one_dim : (d : Dim) → d.banks ≡ 1 → d ∷ [] ≡ line_of d.size
 one_dim d e = ap (λ n. record { size = d.size; banks = n } ∷ []) e
 
-dims_are : (start : Place) (dims : List Dim) (places : List DimPlaces) → AreDims dims places → unbuilt_dims start places ≡ [] → size_judged dims places ≡ [] → IsLine dims
+dims_are : (start : Place) (dims : List Dim) (places : List DimPlaces) → AreDims dims places → unbuilt_dims start places ≡ [] → sizes_breaches dims places ≡ [] → IsLine dims
 dims_are start [] [] are built judged = absurd (cc)
 dims_are start [] (p ∷ ps) are built judged = absurd are
 dims_are start (d ∷ ds) [] are built judged = absurd are
@@ -117,7 +119,7 @@ dims_are start (d ∷ []) (p ∷ []) are built judged =
     record {
       size = d.size;
       line = one_dim d (one_unless p.word_place d.banks none are.0);
-      least = size_least d.size (d.size == 0) _ refl judged;
+      least = size_least d.size (d.size == 0) _ refl (no_rest (if d.size == 0 then breach ConstantRange p.size_place ∷ [] else []) [] judged).0;
     }
 dims_are start (d ∷ []) (p ∷ q ∷ ps) are built judged = absurd are.1
 dims_are start (d ∷ e ∷ ds) (p ∷ []) are built judged = absurd are.1
@@ -129,7 +131,7 @@ pub record IsLineDecl (d : Declared) : Type 0 where
   pub ports : d.shape.ports ≡ 1
   pub line : IsLine d.shape.dims
 
-decl_is : (d : Declared) → IsDeclared d → unbuilt_decl d ≡ [] → size_judged d.shape.dims d.shape_places.dims ≡ [] → IsLineDecl d
+decl_is : (d : Declared) → IsDeclared d → unbuilt_decl d ≡ [] → sizes_breaches d.shape.dims d.shape_places.dims ≡ [] → IsLineDecl d
 decl_is d declared built judged =
     let first = no_rest (if is_word d.shape.kind then [] else _) (unbuilt_where d.shape_places.braces_place ++ unbuilt_dims d.shape_places.kind_place d.shape_places.dims) built in
     let rest = no_rest (unbuilt_where d.shape_places.braces_place) (unbuilt_dims d.shape_places.kind_place d.shape_places.dims) first.1 in
@@ -139,11 +141,11 @@ decl_is d declared built judged =
       line = dims_are d.shape_places.kind_place d.shape.dims d.shape_places.dims declared.dims rest.1 judged;
     }
 
-pub decls_are : (ds : List Declared) → AllByRecursion IsDeclared ds → unbuilt_decls ds ≡ [] → decls_judged ds ≡ [] → AllByRecursion IsLineDecl ds
+pub decls_are : (ds : List Declared) → AllByRecursion IsDeclared ds → unbuilt_decls ds ≡ [] → decls_range_breaches ds ≡ [] → AllByRecursion IsLineDecl ds
 decls_are [] h built judged = tt
 decls_are (d ∷ ds) h built judged =
     let b = no_rest (unbuilt_decl d) (unbuilt_decls ds) built in
-    let j = no_rest (size_judged d.shape.dims d.shape_places.dims) (decls_judged ds) judged in
+    let j = no_rest (sizes_breaches d.shape.dims d.shape_places.dims) (decls_range_breaches ds) judged in
     (decl_is d h.0 b.0 j.0, decls_are ds h.1 b.1 j.1)
 
 pub lines_are : (ds : List Declared) → AllByRecursion IsLineDecl ds → AllByRecursion LineFits ds

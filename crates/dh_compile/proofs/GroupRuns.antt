@@ -2,25 +2,25 @@
 -- what is still to come is the groups that are not yet done, one phase for each, since no group is
 -- empty; and a step does the first of them, with no fault and no bank beyond its port.
 use Rattle.std.proofs.Common.{◌≡◌, ℕ, max, ◌<◌, ◌≤◌, ◌||◌, Bool, true, false, if◌then◌else◌, List, [], ◌∷◌, length, drop, Option, Some, None, refl, sym, ap, ◌∙◌, zero, suc, arith, subst}
-use Rattle.std.specs.Prelude.{map, slice_get, slice_index_or}
+use Rattle.std.specs.Prelude.{slice_get, slice_index_or}
 use Rattle.std.specs.List.{AllByRecursion}
-use Rattle.std.proofs.lemmas.List.{append-nil, length-set}
+use Rattle.std.proofs.lemmas.List.{length-set}
 use Rattle.dh_base.specs.declared.outcomes.Outcome.TheVariants.{Going, Ended}
 use Rattle.dh_tree.specs.declared.tables.MemEntry.{MemEntry}
 use Rattle.dh_compile.specs.declared.stores.Operand.{Operand}
 use Rattle.dh_compile.specs.declared.stores.Store.{Store}
 use Rattle.dh_compile.specs.declared.stores.Program.{Program}
 use Rattle.dh_tree.specs.Tables.{elements_of, Fits}
-use Rattle.dh_tree.specs.Effects.{commands_events, written, stop_after}
-use Rattle.dh_tree.specs.Steps.{level_of, command_level, commands_level, Threads, step_events, step_length, after_step, Standing, outcome_of, stands_at, next_standing, step_from, standing}
-use Rattle.dh_compile.specs.Grouped.{value_term, command_of, phases_from, tree_of}
+use Rattle.dh_tree.specs.Effects.{Event, Effect, written, stop_after}
+use Rattle.dh_tree.specs.Steps.{level_of, command_level, commands_level, Threads, threads_run, step_length, after_step, step_effect, Standing, outcome_of, stands_at, next_standing, step_from, standing}
+use Rattle.dh_compile.specs.Grouped.{value_term, command_of, commands_of, phases_from, tree_of}
 use Rattle.dh_compile.specs.Grouped.{IsLineEntry, IsGroup, IsGrouped}
 use Rattle.dh_compile.specs.declared.uses.Use.{Use}
 use Rattle.dh_compile.specs.declared.uses.Use.TheVariants.{Reads, Writes}
 use Rattle.dh_compile.specs.Timetable.{use_in, is_read, any_read, group_length, stored_of, rows_after}
 use Rattle.dh_compile.specs.GroupRun.{group_run, AreLong, GroupDone, DoesGroups}
 use Rattle.dh_compile.proofs.Groups.{at_place, some_at}
-use Rattle.dh_compile.proofs.GroupEvents.{group_events, events_are}
+use Rattle.dh_compile.proofs.GroupEvents.{group_events, effect_is}
 use Rattle.dh_compile.proofs.Spending.{no_stop, group_agrees, group_ports}
 use Rattle.dh_compile.proofs.GroupWrites.{group_done}
 
@@ -42,10 +42,10 @@ max_levels true false = refl
 max_levels false true = refl
 max_levels false false = refl
 
-levels_are : (g : List Store) → commands_level (map command_of g) ≡ (if any_read g then 1 else 0)
+levels_are : (g : List Store) → commands_level (commands_of g) ≡ (if any_read g then 1 else 0)
 levels_are [] = refl
 levels_are (s ∷ ss) =
-    ap (λ n. max n (commands_level (map command_of ss))) (store_level s)
+    ap (λ n. max n (commands_level (commands_of ss))) (store_level s)
     ∙ (ap (λ n. max (if is_read s.source then 1 else 0) n) (levels_are ss)
     ∙ max_levels (is_read s.source) (any_read ss))
 
@@ -74,22 +74,26 @@ still_long table g old new h d = record {
   each = λ i e at. ap length (d.each i) ∙ (length-rows_after old (use_in g i) (slice_index_or old i []) ∙ h.each i e at);
 }
 
-events_of_step : (table : List MemEntry) (memories : List (List ℕ)) (g : List Store) (gs : List (List Store)) → AllByRecursion IsLineEntry table → IsGroup table g
-    → step_events table memories (threads_from (g ∷ gs)) ≡ group_events memories g
-events_of_step table memories g gs h k = append-nil (commands_events table memories (map command_of g)) ∙ events_are table memories g h k.stores
+-- what a step does that sets no variable
+abbrev pub effect_of : Standing → List Event → Effect
+effect_of s events = record { variables = s.variables; events = events }
+
+-- the step of the next group
+step_does : (table : List MemEntry) (s : Standing) (g : List Store) (gs : List (List Store)) → AllByRecursion IsLineEntry table → IsGroup table g → s.threads ≡ threads_from (g ∷ gs)
+    → step_effect table s ≡ effect_of s (group_events s.memories g)
+step_does table s g gs h k threads = ap (λ ts. threads_run table s.memories ts (effect_of s [])) threads ∙ effect_is table s.memories g h k.stores (effect_of s [])
 
 -- where the next group's step leads
 step_is : (table : List MemEntry) (s : Standing) (g : List Store) (gs : List (List Store)) → AllByRecursion IsLineEntry table → IsGroup table g → IsAt table s (g ∷ gs)
-    → step_from table s s.outcome ≡ stands_at (written (group_events s.memories g) s.memories) (threads_from gs)
+    → step_from table s s.outcome ≡ stands_at (suc s.steps) (written (group_events s.memories g) s.memories) s.variables (threads_from gs)
 step_is table s g gs h k a =
-    let events : step_events table s.memories s.threads ≡ group_events s.memories g =
-    ap (λ ts. step_events table s.memories ts) a.threads ∙ events_of_step table s.memories g gs h k in
+    let does : step_effect table s ≡ effect_of s (group_events s.memories g) = step_does table s g gs h k a.threads in
     let goes : stop_after table [] (group_events s.memories g) ≡ None =
     no_stop table [] (group_events s.memories g) (group_agrees s.memories g k.ports) (group_ports table s.memories g h k.stores) in
     ap (λ o. step_from table s o) a.outcome
-    ∙ (ap (λ es. next_standing es s (stop_after table [] es)) events
-    ∙ (ap (λ o. next_standing (group_events s.memories g) s o) goes
-    ∙ ap (λ ts. stands_at (written (group_events s.memories g) s.memories) (after_step ts)) a.threads))
+    ∙ (ap (λ e. next_standing e s (stop_after table [] e.events)) does
+    ∙ (ap (λ o. next_standing (effect_of s (group_events s.memories g)) s o) goes
+    ∙ ap (λ ts. stands_at (suc s.steps) (written (group_events s.memories g) s.memories) s.variables (after_step ts)) a.threads))
 
 -- the groups that are left after a step
 abbrev pub rest_of : List (List Store) → List (List Store)
@@ -104,7 +108,7 @@ next_at table s [] h k a =
     subst P (sym stays) a
 next_at table s (g ∷ gs) h k a =
     let P : Standing → Type 0 = λ x. IsAt table x gs in
-    let there : IsAt table (stands_at (written (group_events s.memories g) s.memories) (threads_from gs)) gs =
+    let there : IsAt table (stands_at (suc s.steps) (written (group_events s.memories g) s.memories) s.variables (threads_from gs)) gs =
     record { threads = refl; outcome = refl; long = still_long table g s.memories (written (group_events s.memories g) s.memories) a.long (group_done s.memories g k.0.ports) } in
     subst P (sym (step_is table s g gs h k.0 a)) there
 

@@ -8,11 +8,11 @@ use Rattle.std.specs.Prelude.{Vec}
 use Rattle.std.specs.Global.{Global}
 use Rattle.dh_tree.specs.PlainTrees as plain
 use Rattle.dh_tree.specs.PlainTrees.{Action, Actions, no_actions, action_then}
-use Rattle.dh_tree.specs.Phases.{Phase, straight, one_straight, joined, parts_phases, groups_phases, form_phases}
+use Rattle.dh_tree.specs.Phases.{Phase, straight, one_straight, joined}
 use Rattle.dh_tree.specs.Seen.{actions, groups, action_seen, action_form_seen, part_seen}
 use Rattle.dh_tree.specs.declared.trees.commands.Command.{Command}
 use Rattle.dh_compile.specs.declared.stores.Store.{Store}
-use Rattle.dh_compile.specs.Reading.{action_read, phase_read, groups_read, one_group, done_by, current_after, gathered, part_read, parts_read}
+use Rattle.dh_compile.specs.Reading.{action_read, phase_read, form_store_phases, groups_store_phases, parts_store_phases, groups_read, one_group, done_by, current_after, gathered, part_read, parts_read}
 
 map_append : {A B : Type 0} (f : A → B) (xs ys : List A) → map f (xs ++ ys) ≡ map f xs ++ map f ys
 map_append f [] ys = refl
@@ -34,7 +34,7 @@ joined_is cs ((p ∷ q ∷ ps) ∷ parts) =
     ∙ (ap (λ l. one_group (map action_read cs) ++ (map phase_read (p ∷ q ∷ ps) ++ l)) (joined_is [] parts)
     ∙ sym (append_assoc (one_group (map action_read cs)) (map phase_read (p ∷ q ∷ ps)) (gathered [] (map (λ ps. map phase_read ps) parts))))))
 
-parts_are : (cs : List Action) → map (λ ps. map phase_read ps) (parts_phases (actions cs)) ≡ map groups_read cs
+parts_are : (cs : List Action) → map (λ ps. map phase_read ps) (parts_store_phases (actions cs)) ≡ map groups_read cs
 parts_are [] = refl
 parts_are (c ∷ cs) = ap (λ l. groups_read c ∷ l) (parts_are cs)
 
@@ -48,13 +48,13 @@ command_groups c = groups_read (action_seen c)
 
 pub part_is : (cs : List Command) → part_read (actions (map action_seen cs)) ≡ gathered [] (map command_groups cs)
 part_is cs =
-    joined_is [] (parts_phases (actions (map action_seen cs)))
+    joined_is [] (parts_store_phases (actions (map action_seen cs)))
     ∙ ap (λ l. gathered [] l) (parts_are (map action_seen cs) ∙ map_twice groups_read action_seen cs)
 
-pub block_is : (gs : plain.Groups) → map phase_read (groups_phases gs) ≡ parts_read gs
+pub block_is : (gs : plain.Groups) → map phase_read (groups_store_phases gs) ≡ parts_read gs
 block_is plain.no_groups = refl
 block_is (plain.group_then part rest) =
-    map_append phase_read (joined [] (parts_phases part)) (groups_phases rest) ∙ ap (λ l. part_read part ++ l) (block_is rest)
+    map_append phase_read (joined [] (parts_store_phases part)) (groups_store_phases rest) ∙ ap (λ l. part_read part ++ l) (block_is rest)
 
 -- what is left of a list is its next item and what is left behind that
 at_item : {A : Type 0} (xs : List A) (i : ℕ) (x : A) → i < length xs → x ≡ get_or xs i x → drop i xs ≡ x ∷ drop (i + 1) xs
@@ -100,5 +100,5 @@ pub block_read : (c : Command) (body : Vec (Vec Command Global) Global) (parts :
     → parts_read (groups (map part_seen parts)) ≡ groups_read (action_seen c)
 block_read c body parts is same =
     ap (λ l. parts_read (groups (map part_seen l))) same
-    ∙ sym (ap (λ f. map phase_read (form_phases c.id c.place (action_form_seen f))) is
-    ∙ (ap (λ f. map phase_read (form_phases c.id c.place f)) (seen.block_is body) ∙ block_is (groups (map part_seen body.items))))
+    ∙ sym (ap (λ f. map phase_read (form_store_phases c.id c.place (action_form_seen f))) is
+    ∙ (ap (λ f. map phase_read (form_store_phases c.id c.place f)) (seen.block_is body) ∙ block_is (groups (map part_seen body.items))))

@@ -5,8 +5,12 @@ pub mod Spent
 pub mod Portions
 pub mod Ordering
 pub mod Meant
+pub mod Kinded
+pub mod Held
 pub mod Declarations
 pub mod Plain
+pub mod OuterNames
+pub mod StorePhases
 pub mod Meeting
 pub mod Joining
 pub mod Quiet

@@ -4,8 +4,9 @@ use Rattle.std.proofs.Common.{◌≡◌, ℕ, ◌+◌, ◌≤◌, ◌<◌, List,
 use Rattle.std.specs.Prelude.{◌⊎◌, Bool, if◌then◌else◌}
 use Rattle.dh_base.specs.declared.places.Place.{Place}
 use Rattle.dh_tree.specs.PlainTrees.{Action, action, ActionForm, lets, lets_memory, views, assigns, stores, reduces, calls, blocks, decides, repeats, counts, Actions, no_actions, action_then, Groups, no_groups, group_then}
-use Rattle.dh_tree.specs.Phases.{Phase, straight, phases, form_phases, one_straight, joined, parts_phases, groups_phases}
+use Rattle.dh_tree.specs.Phases.{Phase, straight, one_straight, joined}
 use Rattle.dh_tree.specs.Meets.{Meets, nothing, access, all, one, In, Apart, total}
+use Rattle.dh_compile.specs.Reading.{store_phases, form_store_phases, groups_store_phases, parts_store_phases}
 use Rattle.dh_tree.specs.Accesses.{Access, accesses, command_accesses, groups_accesses, part_accesses, row, meets, command_meets, groups_meets, part_meets}
 
 -- the accesses of straight commands
@@ -52,10 +53,10 @@ joined_accesses cs ((p ∷ q ∷ ps) ∷ parts) =
 
 mutual
   -- the accesses of a command are those of its phases
-  pub accesses_are : (a : Action) → accesses a ≡ phases_accesses (phases a)
+  pub accesses_are : (a : Action) → accesses a ≡ phases_accesses (store_phases a)
   accesses_are (action id place form) = form_accesses_are id place form
 
-  form_accesses_are : (id : ℕ) (place : Place) (form : ActionForm) → command_accesses id form ≡ phases_accesses (form_phases id place form)
+  form_accesses_are : (id : ℕ) (place : Place) (form : ActionForm) → command_accesses id form ≡ phases_accesses (form_store_phases id place form)
   form_accesses_are id place (lets name declared value) = refl
   form_accesses_are id place (lets_memory name shape shape_places value) = refl
   form_accesses_are id place (views name parent form) = refl
@@ -69,20 +70,20 @@ mutual
   form_accesses_are id place (repeats test body) = refl
   form_accesses_are id place (counts iterator declared low high factor body combine combine_place) = refl
 
-  groups_accesses_are : (gs : Groups) → groups_accesses gs ≡ phases_accesses (groups_phases gs)
+  groups_accesses_are : (gs : Groups) → groups_accesses gs ≡ phases_accesses (groups_store_phases gs)
   groups_accesses_are no_groups = refl
   groups_accesses_are (group_then part rest) =
-      ap (λ l. l ++ groups_accesses rest) (part_accesses_are part ∙ sym (joined_accesses [] (parts_phases part)))
-      ∙ (ap (λ l. phases_accesses (joined [] (parts_phases part)) ++ l) (groups_accesses_are rest)
-      ∙ sym (phases_append (joined [] (parts_phases part)) (groups_phases rest)))
+      ap (λ l. l ++ groups_accesses rest) (part_accesses_are part ∙ sym (joined_accesses [] (parts_store_phases part)))
+      ∙ (ap (λ l. phases_accesses (joined [] (parts_store_phases part)) ++ l) (groups_accesses_are rest)
+      ∙ sym (phases_append (joined [] (parts_store_phases part)) (groups_store_phases rest)))
 
-  pub part_accesses_are : (part : Actions) → part_accesses part ≡ all_accesses (parts_phases part)
+  pub part_accesses_are : (part : Actions) → part_accesses part ≡ all_accesses (parts_store_phases part)
   part_accesses_are no_actions = refl
   part_accesses_are (action_then a rest) =
-      ap (λ l. l ++ part_accesses rest) (accesses_are a) ∙ ap (λ l. phases_accesses (phases a) ++ l) (part_accesses_are rest)
+      ap (λ l. l ++ part_accesses rest) (accesses_are a) ∙ ap (λ l. phases_accesses (store_phases a) ++ l) (part_accesses_are rest)
 
-part_joined : (part : Actions) → part_accesses part ≡ phases_accesses (joined [] (parts_phases part))
-part_joined part = part_accesses_are part ∙ sym (joined_accesses [] (parts_phases part))
+part_joined : (part : Actions) → part_accesses part ≡ phases_accesses (joined [] (parts_store_phases part))
+part_joined part = part_accesses_are part ∙ sym (joined_accesses [] (parts_store_phases part))
 
 -- a number of so many from a first one on
 abbrev pub Within : (from many : ℕ) → ℕ → Type 0
@@ -215,38 +216,38 @@ turned s [] x y h = h
 turned s (p ∷ ps) x y (inl h) = inl (h.1, h.0)
 turned s (p ∷ ps) x y (inr h) = inr (turned (s + length (phase_accesses p)) ps x y h)
 
-first_never : (part : Actions) (rest : Groups) (n x y : ℕ) → (Same n (joined [] (parts_phases part)) x y → Apart (part_meets n part) x y → ⊥) → length (part_accesses part) ≡ length (phases_accesses (joined [] (parts_phases part)))
-    → Same n (joined [] (parts_phases part)) x y → Apart (groups_meets n (group_then part rest)) x y → ⊥
+first_never : (part : Actions) (rest : Groups) (n x y : ℕ) → (Same n (joined [] (parts_store_phases part)) x y → Apart (part_meets n part) x y → ⊥) → length (part_accesses part) ≡ length (phases_accesses (joined [] (parts_store_phases part)))
+    → Same n (joined [] (parts_store_phases part)) x y → Apart (groups_meets n (group_then part rest)) x y → ⊥
 first_never part rest n x y inside e same (inl (inl h)) =
-    let b = same_range n (joined [] (parts_phases part)) y x (turned n (joined [] (parts_phases part)) x y same) in
+    let b = same_range n (joined [] (parts_store_phases part)) y x (turned n (joined [] (parts_store_phases part)) x y same) in
     let i = groups_range rest (n + length (part_accesses part)) y h.1 in omega (arith, b.1, i.0, e)
 first_never part rest n x y inside e same (inl (inr h)) =
-    let b = same_range n (joined [] (parts_phases part)) x y same in
+    let b = same_range n (joined [] (parts_store_phases part)) x y same in
     let i = groups_range rest (n + length (part_accesses part)) x h.0 in omega (arith, b.1, i.0, e)
 first_never part rest n x y inside e same (inr (inl h)) = inside same h
 first_never part rest n x y inside e same (inr (inr h)) =
-    let b = same_range n (joined [] (parts_phases part)) x y same in
+    let b = same_range n (joined [] (parts_store_phases part)) x y same in
     let i = groups_range rest (n + length (part_accesses part)) x (apart_in (groups_meets (n + length (part_accesses part)) rest) x y h).0 in omega (arith, b.1, i.0, e)
 
-second_never : (part : Actions) (rest : Groups) (n x y : ℕ) → (Same (n + length (part_accesses part)) (groups_phases rest) x y → Apart (groups_meets (n + length (part_accesses part)) rest) x y → ⊥) → Same (n + length (part_accesses part)) (groups_phases rest) x y
+second_never : (part : Actions) (rest : Groups) (n x y : ℕ) → (Same (n + length (part_accesses part)) (groups_store_phases rest) x y → Apart (groups_meets (n + length (part_accesses part)) rest) x y → ⊥) → Same (n + length (part_accesses part)) (groups_store_phases rest) x y
     → Apart (groups_meets n (group_then part rest)) x y → ⊥
 second_never part rest n x y inside same (inl (inl h)) =
-    let b = same_range (n + length (part_accesses part)) (groups_phases rest) x y same in
+    let b = same_range (n + length (part_accesses part)) (groups_store_phases rest) x y same in
     let i = part_range part n x h.0 in omega (arith, b.0, i.1)
 second_never part rest n x y inside same (inl (inr h)) =
-    let b = same_range (n + length (part_accesses part)) (groups_phases rest) y x (turned (n + length (part_accesses part)) (groups_phases rest) x y same) in
+    let b = same_range (n + length (part_accesses part)) (groups_store_phases rest) y x (turned (n + length (part_accesses part)) (groups_store_phases rest) x y same) in
     let i = part_range part n y h.1 in omega (arith, b.0, i.1)
 second_never part rest n x y inside same (inr (inl h)) =
-    let b = same_range (n + length (part_accesses part)) (groups_phases rest) x y same in
+    let b = same_range (n + length (part_accesses part)) (groups_store_phases rest) x y same in
     let i = part_range part n x (apart_in (part_meets n part) x y h).0 in omega (arith, b.0, i.1)
 second_never part rest n x y inside same (inr (inr h)) = inside same h
 
 mutual
   -- accesses of one phase may meet
-  pub never : (a : Action) (n x y : ℕ) → Same n (phases a) x y → Apart (meets n a) x y → ⊥
+  pub never : (a : Action) (n x y : ℕ) → Same n (store_phases a) x y → Apart (meets n a) x y → ⊥
   never (action id place form) n x y same h = form_never id place form n x y same h
 
-  form_never : (id : ℕ) (place : Place) (form : ActionForm) (n x y : ℕ) → Same n (form_phases id place form) x y → Apart (command_meets n id form) x y → ⊥
+  form_never : (id : ℕ) (place : Place) (form : ActionForm) (n x y : ℕ) → Same n (form_store_phases id place form) x y → Apart (command_meets n id form) x y → ⊥
   form_never id place (lets name declared value) n x y same h = h
   form_never id place (lets_memory name shape shape_places value) n x y same h = h
   form_never id place (views name parent form) n x y same h = h
@@ -259,20 +260,20 @@ mutual
   form_never id place (repeats test body) n x y same h = h
   form_never id place (counts iterator declared low high factor body combine combine_place) n x y same h = h
 
-  groups_never : (gs : Groups) (n x y : ℕ) → Same n (groups_phases gs) x y → Apart (groups_meets n gs) x y → ⊥
+  groups_never : (gs : Groups) (n x y : ℕ) → Same n (groups_store_phases gs) x y → Apart (groups_meets n gs) x y → ⊥
   groups_never no_groups n x y same h = h
   groups_never (group_then part rest) n x y same h =
-      let e : length (part_accesses part) ≡ length (phases_accesses (joined [] (parts_phases part))) = ap length (part_joined part) in
-      elim (same_append n (joined [] (parts_phases part)) (groups_phases rest) x y same) [
+      let e : length (part_accesses part) ≡ length (phases_accesses (joined [] (parts_store_phases part))) = ap length (part_joined part) in
+      elim (same_append n (joined [] (parts_store_phases part)) (groups_store_phases rest) x y same) [
         | inl first ↦ first_never part rest n x y (λ same apart. part_never part [] n n x y (omega arith) same apart) e first h
-        | inr second ↦ second_never part rest n x y (λ same apart. groups_never rest (n + length (part_accesses part)) x y same apart) (subst (λ (m : ℕ). Same (n + m) (groups_phases rest) x y) (sym e) second) h
+        | inr second ↦ second_never part rest n x y (λ same apart. groups_never rest (n + length (part_accesses part)) x y same apart) (subst (λ (m : ℕ). Same (n + m) (groups_store_phases rest) x y) (sym e) second) h
       ]
 
   part_never : (part : Actions) (cs : List Action) (s n x y : ℕ) → s + length (commands_accesses cs) ≡ n
-      → Same s (joined cs (parts_phases part)) x y → Apart (part_meets n part) x y → ⊥
+      → Same s (joined cs (parts_store_phases part)) x y → Apart (part_meets n part) x y → ⊥
   part_never no_actions cs s n x y begin same h = h
   part_never (action_then a rest) cs s n x y begin same h =
-      more_joined (meets n a) (part_meets (n + length (accesses a)) rest) (phases a) (parts_phases rest) cs s n (length (accesses a)) begin
+      more_joined (meets n a) (part_meets (n + length (accesses a)) rest) (store_phases a) (parts_store_phases rest) cs s n (length (accesses a)) begin
       (ap length (accesses_are a))
       (λ z i. in_range a n z i)
       (λ z i. (part_range rest (n + length (accesses a)) z i).0)

@@ -5,8 +5,9 @@ use Rattle.std.specs.Prelude.{true, ◌==◌}
 use Rattle.std.specs.List.{AllByRecursion}
 use Rattle.dh_base.specs.declared.places.Place.{Place}
 use Rattle.dh_tree.specs.PlainTrees.{Action, action, ActionForm, lets, lets_memory, views, assigns, stores, reduces, calls, blocks, decides, repeats, counts, Actions, no_actions, action_then, Groups, no_groups, group_then}
-use Rattle.dh_tree.specs.Phases.{Phase, straight, phases, form_phases, one_straight, joined, parts_phases, groups_phases, id_of, holds_id, holds_both, in_one_straight}
+use Rattle.dh_tree.specs.Phases.{Phase, straight, one_straight, joined, id_of, holds_id, holds_both, in_one_straight}
 use Rattle.dh_tree.specs.FirstForms.{number_after, form_after, groups_after, part_after, IsCounted, IsCountedForm, AreCountedGroups, AreCounted}
+use Rattle.dh_compile.specs.Reading.{store_phases, form_store_phases, groups_store_phases, parts_store_phases}
 use Rattle.dh_compile.proofs.Listing.{all_append, first_or, both, tested}
 
 -- its number lies between these
@@ -61,10 +62,10 @@ joined_ordered low middle high cs ((p ∷ q ∷ ps) ∷ parts) b h k =
 
 mutual
   -- a command's phases have the numbers of the command and of those inside it
-  pub ordered : (a : Action) (n : ℕ) → IsCounted n a → Ordered n (number_after n a) (phases a)
+  pub ordered : (a : Action) (n : ℕ) → IsCounted n a → Ordered n (number_after n a) (store_phases a)
   ordered (action id place form) n h = form_ordered id place form n h.0 h.1
 
-  form_ordered : (id : ℕ) (place : Place) (form : ActionForm) (n : ℕ) → id ≡ n → IsCountedForm (n + 1) form → Ordered n (form_after (n + 1) form) (form_phases id place form)
+  form_ordered : (id : ℕ) (place : Place) (form : ActionForm) (n : ℕ) → id ≡ n → IsCountedForm (n + 1) form → Ordered n (form_after (n + 1) form) (form_store_phases id place form)
   form_ordered id place (lets name declared value) n is h = omega arith
   form_ordered id place (lets_memory name shape shape_places value) n is h = omega arith
   form_ordered id place (views name parent form) n is h = omega arith
@@ -72,19 +73,19 @@ mutual
   form_ordered id place (stores target value) n is h = (n + 1, (omega arith, (((omega (arith, is), omega (arith, is)), tt), omega arith)))
   form_ordered id place (reduces target o value) n is h = omega arith
   form_ordered id place (calls function arguments) n is h = omega arith
-  form_ordered id place (blocks body) n is h = lower (n + 1) (groups_after (n + 1) body) n (groups_phases body) (omega arith) (groups_ordered body (n + 1) h)
+  form_ordered id place (blocks body) n is h = lower (n + 1) (groups_after (n + 1) body) n (groups_store_phases body) (omega arith) (groups_ordered body (n + 1) h)
   form_ordered id place (decides test chosen other) n is h = omega arith
   form_ordered id place (repeats test body) n is h = omega arith
   form_ordered id place (counts iterator declared low high factor body combine combine_place) n is h = omega arith
 
-  groups_ordered : (gs : Groups) (n : ℕ) → AreCountedGroups n gs → Ordered n (groups_after n gs) (groups_phases gs)
+  groups_ordered : (gs : Groups) (n : ℕ) → AreCountedGroups n gs → Ordered n (groups_after n gs) (groups_store_phases gs)
   groups_ordered no_groups n h = omega arith
   groups_ordered (group_then part rest) n h =
-      ordered_append n (part_after n part) (groups_after (part_after n part) rest) (joined [] (parts_phases part)) (groups_phases rest)
-      (joined_ordered n n (part_after n part) [] (parts_phases part) (omega arith) tt (part_ordered part n h.0))
+      ordered_append n (part_after n part) (groups_after (part_after n part) rest) (joined [] (parts_store_phases part)) (groups_store_phases rest)
+      (joined_ordered n n (part_after n part) [] (parts_store_phases part) (omega arith) tt (part_ordered part n h.0))
       (groups_ordered rest (part_after n part) h.1)
 
-  part_ordered : (part : Actions) (n : ℕ) → AreCounted n part → PartsOrdered n (part_after n part) (parts_phases part)
+  part_ordered : (part : Actions) (n : ℕ) → AreCounted n part → PartsOrdered n (part_after n part) (parts_store_phases part)
   part_ordered no_actions n h = omega arith
   part_ordered (action_then a rest) n h = (number_after n a, (ordered a n h.0, part_ordered rest (number_after n a) h.1))
 

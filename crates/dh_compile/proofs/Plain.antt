@@ -1,7 +1,7 @@
 -- What acceptance says of each store of a program: it is of the built forms, its elements are there and
 -- its number fits.
 use Rattle.std.proofs.Common.{◌≡◌, ℕ, ◌≤◌, ◌<◌, ◌^◌, Option, Some, None, List, [], ◌∷◌, ◌++◌, length, map, refl, ap, sym, ◌∙◌, arith, inl, inr}
-use Rattle.std.specs.Prelude.{Bool, true, false, ◌&&◌, ◌||◌, ◌==◌, nat_le, nat_lt, slice_get, if◌then◌else◌}
+use Rattle.std.specs.Prelude.{Bool, true, false, ◌&&◌, ◌||◌, ◌==◌, not, nat_le, slice_get, if◌then◌else◌}
 use Rattle.std.specs.List.{AllByRecursion}
 use Rattle.std.specs.Option.{is_some}
 use Rattle.std.specs.Prelude.{option_map}
@@ -9,6 +9,7 @@ use Rattle.std.proofs.lemmas.Option.{slice_get-map, slice_get_cases}
 use Rattle.dh_compile.proofs.Groups.{at_place}
 use Rattle.std.proofs.lemmas.Bool.Decides.{nat_tests}
 use Rattle.dh_base.specs.declared.places.Place.{Place}
+use Rattle.dh_value.specs.declared.kinds.Kind.{Kind}
 use Rattle.dh_value.specs.declared.operators.Op.{Op}
 use Rattle.dh_value.specs.declared.operators.Op.TheVariants as op
 use Rattle.dh_tree.specs.declared.breaches.Breach.{Breach}
@@ -18,12 +19,13 @@ use Rattle.dh_tree.specs.Phases.{Phase, straight, phases, form_phases, one_strai
 use Rattle.dh_tree.specs.Scopes.{Binding, entity_of, Scope, form_at_end, actions_at_end, past}
 use Rattle.dh_tree.specs.Breaches as names
 use Rattle.dh_tree.specs.Resolved.{resolved_term, resolved_term_form, resolved_action, resolved_form, resolved_actions, resolved_groups}
-use Rattle.dh_tree.specs.Ranges.{index_range, dims_of, first_dim, declared_dims, term_judged, form_judged, indices_judged, index_judged, action_judged, command_judged, groups_judged, part_judged}
-use Rattle.dh_tree.specs.Meaning.{entry_of}
+use Rattle.dh_tree.specs.Ranges.{dims_of, declared_dims, literal_breaches, literals_breaches, terms_range_breaches, term_range_breaches, form_range_breaches, action_range_breaches, action_form_range_breaches, actions_range_breaches, groups_range_breaches}
+use Rattle.dh_tree.specs.Meaning.{entry_of, entity_number}
 use Rattle.dh_tree.specs.Tables.{line_of}
 use Rattle.dh_tree.specs.Forms.{unbuilt, plain_number, is_small, is_element, further_indices, unbuilt_index, unbuilt_indices, unbuilt_element, unbuilt_access, is_sum_of, unbuilt_stored, unbuilt_value, form_holds, unbuilt_action, unbuilt_form, unbuilt_groups, unbuilt_part}
-use Rattle.dh_check.proofs.OuterNames.{no_rest, if_none}
+use Rattle.dh_compile.proofs.OuterNames.{no_rest, if_none}
 use Rattle.dh_compile.specs.Grouped as grouped
+use Rattle.dh_compile.specs.Reading.{number_read, index_read}
 use Rattle.dh_compile.proofs.Listing.{all_append, both}
 
 -- a number without a sign of this kind
@@ -85,6 +87,27 @@ FormFits ds _ = ⊥
 abbrev pub CommandFits : List Declared → Action → Type 0
 CommandFits ds (action id place form) = FormFits ds form
 
+-- what is read off them
+pub plain_is : (P : ℕ → Type 0) (form : TermForm) → PlainNumber P form → P (number_read form)
+plain_is P (number false n) h = h
+plain_is P (number true n) h = absurd h
+plain_is P (truth_value value) h = absurd h
+plain_is P (named r) h = absurd h
+plain_is P (accessed r indices) h = absurd h
+plain_is P (in_bank r bank bank_place row) h = absurd h
+plain_is P (applied o left right) h = absurd h
+plain_is P (converted inner to) h = absurd h
+
+pub index_is : (P : ℕ → Type 0) (indices : Terms) → OneIndex P indices → P (index_read indices)
+index_is P no_terms h = absurd h
+index_is P (term_then (term place kind form) no_terms) h = plain_is P form h
+index_is P (term_then (term place kind form) (term_then u rest)) h = absurd h
+
+-- the element is there
+pub entity_element : (ds : List Declared) (e : Option ℕ) (indices : Terms) → EntityFits ds e indices → grouped.IsElement (map entry_of ds) (entity_number e) (index_read indices)
+entity_element ds None indices h = absurd h
+entity_element ds (Some m) indices h = index_is (grouped.IsElement (map entry_of ds) m) indices h
+
 -- what a declaration has: one dimension in one bank, of at least one element
 pub record LineFits (d : Declared) : Type 0 where
   pub size : ℕ
@@ -99,9 +122,6 @@ chosen_none false x xs e = absurd (cc)
 small_is : (n : ℕ) → nat_le n 4294967295 ≡ true → n < 2 ^ 32
 small_is n e = grind (arith, nat_tests)
 
-below_is : (n size : ℕ) → nat_lt n size ≡ true → n < size
-below_is n size e = grind (arith, nat_tests)
-
 small_number : (form : TermForm) → is_small (plain_number form) ≡ true → PlainNumber IsSmall form
 small_number (number false n) e = small_is n e
 small_number (number true n) e = absurd (cc)
@@ -112,49 +132,54 @@ small_number (in_bank r bank bank_place row) e = absurd (cc)
 small_number (applied o left right) e = absurd (cc)
 small_number (converted inner to) e = absurd (cc)
 
-in_size : (place : Place) (n size : ℕ) (zero_size below : Bool) (b : Breach) → (size == 0) ≡ zero_size → nat_lt n size ≡ below → 1 ≤ size
-    → (if zero_size then [] else (if below then [] else b ∷ [])) ≡ [] → n < size
-in_size place n size true below b is test least e = omega (arith, least, zero_is size is)
+in_size : (n size : ℕ) (zero_size over : Bool) (b : Breach) → (size == 0) ≡ zero_size → nat_le size n ≡ over → 1 ≤ size
+    → (if not zero_size && over then b ∷ [] else []) ≡ [] → n < size
+in_size n size true over b is test least e = omega (arith, least, zero_is size is)
   where
     zero_is : (size : ℕ) → (size == 0) ≡ true → size ≡ 0
     zero_is size h = grind (arith, nat_tests)
-in_size place n size false true b is test least e = below_is n size test
-in_size place n size false false b is test least e = absurd (cc)
+in_size n size false true b is test least e = absurd (cc)
+in_size n size false false b is test least e = below_is n size test
+  where
+    below_is : (n size : ℕ) → nat_le size n ≡ false → n < size
+    below_is n size h = grind (arith, nat_tests)
 
 -- the index of an element is below the size of a line
-line_index : (place : Place) (n : ℕ) (dims : List Dim) (size : ℕ) → dims ≡ line_of size → 1 ≤ size → index_range place n (first_dim dims) ≡ [] → n < size
-line_index place n dims size line least e =
-    in_size place n size (size == 0) (nat_lt n size) _ refl refl least (ap (λ ds. index_range place n (first_dim ds)) (sym line) ∙ e)
+line_index : (place : Place) (kind : Option Kind) (n : ℕ) (dims : List Dim) (size : ℕ) → dims ≡ line_of size → 1 ≤ size
+    → literals_breaches dims (term_then (term place kind (number false n)) no_terms) ≡ [] → n < size
+line_index place kind n dims size line least e =
+    let judged = ap (λ ds. literals_breaches ds (term_then (term place kind (number false n)) no_terms)) (sym line) ∙ e in
+    in_size n size (size == 0) (nat_le size n) _ refl refl least (no_rest (literal_breaches size place (number false n)) [] judged).0
 
 -- what is known of declarations, and of the names that are visible
 pub record Known (ds : List Declared) (bs : List Binding) : Type 0 where
   pub declared : (name : List ℕ) (m : ℕ) → entity_of bs name ≡ Some m → m < length ds
   pub lines : AllByRecursion LineFits ds
 
-one_index : (ds : List Declared) (m : ℕ) (d : Declared) → slice_get ds m ≡ Some d → LineFits d → (p place : Place) (form : TermForm)
-    → is_some (plain_number form) ≡ true → index_judged index_range (first_dim (dims_of ds (Some m))) p form ≡ []
+one_index : (ds : List Declared) (m : ℕ) (d : Declared) → slice_get ds m ≡ Some d → LineFits d → (p : Place) (kind : Option Kind) (form : TermForm)
+    → is_some (plain_number form) ≡ true → literals_breaches (dims_of ds (Some m)) (term_then (term p kind form) no_terms) ≡ []
     → PlainNumber (grouped.IsElement (map entry_of ds) m) form
-one_index ds m d at line p place (number false n) e judged = record {
+one_index ds m d at line p kind (number false n) e judged = record {
   entry = entry_of d;
   declared = slice_get-map entry_of ds m ∙ ap (λ o. option_map entry_of o) at;
   size = line.size;
   line = line.line;
-  within = line_index p n (dims_of ds (Some m)) line.size (ap declared_dims at ∙ line.line) line.least judged;
+  within = line_index p kind n (dims_of ds (Some m)) line.size (ap declared_dims at ∙ line.line) line.least judged;
 }
-one_index ds m d at line p place (number true n) e judged = absurd (cc)
-one_index ds m d at line p place (truth_value value) e judged = absurd (cc)
-one_index ds m d at line p place (named r) e judged = absurd (cc)
-one_index ds m d at line p place (accessed r indices) e judged = absurd (cc)
-one_index ds m d at line p place (in_bank r bank bank_place row) e judged = absurd (cc)
-one_index ds m d at line p place (applied o left right) e judged = absurd (cc)
-one_index ds m d at line p place (converted inner to) e judged = absurd (cc)
+one_index ds m d at line p kind (number true n) e judged = absurd (cc)
+one_index ds m d at line p kind (truth_value value) e judged = absurd (cc)
+one_index ds m d at line p kind (named r) e judged = absurd (cc)
+one_index ds m d at line p kind (accessed r indices) e judged = absurd (cc)
+one_index ds m d at line p kind (in_bank r bank bank_place row) e judged = absurd (cc)
+one_index ds m d at line p kind (applied o left right) e judged = absurd (cc)
+one_index ds m d at line p kind (converted inner to) e judged = absurd (cc)
 
 index_fits : (ds : List Declared) (m : ℕ) (d : Declared) → slice_get ds m ≡ Some d → LineFits d → (place : Place) (indices : Terms)
-    → unbuilt_indices place indices ≡ [] → indices_judged index_range (dims_of ds (Some m)) indices ≡ [] → OneIndex (grouped.IsElement (map entry_of ds) m) indices
+    → unbuilt_indices place indices ≡ [] → literals_breaches (dims_of ds (Some m)) indices ≡ [] → OneIndex (grouped.IsElement (map entry_of ds) m) indices
 index_fits ds m d at line place no_terms e judged = absurd (cc)
 index_fits ds m d at line place (term_then (term p k form) no_terms) e judged =
     let built = if_none (is_some (plain_number form)) [] _ [] (no_rest (unbuilt_index (term p k form)) [] e).0 in
-    one_index ds m d at line p place form built.0 judged
+    one_index ds m d at line p k form built.0 judged
 index_fits ds m d at line place (term_then t (term_then (term p k form) rest)) e judged =
     absurd (let x = (no_rest (unbuilt_index t) (further_indices (term_then (term p k form) rest)) e).1 in cc)
 
@@ -164,7 +189,7 @@ access_entity (accessed r indices) = r.entity
 access_entity _ = None
 
 entity_fits : (ds : List Declared) (bs : List Binding) → Known ds bs → (place : Place) (name : List ℕ) (e : Option ℕ) (indices : Terms) → entity_of bs name ≡ e → is_some e ≡ true
-    → unbuilt_indices place indices ≡ [] → indices_judged index_range (dims_of ds e) indices ≡ [] → EntityFits ds e indices
+    → unbuilt_indices place indices ≡ [] → literals_breaches (dims_of ds e) indices ≡ [] → EntityFits ds e indices
 entity_fits ds bs known place name None indices is some_one built judged = absurd (cc)
 entity_fits ds bs known place name (Some m) indices is some_one built judged =
     elim (slice_get_cases ds m).1 [
@@ -173,7 +198,7 @@ entity_fits ds bs known place name (Some m) indices is some_one built judged =
     ]
 
 element_fits : (ds : List Declared) (bs : List Binding) → Known ds bs → (place : Place) (form : TermForm) → unbuilt_element place form ≡ []
-    → form_judged index_range ds form ≡ [] → names.term_form_breaches bs form ≡ [] → resolved_term_form bs form ≡ form → ElementFits ds form
+    → form_range_breaches ds form ≡ [] → names.term_form_breaches bs form ≡ [] → resolved_term_form bs form ≡ form → ElementFits ds form
 element_fits ds bs known place (number negative value) built judged visible resolved = absurd (cc)
 element_fits ds bs known place (truth_value value) built judged visible resolved = absurd (cc)
 element_fits ds bs known place (named r) built judged visible resolved = absurd (cc)
@@ -181,7 +206,8 @@ element_fits ds bs known place (accessed r indices) built judged visible resolve
     let entity : entity_of bs r.name ≡ r.entity = ap access_entity resolved in
     let known_name = (no_rest (names.unknown bs r) (names.terms_breaches bs indices) visible).0 in
     let some_one = (if_none (is_some (entity_of bs r.name)) [] _ [] known_name).0 in
-    entity_fits ds bs known place r.name r.entity indices entity (ap is_some (sym entity) ∙ some_one) built judged
+    entity_fits ds bs known place r.name r.entity indices entity (ap is_some (sym entity) ∙ some_one) built
+    (no_rest (literals_breaches (dims_of ds r.entity) indices) (terms_range_breaches ds indices) judged).0
 element_fits ds bs known place (in_bank r bank bank_place row) built judged visible resolved = absurd (cc)
 element_fits ds bs known place (applied o left right) built judged visible resolved = absurd (cc)
 element_fits ds bs known place (converted inner to) built judged visible resolved = absurd (cc)
@@ -205,12 +231,12 @@ sum_is op.Both e = absurd (cc)
 sum_is op.Either e = absurd (cc)
 
 -- the left operand's form
-abbrev left_form : TermForm → TermForm
+abbrev pub left_form : TermForm → TermForm
 left_form (applied o (term _ _ left) right) = left
 left_form form = form
 
 value_fits : (ds : List Declared) (bs : List Binding) → Known ds bs → (place : Place) (form : TermForm) → unbuilt_stored place form ≡ []
-    → form_judged index_range ds form ≡ [] → names.term_form_breaches bs form ≡ [] → resolved_term_form bs form ≡ form → ValueFits ds form
+    → form_range_breaches ds form ≡ [] → names.term_form_breaches bs form ≡ [] → resolved_term_form bs form ≡ form → ValueFits ds form
 value_fits ds bs known place (number negative value) built judged visible resolved =
     small_number (number negative value) (if_none (is_small (plain_number (number negative value))) [] _ [] built).0
 value_fits ds bs known place (truth_value value) built judged visible resolved = absurd (cc)
@@ -223,7 +249,7 @@ value_fits ds bs known place (applied o (term lp lk left) (term rp rk right)) bu
     let small = both (is_element left) (is_small (plain_number right)) sum.1 in (
       sum_is o sum.0,
       (
-        element_fits ds bs known lp left test.1 (no_rest (form_judged index_range ds left) (form_judged index_range ds right) judged).0
+        element_fits ds bs known lp left test.1 (no_rest (form_range_breaches ds left) (form_range_breaches ds right) judged).0
             (no_rest (names.term_form_breaches bs left) (names.term_form_breaches bs right) visible).0 (ap left_form resolved),
         small_number right small.1,
       ),
@@ -231,20 +257,20 @@ value_fits ds bs known place (applied o (term lp lk left) (term rp rk right)) bu
 value_fits ds bs known place (converted inner to) built judged visible resolved = absurd (cc)
 
 -- the parts of a store
-abbrev target_form : ActionForm → TermForm
+abbrev pub target_form : ActionForm → TermForm
 target_form (stores (term _ _ target) value) = target
 target_form _ = truth_value true
 
-abbrev value_form : ActionForm → TermForm
+abbrev pub value_form : ActionForm → TermForm
 value_form (stores target (term _ _ value)) = value
 value_form _ = truth_value true
 
 store_fits : (ds : List Declared) (bs : List Binding) → Known ds bs → (target value : Term) → unbuilt_access target ++ unbuilt_value value ≡ []
-    → term_judged index_range ds target ++ term_judged index_range ds value ≡ [] → names.term_breaches bs target ++ names.term_breaches bs value ≡ []
+    → term_range_breaches ds target ++ term_range_breaches ds value ≡ [] → names.term_breaches bs target ++ names.term_breaches bs value ≡ []
     → stores (resolved_term bs target) (resolved_term bs value) ≡ stores target value → StoreFits ds target value
 store_fits ds bs known (term tp tk target) (term vp vk value) built judged visible resolved =
     let b = no_rest (unbuilt_element tp target) (unbuilt_stored vp value) built in
-    let j = no_rest (form_judged index_range ds target) (form_judged index_range ds value) judged in
+    let j = no_rest (form_range_breaches ds target) (form_range_breaches ds value) judged in
     let v = no_rest (names.term_form_breaches bs target) (names.term_form_breaches bs value) visible in
     (element_fits ds bs known tp target b.0 j.0 v.0 (ap target_form resolved), value_fits ds bs known vp value b.1 j.1 v.1 (ap value_form resolved))
 
@@ -268,33 +294,33 @@ joined_fit ds cs ((p ∷ q ∷ ps) ∷ parts) h k =
     (all_append (PhaseFits ds) (p ∷ q ∷ ps) (joined [] parts) k.0 (joined_fit ds [] parts tt k.1))
 
 -- the form of a command, the parts of a block, and the lists of these
-abbrev action_form : Action → ActionForm
+abbrev pub action_form : Action → ActionForm
 action_form (action id place form) = form
 
-abbrev block_body : ActionForm → Groups
+abbrev pub block_body : ActionForm → Groups
 block_body (blocks body) = body
 block_body _ = no_groups
 
-abbrev first_part : Groups → Actions
+abbrev pub first_part : Groups → Actions
 first_part (group_then part rest) = part
 first_part no_groups = no_actions
 
-abbrev other_parts : Groups → Groups
+abbrev pub other_parts : Groups → Groups
 other_parts (group_then part rest) = rest
 other_parts no_groups = no_groups
 
-abbrev first_action : Actions → ActionForm
+abbrev pub first_action : Actions → ActionForm
 first_action (action_then a rest) = action_form a
 first_action no_actions = blocks no_groups
 
-abbrev other_actions : Actions → Actions
+abbrev pub other_actions : Actions → Actions
 other_actions (action_then a rest) = rest
 other_actions no_actions = no_actions
 
 mutual
   -- the phases of an accepted command, behind which the same names are visible
   form_fits : (ds : List Declared) (bs : List Binding) → Known ds bs → (id : ℕ) (place : Place) (form : ActionForm) (s : Scope) → s.visible ≡ bs → unbuilt_form place form ≡ []
-      → command_judged index_range ds form ≡ [] → names.form_breaches s form ≡ [] → resolved_form s form ≡ form
+      → action_form_range_breaches ds form ≡ [] → names.form_breaches s form ≡ [] → resolved_form s form ≡ form
       → PhasesFit ds (form_phases id place form) × ((past s (action id place form) (form_at_end s form)).visible ≡ bs)
   form_fits ds bs known id place (lets name declared value) s sees built judged visible resolved = absurd (cc)
   form_fits ds bs known id place (lets_memory name shape shape_places value) s sees built judged visible resolved = absurd (cc)
@@ -324,11 +350,11 @@ mutual
   form_fits ds bs known id place (counts iterator declared low high factor body combine combine_place) s sees built judged visible resolved = absurd (cc)
 
   groups_fit : (ds : List Declared) (bs : List Binding) → Known ds bs → (gs : Groups) (s : Scope) → s.visible ≡ bs → unbuilt_groups gs ≡ []
-      → groups_judged index_range ds gs ≡ [] → names.groups_breaches s gs ≡ [] → resolved_groups s gs ≡ gs → PhasesFit ds (groups_phases gs)
+      → groups_range_breaches ds gs ≡ [] → names.groups_breaches s gs ≡ [] → resolved_groups s gs ≡ gs → PhasesFit ds (groups_phases gs)
   groups_fit ds bs known no_groups s sees built judged visible resolved = tt
   groups_fit ds bs known (group_then part rest) s sees built judged visible resolved =
       let b = no_rest (unbuilt_part false part) (unbuilt_groups rest) built in
-      let j = no_rest (part_judged index_range ds part) (groups_judged index_range ds rest) judged in
+      let j = no_rest (actions_range_breaches ds part) (groups_range_breaches ds rest) judged in
       let v = no_rest (names.actions_breaches s part) (names.groups_breaches (actions_at_end s part) rest) visible in
       let first = part_fits ds bs known false part s sees b.0 j.0 v.0 (ap first_part resolved) in
       all_append (PhaseFits ds) (joined [] (parts_phases part)) (groups_phases rest)
@@ -336,13 +362,13 @@ mutual
       (groups_fit ds bs known rest (actions_at_end s part) first.1 b.1 j.1 v.1 (ap other_parts resolved))
 
   part_fits : (ds : List Declared) (bs : List Binding) → Known ds bs → (stepped : Bool) (part : Actions) (s : Scope) → s.visible ≡ bs → unbuilt_part stepped part ≡ []
-      → part_judged index_range ds part ≡ [] → names.actions_breaches s part ≡ [] → resolved_actions s part ≡ part
+      → actions_range_breaches ds part ≡ [] → names.actions_breaches s part ≡ [] → resolved_actions s part ≡ part
       → AllByRecursion (PhasesFit ds) (parts_phases part) × ((actions_at_end s part).visible ≡ bs)
   part_fits ds bs known stepped no_actions s sees built judged visible resolved = (tt, sees)
   part_fits ds bs known stepped (action_then (action id place form) rest) s sees built judged visible resolved =
       let a = no_rest (unbuilt_form place form) ((if stepped && form_holds form then unbuilt place else []) ++ unbuilt_part (stepped || form_holds form) rest) built in
       let later = no_rest (if stepped && form_holds form then unbuilt place else []) (unbuilt_part (stepped || form_holds form) rest) a.1 in
-      let j = no_rest (command_judged index_range ds form) (part_judged index_range ds rest) judged in
+      let j = no_rest (action_form_range_breaches ds form) (actions_range_breaches ds rest) judged in
       let after = past s (action id place form) (form_at_end s form) in
       let v = no_rest (names.form_breaches s form) (names.actions_breaches after rest) visible in
       let first = form_fits ds bs known id place form s sees a.0 j.0 v.0 (ap first_action resolved) in
@@ -351,6 +377,6 @@ mutual
 
 -- the phases of an accepted body
 pub body_fits : (ds : List Declared) (bs : List Binding) → Known ds bs → (a : Action) (s : Scope) → s.visible ≡ bs → unbuilt_action a ≡ []
-    → action_judged index_range ds a ≡ [] → names.breaches s a ≡ [] → resolved_action s a ≡ a → PhasesFit ds (phases a)
+    → action_range_breaches ds a ≡ [] → names.breaches s a ≡ [] → resolved_action s a ≡ a → PhasesFit ds (phases a)
 body_fits ds bs known (action id place form) s sees built judged visible resolved =
     (form_fits ds bs known id place form s sees built judged visible (ap action_form resolved)).0

@@ -10,6 +10,7 @@ use Rattle.dh_tree.specs.PlainTrees.{Action, Program}
 use Rattle.dh_tree.specs.Phases.{Phase, straight, phases, in_one_straight}
 use Rattle.dh_tree.specs.Meets.{total}
 use Rattle.dh_tree.specs.Accesses.{Access, accesses, meets, same_entity, equal_reads, shares, charge_behind, charge, ports_of, KeepsPorts}
+use Rattle.dh_compile.specs.Reading.{store_phases}
 use Rattle.dh_compile.proofs.Meeting.{commands_accesses, phase_accesses, phases_accesses, phases_append, accesses_are, Within, Same, never, picked, picked_append, total_is}
 use Rattle.dh_compile.proofs.Quiet.{charge_in, charges_in}
 use Rattle.dh_compile.proofs.Listing.{first_or, both}
@@ -103,18 +104,18 @@ picks_within : (from many k : ℕ) → from ≤ k → k < from + many → in_pha
 picks_within from many k low high = grind (arith, nat_tests)
 
 -- a phase of the program charges each memory once at most
-pub phase_spent : (p : Program) (m : ℕ) (before : List Phase) (cs : List Action) (behind : List Phase) → phases p.body ≡ before ++ (straight cs ∷ behind) → KeepsPorts p → ports_of p m ≤ 1
+pub phase_spent : (p : Program) (m : ℕ) (before : List Phase) (cs : List Action) (behind : List Phase) → store_phases p.body ≡ phases p.body → phases p.body ≡ before ++ (straight cs ∷ behind) → KeepsPorts p → ports_of p m ≤ 1
     → AllByRecursion (NeverWith (phases p.body) (phases_accesses before)) (commands_accesses cs) → charges_in m [] (commands_accesses cs) ≤ 1
-phase_spent p m before cs behind split keeps one never_with =
+phase_spent p m before cs behind same split keeps one never_with =
     let early = phases_accesses before in
     let here = commands_accesses cs in
     let after = phases_accesses behind in
     spent_sum p m early here after
-    (accesses_are p.body ∙ (ap phases_accesses split ∙ phases_append before (straight cs ∷ behind)))
+    (accesses_are p.body ∙ (ap phases_accesses (same ∙ split) ∙ phases_append before (straight cs ∷ behind)))
     (keeps (in_phase (length early) (length here))
     (λ x y chosen_x chosen_y apart.
     never p.body 0 x y
-    (subst (λ (ps : List Phase). Same 0 ps x y) (sym split)
+    (subst (λ (ps : List Phase). Same 0 ps x y) (sym (same ∙ split))
     (same_here 0 before cs behind x y
     (let w = is_within (length early) (length here) x chosen_x in (omega (arith, w.0), omega (arith, w.1)))
     (let w = is_within (length early) (length here) y chosen_y in (omega (arith, w.0), omega (arith, w.1)))))

@@ -1,12 +1,13 @@
 -- Programs as their groups, and when the compiler takes one.
-use Rattle.std.specs.Prelude.{◌≡◌, ℕ, ◌<◌, ◌≤◌, ◌^◌, false, true, map, List, [], ◌∷◌, length, slice_get, Option, Some, None}
+use Rattle.std.specs.Prelude.{◌≡◌, ℕ, ◌<◌, ◌≤◌, ◌^◌, false, true, List, [], ◌∷◌, length, slice_get, Option, Some, None}
 use Rattle.std.specs.List.{AllByRecursion}
 use Rattle.dh_base.specs.declared.places.Place.{Place}
 use Rattle.dh_value.specs.declared.kinds.Kind.TheVariants.{Unsigned, Signed}
+use Rattle.dh_value.specs.declared.operators.Op.TheVariants as op
 use Rattle.dh_tree.specs.declared.tables.MemEntry.{MemEntry}
 use Rattle.dh_tree.specs.Names.{IsName}
 use Rattle.dh_tree.specs.Tables.{line_of, elements_in, most_elements, HasDistinctNames}
-use Rattle.dh_tree.specs.Tree.{add, Term, number, access, binary, Terms, no_terms, term, Command, store, Phase, straight, Tree}
+use Rattle.dh_tree.specs.Tree.{Term, number, access, binary, convert, Terms, no_terms, term, Command, store, Commands, no_commands, command, Phase, straight, Tree}
 use Rattle.dh_compile.specs.declared.stores.Operand.{Operand}
 use Rattle.dh_compile.specs.declared.stores.Store.{Store}
 use Rattle.dh_compile.specs.declared.stores.Program.{Program}
@@ -83,19 +84,25 @@ pub record IsGrouped (p : Program) : Type 0 where
 abbrev pub index_term : ℕ → Terms
 index_term n = term (number (Signed 32) false n) no_terms
 
--- `number`, or `P[k] + number`
+-- `number`, or `P[k] + number`, whose operands are extended to their own kind
 abbrev pub value_term : Place → Option Operand → ℕ → Term
 value_term place None n = number (Unsigned 32) false n
-value_term place (Some o) n = binary (Unsigned 32) add (access place o.memory (index_term o.index)) (number (Unsigned 32) false n)
+value_term place (Some o) n =
+    binary op.Add (convert (Unsigned 32) (access place o.memory (index_term o.index))) (convert (Unsigned 32) (number (Unsigned 32) false n))
 
 -- `M[n] := value`
 abbrev pub command_of : Store → Command
 command_of s = store s.place s.memory (index_term s.index) (value_term s.source_place s.source s.number)
 
+-- the stores of a group, one after the other
+abbrev pub commands_of : List Store → Commands
+commands_of [] = no_commands
+commands_of (s ∷ ss) = command (command_of s) (commands_of ss)
+
 -- the straight phases of groups
 abbrev pub phases_from : List (List Store) → List Phase
 phases_from [] = []
-phases_from (g ∷ gs) = straight (map command_of g) ∷ phases_from gs
+phases_from (g ∷ gs) = straight (commands_of g) ∷ phases_from gs
 
 -- what the program means
 abbrev pub tree_of : Program → Tree

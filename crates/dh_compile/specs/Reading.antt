@@ -2,9 +2,9 @@
 -- off a form that is not built plays no part; an accepted program has none.
 use Rattle.std.specs.Prelude.{ℕ, List, [], ◌∷◌, ◌++◌, map, Option, Some, None}
 use Rattle.dh_base.specs.declared.places.Place.{Place}
-use Rattle.dh_tree.specs.PlainTrees.{Term, term, TermForm, number, truth_value, named, accessed, in_bank, applied, converted, Terms, no_terms, term_then, Action, action, ActionForm, lets, lets_memory, views, assigns, stores, reduces, calls, blocks, decides, repeats, counts, Actions}
+use Rattle.dh_tree.specs.PlainTrees.{Term, term, TermForm, number, truth_value, named, accessed, in_bank, applied, converted, Terms, no_terms, term_then, Action, action, ActionForm, lets, lets_memory, views, assigns, stores, reduces, calls, blocks, decides, repeats, counts, Actions, no_actions, action_then}
 use Rattle.dh_tree.specs.PlainTrees as plain
-use Rattle.dh_tree.specs.Phases.{Phase, straight, phases, joined, parts_phases}
+use Rattle.dh_tree.specs.Phases.{Phase, straight, joined, one_command}
 use Rattle.dh_tree.specs.Meaning.{memory_of, table_of}
 use Rattle.dh_compile.specs.declared.stores.Operand.{Operand}
 use Rattle.dh_compile.specs.declared.stores.Store.{Store}
@@ -73,9 +73,28 @@ action_read (action id place form) = form_read place form
 abbrev pub phase_read : Phase → List Store
 phase_read (straight cs) = map action_read cs
 
+-- The phases of a command in which stores and blocks alone have any. Those of an accepted program, which
+-- has no other commands, are all its phases.
+abbrev mutual
+  pub store_phases : Action → List Phase
+  store_phases (action id place form) = form_store_phases id place form
+
+  pub form_store_phases : ℕ → Place → ActionForm → List Phase
+  form_store_phases id place (stores target value) = one_command (action id place (stores target value))
+  form_store_phases id place (blocks body) = groups_store_phases body
+  form_store_phases id place form = []
+
+  pub groups_store_phases : plain.Groups → List Phase
+  groups_store_phases plain.no_groups = []
+  groups_store_phases (plain.group_then part rest) = joined [] (parts_store_phases part) ++ groups_store_phases rest
+
+  pub parts_store_phases : Actions → List (List Phase)
+  parts_store_phases no_actions = []
+  parts_store_phases (action_then a rest) = store_phases a ∷ parts_store_phases rest
+
 -- the groups of a command
 abbrev pub groups_read : Action → List (List Store)
-groups_read a = map phase_read (phases a)
+groups_read a = map phase_read (store_phases a)
 
 abbrev pub one_group : List Store → List (List Store)
 one_group [] = []
@@ -101,7 +120,7 @@ gathered current (gs ∷ rest) = done_by current gs ++ gathered (current_after c
 
 -- the groups of a list
 abbrev pub part_read : Actions → List (List Store)
-part_read part = map phase_read (joined [] (parts_phases part))
+part_read part = map phase_read (joined [] (parts_store_phases part))
 
 -- the groups of parts, one after the other
 abbrev pub parts_read : plain.Groups → List (List Store)

@@ -23,7 +23,7 @@ use std::alloc::Global;
 pub fn compile(alloc: Global, accepted: &Accepted) -> Result<Net, NoMemory>
     ensures { IfOk result (λ net. PlaysProgram net (program_seen accepted.now)) }
 {
-    let program = groups_of(alloc, accepted.tree())?;
+    let program = groups_of(alloc, accepted.typed())?;
     build(alloc, &program)
 }
 

@@ -1,8 +1,8 @@
 //! The groups of a tree: one for each straight phase of its body, in order.
 
 ghost use Rattle.std.specs.Prelude.{◌≡◌, ◌++◌, [], ◌∷◌, map, IfOk, OnOk};
-ghost use Rattle.dh_tree.specs.Seen.{term_seen, form_seen, terms, action_seen, declared_seen, program_seen, actions, groups, part_seen};
-ghost use Rattle.dh_tree.specs.Meaning.{memory_of, entry_of, meaning_of};
+ghost use Rattle.dh_tree.specs.Seen.{term_seen, form_seen, terms, action_seen, program_seen, actions, groups, part_seen};
+ghost use Rattle.dh_tree.specs.Meaning.{memory_of, meaning_of};
 ghost use Rattle.dh_check.specs.Acceptance.{IsAccepted};
 ghost use Rattle.dh_compile.specs.Grouped.{IsGrouped, tree_of};
 ghost use Rattle.dh_compile.specs.Reading as read;
@@ -10,7 +10,7 @@ ghost use Rattle.dh_compile.specs.Reading.{number_read, index_read, element_read
 
 use crate::stores::{Operand, Program, Store};
 use dh_base::{Items, NoMemory, Place};
-use dh_tree::{Command, CommandForm, Decl, Expr, ExprForm, MemEntry, MemTable, Ref, Tree};
+use dh_tree::{Command, CommandForm, Expr, ExprForm, Ref, Typed, copy_table};
 use std::alloc::Global;
 use std::mem;
 
@@ -218,33 +218,12 @@ fn groups_in_parts(alloc: Global, parts: &[Vec<Command>]) -> Result<Vec<Items<St
     Ok(done)
 }
 
-/// The memory that a declaration declares.
-fn entry_in(alloc: Global, decl: &Decl) -> Result<MemEntry, NoMemory>
-    ensures { IfOk result (λ entry. entry ≡ entry_of (declared_seen decl.now)) }
+/// The program of a typed tree as its groups.
+fn program_in(alloc: Global, typed: &Typed) -> Result<Program, NoMemory>
+    ensures { IfOk result (λ program. program ≡ program_read (program_seen typed.now)) }
 {
-    Ok(MemEntry {
-        name: decl.name.name.try_clone(alloc)?,
-        shape: decl.shape.try_clone(alloc)?,
-        outside: true,
-    })
-}
-
-/// The memories of declarations.
-fn table_in(alloc: Global, decls: &[Decl]) -> Result<MemTable, NoMemory>
-    ensures { IfOk result (λ table. table ≡ map entry_of (map declared_seen decls.now)) }
-{
-    let mut table = Items::new(alloc);
-    for decl in decls {
-        table.push(entry_in(alloc, decl)?)?;
-    }
-    Ok(table)
-}
-
-/// The program of a tree as its groups.
-fn program_in(alloc: Global, tree: &Tree) -> Result<Program, NoMemory>
-    ensures { IfOk result (λ program. program ≡ program_read (program_seen tree.now)) }
-{
-    let table = table_in(alloc, tree.decls.as_slice())?;
+    let table = copy_table(alloc, typed.memories().as_slice())?;
+    let tree = typed.tree();
     let groups = groups_in(alloc, &tree.body)?;
     Ok(Program {
         table,
@@ -253,12 +232,12 @@ fn program_in(alloc: Global, tree: &Tree) -> Result<Program, NoMemory>
 }
 
 /// The program of an accepted tree as its groups: one for each straight phase of its body, in order.
-pub(crate) fn groups_of(alloc: Global, tree: &Tree) -> Result<Program, NoMemory>
-    requires { IsAccepted (program_seen tree.now) }
-    ensures meaning { IfOk result (λ program. tree_of program ≡ meaning_of (program_seen tree.now)) }
+pub(crate) fn groups_of(alloc: Global, typed: &Typed) -> Result<Program, NoMemory>
+    requires { IsAccepted (program_seen typed.now) }
+    ensures meaning { IfOk result (λ program. tree_of program ≡ meaning_of (program_seen typed.now)) }
     ensures grouped { IfOk result (λ program. IsGrouped program) }
 {
-    program_in(alloc, tree)
+    program_in(alloc, typed)
 }
 
 #[cfg(test)]

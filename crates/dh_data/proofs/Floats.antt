@@ -1,6 +1,6 @@
 -- No number of a report is a float: elements are integers, and an object has no float where none of
 -- its members has one.
-use Rattle.std.proofs.Common.{◌≡◌, ℕ, ℤ, pos, negsuc, List, [], ◌∷◌, map, Bool, true, false, ◌||◌, if◌then◌else◌, Option, Some, None, Ordering, Less, Equal, Greater, nat_cmp, refl}
+use Rattle.std.proofs.Common.{◌≡◌, ℕ, zero, suc, take, drop, get_or, ℤ, pos, negsuc, List, [], ◌∷◌, Bool, true, false, ◌||◌, if◌then◌else◌, Option, Some, None, Ordering, Less, Equal, Greater, nat_cmp, refl}
 use Rattle.std.specs.Ordering.{match_ordering}
 use Rattle.std.specs.Cmp.Lexicographic.{slice_cmp}
 use Rattle.serde_json.specs.Data.{Data, Members, no_members, member, put}
@@ -8,9 +8,11 @@ use Rattle.serde_json.specs.Find.{of_integer, is_float}
 use Rattle.serde_json.specs.View.{items_of}
 use Rattle.serde_json.specs.Written.{has_float, items_have_float, members_have_float}
 use Rattle.dh_value.specs.declared.kinds.Kind.{Kind}
+use Rattle.dh_tree.specs.Tables.{elements_of}
+use Rattle.dh_tree.specs.declared.tables.Dim.{Dim}
 use Rattle.dh_tree.specs.declared.tables.MemEntry.{MemEntry}
 use Rattle.dh_data.specs.declared.reports.Ending.{Ending}
-use Rattle.dh_data.specs.Reports.{number_of, element_data, memory_data, outside_data, clocks_first, report_data}
+use Rattle.dh_data.specs.Reports.{number_of, nested_data, rows, memory_data, outside_data, clocks_first, report_data}
 
 no_float : (z : ℤ) → is_float (of_integer z) ≡ false
 no_float (pos n) = refl
@@ -20,12 +22,16 @@ both : (b c : Bool) → b ≡ false → c ≡ false → (b || c) ≡ false
 both true c e f = e
 both false c e f = f
 
-elements_none : (k : Kind) (vs : List ℕ) → items_have_float (items_of (map (element_data k) vs)) ≡ false
-elements_none k [] = refl
-elements_none k (v ∷ vs) = both _ _ (no_float (number_of k v)) (elements_none k vs)
+rows_none : (n width : ℕ) (list : List ℕ → Data) (vs : List ℕ) → ((xs : List ℕ) → has_float (list xs) ≡ false) → items_have_float (items_of (rows n width list vs)) ≡ false
+rows_none zero width list vs none = refl
+rows_none (suc n) width list vs none = both _ _ (none (take width vs)) (rows_none n width list (drop width vs) none)
 
-memory_none : (k : Kind) (vs : List ℕ) → has_float (memory_data k vs) ≡ false
-memory_none k vs = both _ _ (elements_none k vs) refl
+nested_none : (k : Kind) (dims : List Dim) (vs : List ℕ) → has_float (nested_data k dims vs) ≡ false
+nested_none k [] vs = no_float (number_of k (get_or vs 0 0))
+nested_none k (n ∷ ns) vs = rows_none n.size (elements_of ns) (nested_data k ns) vs (nested_none k ns)
+
+memory_none : (k : Kind) (dims : List Dim) (vs : List ℕ) → has_float (memory_data k dims vs) ≡ false
+memory_none k dims vs = both _ _ (nested_none k dims vs) refl
 
 behind : (b c : Bool) → (b || c) ≡ false → c ≡ false
 behind true c e = cc
@@ -52,7 +58,7 @@ if_none false xs ys e f = f
 outside_none : (es : List MemEntry) (ms : List (List ℕ)) (found : Members) → members_have_float found ≡ false → members_have_float (outside_data es ms found) ≡ false
 outside_none [] ms found none = none
 outside_none (e ∷ es) [] found none = none
-outside_none (e ∷ es) (m ∷ ms) found none = outside_none es ms _ (if_none e.outside _ _ (put_none e.name (memory_data e.shape.kind m) found (memory_none e.shape.kind m) none) none)
+outside_none (e ∷ es) (m ∷ ms) found none = outside_none es ms _ (if_none e.outside _ _ (put_none e.name (memory_data e.shape.kind e.shape.dims m) found (memory_none e.shape.kind e.shape.dims m) none) none)
 
 clocks_none : (clocks : Option ℕ) (ms : Members) → members_have_float ms ≡ false → members_have_float (clocks_first clocks ms) ≡ false
 clocks_none None ms none = none

@@ -1,8 +1,10 @@
-pub mod Options
-pub mod Lists
-pub mod Apart
-pub mod Views
 pub mod Signed
 pub mod Floats
 pub mod Memories
 pub mod Letters
+pub mod Elements
+pub mod Names
+pub mod Contents
+pub mod OneMeaning
+pub mod Fitting
+pub mod Rows

@@ -28,7 +28,7 @@ is_turn es rest ms more e m first list table fits =
     let fits' : Fits (e ∷ rest) (m ∷ more) = subst (λ (x : List MemEntry). Fits x (m ∷ more)) first (subst (λ (x : List (List ℕ)). Fits es x) list fits) in
     subst (λ (x : List MemEntry). Turn x rest ms more e m) (sym first) (subst (λ (x : List (List ℕ)). Turn (e ∷ rest) rest x more e m) (sym list) (cons_turn rest more e m table' fits'))
 
-at_item : {X : Type 0} (xs : List X) (i : ℕ) (x : X) → i < length xs → x ≡ get_or xs i x → drop i xs ≡ x ∷ drop (i + 1) xs
+pub at_item : {X : Type 0} (xs : List X) (i : ℕ) (x : X) → i < length xs → x ≡ get_or xs i x → drop i xs ≡ x ∷ drop (i + 1) xs
 at_item xs i x within is = drop-cons xs i x within ∙ (ap (λ y. y ∷ drop (suc i) xs) (sym is) ∙ ap (λ n. x ∷ drop n xs) (sym (add-one i)))
 
 -- there is a list for each memory

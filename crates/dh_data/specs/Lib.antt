@@ -1,3 +1,3 @@
-pub mod ThinData
+pub mod DataFiles
 pub mod Reading
 pub mod Reports

@@ -1,61 +1,95 @@
--- How `read` finds the contents, step by step; for private clauses.
-use Rattle.std.specs.Prelude.{◌≡◌, ℕ, ◌==◌, ◌^◌, nat_lt, List, [], ◌∷◌, map, if◌then◌else◌, codes, Option, Some, None, option_map, option_and_then, Result, Ok, Err, Vec}
+-- What the parts of `read` and `report` promise one another; for private clauses.
+use Rattle.std.specs.Prelude.{◌≡◌, ◌++◌, ℕ, List, [], ◌∷◌, map, if◌then◌else◌, codes, length, Bool, true, false, Option, Some, None, Result, Ok, Err, Vec}
+use Rattle.std.specs.List.{AllByRecursion}
+use Rattle.std.specs.Cmp.Lexicographic.{slice_cmp}
+use Rattle.std.specs.Ordering.{nat_cmp}
+use Rattle.std.specs.Str.{bytes_eq}
+use Rattle.std.specs.Set.{is_member}
+use Rattle.std.specs.BTreeSet.{BTreeSet, contains_by}
 use Rattle.std.specs.declared.alloc.Global.{Global}
-use Rattle.serde_json.specs.Data.{Data, Items, no_items, item, Members}
-use Rattle.serde_json.specs.Events.{items_len, members_len}
-use Rattle.serde_json.specs.Find.{get, get_member, as_array, as_object, as_number, as_u64}
-use Rattle.dh_tree.specs.Tables.{elements_of}
-use Rattle.dh_value.specs.Words.{width_of}
+use denote.Ref.{Bor}
+use Rattle.serde_json.specs.Data.{Data, object, Members}
+use Rattle.dh_value.specs.declared.kinds.Kind.{Kind}
 use Rattle.dh_tree.specs.declared.tables.MemEntry.{MemEntry}
-use Rattle.dh_data.specs.ThinData.{IsDataOf}
-use Rattle.dh_data.specs.declared.thin_data.DataFault.{DataFault}
-use Rattle.dh_data.specs.declared.thin_data.DataFault.TheVariants.{NotJson, NoMemory}
+use Rattle.dh_data.specs.DataFiles.{outside_names, Lacks, HasNoOther, IsLeastUnknown, Offers, IsElement, IsNoElement, AreElements, IsContents, AreContents, IsFirst, IsOtherFormat, IsOtherSize, IsOtherValue, StopsAt, Says}
+use Rattle.dh_data.specs.declared.data_files.DataFault.{DataFault}
+use Rattle.dh_data.specs.declared.data_files.DataFault.TheVariants.{NotJson, Missing, Unknown, Format, Size, Value, NoMemory}
 
--- an answer tells what there is
-abbrev pub Tells : Option (List ℕ) → Result (Vec ℕ Global) DataFault → Type 0
-Tells o (Ok v) = o ≡ Some v.items
-Tells o (Err NotJson) = o ≡ None
-Tells o (Err NoMemory) = Unit {0}
+abbrev pub bitnum : List ℕ
+bitnum = codes "bitnum"
 
-abbrev pub TellsLists : Option (List (List ℕ)) → Result (Vec (Vec ℕ Global) Global) DataFault → Type 0
-TellsLists o (Ok v) = o ≡ Some (map (λ l. l.items) v.items)
-TellsLists o (Err NotJson) = o ≡ None
-TellsLists o (Err NoMemory) = Unit {0}
+-- a value is an object of members that say this
+abbrev pub IsSaid : List MemEntry → Data → Result (List (List ℕ)) DataFault → Type 0
+IsSaid table d answer = (ms : Members) × ((d ≡ object ms) × Says table ms answer)
 
+-- what a value means for a table
 abbrev pub Shows : List MemEntry → Data → Result (List (List ℕ)) DataFault → Type 0
-Shows table d (Ok m) = IsDataOf table d m
-Shows table d (Err NotJson) = (m : List (List ℕ)) → IsDataOf table d m → ⊥
+Shows table d (Ok memories) = IsSaid table d (Ok memories)
+Shows table d (Err NotJson) = (ms : Members) → d ≡ object ms → ⊥
+Shows table d (Err (Missing i)) = IsSaid table d (Err (Missing i))
+Shows table d (Err (Unknown name)) = IsSaid table d (Err (Unknown name))
+Shows table d (Err (Format i)) = IsSaid table d (Err (Format i))
+Shows table d (Err (Size i)) = IsSaid table d (Err (Size i))
+Shows table d (Err (Value i position)) = IsSaid table d (Err (Value i position))
 Shows table d (Err NoMemory) = Unit {0}
 
--- x before the others, where both are there
-abbrev pub with_first : {A : Type 0} → Option A → Option (List A) → Option (List A)
-with_first first rest = option_and_then (λ x. option_map (λ xs. x ∷ xs) rest) first
+-- the first memory without a member, or that there is none
+abbrev pub FindsMissing : List MemEntry → Members → Option ℕ → Type 0
+FindsMissing table ms (Some i) = IsFirst (Lacks ms) table i
+FindsMissing table ms None = AllByRecursion (λ e. Lacks ms e → ⊥) table
 
--- the whole number of at most these bits
-abbrev pub within : ℕ → ℕ → Option ℕ
-within width n = if nat_lt n (2 ^ width) then Some n else None
+-- the least unknown name, or that there is none
+abbrev pub FindsUnknown : List MemEntry → Members → Option (List ℕ) → Type 0
+FindsUnknown table ms (Some name) = IsLeastUnknown table ms name
+FindsUnknown table ms None = HasNoOther table ms
 
-abbrev pub number_in : ℕ → Data → Option ℕ
-number_in width d = option_and_then (within width) (option_and_then as_u64 (as_number d))
+-- a set has the names of the outside memories
+abbrev pub KnowsNames : List MemEntry → BTreeSet (Bor (List ℕ)) → Type 0
+KnowsNames table known = (q : List ℕ) → contains_by (λ k. slice_cmp nat_cmp q k.now) known ≡ is_member bytes_eq (outside_names table) q
 
-abbrev pub numbers_in : ℕ → Items → Option (List ℕ)
-numbers_in width no_items = Some []
-numbers_in width (item d ds) = with_first (number_in width d) (numbers_in width ds)
+-- the contents of all memories, or where they stop
+abbrev pub SaysLists : List MemEntry → Members → Result (Vec (Vec ℕ Global) Global) DataFault → Type 0
+SaysLists table ms (Ok v) = AreContents ms table (map (λ l. l.items) v.items)
+SaysLists table ms (Err NotJson) = ⊥
+SaysLists table ms (Err (Missing i)) = ⊥
+SaysLists table ms (Err (Unknown name)) = ⊥
+SaysLists table ms (Err (Format i)) = StopsAt (IsOtherFormat ms) ms table i
+SaysLists table ms (Err (Size i)) = StopsAt (IsOtherSize ms) ms table i
+SaysLists table ms (Err (Value i position)) = StopsAt (IsOtherValue ms position) ms table i
+SaysLists table ms (Err NoMemory) = Unit {0}
 
--- the member `data`, where there is one member
-abbrev pub sole_data : Members → Option Data
-sole_data ms = if members_len ms == 1 then get_member (codes "data") ms else None
+-- the contents of the memory with this number, or its fault
+abbrev pub SaysContents : Members → ℕ → MemEntry → Result (Vec ℕ Global) DataFault → Type 0
+SaysContents ms memory e (Ok v) = IsContents ms e v.items
+SaysContents ms memory e (Err NotJson) = ⊥
+SaysContents ms memory e (Err (Missing i)) = ⊥
+SaysContents ms memory e (Err (Unknown name)) = ⊥
+SaysContents ms memory e (Err (Format i)) = (i ≡ memory) × IsOtherFormat ms e
+SaysContents ms memory e (Err (Size i)) = (i ≡ memory) × IsOtherSize ms e
+SaysContents ms memory e (Err (Value i position)) = (i ≡ memory) × IsOtherValue ms position e
+SaysContents ms memory e (Err NoMemory) = Unit {0}
 
-abbrev pub data_member : Data → Option Data
-data_member d = option_and_then sole_data (as_object d)
+-- the data that what was found offers, or that it offers none
+abbrev pub FindsData : Kind → Option Data → Option Data → Type 0
+FindsData k found (Some d) = Offers k found d
+FindsData k found None = (d : Data) → Offers k found d → ⊥
 
--- the numbers, where there are as many as declared
-abbrev pub counted : MemEntry → Items → Option (List ℕ)
-counted e ds = if items_len ds == elements_of e.shape.dims then numbers_in (width_of e.shape.kind) ds else None
+-- the bits of a whole number of a kind, or that it is none
+abbrev pub FindsElement : Kind → Data → Option ℕ → Type 0
+FindsElement k d (Some bits) = IsElement k d bits
+FindsElement k d None = IsNoElement k d
 
-abbrev pub list_in : MemEntry → Option Data → Option (List ℕ)
-list_in e found = option_and_then (counted e) (option_and_then as_array (option_and_then data_member found))
+-- the bits of these elements were added, all of them or those before the first that is none
+abbrev pub PushesBits : Kind → List Data → List ℕ → Bool → Type 0
+PushesBits k ds bits true = AreElements k ds bits
+PushesBits k ds bits false = IsFirst (IsNoElement k) ds (length bits)
 
-abbrev pub lists_in : List MemEntry → Data → Option (List (List ℕ))
-lists_in [] d = Some []
-lists_in (e ∷ es) d = with_first (list_in e (get e.name d)) (lists_in es d)
+pub record Pushes (k : Kind) (ds : List Data) (old new : List ℕ) (all : Bool) : Type 0 where
+  pub bits : List ℕ
+  pub added : new ≡ old ++ bits
+  pub are : PushesBits k ds bits all
+
+-- the first of these names that is not one of the others
+abbrev pub first_other : (others names : List (List ℕ)) → Option (List ℕ)
+first_other others [] = None
+first_other others (n ∷ ns) = if is_member bytes_eq others n then first_other others ns else Some n

@@ -1,5 +1,5 @@
 -- The report of a run: one line of compact JSON (this project's format of reports).
-use Rattle.std.specs.Prelude.{ℕ, ◌*◌, ◌^◌, ℤ, pos, ◌-ℤ◌, map, List, [], ◌∷◌, ◌++◌, Bool, true, false, if◌then◌else◌, nat_lt, codes, decimal, slice_get, Option, Some, None, option_map, unwrap_or}
+use Rattle.std.specs.Prelude.{ℕ, zero, suc, take, drop, ◌*◌, ◌^◌, ℤ, pos, ◌-ℤ◌, List, [], ◌∷◌, ◌++◌, Bool, true, false, if◌then◌else◌, nat_lt, codes, decimal, slice_get, get_or, Option, Some, None, option_map, unwrap_or}
 use Rattle.serde_json.specs.Data.{Data, number, unsigned, boolean, string, array, object, Members, no_members, member, put}
 use Rattle.serde_json.specs.Find.{of_integer}
 use Rattle.serde_json.specs.View.{items_of}
@@ -12,6 +12,8 @@ use Rattle.dh_base.specs.declared.places.Place.{Place}
 use Rattle.dh_value.specs.Words.{width_of}
 use Rattle.dh_value.specs.declared.kinds.Kind.{Kind}
 use Rattle.dh_value.specs.declared.kinds.Kind.TheVariants as kind
+use Rattle.dh_tree.specs.Tables.{elements_of}
+use Rattle.dh_tree.specs.declared.tables.Dim.{Dim}
 use Rattle.dh_tree.specs.declared.tables.MemEntry.{MemEntry}
 use Rattle.dh_data.specs.declared.reports.Ending.{Ending}
 
@@ -32,17 +34,27 @@ is_signed (kind.Signed w) = true
 abbrev pub element_data : Kind → ℕ → Data
 element_data k bits = number (of_integer (number_of k bits))
 
+-- so many lists, each of the next values of its width
+abbrev pub rows : ℕ → (width : ℕ) → (List ℕ → Data) → List ℕ → List Data
+rows zero width list values = []
+rows (suc n) width list values = list (take width values) ∷ rows n width list (drop width values)
+
+-- elements in lists nested by dimensions, in row-major order
+abbrev pub nested_data : Kind → List Dim → List ℕ → Data
+nested_data k [] values = element_data k (get_or values 0 0)
+nested_data k (n ∷ ns) values = array (items_of (rows n.size (elements_of ns) (nested_data k ns) values))
+
 abbrev pub format_data : Kind → Data
 format_data k =
     object (member (codes "is_signed") (boolean (is_signed k)) (member (codes "numeric_type") (string (codes "bitnum")) (member (codes "width") (number (unsigned (width_of k))) no_members)))
 
 -- the member of a memory
-abbrev pub memory_data : Kind → List ℕ → Data
-memory_data k values = object (member (codes "data") (array (items_of (map (element_data k) values))) (member (codes "format") (format_data k) no_members))
+abbrev pub memory_data : Kind → List Dim → List ℕ → Data
+memory_data k dims values = object (member (codes "data") (nested_data k dims values) (member (codes "format") (format_data k) no_members))
 
 -- the members, with one more where a memory is outside; names are in byte order
 abbrev pub with_outside : MemEntry → List ℕ → Members → Members
-with_outside e m found = if e.outside then put e.name (memory_data e.shape.kind m) found else found
+with_outside e m found = if e.outside then put e.name (memory_data e.shape.kind e.shape.dims m) found else found
 
 abbrev pub outside_data : List MemEntry → List (List ℕ) → Members → Members
 outside_data [] ms found = found

@@ -1,16 +1,16 @@
 //! Writes a report: how a run stands and the contents of its outside memories, as a line of JSON.
 
-ghost use Rattle.std.specs.Prelude.{◌≡◌, ◌<◌, ◌≤◌, ◌^◌, ◌*◌, ◌-ℤ◌, pos, if◌then◌else◌, nat_lt, map, IfOk, OnOk, string_bytes};
+ghost use Rattle.std.specs.Prelude.{◌≡◌, ◌<◌, ◌≤◌, ◌^◌, ◌*◌, ◌-ℤ◌, pos, if◌then◌else◌, nat_lt, map, length, min, ◌-◌, IfOk, OnOk, string_bytes};
 ghost use Rattle.std.specs.List.{AllByRecursion};
 ghost use Rattle.serde_json.specs.Data.{object, no_members};
 ghost use Rattle.serde_json.specs.View.{view, members_view};
-ghost use Rattle.dh_tree.specs.Tables.{IsTable, IsEntry, FitsEntry, Fits};
+ghost use Rattle.dh_tree.specs.Tables.{IsTable, IsEntry, FitsEntry, Fits, elements_of};
 ghost use Rattle.dh_value.specs.Words.{IsInteger, width_of};
-ghost use Rattle.dh_data.specs.Reports.{report_text, report_data, outside_data, with_outside, memory_data, element_data, is_signed, outcome_text as outcome_bytes, name_at, fault_name as fault_bytes};
+ghost use Rattle.dh_data.specs.Reports.{report_text, report_data, outside_data, with_outside, memory_data, nested_data, element_data, is_signed, outcome_text as outcome_bytes, name_at, fault_name as fault_bytes};
 
-use crate::thin_data::width;
 use dh_base::{FaultKind, NoMemory, Outcome, Place};
-use dh_tree::{Kind, MemEntry, MemTable, Memories};
+use dh_tree::{Dim, Kind, MemEntry, MemTable, Memories};
+use dh_value::width;
 use serde_json::{Map, Value, json};
 use std::alloc::{AllocError, Global};
 
@@ -103,27 +103,62 @@ fn put_memory(
     if !entry.outside {
         return Ok(());
     }
-    let memory = memory_value(alloc, entry.shape.kind, values)?;
+    let memory = memory_value(alloc, entry.shape.kind, entry.shape.dims.as_slice(), values)?;
     serde_json::put(members, alloc, entry.name.as_str(), memory)
 }
 
-fn memory_value(alloc: Global, kind: Kind, values: &[u64]) -> Result<Value, AllocError>
+fn memory_value(
+    alloc: Global,
+    kind: Kind,
+    dims: &[Dim],
+    values: &[u64],
+) -> Result<Value, AllocError>
     requires kind { IsInteger kind }
     requires small { AllByRecursion (λ v. v < 2 ^ width_of kind) values.now }
-    ensures { IfOk result (λ v. view v ≡ memory_data kind values.now) }
+    requires long { length values.now ≡ elements_of dims.now }
+    ensures { IfOk result (λ v. view v ≡ memory_data kind dims.now values.now) }
 {
-    let mut data = Vec::with_capacity(alloc, values.len())?;
-    for bits in values {
-        data.push(element(kind, *bits))?;
-    }
+    let elements = nested(alloc, kind, dims, values)?;
     json!(in alloc; {
-        "data": data,
+        "data": elements,
         "format": {
             "is_signed": signed(kind),
             "numeric_type": "bitnum",
             "width": width(kind)
         }
     })
+}
+
+/// The elements in lists nested by the dimensions.
+fn nested(alloc: Global, kind: Kind, dims: &[Dim], values: &[u64]) -> Result<Value, AllocError>
+    requires kind { IsInteger kind }
+    requires small { AllByRecursion (λ v. v < 2 ^ width_of kind) values.now }
+    requires long { length values.now ≡ elements_of dims.now }
+    ensures { IfOk result (λ v. view v ≡ nested_data kind dims.now values.now) }
+{
+    let Some((dim, rest)) = dims.split_first() else {
+        return Ok(element(kind, values[0]));
+    };
+    let width = elements(rest) as usize;
+    let mut lists = Vec::with_capacity(alloc, dim.size as usize)?;
+    let mut left = values;
+    for _ in 0..dim.size {
+        let (row, others) = left.split_at(width);
+        lists.push(nested(alloc, kind, rest, row)?)?;
+        left = others;
+    }
+    Ok(Value::Array(lists))
+}
+
+/// The product of the sizes, or the greatest number where it is greater.
+fn elements(dims: &[Dim]) -> u64
+    ensures { result ≡ min (elements_of dims.now) (2 ^ 64 - 1) }
+{
+    let mut product = 1u64;
+    for i in (0..dims.len()).rev() {
+        product = dims[i].size.saturating_mul(product);
+    }
+    product
 }
 
 fn element(kind: Kind, bits: u64) -> Value
@@ -151,7 +186,8 @@ fn signed_number(bits: u64, width: u8) -> i64
     }
 }
 
-fn signed(kind: Kind) -> bool
+/// Whether the numbers of the kind have a sign.
+pub fn signed(kind: Kind) -> bool
     ensures { result ≡ is_signed kind }
 {
     matches!(kind, Kind::Signed(_))

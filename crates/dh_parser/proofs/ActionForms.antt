@@ -1,21 +1,18 @@
 -- What is seen of the commands that the parser makes.
-use Rattle.std.proofs.Common.{◌≡◌, ℕ, suc, ◌+◌, ◌++◌, List, [], ◌∷◌, map, Option, Some, None, option_map, refl, ap, sym, ◌∙◌, arith, append_assoc}
+use Rattle.std.proofs.Common.{◌≡◌, map, Some, None, ap, ◌∙◌}
 use Rattle.std.specs.Prelude.{Vec}
 use Rattle.std.specs.Global.{Global}
 use Rattle.dh_base.specs.declared.places.Place.{Place}
-use Rattle.dh_value.specs.declared.kinds.Kind.{Kind}
 use Rattle.dh_value.specs.declared.operators.Op.{Op}
 use Rattle.dh_tree.specs.declared.trees.expressions.Ref.{Ref}
 use Rattle.dh_tree.specs.declared.trees.expressions.Expr.{Expr}
-use Rattle.dh_tree.specs.declared.trees.commands.Command.{Command}
 use Rattle.dh_tree.specs.declared.trees.commands.ViewForm.{ViewForm}
-use Rattle.dh_tree.specs.declared.trees.commands.CommandForm.{CommandForm}
-use Rattle.dh_tree.specs.declared.trees.commands.CommandForm.TheVariants.{Let, View, Assign, Store, Reduce, Call, Block, If, While}
-use Rattle.dh_tree.specs.PlainTrees.{Term, ActionForm, action, lets, views, assigns, stores, reduces, calls, blocks, decides, repeats, Action, Actions, no_actions, action_then, Groups, no_groups, group_then, MaybeAction}
-use Rattle.dh_tree.specs.Seen.{term_seen, plan_seen, action_form_seen, action_seen, actions, part_seen, groups, maybe_seen}
-use Rattle.dh_tree.proofs.SeenActions.{let_is, view_is, assign_is, store_is, reduce_is, call_is, block_is, if_is, while_is}
-use Rattle.dh_parser.specs.Grammar.{NameText, ExprText, ViewText, ReducerText, AccessText, ArgumentsText, SimpleText, let_value, view, assign, store, reduce, call}
-use Rattle.dh_parser.specs.TreesOfTexts.{ref_of, term_of, access_of, arguments_of, parent_of, view_of, reducer_op, simple_form}
+use Rattle.dh_tree.specs.declared.trees.commands.CommandForm.TheVariants.{Let, View, Assign, Store, Reduce, Call}
+use Rattle.dh_tree.specs.PlainTrees.{lets, views, assigns, stores, reduces, calls}
+use Rattle.dh_tree.specs.Seen.{term_seen, plan_seen, action_form_seen}
+use Rattle.dh_tree.proofs.SeenActions.{let_is, view_is, assign_is, store_is, reduce_is, call_is}
+use Rattle.dh_parser.specs.Grammar.{NameText, ExprText, ViewText, ReducerText, AccessText, ArgumentsText, let_value, view, assign, store, reduce, call}
+use Rattle.dh_parser.specs.TreesOfTexts.{ref_of, access_of, arguments_of, parent_of, reducer_op, simple_form}
 use Rattle.dh_parser.specs.Answers.{SamePlan, SameTerm}
 
 pub view_seen : (name parent : Ref) (form : ViewForm) (word equal : Place) (n : NameText) (v : ViewText) → name ≡ ref_of n → SamePlan parent form v → action_form_seen (View name parent form) ≡ simple_form (view word n equal v)

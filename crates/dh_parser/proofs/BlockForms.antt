@@ -1,19 +1,19 @@
 -- What is seen of the commands with blocks that the parser makes, and how many commands they are.
-use Rattle.std.proofs.Common.{◌≡◌, ℕ, suc, ◌+◌, List, map, Option, Some, None, option_map, refl, ap, sym, ◌∙◌, arith}
+use Rattle.std.proofs.Common.{◌≡◌, ℕ, suc, ◌+◌, Option, option_map, ap, ◌∙◌, arith}
 use Rattle.std.specs.Prelude.{Vec}
 use Rattle.std.specs.Global.{Global}
 use Rattle.dh_base.specs.declared.places.Place.{Place}
 use Rattle.dh_tree.specs.declared.trees.expressions.Expr.{Expr}
 use Rattle.dh_tree.specs.declared.trees.commands.Command.{Command}
 use Rattle.dh_tree.specs.declared.trees.commands.CommandForm.TheVariants.{Block, If, While}
-use Rattle.dh_tree.specs.PlainTrees.{Term, Placed, Action, action, MaybeAction, no_action, one_action, Groups, blocks, decides, repeats, counts}
-use Rattle.dh_tree.specs.Seen.{term_seen, action_form_seen, action_seen, part_seen, groups, maybe_seen, placed}
+use Rattle.dh_tree.specs.PlainTrees.{Placed, Action, action, MaybeAction, blocks, decides, repeats, counts}
+use Rattle.dh_tree.specs.Seen.{action_form_seen, action_seen, maybe_seen, placed}
 use Rattle.dh_tree.proofs.SeenActions.{block_is, if_is, while_is}
 use Rattle.dh_parser.specs.declared.parsing.loops.LoopHead.{LoopHead}
 use Rattle.dh_parser.specs.declared.parsing.reading.Numeral.{Numeral}
-use Rattle.dh_parser.specs.Grammar.{ExprText, HeadText, BlockText, block, PartsText, CompoundText, while_loop, for_loop, IfText, if_else, ElseText, CombineText}
+use Rattle.dh_parser.specs.Grammar.{ExprText, HeadText, BlockText, block, PartsText, while_loop, for_loop, if_else, ElseText, CombineText}
 use Rattle.dh_parser.specs.TreesOfTexts.{ref_of, placed_of, term_of, declared_of, factor_of, block_of, parts_of, compound_of, if_of, else_of, combine_of, combine_place_of, body_of, parts_place, count_block, count_parts, count_else, count_combine}
-use Rattle.dh_parser.specs.Answers.{Numbered, MaybeNumbered, PartsNumbered, SameParts, SameBlock, SameElse, SameCombine, SameTerm, SameHead, SameNumber}
+use Rattle.dh_parser.specs.Answers.{Numbered, SameParts, SameBlock, SameElse, SameCombine, SameTerm, SameHead, SameNumber}
 
 add_one : (n : ℕ) → n + 1 ≡ suc n
 add_one n = omega arith

@@ -1,16 +1,16 @@
 -- Where the body of a program begins: at its first token.
-use Rattle.std.proofs.Common.{◌≡◌, ℕ, List, [], ◌∷◌, Ok, refl, ap, sym, ◌∙◌, subst}
+use Rattle.std.proofs.Common.{◌≡◌, List, [], ◌∷◌, Ok, refl, ap, sym, ◌∙◌, subst}
 use Rattle.dh_base.specs.declared.places.Place.{Place}
 use Rattle.dh_lexer.specs.declared.tokens.Token.{Token}
 use Rattle.dh_lexer.specs.declared.tokens.TokenKind.TheVariants as kind
 use Rattle.dh_parser.specs.declared.parsing.reading.Mark.TheVariants as mark
 use Rattle.dh_parser.specs.Allowed.{PartsFit}
-use Rattle.dh_parser.specs.Grammar.{SimpleText, let_typed, let_value, view, assign, store, reduce, call, AccessText, element, physical, BlockText, block, CompoundText, block_alone, if_alone, while_loop, for_loop, IfText, if_else, PartText, end_of_part, last_simple, simple_then, compound_then, semicolon_then, PartsText, last_part, part_then}
+use Rattle.dh_parser.specs.Grammar.{SimpleText, let_typed, let_value, view, assign, store, reduce, call, element, physical, block, CompoundText, block_alone, if_alone, while_loop, for_loop, if_else, PartText, end_of_part, last_simple, simple_then, compound_then, semicolon_then, PartsText, last_part, part_then}
 use Rattle.dh_parser.specs.Spelling.{put, spell_simple, spell_compound, spell_part, spell_parts}
 use Rattle.dh_parser.specs.TreesOfTexts.{simple_place, compound_place, part_place, parts_place}
 use Rattle.dh_parser.specs.Answers.{StandsAt}
 use Rattle.dh_parser.specs.Reading.{Outcome, good, the, the_block, the_parts, steps}
-use Rattle.dh_parser.proofs.SoundBasics.{Good, Took, any, put_mark, mark_took}
+use Rattle.dh_parser.proofs.SoundBasics.{Took, any, put_mark, mark_took}
 use Rattle.dh_parser.proofs.SoundPrograms.{parts_took, block_took}
 
 simple_first : (s : SimpleText) (x : List Token) → StandsAt (Ok (simple_place s)) (spell_simple s x)

@@ -1,18 +1,17 @@
 -- Loops over the brackets of a view.
-use Rattle.std.proofs.Common.{◌≡◌, ℕ, suc, Bool, true, false, if◌then◌else◌, List, [], ◌∷◌, ◌++◌, map, append_assoc, append-nil, refl, ap, sym, ◌∙◌}
-use Rattle.dh_base.specs.declared.places.Place.{Place}
+use Rattle.std.proofs.Common.{◌≡◌, ℕ, suc, true, false, List, [], ◌∷◌, ◌++◌, map, append_assoc, append-nil, refl, ap, sym, ◌∙◌}
 use Rattle.dh_lexer.specs.declared.tokens.Token.{Token}
 use Rattle.dh_lexer.specs.declared.tokens.TokenKind.{TokenKind}
 use Rattle.dh_tree.specs.declared.trees.expressions.Expr.{Expr}
-use Rattle.dh_tree.specs.Seen.{term_seen, factor_seen}
+use Rattle.dh_tree.specs.Seen.{factor_seen}
 use Rattle.dh_tree.specs.PlainTrees.{Suffixed, Term}
 use Rattle.dh_parser.specs.declared.parsing.reading.Numeral.{Numeral}
 use Rattle.dh_parser.specs.declared.parsing.reading.Mark.TheVariants as mark
 use Rattle.dh_parser.specs.Marks.{comes}
 use Rattle.dh_parser.specs.Grammar.{NameText, ViewText, SuffixText}
-use Rattle.dh_parser.specs.TreesOfTexts.{suffix_of, term_of}
+use Rattle.dh_parser.specs.TreesOfTexts.{suffix_of}
 use Rattle.dh_parser.specs.Answers.{SameSuffix}
-use Rattle.dh_parser.specs.Reading.{Outcome, good, bad, deep, bind, the_name, more_of, all_of, parent_and, brackets, view_from, the_view, steps}
+use Rattle.dh_parser.specs.Reading.{Outcome, good, bind, the_name, more_of, all_of, parent_and, brackets, view_from, the_view, steps}
 use Rattle.dh_parser.proofs.Going.{assoc, same_bind, if_true, if_false}
 
 pub pushed_map : {X Z : Type 0} {new : List X} (old : List X) (f : X → Z) (x : X) → new ≡ old ++ (x ∷ []) → map f new ≡ map f old ++ (f x ∷ [])

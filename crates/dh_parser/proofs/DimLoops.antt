@@ -1,10 +1,10 @@
 -- Dimensions, one after another.
-use Rattle.std.proofs.Common.{◌≡◌, ℕ, suc, Bool, true, false, if◌then◌else◌, List, refl, ap, sym, ◌∙◌}
+use Rattle.std.proofs.Common.{◌≡◌, ℕ, suc, true, false, List, refl, sym, ◌∙◌}
 use Rattle.dh_lexer.specs.declared.tokens.Token.{Token}
 use Rattle.dh_parser.specs.declared.parsing.reading.Mark.TheVariants as mark
 use Rattle.dh_parser.specs.Marks.{comes}
-use Rattle.dh_parser.specs.Grammar.{DimsText, no_dims, dim_then}
-use Rattle.dh_parser.specs.Reading.{Outcome, good, bad, deep, bind, the, the_number, the_banks, the_dim, the_dims}
+use Rattle.dh_parser.specs.Grammar.{no_dims}
+use Rattle.dh_parser.specs.Reading.{good, bind, the, the_number, the_banks, the_dim, the_dims}
 use Rattle.dh_parser.proofs.Going.{assoc, same_bind, if_true, if_false}
 
 pub dims_go : (ts : List Token) → comes mark.OpenBracket ts ≡ true → (n : ℕ)

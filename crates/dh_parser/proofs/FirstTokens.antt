@@ -1,5 +1,5 @@
 -- What the first of the tokens to come says of a reader of lists.
-use Rattle.std.proofs.Common.{◌≡◌, ℕ, suc, ◌≤◌, ◌-◌, Bool, true, false, if◌then◌else◌, List, [], ◌∷◌, Ok, Option, Some, None, nat_le, length, take, drop, get_or, refl, ap, sym, ◌∙◌, arith}
+use Rattle.std.proofs.Common.{◌≡◌, ℕ, ◌≤◌, ◌-◌, Bool, true, false, if◌then◌else◌, List, [], ◌∷◌, Ok, Option, Some, None, nat_le, length, take, drop, get_or, refl, ap, sym, ◌∙◌, arith}
 use Rattle.std.proofs.lemmas.List.{take_all}
 use Rattle.std.proofs.lemmas.Bool.Decides.{nat_tests}
 use Rattle.dh_value.specs.declared.operators.Op.{Op}
@@ -11,10 +11,10 @@ use Rattle.dh_lexer.specs.declared.tokens.TokenKind.{TokenKind}
 use Rattle.dh_lexer.specs.declared.tokens.TokenKind.TheVariants as kind
 use Rattle.dh_parser.specs.declared.parsing.reading.Mark.{Mark}
 use Rattle.dh_parser.specs.declared.parsing.reading.Mark.TheVariants as mark
-use Rattle.dh_parser.specs.Marks.{is_mark, comes}
+use Rattle.dh_parser.specs.Marks.{is_mark}
 use Rattle.dh_parser.specs.Answers.{Took, StandsAt, SameNumber, SameHead}
 use Rattle.dh_parser.specs.Grammar.{KindText, NumberText, HeadText, bit_kind, ubit_kind}
-use Rattle.dh_parser.specs.Reading.{Outcome, good, bad, the, kind_from, the_kind, the_width, width_then, Sign, op_from, sign_text, sign_from, sign_at}
+use Rattle.dh_parser.specs.Reading.{good, bad, the, kind_from, the_kind, the_width, width_then, Sign, op_from, sign_text, sign_from, sign_at}
 use Rattle.dh_parser.specs.TreesOfTexts.{kind_place, ref_of, placed_of, declared_of, factor_of}
 use Rattle.dh_parser.proofs.Going.{AllOf, all_then}
 

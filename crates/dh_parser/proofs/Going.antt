@@ -1,5 +1,5 @@
 -- How what a parser of the code calls answers for it, beside readers of lists that go on with one another.
-use Rattle.std.proofs.Common.{◌≡◌, Bool, true, false, if◌then◌else◌, List, Result, Ok, Err, IsErr, refl, ap, sym, ◌∙◌}
+use Rattle.std.proofs.Common.{◌≡◌, Bool, true, false, if◌then◌else◌, List, Result, Ok, Err, IsErr, refl, ap, sym}
 use Rattle.std.specs.Result.{IsErrAnd}
 use Rattle.dh_lexer.specs.declared.tokens.Token.{Token}
 use Rattle.dh_parser.specs.declared.parsing.reading.Stop.{Stop}

@@ -1,5 +1,5 @@
 -- The loop over declarations and functions.
-use Rattle.std.proofs.Common.{◌≡◌, ℕ, suc, ◌+◌, ◌++◌, Bool, true, false, if◌then◌else◌, List, [], ◌∷◌, map, Option, Some, None, refl, ap, sym, ◌∙◌, append_assoc, append-nil, arith}
+use Rattle.std.proofs.Common.{◌≡◌, ℕ, suc, ◌+◌, ◌++◌, true, false, List, [], ◌∷◌, map, Option, Some, None, refl, ap, sym, ◌∙◌, arith}
 use Rattle.dh_base.specs.declared.places.Place.{Place}
 use Rattle.dh_lexer.specs.declared.tokens.Token.{Token}
 use Rattle.dh_lexer.specs.declared.tokens.TokenKind.{TokenKind}
@@ -18,10 +18,10 @@ use Rattle.dh_parser.specs.declared.parsing.programs.Item.{Item}
 use Rattle.dh_parser.specs.declared.parsing.programs.Item.TheVariants as items
 use Rattle.dh_parser.specs.declared.parsing.reading.Mark.TheVariants as mark
 use Rattle.dh_parser.specs.Marks.{comes}
-use Rattle.dh_parser.specs.Grammar.{NameText, TypeText, BlockText, PartsText, ItemsText, no_items, decl_then, def_then, ParametersText, some_parameters, ParameterText, MoreParametersText, no_more_parameters, parameter_then}
-use Rattle.dh_parser.specs.TreesOfTexts.{ref_of, shape_of, shape_places_of, formals_of, block_of, count_block, decls_of, functions_of, count_items, body_of, program_of}
+use Rattle.dh_parser.specs.Grammar.{NameText, TypeText, BlockText, PartsText, ItemsText, no_items, decl_then, def_then, ParametersText, some_parameters, no_more_parameters, parameter_then}
+use Rattle.dh_parser.specs.TreesOfTexts.{ref_of, shape_of, formals_of, block_of, count_block, decls_of, functions_of, count_items, body_of, program_of}
 use Rattle.dh_parser.specs.Answers.{SameItem, Kept, SameDecl, SameFunction, SameItems, SameType, SameBlock}
-use Rattle.dh_parser.specs.Reading.{Outcome, good, bad, deep, bind, the, the_name, the_type, the_block, the_parameter, further_parameter, more_parameters, the_parameters, decl_from, def_from, the_decl, the_def, item_from, the_item, items_from, the_items, the_parts, the_body, program_text, the_program, steps}
+use Rattle.dh_parser.specs.Reading.{Outcome, good, bind, the, the_name, the_type, the_block, the_parameter, further_parameter, more_parameters, the_parameters, the_decl, the_def, item_from, the_item, items_from, the_items, the_parts, the_body, program_text, the_program, steps}
 use Rattle.dh_tree.specs.declared.trees.commands.Command.{Command}
 use Rattle.dh_parser.proofs.WholeBlocks.{parts_is}
 use Rattle.dh_parser.proofs.Going.{assoc, same_bind, if_true, if_false}

@@ -21,6 +21,8 @@ pub mod AlikeBasics
 pub mod AlikeExpressions
 pub mod AlikePrograms
 pub mod PlacedTokens
+pub mod TextWidths
+pub mod TextNames
 pub mod WrittenTexts
 pub mod OnePlace
 pub mod WholeExpressions

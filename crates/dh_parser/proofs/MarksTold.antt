@@ -1,10 +1,10 @@
 -- A token that is a mark is that mark: marks are told apart by their codes, and each has its own.
-use Rattle.std.proofs.Common.{◌≡◌, ℕ, Bool, true, false, ◌==◌, if◌then◌else◌, Option, Some, None, refl, ap, sym, ◌∙◌, eqb-true}
+use Rattle.std.proofs.Common.{◌≡◌, ℕ, true, false, ◌==◌, if◌then◌else◌, Some, refl, ap, sym, ◌∙◌, eqb-true}
 use Rattle.dh_lexer.specs.declared.tokens.TokenKind.{TokenKind}
 use Rattle.dh_lexer.specs.declared.tokens.TokenKind.TheVariants as kind
 use Rattle.dh_parser.specs.declared.parsing.reading.Mark.{Mark}
 use Rattle.dh_parser.specs.declared.parsing.reading.Mark.TheVariants as mark
-use Rattle.dh_parser.specs.Marks.{kind_of_mark, mark_of, code, is_same, is_mark}
+use Rattle.dh_parser.specs.Marks.{kind_of_mark, code, is_same, is_mark}
 
 abbrev decode : ℕ → Mark
 decode n =

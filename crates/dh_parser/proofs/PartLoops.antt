@@ -1,5 +1,5 @@
 -- Loops over the commands of a part and over the parts of a block.
-use Rattle.std.proofs.Common.{◌≡◌, ℕ, suc, ◌+◌, ◌++◌, Bool, true, false, if◌then◌else◌, List, [], ◌∷◌, map, Result, Ok, Err, refl, ap, sym, ◌∙◌, arith}
+use Rattle.std.proofs.Common.{◌≡◌, ℕ, suc, ◌+◌, ◌++◌, true, false, if◌then◌else◌, List, [], ◌∷◌, map, refl, ap, sym, ◌∙◌, arith}
 use Rattle.std.specs.Prelude.{Vec}
 use Rattle.std.specs.Global.{Global}
 use Rattle.dh_base.specs.declared.places.Place.{Place}
@@ -7,13 +7,12 @@ use Rattle.dh_lexer.specs.declared.tokens.Token.{Token}
 use Rattle.dh_tree.specs.declared.trees.commands.Command.{Command}
 use Rattle.dh_tree.specs.PlainTrees.{Action, action, Actions, no_actions, action_then, Groups, no_groups, group_then}
 use Rattle.dh_tree.specs.Seen.{action_seen, actions, part_seen, groups}
-use Rattle.dh_parser.specs.declared.parsing.reading.Stop.{Stop}
 use Rattle.dh_parser.specs.declared.parsing.reading.Mark.TheVariants as mark
 use Rattle.dh_parser.specs.Marks.{comes}
 use Rattle.dh_parser.specs.Grammar.{SimpleText, CompoundText, PartText, end_of_part, last_simple, simple_then, compound_then, semicolon_then, PartsText, last_part, part_then}
 use Rattle.dh_parser.specs.TreesOfTexts.{simple_place, simple_form, part_of, parts_of, count_part, count_parts, compound_of, count_compound}
-use Rattle.dh_parser.specs.Answers.{SamePart, SameParts, Numbered, PartNumbered, PartsNumbered}
-use Rattle.dh_parser.specs.Reading.{Outcome, good, bad, deep, bind, the, the_simple, the_compound, the_block, the_part, the_parts, part_with, beginning, Beginning, begins_simple, begins_compound, begins_semicolon, begins_nothing, steps}
+use Rattle.dh_parser.specs.Answers.{SamePart, SameParts, Numbered, PartNumbered}
+use Rattle.dh_parser.specs.Reading.{good, bind, the, the_simple, the_compound, the_block, the_part, the_parts, part_with, beginning, Beginning, begins_simple, begins_compound, begins_semicolon, steps}
 use Rattle.dh_parser.proofs.Going.{if_true, if_false}
 
 abbrev pub actions_on : List Action → Actions → Actions

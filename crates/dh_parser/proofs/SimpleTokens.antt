@@ -1,13 +1,13 @@
 -- What the first tokens of a command without blocks say of it.
-use Rattle.std.proofs.Common.{◌≡◌, ℕ, Bool, true, false, if◌then◌else◌, List, ◌∷◌, Option, Some, None, option_map, Ok, [], subst, refl, ap, sym, ◌∙◌}
+use Rattle.std.proofs.Common.{◌≡◌, Bool, true, false, if◌then◌else◌, List, ◌∷◌, Option, Some, None, option_map, Ok, [], subst, refl, ap, sym, ◌∙◌}
 use Rattle.dh_base.specs.declared.places.Place.{Place}
 use Rattle.dh_lexer.specs.declared.tokens.Token.{Token}
 use Rattle.dh_lexer.specs.declared.tokens.TokenKind.{TokenKind}
 use Rattle.dh_lexer.specs.declared.tokens.TokenKind.TheVariants as kind
 use Rattle.dh_value.specs.declared.operators.Op.{Op}
-use Rattle.dh_parser.specs.Grammar.{NameText, ReducerText, SimpleText, assign, call, AccessText, element, physical}
+use Rattle.dh_parser.specs.Grammar.{NameText, ReducerText, SimpleText, AccessText}
 use Rattle.dh_parser.specs.TreesOfTexts.{reducer_op, access_of, place_of}
-use Rattle.dh_parser.specs.Reading.{Outcome, good, bad, deep, bind, the, the_name, name_from, the_expression, the_arguments, reducer_from, reduce_from, store_from, after_name_from, after_name, simple_from, the_simple, the_index, more_indices, access_from, Reads, steps}
+use Rattle.dh_parser.specs.Reading.{Outcome, bad, bind, the, the_name, name_from, reducer_from, reduce_from, after_name_from, after_name, simple_from, the_simple, the_index, more_indices, access_from, Reads, steps}
 use Rattle.dh_parser.specs.declared.parsing.reading.Mark.TheVariants as mark
 use Rattle.dh_parser.specs.Marks.{comes}
 use Rattle.dh_parser.specs.Reading.{the_number}

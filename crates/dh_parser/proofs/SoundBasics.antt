@@ -1,18 +1,15 @@
 -- Reading is sound where every text that is read is allowed and is what was taken off the front. Of
 -- a form of several parts this follows part by part.
-use Rattle.std.proofs.Common.{◌≡◌, ℕ, Bool, true, false, if◌then◌else◌, List, [], ◌∷◌, refl, ap, sym, ◌∙◌}
+use Rattle.std.proofs.Common.{◌≡◌, Bool, true, false, if◌then◌else◌, List, [], ◌∷◌, refl, ap}
 use Rattle.dh_base.specs.declared.places.Place.{Place}
 use Rattle.dh_lexer.specs.declared.tokens.Token.{Token}
 use Rattle.dh_lexer.specs.declared.tokens.TokenKind.{TokenKind}
 use Rattle.dh_lexer.specs.declared.tokens.TokenKind.TheVariants as kind
 use Rattle.dh_lexer.specs.LexedText.{placed}
 use Rattle.dh_parser.specs.declared.parsing.reading.Mark.{Mark}
-use Rattle.dh_parser.specs.declared.parsing.reading.Mark.TheVariants as mark
-use Rattle.dh_parser.specs.Marks.{kind_of_mark, is_mark, comes}
-use Rattle.dh_parser.specs.Grammar.{NameText, NumberText}
+use Rattle.dh_parser.specs.Marks.{kind_of_mark, is_mark}
 use Rattle.dh_parser.specs.Spelling.{put, put_name, put_number}
-use Rattle.dh_parser.specs.Allowed.{IsWidth}
-use Rattle.dh_parser.specs.Reading.{Outcome, good, bad, deep, bind, the, name_from, the_name, number_from, the_number, is_width, width_from, the_width}
+use Rattle.dh_parser.specs.Reading.{Outcome, good, bad, deep, bind, the, name_from, the_name, number_from, the_number}
 use Rattle.dh_parser.proofs.MarksTold.{told}
 
 -- where something was read, this holds of it and of what is left

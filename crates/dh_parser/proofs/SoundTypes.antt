@@ -1,21 +1,17 @@
 -- Reading of kinds and types is sound, part by part.
-use Rattle.std.proofs.Common.{◌≡◌, ℕ, zero, suc, ◌≤◌, Bool, true, false, if◌then◌else◌, List, [], ◌∷◌, length, Option, Some, None, refl, ap, sym, ◌∙◌, nat_le}
+use Rattle.std.proofs.Common.{◌≡◌, ℕ, zero, suc, ◌≤◌, Bool, true, false, if◌then◌else◌, List, [], ◌∷◌, length, refl, ap, ◌∙◌, nat_le}
 use Rattle.std.proofs.lemmas.Bool.{leb-true}
-use Rattle.dh_base.specs.declared.places.Place.{Place}
 use Rattle.dh_lexer.specs.declared.tokens.Token.{Token}
 use Rattle.dh_lexer.specs.declared.tokens.TokenKind.{TokenKind}
 use Rattle.dh_lexer.specs.declared.tokens.TokenKind.TheVariants as kind
 use Rattle.dh_lexer.specs.LexedText.{placed}
-use Rattle.dh_value.specs.declared.operators.Op.{Op}
-use Rattle.dh_value.specs.declared.operators.Op.TheVariants as op
-use Rattle.dh_parser.specs.declared.parsing.reading.Mark.{Mark}
 use Rattle.dh_parser.specs.declared.parsing.reading.Mark.TheVariants as mark
-use Rattle.dh_parser.specs.Marks.{is_mark, comes}
-use Rattle.dh_parser.specs.Grammar.{NameText, NumberText, KindText, bool_kind, bit_kind, ubit_kind, PortsText, no_ports, some_ports, BanksText, no_banks, some_banks, DimsText, no_dims, dim_then, TypeText, ExprText, literal, negative, truth, variable, access, bracket, cast, binary, AccessText, element, physical, IndexText, index, MoreIndicesText, no_indices, index_then, MoreArgumentsText, no_more_arguments, argument_then, ArgumentsText, no_arguments, some_arguments, FactorText, SuffixText, OffsetText, ViewText, shrink, split, suffix, shift, ValueText, no_value, some_value, ReducerText, adds, subtracts, multiplies, SimpleText, let_typed, let_value, view, assign, store, reduce, call, DeclaredText, no_declared, some_declared, UnrollText, no_unroll, some_unroll, HeadText, BlockText, block, PartsText, last_part, part_then, PartText, end_of_part, last_simple, simple_then, compound_then, semicolon_then, CompoundText, block_alone, if_alone, while_loop, for_loop, IfText, if_else, ElseText, no_else, else_block, else_if, CombineText, no_combine, some_combine, ParameterText, MoreParametersText, no_more_parameters, parameter_then, ParametersText, no_parameters, some_parameters, ItemsText, no_items, decl_then, def_then, ProgramText}
-use Rattle.dh_parser.specs.Spelling.{put, put_name, put_number, sign_of, reducer_sign, spell_kind, spell_ports, spell_banks, spell_dims, spell_type, spell, spell_access, spell_index, spell_indices, spell_more_arguments, spell_arguments, spell_factor, spell_suffix, spell_offset, spell_all, spell_view, spell_value, spell_simple, spell_declared, spell_unroll, spell_head, spell_block, spell_parts, spell_part, spell_compound, spell_if, spell_else, spell_combine, spell_parameter, spell_more_parameters, spell_parameters, spell_items, spell_program}
-use Rattle.dh_parser.specs.Allowed.{level, IsWidth, KindFits, Fits, AccessFits, IndexFits, IndicesFit, MoreArgumentsFit, ArgumentsFit, SuffixFits, OffsetFits, AllFit, ViewFits, ValueFits, SimpleFits, DeclaredFits, BlockFits, PartsFit, PartFits, CompoundFits, IfFits, ElseFits, CombineFits, MoreParametersFit, ParametersFit, ItemsFit, ProgramFits}
-use Rattle.dh_parser.specs.Reading.{Outcome, good, bad, deep, bind, the, name_text, number_text, the_name, the_number, is_width, width_from, the_width, width_then, kind_from, the_kind, the_ports, the_banks, the_dims, type_text, the_type, Sign, op_from, sign_text, sign_from, sign_at, Reads, the_index, more_indices, access_from, goes_on, named_from, bracket_from, operand_from, operand, chain_with, chain, read, steps, the_expression, more_arguments, the_arguments, factor_text, suffix_text, offset_text, the_factor, the_suffix, the_offset, more_of, brackets, view_from, the_view, the_value, let_from, view_command_from, reduce_from, store_from, after_name_from, after_name, simple_from, the_simple, the_declared, the_unroll, head_text, the_head, Blocks, the_if, the_while, the_combine, the_for, the_compound, Beginning, begins_simple, begins_compound, begins_semicolon, begins_nothing, beginning_of, beginning, part_with, the_part, the_parts, read_block, the_block, parameter_text, the_parameter, more_parameters, the_parameters, decl_from, def_from, items_from, the_items, program_text, the_program}
-use Rattle.dh_parser.proofs.SoundBasics.{Good, Took, any, next, either, put_mark, mark_took, name_took, number_took}
+use Rattle.dh_parser.specs.Marks.{comes}
+use Rattle.dh_parser.specs.Grammar.{TypeText}
+use Rattle.dh_parser.specs.Spelling.{put, put_number, spell_kind, spell_ports, spell_banks, spell_dims, spell_type}
+use Rattle.dh_parser.specs.Allowed.{IsWidth, KindFits}
+use Rattle.dh_parser.specs.Reading.{good, bad, the, number_text, the_number, is_width, width_from, the_width, kind_from, the_kind, the_ports, the_banks, the_dims, the_type}
+use Rattle.dh_parser.proofs.SoundBasics.{Took, any, next, either, put_mark, mark_took, number_took}
 
 within_both : (b c : Bool) → (if b then c else false) ≡ true → (b ≡ true) × (c ≡ true)
 within_both true c e = (refl, e)

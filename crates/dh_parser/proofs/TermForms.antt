@@ -1,5 +1,5 @@
 -- What is seen of the expressions that the parser makes.
-use Rattle.std.proofs.Common.{◌≡◌, Bool, List, Option, None, refl, ap, sym, ◌∙◌}
+use Rattle.std.proofs.Common.{◌≡◌, None, ap, ◌∙◌}
 use Rattle.std.specs.Prelude.{Vec}
 use Rattle.std.specs.Global.{Global}
 use Rattle.dh_base.specs.declared.places.Place.{Place}

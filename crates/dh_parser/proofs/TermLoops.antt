@@ -1,23 +1,14 @@
 -- Loops that read expressions one after another.
-use Rattle.std.proofs.Common.{◌≡◌, ℕ, zero, suc, ◌<◌, ◌≤◌, ◌+◌, Bool, true, false, if◌then◌else◌, List, [], ◌∷◌, ◌++◌, map, length, Option, Some, None, Result, Ok, Err, append_assoc, append-nil, refl, ap, sym, ◌∙◌, arith}
-use Rattle.dh_base.specs.declared.places.Place.{Place}
+use Rattle.std.proofs.Common.{◌≡◌, ℕ, suc, true, false, List, [], ◌∷◌, ◌++◌, map, length, append_assoc, append-nil, refl, ap, sym, ◌∙◌}
 use Rattle.dh_lexer.specs.declared.tokens.Token.{Token}
-use Rattle.dh_value.specs.declared.operators.Op.{Op}
 use Rattle.dh_tree.specs.declared.trees.expressions.Expr.{Expr}
-use Rattle.dh_tree.specs.PlainTrees.{Term, Terms, no_terms, term_then, applied}
+use Rattle.dh_tree.specs.PlainTrees.{Term, Terms, no_terms, term_then}
 use Rattle.dh_tree.specs.Seen.{term_seen, terms}
-use Rattle.dh_parser.specs.declared.parsing.reading.Stop.{Stop}
 use Rattle.dh_parser.specs.declared.parsing.reading.Mark.TheVariants as mark
-use Rattle.dh_parser.specs.Allowed.{level}
 use Rattle.dh_parser.specs.Marks.{comes}
-use Rattle.dh_parser.specs.Grammar.{NameText, ExprText, binary, IndexText, MoreIndicesText, no_indices, index_then, AccessText, element, physical, MoreArgumentsText, no_more_arguments, argument_then, ArgumentsText, some_arguments}
-use Rattle.dh_parser.specs.TreesOfTexts.{term_of, index_of, indices_of, joined_terms, plain, place_of}
-use Rattle.dh_parser.specs.Reading.{Outcome, good, bad, deep, bind, the, the_number, Sign, sign_text, sign_at, the_index, more_indices, all_indices, access_from, the_expression, the_argument, more_arguments, the_arguments, steps, chain_with, chain, expression, operand}
-use Rattle.dh_parser.specs.Answers.{Answers, SameTerm, TookOperator}
-use Rattle.dh_parser.proofs.StepsOfExpressions.{none_below}
-use Rattle.dh_parser.proofs.WholeExpressions.{expression_is}
-use Rattle.dh_parser.proofs.Loops.{Loops}
-use Rattle.dh_parser.proofs.Going.{ok_then, err_then, assoc, same_bind, if_true, if_false}
+use Rattle.dh_parser.specs.Grammar.{NameText, no_indices, index_then, element, no_more_arguments, argument_then, some_arguments}
+use Rattle.dh_parser.specs.Reading.{good, bind, the, the_index, more_indices, all_indices, access_from, the_expression, the_argument, more_arguments, the_arguments, expression}
+use Rattle.dh_parser.proofs.Going.{assoc, same_bind, if_true, if_false}
 
 -- terms in front of others
 abbrev pub terms_on : List Term → Terms → Terms

@@ -1,17 +1,12 @@
 -- The answer of reading blocks does not hang on the number of steps, where these suffice.
-use Rattle.std.proofs.Common.{◌≡◌, ℕ, zero, suc, ◌≤◌, Bool, true, false, if◌then◌else◌, List, [], ◌∷◌, length, Option, Some, None, refl, ap, sym, ◌∙◌, nat_le, ◌<◌, ◌+◌, arith}
-use Rattle.dh_base.specs.declared.places.Place.{Place}
+use Rattle.std.proofs.Common.{◌≡◌, ℕ, zero, suc, ◌≤◌, true, if◌then◌else◌, List, length, refl, ap, ◌<◌, arith}
 use Rattle.dh_lexer.specs.declared.tokens.Token.{Token}
-use Rattle.dh_lexer.specs.declared.tokens.TokenKind.{TokenKind}
-use Rattle.dh_lexer.specs.declared.tokens.TokenKind.TheVariants as kind
-use Rattle.dh_parser.specs.declared.parsing.reading.Mark.{Mark}
 use Rattle.dh_parser.specs.declared.parsing.reading.Mark.TheVariants as mark
-use Rattle.dh_parser.specs.Marks.{is_mark, comes}
-use Rattle.dh_parser.specs.Grammar.{NameText, NumberText, KindText, bool_kind, bit_kind, ubit_kind, PortsText, no_ports, some_ports, BanksText, no_banks, some_banks, DimsText, no_dims, dim_then, TypeText, ExprText, literal, negative, truth, variable, access, bracket, cast, binary, AccessText, element, physical, IndexText, index, MoreIndicesText, no_indices, index_then, MoreArgumentsText, no_more_arguments, argument_then, ArgumentsText, no_arguments, some_arguments, FactorText, SuffixText, OffsetText, ViewText, shrink, split, suffix, shift, ValueText, no_value, some_value, ReducerText, adds, subtracts, multiplies, SimpleText, let_typed, let_value, view, assign, store, reduce, call, DeclaredText, no_declared, some_declared, UnrollText, no_unroll, some_unroll, HeadText, BlockText, block, PartsText, last_part, part_then, PartText, end_of_part, last_simple, simple_then, compound_then, semicolon_then, CompoundText, block_alone, if_alone, while_loop, for_loop, IfText, if_else, ElseText, no_else, else_block, else_if, CombineText, no_combine, some_combine, ParameterText, MoreParametersText, no_more_parameters, parameter_then, ParametersText, no_parameters, some_parameters, ItemsText, no_items, decl_then, def_then, ProgramText}
-use Rattle.dh_parser.specs.Reading.{Outcome, good, bad, deep, bind, the, name_from, number_from, name_text, number_text, the_name, the_number, is_width, width_from, the_width, width_then, kind_from, the_kind, the_ports, the_banks, the_dims, type_text, the_type, Sign, op_from, sign_text, sign_from, sign_at, Reads, the_index, more_indices, access_from, goes_on, named_from, bracket_from, operand_from, operand, chain_with, chain, read, steps, the_expression, more_arguments, the_arguments, factor_text, suffix_text, offset_text, the_factor, the_suffix, the_offset, more_of, brackets, view_from, the_view, the_value, let_from, view_command_from, reduce_from, store_from, after_name_from, after_name, simple_from, the_simple, the_declared, the_unroll, head_text, the_head, Blocks, the_if, the_while, the_combine, the_for, the_compound, Beginning, begins_simple, begins_compound, begins_semicolon, begins_nothing, beginning_of, beginning, part_with, the_part, the_parts, read_block, the_block, parameter_text, the_parameter, more_parameters, the_parameters, decl_from, def_from, items_from, the_items, program_text, the_program, whole_if, whole_else}
-use Rattle.dh_parser.specs.Allowed.{level}
-use Rattle.dh_parser.proofs.StepsOfExpressions.{Left, next_left, either_left, mark_left, none_below, le-refl, lt-own, lt-suc, suc-lt}
-use Rattle.dh_parser.proofs.StepsOfPrograms.{expression_left, EnoughBlocks, if_left, while_left, combine_left, for_left, compound_left, part_with_left, part_left, parts_left, blocks_left, block_left, head_left, simple_left}
+use Rattle.dh_parser.specs.Marks.{comes}
+use Rattle.dh_parser.specs.Grammar.{block, part_then, PartText, simple_then, compound_then, semicolon_then, block_alone, if_alone, while_loop, for_loop, IfText, if_else, ElseText, no_else, else_block, else_if, some_combine}
+use Rattle.dh_parser.specs.Reading.{Outcome, good, bind, the, steps, the_expression, the_simple, the_head, Blocks, the_if, the_while, the_combine, the_for, the_compound, Beginning, begins_simple, begins_compound, begins_semicolon, begins_nothing, beginning, part_with, the_part, the_parts, read_block, the_block, whole_if, whole_else}
+use Rattle.dh_parser.proofs.StepsOfExpressions.{mark_left, none_below, lt-own}
+use Rattle.dh_parser.proofs.StepsOfPrograms.{expression_left, EnoughBlocks, compound_left, part_left, parts_left, blocks_left, block_left, head_left, simple_left}
 use Rattle.dh_parser.proofs.WholeExpressions.{same_next, same_either}
 
 -- two readers of blocks with one answer on fewer than m tokens, on which they do not give up

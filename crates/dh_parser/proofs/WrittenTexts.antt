@@ -1,92 +1,29 @@
--- What holds of the tree of any text of the built forms: names are names, a number of ports or banks that
--- is not written is 1, commands are numbered in text order, and each access has a token of its own.
+-- What holds of the tree of any text of the built forms beside what holds of all: commands are numbered in
+-- text order, and each access has a token of its own.
 -- A program of the built forms has no functions, and its commands are stores and blocks; all else has a
 -- form that is not built.
-use Rattle.std.proofs.Common.{◌≡◌, ℕ, zero, suc, ◌+◌, ◌≤◌, ◌&&◌, ◌||◌, Bool, true, false, if◌then◌else◌, List, [], ◌∷◌, ◌++◌, length, Option, Some, None, refl, ap, sym, ◌∙◌, subst, arith, length-append}
-use Rattle.std.specs.List.{AllByRecursion}
-use Rattle.std.specs.Option.{is_some}
+use Rattle.std.proofs.Common.{◌≡◌, ℕ, suc, ◌+◌, ◌≤◌, ◌&&◌, ◌||◌, Bool, true, false, if◌then◌else◌, List, [], ◌∷◌, ◌++◌, length, refl, ap, sym, ◌∙◌, subst, arith, length-append}
 use Rattle.dh_base.specs.declared.places.Place.{Place}
 use Rattle.dh_lexer.specs.declared.tokens.Token.{Token}
-use Rattle.dh_lexer.specs.declared.tokens.TokenKind.{TokenKind}
 use Rattle.dh_lexer.specs.declared.tokens.TokenKind.TheVariants as kind
-use Rattle.dh_lexer.specs.LexedText.{IsSound, AreEnded}
-use Rattle.dh_value.specs.declared.operators.Op.{Op}
-use Rattle.dh_value.specs.declared.operators.Op.TheVariants as op
-use Rattle.dh_tree.specs.declared.breaches.Breach.{Breach}
-use Rattle.dh_tree.specs.declared.tables.Dim.{Dim}
-use Rattle.dh_tree.specs.Accesses.{Access, term_accesses, form_accesses, terms_accesses, target_accesses, store_accesses, accesses, command_accesses, groups_accesses, part_accesses}
+use Rattle.dh_lexer.specs.LexedText.{AreEnded}
+use Rattle.dh_tree.specs.Accesses.{Access, term_accesses, terms_accesses, target_accesses, store_accesses, accesses, command_accesses, groups_accesses, part_accesses}
 use Rattle.dh_tree.specs.FirstForms.{number_after, form_after, groups_after, part_after, IsCounted, IsCountedForm, AreCountedGroups, AreCounted}
-use Rattle.dh_tree.specs.Forms.{unbuilt, plain_number, is_small, is_stored, is_element, is_access, further_indices, unbuilt_index, unbuilt_indices, unbuilt_access, is_sum_of, unbuilt_sum, unbuilt_value, form_holds, unbuilt_action, unbuilt_form, unbuilt_groups, unbuilt_part, unbuilt_decl, unbuilt_decls, unbuilt_functions, unbuilt_forms}
-use Rattle.dh_tree.specs.NameCounts.{declared_in, declared_in_form, declared_in_groups, declared_in_actions, declared_in_functions, names_declared}
-use Rattle.dh_tree.specs.Names.{IsName}
-use Rattle.dh_tree.specs.PlainTrees.{Term, term, TermForm, number, truth_value, named, accessed, in_bank, applied, converted, Terms, no_terms, term_then, Action, action, ActionForm, lets, lets_memory, views, assigns, stores, reduces, calls, blocks, decides, repeats, counts, MaybeAction, no_action, one_action, Actions, no_actions, action_then, Groups, no_groups, group_then, Declared, Defined, Program}
-use Rattle.dh_tree.specs.Written.{IsOneUnless, AreDims, IsDeclared, IsWritten}
-use Rattle.dh_parser.specs.Grammar.{NameText, PortsText, no_ports, some_ports, BanksText, no_banks, some_banks, DimsText, no_dims, dim_then, TypeText, ExprText, AccessText, element, physical, ValueText, SimpleText, let_typed, let_value, view, assign, store, reduce, call, BlockText, block, PartsText, last_part, part_then, PartText, end_of_part, last_simple, simple_then, compound_then, semicolon_then, CompoundText, block_alone, if_alone, while_loop, for_loop, IfText, if_else, ItemsText, no_items, decl_then, def_then, ProgramText}
+use Rattle.dh_tree.specs.Forms.{unbuilt, is_stored, is_access, further_indices, unbuilt_index, unbuilt_indices, unbuilt_access, is_sum_of, unbuilt_value, form_holds, unbuilt_action, unbuilt_form, unbuilt_groups, unbuilt_part, unbuilt_decls, unbuilt_functions, unbuilt_forms}
+use Rattle.dh_tree.specs.PlainTrees.{Term, term, number, truth_value, named, accessed, in_bank, applied, converted, Terms, no_terms, term_then, blocks, Program}
+use Rattle.dh_tree.specs.Written.{IsWritten}
+use Rattle.dh_parser.specs.Grammar.{NameText, TypeText, AccessText, element, physical, ValueText, SimpleText, let_typed, let_value, view, assign, store, reduce, call, BlockText, block, PartsText, last_part, part_then, PartText, end_of_part, last_simple, simple_then, compound_then, semicolon_then, block_alone, if_alone, while_loop, for_loop, if_else, ProgramText}
 use Rattle.dh_parser.specs.Programs.{Spells}
-use Rattle.dh_parser.specs.Spelling.{put, spell_type, spell, spell_access, spell_index, spell_indices, spell_value, spell_simple, spell_block, spell_parts, spell_part, spell_compound, spell_items, spell_program}
-use Rattle.dh_parser.specs.TreesOfTexts.{ports_of, banks_of, word_of, braces_of, dims_of, places_of, shape_of, shape_places_of, kind_place, term_of, access_of, is_memory_type, let_of, simple_form, simple_place, count_block, count_parts, count_part, count_compound, count_if, block_of, parts_of, part_of, compound_of, if_of, decls_of, functions_of, declared_at, body_of, count_items, program_of}
-use Rattle.dh_parser.proofs.Fronts.{Front, front_of, type_front, expression_front, access_front, index_front, indices_front}
+use Rattle.dh_parser.specs.Spelling.{put, spell, spell_access, spell_index, spell_indices, spell_simple, spell_block, spell_parts, spell_part, spell_items, spell_program}
+use Rattle.dh_parser.specs.TreesOfTexts.{term_of, access_of, is_memory_type, let_of, simple_form, simple_place, count_block, count_parts, count_part, block_of, parts_of, part_of, decls_of, functions_of, count_items, program_of}
+use Rattle.dh_parser.specs.Allowed.{ProgramFits}
+use Rattle.dh_parser.proofs.Fronts.{front_of, expression_front, index_front, indices_front, items_front}
+use Rattle.dh_parser.proofs.TextNames.{longer, of_text}
 
 -- two lists that are empty together
 pub both_none : {A : Type 0} (xs ys : List A) → xs ++ ys ≡ [] → (xs ≡ []) × (ys ≡ [])
 both_none [] ys e = (refl, e)
 both_none (x ∷ xs) ys e = cc
-
--- the tokens of a text are no fewer than those that follow it
-longer : {s : List Token → List Token} → Front s → (x : List Token) → length x ≤ length (s x)
-longer f x = let e = ap length (f.stands x) in let n = length-append f.tokens x in omega (arith, e, n)
-
--- each token holds what it may
-abbrev AreSound : List Token → Type 0
-AreSound ts = AllByRecursion (λ (t : Token). IsSound t.kind) ts
-
-ended_sound : (ts : List Token) → AreEnded ts → AreSound ts
-ended_sound [] h = absurd h
-ended_sound (t ∷ []) h = (subst IsSound (sym h) tt, tt)
-ended_sound (t ∷ (u ∷ ts)) h = (h.1.0, ended_sound (u ∷ ts) h.1.1)
-
-cut_off : (front x : List Token) → AreSound (front ++ x) → AreSound x
-cut_off [] x h = h
-cut_off (t ∷ ts) x h = cut_off ts x h.1
-
-behind : {s : List Token → List Token} → Front s → (x : List Token) → AreSound (s x) → AreSound x
-behind f x h = cut_off f.tokens x (subst AreSound (f.stands x) h)
-
--- what a type does not write is 1
-one_port : (start : Place) (ports : PortsText) → IsOneUnless (braces_of ports) (ports_of start ports).value
-one_port start no_ports = refl
-one_port start (some_ports opener ports closer) = tt
-
-one_bank : (size : Place) (banks : BanksText) → IsOneUnless (word_of banks) (banks_of size banks).value
-one_bank size no_banks = refl
-one_bank size (some_banks word banks) = tt
-
-are_dims : (ds : DimsText) → AreDims (dims_of ds) (places_of ds)
-are_dims no_dims = tt
-are_dims (dim_then opener size banks closer more) = (one_bank size.place banks, are_dims more)
-
--- memories: their names are names, and each has a token of its own
-decls_declared : (id : ℕ) (items : ItemsText) (x : List Token) → unbuilt_functions (functions_of id items) ≡ [] → AreSound (spell_items items x)
-    → AllByRecursion IsDeclared (decls_of items)
-decls_declared id no_items x none h = tt
-decls_declared id (decl_then word n colon t semicolon more) x none h = (
-  record { named = h.1.0; ports = one_port (kind_place t.kind) t.ports; dims = are_dims t.dims },
-  decls_declared id more x none (behind (front_of spell_type type_front t) _ h.1.1.1).1,
-)
-decls_declared id (def_then word n opener ps equal b more) x none h = cc
-
-decls_short : (id : ℕ) (items : ItemsText) (x : List Token) → unbuilt_functions (functions_of id items) ≡ []
-    → length (decls_of items) + length x ≤ length (spell_items items x)
-decls_short id no_items x none = omega arith
-decls_short id (decl_then word n colon t semicolon more) x none =
-    let rest = decls_short id more x none in
-    let typed = longer (front_of spell_type type_front t) (put kind.Semicolon semicolon (spell_items more x)) in
-    omega (arith, rest, typed)
-decls_short id (def_then word n opener ps equal b more) x none = cc
-
-no_functions : (fs : List Defined) → unbuilt_functions fs ≡ [] → fs ≡ []
-no_functions [] e = refl
-no_functions (f ∷ fs) e = cc
 
 -- an index makes no access, a target one, and a right side one at most
 index_free : (id : ℕ) (t : Term) → unbuilt_index t ≡ [] → term_accesses id t ≡ []
@@ -170,11 +107,9 @@ store_short id target value e =
 never : {A : Type 0} (place : Place) → unbuilt place ≡ [] → A
 never place e = absurd (cc)
 
--- commands: their accesses are no more than their tokens, their numbers are in text order, and they
--- declare no name
-record Fine (id count : ℕ) (taken : List Access) (declared after : ℕ) (x spelled : List Token) : Type 0 where
+-- commands: their accesses are no more than their tokens, and their numbers are in text order
+record Fine (id count : ℕ) (taken : List Access) (after : ℕ) (x spelled : List Token) : Type 0 where
   short : length taken + length x ≤ length spelled
-  none : declared ≡ 0
   next : after ≡ id + count
 
 let_never : {A : Type 0} (place : Place) (b : Bool) (n : NameText) (t : TypeText) (value : ValueText) → unbuilt_form place (let_of b n t value) ≡ [] → A
@@ -190,12 +125,12 @@ named_first (element n i more) y =
 named_first (physical n opener bank closer i) y = let l = longer (front_of spell_index index_front i) y in omega (arith, l)
 
 simple_fine : (id : ℕ) (s : SimpleText) (x : List Token) → unbuilt_form (simple_place s) (simple_form s) ≡ []
-    → Fine id 1 (command_accesses id (simple_form s)) (declared_in_form (simple_form s)) (form_after (id + 1) (simple_form s)) x (spell_simple s x) × IsCountedForm (id + 1) (simple_form s)
+    → Fine id 1 (command_accesses id (simple_form s)) (form_after (id + 1) (simple_form s)) x (spell_simple s x) × IsCountedForm (id + 1) (simple_form s)
 simple_fine id (store a becomes e) x h =
     let taken = store_short id (access_of a) (term_of e) h in
     let value = longer (front_of spell expression_front e) x in
     let target = named_first a (put kind.Becomes becomes (spell e x)) in
-    (record { short = omega (arith, taken, value, target); none = refl; next = refl }, tt)
+    (record { short = omega (arith, taken, value, target); next = refl }, tt)
 simple_fine id (let_typed word n colon t value) x h = let_never word (is_memory_type t.ports t.dims) n t value h
 simple_fine id (let_value word n equal e) x h = absurd (cc)
 simple_fine id (view word n equal v) x h = absurd (cc)
@@ -205,10 +140,10 @@ simple_fine id (call n opener arguments) x h = absurd (cc)
 
 -- the facts of a block, and of a list
 abbrev BlockFine : ℕ → BlockText → List Token → Type 0
-BlockFine id b x = Fine id (count_block b) (accesses (block_of id b)) (declared_in (block_of id b)) (number_after id (block_of id b)) x (spell_block b x) × IsCounted id (block_of id b)
+BlockFine id b x = Fine id (count_block b) (accesses (block_of id b)) (number_after id (block_of id b)) x (spell_block b x) × IsCounted id (block_of id b)
 
 abbrev PartFine : ℕ → PartText → List Token → Type 0
-PartFine id p x = Fine id (count_part p) (part_accesses (part_of id p)) (declared_in_actions (part_of id p)) (part_after id (part_of id p)) x (spell_part p x) × AreCounted id (part_of id p)
+PartFine id p x = Fine id (count_part p) (part_accesses (part_of id p)) (part_after id (part_of id p)) x (spell_part p x) × AreCounted id (part_of id p)
 
 -- a block, and what follows it in its list
 block_then : (stepped : Bool) (id : ℕ) (b : BlockText) (more : PartText) (x : List Token) → (unbuilt_action (block_of id b) ≡ [] → BlockFine id b (spell_part more x))
@@ -223,14 +158,11 @@ block_then stepped id (block opener parts closer) more x own others h =
     let g = others (stepped || holds) c.1 in
     let first = f.0.short in
     let rest = g.0.short in
-    let none = f.0.none in
-    let none' = g.0.none in
     let after = f.0.next in
     let later = g.0.next in
     let n = length-append (accesses (block_of id inner)) (part_accesses (part_of (id + count_block inner) more)) in (
       record {
         short = omega (arith, first, rest, n);
-        none = omega (arith, none, none');
         next = ap (λ m. part_after m (part_of (id + count_block inner) more)) after ∙ omega (arith, later);
       },
       (f.1, subst (λ (m : ℕ). AreCounted m (part_of (id + count_block inner) more)) (sym after) g.1),
@@ -238,7 +170,7 @@ block_then stepped id (block opener parts closer) more x own others h =
 
 mutual
   block_fine : (id : ℕ) (b : BlockText) (x : List Token) → unbuilt_action (block_of id b) ≡ []
-      → Fine id (count_block b) (accesses (block_of id b)) (declared_in (block_of id b)) (number_after id (block_of id b)) x (spell_block b x) × IsCounted id (block_of id b)
+      → Fine id (count_block b) (accesses (block_of id b)) (number_after id (block_of id b)) x (spell_block b x) × IsCounted id (block_of id b)
   block_fine id (block opener parts closer) x h =
       let f = parts_fine (suc id) parts (put kind.CloseBrace closer x) h in
       let long = f.0.short in
@@ -246,21 +178,19 @@ mutual
       let next = f.0.next in (
         record {
           short = omega (arith, long);
-          none = f.0.none;
           next = subst (λ (n : ℕ). groups_after n (parts_of (suc id) parts) ≡ id + suc (count_parts parts)) same (omega (arith, next));
         },
         (refl, subst (λ (n : ℕ). AreCountedGroups n (parts_of (suc id) parts)) same f.1),
       )
 
   parts_fine : (id : ℕ) (ps : PartsText) (x : List Token) → unbuilt_groups (parts_of id ps) ≡ []
-      → Fine id (count_parts ps) (groups_accesses (parts_of id ps)) (declared_in_groups (parts_of id ps)) (groups_after id (parts_of id ps)) x (spell_parts ps x) × AreCountedGroups id (parts_of id ps)
+      → Fine id (count_parts ps) (groups_accesses (parts_of id ps)) (groups_after id (parts_of id ps)) x (spell_parts ps x) × AreCountedGroups id (parts_of id ps)
   parts_fine id (last_part p) x h =
       let b = both_none (unbuilt_part false (part_of id p)) [] h in
       let f = part_fine false id p x b.0 in
       let short = f.0.short in
       let n = length-append (part_accesses (part_of id p)) [] in
-      let none = f.0.none in
-      (record { short = omega (arith, short, n); none = omega (arith, none); next = f.0.next }, (f.1, tt))
+      (record { short = omega (arith, short, n); next = f.0.next }, (f.1, tt))
   parts_fine id (part_then p dashes more) x h =
       let b = both_none (unbuilt_part false (part_of id p)) (unbuilt_groups (parts_of (id + count_part p) more)) h in
       let f = part_fine false id p (put kind.Dashes dashes (spell_parts more x)) b.0 in
@@ -268,27 +198,23 @@ mutual
       let first = f.0.short in
       let rest = g.0.short in
       let n = length-append (part_accesses (part_of id p)) (groups_accesses (parts_of (id + count_part p) more)) in
-      let none = f.0.none in
-      let none' = g.0.none in
       let next = g.0.next in (
         record {
           short = omega (arith, first, rest, n);
-          none = omega (arith, none, none');
           next = ap (λ m. groups_after m (parts_of (id + count_part p) more)) f.0.next ∙ omega (arith, next);
         },
         (f.1, subst (λ (m : ℕ). AreCountedGroups m (parts_of (id + count_part p) more)) (sym f.0.next) g.1),
       )
 
   part_fine : (stepped : Bool) (id : ℕ) (p : PartText) (x : List Token) → unbuilt_part stepped (part_of id p) ≡ []
-      → Fine id (count_part p) (part_accesses (part_of id p)) (declared_in_actions (part_of id p)) (part_after id (part_of id p)) x (spell_part p x) × AreCounted id (part_of id p)
-  part_fine stepped id end_of_part x h = (record { short = omega arith; none = refl; next = omega arith }, tt)
+      → Fine id (count_part p) (part_accesses (part_of id p)) (part_after id (part_of id p)) x (spell_part p x) × AreCounted id (part_of id p)
+  part_fine stepped id end_of_part x h = (record { short = omega arith; next = omega arith }, tt)
   part_fine stepped id (last_simple s) x h =
       let b = both_none (unbuilt_form (simple_place s) (simple_form s)) _ h in
       let f = simple_fine id s x b.0 in
       let short = f.0.short in
-      let none = f.0.none in
       let n = length-append (command_accesses id (simple_form s)) [] in
-      (record { short = omega (arith, short, n); none = omega (arith, none); next = f.0.next }, ((refl, f.1), tt))
+      (record { short = omega (arith, short, n); next = f.0.next }, ((refl, f.1), tt))
   part_fine stepped id (simple_then s semicolon more) x h =
       let b = both_none (unbuilt_form (simple_place s) (simple_form s)) _ h in
       let c = both_none (if stepped && form_holds (simple_form s) then unbuilt (simple_place s) else []) _ b.1 in
@@ -296,15 +222,12 @@ mutual
       let g = part_fine (stepped || form_holds (simple_form s)) (suc id) more x c.1 in
       let first = f.0.short in
       let rest = g.0.short in
-      let none = f.0.none in
-      let none' = g.0.none in
       let next = f.0.next in
       let after : form_after (id + 1) (simple_form s) ≡ suc id = omega (arith, next) in
       let later = g.0.next in
       let n = length-append (command_accesses id (simple_form s)) (part_accesses (part_of (suc id) more)) in (
         record {
           short = omega (arith, first, rest, n);
-          none = omega (arith, none, none');
           next = ap (λ m. part_after m (part_of (suc id) more)) after ∙ omega (arith, later);
         },
         ((refl, f.1), subst (λ (m : ℕ). AreCounted m (part_of (suc id) more)) (sym after) g.1),
@@ -317,30 +240,25 @@ mutual
   part_fine stepped id (semicolon_then semicolon more) x h =
       let f = part_fine stepped id more x h in
       let short = f.0.short in
-      (record { short = omega (arith, short); none = f.0.none; next = f.0.next }, f.1)
+      (record { short = omega (arith, short); next = f.0.next }, f.1)
 
 -- the tree of a text of the built forms
 pub written : (p : Program) (tokens : List Token) → Spells p tokens → AreEnded tokens → unbuilt_forms p ≡ [] → IsWritten (length tokens) p
-written p tokens spelled ended h = subst (λ (q : Program). IsWritten (length tokens) q) spelled.tree_is (by spelled.text (spelled.tokens_are) (subst (λ (q : Program). unbuilt_forms q ≡ []) (sym spelled.tree_is) h))
+written p tokens spelled ended h =
+    subst (λ (q : Program). IsWritten (length tokens) q) spelled.tree_is (by spelled.text spelled.fits spelled.tokens_are (subst (λ (q : Program). unbuilt_forms q ≡ []) (sym spelled.tree_is) h))
   where
-    by : (t : ProgramText) → spell_program t [] ≡ tokens → unbuilt_forms (program_of t) ≡ [] → IsWritten (length tokens) (program_of t)
-    by t same none =
+    by : (t : ProgramText) → ProgramFits t → spell_program t [] ≡ tokens → unbuilt_forms (program_of t) ≡ [] → IsWritten (length tokens) (program_of t)
+    by t fits same none =
         let outer = both_none (unbuilt_decls (decls_of t.items)) _ none in
         let inner = both_none (unbuilt_functions (functions_of 0 t.items)) _ outer.1 in
-        let sound = subst AreSound (sym same) (ended_sound tokens ended) in
         let f = parts_fine (suc (count_items t.items)) t.parts (put kind.End t.end []) inner.1 in
-        let begin = decls_short 0 t.items (spell_parts t.parts (put kind.End t.end [])) inner.0 in
+        let begin = longer (front_of spell_items items_front t.items) (spell_parts t.parts (put kind.End t.end [])) in
         let body = f.0.short in
         let all = ap length same in
-        let nothing : functions_of 0 t.items ≡ [] = no_functions (functions_of 0 t.items) inner.0 in
-        let functions : length (functions_of 0 t.items) ≡ 0 = ap length nothing in
-        let within : declared_in_functions (functions_of 0 t.items) ≡ 0 = ap declared_in_functions nothing in
-        let none' = f.0.none in
         let one : suc (count_items t.items) ≡ count_items t.items + 1 = omega arith in
         record {
-          decls = decls_declared 0 t.items (spell_parts t.parts (put kind.End t.end [])) inner.0 sound;
+          of_text = of_text t tokens fits same ended;
           first_number = count_items t.items;
           counted = (refl, subst (λ (n : ℕ). AreCountedGroups n (parts_of (suc (count_items t.items)) t.parts)) one f.1);
-          names = omega (arith, begin, functions, within, none', all);
           accesses = omega (arith, body, begin, all);
         }

@@ -1,5 +1,5 @@
 -- The words and signs that have their own place in a form.
-use Rattle.std.specs.Prelude.{ℕ, ◌==◌, Bool, true, false, List, [], ◌∷◌, Option, Some, None}
+use Rattle.std.specs.Prelude.{ℕ, ◌==◌, Bool, false, List, [], ◌∷◌, Option, Some, None}
 use Rattle.dh_lexer.specs.declared.tokens.Token.{Token}
 use Rattle.dh_lexer.specs.declared.tokens.TokenKind.{TokenKind}
 use Rattle.dh_lexer.specs.declared.tokens.TokenKind.TheVariants as kind

@@ -1,7 +1,7 @@
 -- The parser as a function over lists of tokens. It reads a text off the front and gives what is
 -- left; or stops, and gives what is left from the first token on that it has no use for. Where it
 -- calls itself it has a number of steps, at whose end it gives up; more steps than tokens suffice.
-use Rattle.std.specs.Prelude.{ℕ, zero, suc, ◌==◌, nat_le, Bool, true, false, if◌then◌else◌, List, [], ◌∷◌, length, Option, Some, None}
+use Rattle.std.specs.Prelude.{ℕ, zero, suc, nat_le, Bool, true, false, if◌then◌else◌, List, [], ◌∷◌, length, Option, Some, None}
 use Rattle.dh_base.specs.declared.places.Place.{Place}
 use Rattle.dh_lexer.specs.declared.tokens.Token.{Token}
 use Rattle.dh_lexer.specs.declared.tokens.TokenKind.{TokenKind}

@@ -6,7 +6,7 @@ ghost use Rattle.dh_lexer.specs.declared.tokens.Token.{Token};
 ghost use Rattle.dh_tree.specs.PlainTrees.{Program};
 ghost use Rattle.dh_parser.specs.Programs.{IsSound, IsAnswered, IsPlaced, OutOfPlace, Spells};
 ghost use Rattle.dh_tree.specs.Forms.{unbuilt_forms};
-ghost use Rattle.dh_tree.specs.Written.{IsWritten};
+ghost use Rattle.dh_tree.specs.Written.{IsOfText, IsWritten};
 ghost use Rattle.dh_parser.specs.Allowed.{ProgramFits};
 ghost use Rattle.dh_parser.specs.Grammar.{ProgramText};
 ghost use Rattle.dh_parser.specs.Reading.{good, the_program};
@@ -35,10 +35,13 @@ pub fn refused_tokens_are_out_of_place()
     ensures { (tokens : List Token) → AreEnded tokens → IsPlaced tokens (the_program tokens) }
 {}
 
-/// What holds of the tree of any text of the built forms: names are names, what a type does not write is
-/// 1, commands are numbered in text order, and there are no more names and accesses than tokens.
-pub fn built_trees_are_written()
-    ensures { (p : Program) (tokens : List Token) → Spells p tokens → AreEnded tokens → unbuilt_forms p ≡ [] → IsWritten (length tokens) p }
+/// What holds of the tree of any text, whatever rules it breaks: names are names, what a type does not
+/// write is 1, kinds have from 1 to 64 bits, and there are no more names than tokens. Of a text of the
+/// built forms also that commands are numbered in text order, and that there are no more accesses than
+/// tokens.
+pub fn trees_of_texts_are_sound()
+    ensures all { (p : Program) (tokens : List Token) → Spells p tokens → AreEnded tokens → IsOfText (length tokens) p }
+    ensures built { (p : Program) (tokens : List Token) → Spells p tokens → AreEnded tokens → unbuilt_forms p ≡ [] → IsWritten (length tokens) p }
 {}
 
 /// A list of tokens has one token out of place at most, and none where a tree spells it.

@@ -7,7 +7,7 @@ mod laws;
 mod parsing;
 
 pub use laws::{
-    built_trees_are_written, one_token_is_out_of_place, programs_are_read_again,
-    reading_is_answered, reading_is_sound, refused_tokens_are_out_of_place,
+    one_token_is_out_of_place, programs_are_read_again, reading_is_answered, reading_is_sound,
+    refused_tokens_are_out_of_place, trees_of_texts_are_sound,
 };
 pub use parsing::parse;

@@ -1,9 +1,10 @@
 -- Each phase of a command has a command, so that the least number of steps of a list is told by
 -- those of its parts.
-use Rattle.std.proofs.Common.{◌≡◌, ℕ, suc, ◌+◌, ◌≤◌, List, [], ◌∷◌, ◌++◌, length, min, max, refl, ap, sym, ◌∙◌, arith}
+use Rattle.std.proofs.Common.{◌≡◌, ℕ, suc, ◌+◌, ◌≤◌, ◌<◌, ◌&&◌, Bool, true, false, if◌then◌else◌, List, [], ◌∷◌, ◌++◌, length, min, max, ◌⊎◌, inl, inr, refl, ap, sym, ◌∙◌, subst, arith}
 use Rattle.std.proofs.Math.Nat.{zero-add}
-use Rattle.dh_tree.specs.PlainTrees.{Action, action, ActionForm, lets, lets_memory, views, assigns, stores, reduces, calls, blocks, decides, repeats, counts, Actions, no_actions, action_then, Groups, no_groups, group_then}
-use Rattle.dh_tree.specs.Phases.{Phase, straight, one_straight, joined, phases, form_phases, groups_phases, parts_phases}
+use Rattle.dh_base.specs.declared.places.Place.{Place}
+use Rattle.dh_tree.specs.PlainTrees.{Term, Action, action, ActionForm, MaybeAction, lets, lets_memory, views, assigns, stores, reduces, calls, blocks, decides, repeats, counts, Actions, no_actions, action_then, Groups, no_groups, group_then}
+use Rattle.dh_tree.specs.Phases.{Phase, straight, one_straight, joined, are_straight, one_command, phases, form_phases, other_phases, groups_phases, parts_phases}
 use Rattle.dh_ports.specs.StepCounts.{most_of}
 
 abbrev pub IsFull : Phase → Type 0
@@ -32,6 +33,11 @@ joined_full cs ([] ∷ parts) f = joined_full cs parts f.1
 joined_full cs ((straight ds ∷ []) ∷ parts) f = joined_full (cs ++ ds) parts f.1
 joined_full cs ((p ∷ q ∷ ps) ∷ parts) f = full_append (one_straight cs) ((p ∷ q ∷ ps) ++ joined [] parts) (one_full cs) (full_append (p ∷ q ∷ ps) (joined [] parts) f.0 (joined_full [] parts f.1))
 
+-- an `if` is one phase or none
+if_full : (b : Bool) (a : Action) → AreFull (if b then one_command a else [])
+if_full true a = (tt, tt)
+if_full false a = tt
+
 mutual
   pub phases_full : (a : Action) → AreFull (phases a)
   phases_full (action id place form) = form_full id place form
@@ -39,13 +45,13 @@ mutual
   form_full : (id : ℕ) (place : _) (form : ActionForm) → AreFull (form_phases id place form)
   form_full id place (stores target value) = (tt, tt)
   form_full id place (blocks body) = groups_full body
-  form_full id place (lets name declared value) = tt
+  form_full id place (lets name declared value) = (tt, tt)
   form_full id place (lets_memory name shape places value) = tt
   form_full id place (views name parent form) = tt
-  form_full id place (assigns target value) = tt
+  form_full id place (assigns target value) = (tt, tt)
   form_full id place (reduces target op value) = tt
   form_full id place (calls function arguments) = tt
-  form_full id place (decides test then other) = tt
+  form_full id place (decides test chosen other) = if_full (are_straight (phases chosen) && are_straight (other_phases other)) (action id place (decides test chosen other))
   form_full id place (repeats test body) = tt
   form_full id place (counts iterator declared low high factor body combine combine_place) = tt
 
@@ -107,3 +113,59 @@ part_long part = joined_long [] (parts_phases part) (parts_full part) ∙ zero_m
   where
     zero_max : (n : ℕ) → max (min 1 0) n ≡ n
     zero_max n = grind arith
+
+-- a command is straight where it has less than two steps
+few_straight : (ps : List Phase) → min 2 (length ps) < 2 → are_straight ps ≡ true
+few_straight [] h = refl
+few_straight (straight cs ∷ []) h = refl
+few_straight (p ∷ q ∷ ps) h = never (length ps) h
+  where
+    never : (n : ℕ) → min 2 (suc (suc n)) < 2 → false ≡ true
+    never n h = grind (arith, h)
+
+many_stepped : (ps : List Phase) → 2 ≤ min 2 (length ps) → are_straight ps ≡ false
+many_stepped [] h = grind (arith, h)
+many_stepped (straight cs ∷ []) h = grind (arith, h)
+many_stepped (p ∷ q ∷ ps) h = refl
+
+if_count : (p q b : Bool) (a : Action) → p && q ≡ b → min 2 (length (if p && q then one_command a else [])) ≡ (if b then 1 else 0)
+if_count true true true a e = refl
+if_count true true false a e = cc
+if_count true false true a e = cc
+if_count true false false a e = refl
+if_count false q true a e = cc
+if_count false q false a e = refl
+
+straight_count : (ps qs : List Phase) (a : Action) (m n : ℕ) → m ≡ min 2 (length ps) → n ≡ min 2 (length qs) → m < 2 → n < 2
+    → min 2 (length (if are_straight ps && are_straight qs then one_command a else [])) ≡ 1
+straight_count ps qs a m n d e h k =
+    if_count (are_straight ps) (are_straight qs) true a (both (are_straight ps) (are_straight qs) (few_straight ps (subst (λ (x : ℕ). x < 2) d h)) (few_straight qs (subst (λ (x : ℕ). x < 2) e k)))
+  where
+    both : (p q : Bool) → p ≡ true → q ≡ true → p && q ≡ true
+    both p q e f = cc
+
+stepped_count : (ps qs : List Phase) (a : Action) (m n : ℕ) → m ≡ min 2 (length ps) → n ≡ min 2 (length qs) → (2 ≤ m) ⊎ (2 ≤ n)
+    → min 2 (length (if are_straight ps && are_straight qs then one_command a else [])) ≡ 0
+stepped_count ps qs a m n d e h = if_count (are_straight ps) (are_straight qs) false a (by h)
+  where
+    left : (p q : Bool) → p ≡ false → p && q ≡ false
+    left p q e = cc
+
+    right : (p q : Bool) → q ≡ false → p && q ≡ false
+    right true q e = e
+    right false q e = refl
+
+    by : (2 ≤ m) ⊎ (2 ≤ n) → are_straight ps && are_straight qs ≡ false
+    by (inl k) = left (are_straight ps) (are_straight qs) (many_stepped ps (subst (λ (x : ℕ). 2 ≤ x) d k))
+    by (inr k) = right (are_straight ps) (are_straight qs) (many_stepped qs (subst (λ (x : ℕ). 2 ≤ x) e k))
+
+-- the steps of an `if`: one where its arms are straight, else none
+pub if_straight : (id : ℕ) (place : Place) (form : ActionForm) (test : Term) (chosen : Action) (other : MaybeAction) (m n : ℕ) → form ≡ decides test chosen other
+    → m ≡ min 2 (length (phases chosen)) → n ≡ min 2 (length (other_phases other)) → m < 2 → n < 2 → 1 ≡ min 2 (length (form_phases id place form))
+if_straight id place form test chosen other m n e d o h k =
+    sym (ap (λ f. min 2 (length (form_phases id place f))) e ∙ straight_count (phases chosen) (other_phases other) (action id place (decides test chosen other)) m n d o h k)
+
+pub if_stepped : (id : ℕ) (place : Place) (form : ActionForm) (test : Term) (chosen : Action) (other : MaybeAction) (m n : ℕ) → form ≡ decides test chosen other
+    → m ≡ min 2 (length (phases chosen)) → n ≡ min 2 (length (other_phases other)) → (2 ≤ m) ⊎ (2 ≤ n) → 0 ≡ min 2 (length (form_phases id place form))
+if_stepped id place form test chosen other m n e d o h =
+    sym (ap (λ f. min 2 (length (form_phases id place f))) e ∙ stepped_count (phases chosen) (other_phases other) (action id place (decides test chosen other)) m n d o h)

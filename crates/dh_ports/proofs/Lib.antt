@@ -1,5 +1,6 @@
 pub mod Literals
 pub mod FullPhases
+pub mod IfSteps
 pub mod Turns
 pub mod LogFacts
 pub mod RecallFacts

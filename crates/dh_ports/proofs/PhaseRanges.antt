@@ -1,11 +1,11 @@
 -- The commands of a Straight phase have other numbers than those of the other phases, so that two
 -- tags are equal exactly where their commands stand in one phase.
-use Rattle.std.proofs.Common.{◌≡◌, ℕ, ◌+◌, ◌≤◌, ◌<◌, ◌==◌, ◌&&◌, ◌||◌, Bool, true, false, List, [], ◌∷◌, ◌++◌, None, ◌⊎◌, inl, inr, refl, ap, sym, ◌∙◌, subst, arith}
+use Rattle.std.proofs.Common.{◌≡◌, ℕ, ◌+◌, ◌≤◌, ◌<◌, ◌==◌, ◌&&◌, ◌||◌, Bool, true, false, if◌then◌else◌, List, [], ◌∷◌, ◌++◌, None, ◌⊎◌, inl, inr, refl, ap, sym, ◌∙◌, subst, arith}
 use Rattle.std.proofs.lemmas.Bool.{eq-eqb, eqb-true, ne_eqb, or_cases}
 use Rattle.std.proofs.lemmas.List.Folds.{list_any-append}
 use Rattle.dh_base.specs.declared.places.Place.{Place}
 use Rattle.dh_tree.specs.PlainTrees.{Action, action, ActionForm, lets, lets_memory, views, assigns, stores, reduces, calls, blocks, decides, repeats, counts, Actions, no_actions, action_then, Groups, no_groups, group_then}
-use Rattle.dh_tree.specs.Phases.{Phase, straight, one_straight, joined, phases, form_phases, groups_phases, parts_phases, id_of, holds_id, in_one_straight}
+use Rattle.dh_tree.specs.Phases.{Phase, straight, one_straight, joined, are_straight, one_command, phases, form_phases, other_phases, groups_phases, parts_phases, id_of, holds_id, in_one_straight}
 use Rattle.dh_tree.specs.FirstForms.{IsCounted, IsCountedForm, AreCounted, AreCountedGroups, number_after, form_after, groups_after, part_after}
 use Rattle.dh_ports.proofs.PhaseTags.{Heads, StandsFrom}
 
@@ -82,30 +82,40 @@ joined_ranged lo n hi cs ((x ∷ (y ∷ ps)) ∷ parts) e w (mid, (r, s)) =
 nothing_ranged : (n : ℕ) → n ≤ n + 1
 nothing_ranged n = omega arith
 
+-- a command that is a phase alone
+command_ranged : (n : ℕ) (a : Action) → id_of a ≡ n → Ranged n (one_command a) (n + 1)
+command_ranged n a e = (n + 1, (nothing_ranged n, (λ i h. only i (or_cases (id_of a == i) false h), le_self (n + 1))))
+  where
+    le_self : (k : ℕ) → k ≤ k
+    le_self k = omega arith
+
+    at_n : (i : ℕ) → n ≡ i → (n ≤ i) × (i < n + 1)
+    at_n i f = (omega (arith, f), omega (arith, f))
+
+    only : (i : ℕ) → ((id_of a == i) ≡ true) ⊎ (false ≡ true) → (n ≤ i) × (i < n + 1)
+    only i (inl x) = at_n i (sym e ∙ eqb-true (id_of a) i x)
+    only i (inr x) = cc
+
+-- an `if` is one phase or none
+if_ranged : (b : Bool) (n : ℕ) (a : Action) → id_of a ≡ n → Ranged n (if b then one_command a else []) (n + 1)
+if_ranged true n a e = command_ranged n a e
+if_ranged false n a e = nothing_ranged n
+
 mutual
   pub phases_ranged : (n : ℕ) (a : Action) → IsCounted n a → Ranged n (phases a) (number_after n a)
   phases_ranged n (action id place form) c = form_ranged n id place form c.0 c.1
 
   form_ranged : (n id : ℕ) (place : Place) (form : ActionForm) → id ≡ n → IsCountedForm (n + 1) form → Ranged n (form_phases id place form) (form_after (n + 1) form)
-  form_ranged n id place (stores target value) e c = (n + 1, (nothing_ranged n, (λ i h. only i (or_cases (id == i) false h), le_self (n + 1))))
-    where
-      le_self : (k : ℕ) → k ≤ k
-      le_self k = omega arith
-
-      at_n : (i : ℕ) → n ≡ i → (n ≤ i) × (i < n + 1)
-      at_n i f = (omega (arith, f), omega (arith, f))
-
-      only : (i : ℕ) → ((id == i) ≡ true) ⊎ (false ≡ true) → (n ≤ i) × (i < n + 1)
-      only i (inl x) = at_n i (sym e ∙ eqb-true id i x)
-      only i (inr x) = cc
+  form_ranged n id place (stores target value) e c = command_ranged n (action id place (stores target value)) e
   form_ranged n id place (blocks body) e c = ranged_from n (n + 1) (groups_phases body) _ (nothing_ranged n) (groups_ranged (n + 1) body c)
-  form_ranged n id place (lets name declared value) e c = nothing_ranged n
+  form_ranged n id place (lets name declared value) e c = command_ranged n (action id place (lets name declared value)) e
   form_ranged n id place (lets_memory name shape places value) e c = nothing_ranged n
   form_ranged n id place (views name parent form) e c = nothing_ranged n
-  form_ranged n id place (assigns target value) e c = nothing_ranged n
+  form_ranged n id place (assigns target value) e c = command_ranged n (action id place (assigns target value)) e
   form_ranged n id place (reduces target op value) e c = nothing_ranged n
   form_ranged n id place (calls function arguments) e c = nothing_ranged n
-  form_ranged n id place (decides test then other) e c = nothing_ranged n
+  form_ranged n id place (decides test chosen other) e c =
+      if_ranged (are_straight (phases chosen) && are_straight (other_phases other)) n (action id place (decides test chosen other)) e
   form_ranged n id place (repeats test body) e c = nothing_ranged n
   form_ranged n id place (counts iterator declared low high factor body combine combine_place) e c = nothing_ranged n
 

@@ -13,15 +13,21 @@ fn steps(command: &Command) -> u32
     ensures { result ≡ min 2 (length (phases (action_seen command.now))) }
 {
     match &command.form {
-        CommandForm::Store { .. } => 1,
+        CommandForm::Let { .. } | CommandForm::Assign { .. } | CommandForm::Store { .. } => 1,
         CommandForm::Block { body } => block_steps(body.as_slice()),
-        CommandForm::Let { .. }
-        | CommandForm::LetMemory { .. }
+        CommandForm::If { then, other, .. } => {
+            let chosen = steps(then);
+            let others = match other {
+                Some(block) => steps(block),
+                None => 0,
+            };
+            // an `if` is one step where its arms are straight
+            if chosen < 2 && others < 2 { 1 } else { 0 }
+        }
+        CommandForm::LetMemory { .. }
         | CommandForm::View { .. }
-        | CommandForm::Assign { .. }
         | CommandForm::Reduce { .. }
         | CommandForm::Call { .. }
-        | CommandForm::If { .. }
         | CommandForm::While { .. }
         | CommandForm::For { .. } => 0,
     }

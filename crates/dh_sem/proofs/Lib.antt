@@ -1,3 +1,8 @@
+pub mod Gathered
+pub mod StraightPhases
+pub mod Assigned
+pub mod BelowEntities
+pub mod FirstRuns
 pub mod Literals
 pub mod RowsRead
 pub mod BanksSpent

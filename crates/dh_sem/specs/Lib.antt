@@ -4,5 +4,7 @@ pub mod Spent
 pub mod Scenes
 pub mod Weights
 pub mod States
+pub mod Straight
 pub mod Runs
 pub mod Advances
+pub mod Starting

@@ -8,6 +8,7 @@ ghost use Rattle.dh_tree.specs.UncheckedForms.{unchecked_forms};
 ghost use Rattle.dh_tree.specs.Widths.{HasWidths};
 ghost use Rattle.dh_sem.specs.Scenes.{unset_word};
 ghost use Rattle.dh_sem.specs.Runs.{StandsAt, StepsOn};
+ghost use Rattle.dh_sem.specs.Starting.{AreUnused};
 
 use crate::evaluating::{Scene, Stop};
 use crate::gathering::phases_in;
@@ -51,7 +52,9 @@ impl<'a> Model for Interp<'a> {
 }
 
 /// Unused banks, one for each memory.
-fn unused_banks(alloc: Global, entries: &[MemEntry]) -> Result<Vec<Bank>, NoMemory> {
+fn unused_banks(alloc: Global, entries: &[MemEntry]) -> Result<Vec<Bank>, NoMemory>
+    ensures { IfOk result (λ banks. AreUnused entries.now banks.items) }
+{
     let mut banks = Vec::new(alloc);
     for entry in entries {
         banks.push(Bank {

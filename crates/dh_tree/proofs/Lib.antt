@@ -5,3 +5,14 @@ pub mod FirstBreaches
 pub mod ResolvedForms
 pub mod ResolvedTexts
 pub mod SpentOnce
+pub mod TypedAgain
+pub mod TypedForms
+pub mod TypedTexts
+pub mod TypedNames
+pub mod TypedEntities
+pub mod UncheckedBuilt
+pub mod SuitedOperands
+pub mod SuitedTerms
+pub mod SuitedNames
+pub mod SuitedActions
+pub mod SuitedPrograms

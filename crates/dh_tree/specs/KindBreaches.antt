@@ -2,13 +2,13 @@
 -- where an operand, a right side, a condition, an index or a name is of the wrong sort or sign, and
 -- `WidthLost` (K7) at a number that is no value of its kind, and at a right side that is wider than its
 -- target. (The rules on kinds of this profile.)
-use Rattle.std.specs.Prelude.{◌≡◌, ℕ, ◌+◌, ◌-◌, ◌&&◌, nat_lt, Bool, true, false, List, [], ◌∷◌, ◌++◌, Option, Some, None, if◌then◌else◌, pos}
+use Rattle.std.specs.Prelude.{◌≡◌, ◌-◌, ◌&&◌, nat_lt, true, false, List, [], ◌∷◌, ◌++◌, Option, Some, None, if◌then◌else◌, pos}
 use Rattle.dh_base.specs.declared.places.Place.{Place}
 use Rattle.dh_value.specs.declared.kinds.Kind.{Kind}
 use Rattle.dh_tree.specs.declared.breaches.Breach.{Breach}
 use Rattle.dh_tree.specs.declared.trees.expressions.Ref.{Ref}
-use Rattle.dh_tree.specs.PlainTrees.{Term, term, TermForm, number, truth_value, named, accessed, in_bank, applied, converted, Terms, no_terms, term_then, Suffixed, ViewPlan, shrinks, splits, suffixes, shifts, Placed, Action, action, ActionForm, lets, lets_memory, views, assigns, stores, reduces, calls, blocks, decides, repeats, counts, MaybeAction, no_action, one_action, Actions, no_actions, action_then, Groups, no_groups, group_then, Declared, Formal, Defined, Program}
-use Rattle.dh_tree.specs.Kinds.{Fact, of_variable, of_iterator, of_memory, of_function, Facts, fact_of, mismatch, width_lost, when, is_value, is_integer, is_truth, are_alike, is_wider, found, place_of, value_breaches, number_breaches, index_breaches, access_breaches, bank_breaches, applied_breaches, cast_breaches, target_kind, iterator_kind, facts_after, facts_after_other, facts_after_actions, facts_after_function, facts_after_functions, formal_facts, first_facts, body_facts, typed}
+use Rattle.dh_tree.specs.PlainTrees.{Term, term, TermForm, number, truth_value, named, accessed, in_bank, applied, converted, Terms, no_terms, term_then, Suffixed, ViewPlan, shrinks, splits, suffixes, shifts, Placed, Action, action, ActionForm, lets, lets_memory, views, assigns, stores, reduces, calls, blocks, decides, repeats, counts, MaybeAction, no_action, one_action, Actions, no_actions, action_then, Groups, no_groups, group_then, Defined, Program}
+use Rattle.dh_tree.specs.Kinds.{Fact, of_variable, of_iterator, of_memory, of_function, Facts, fact_of, mismatch, width_lost, when, is_value, is_truth, are_alike, is_wider, found, place_of, value_breaches, number_breaches, index_breaches, access_breaches, bank_breaches, applied_breaches, cast_breaches, target_kind, iterator_kind, facts_after, facts_after_actions, facts_after_function, formal_facts, first_facts, body_facts}
 
 abbrev mutual
   -- the breaches of an expression

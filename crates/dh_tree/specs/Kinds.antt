@@ -2,7 +2,7 @@
 -- resolved with the kinds of its expressions filled in: an expression that holds a breach, or mentions a
 -- variable that has no kind for that reason, has none. The breaches are told of the typed program
 -- (KindBreaches).
-use Rattle.std.specs.Prelude.{◌≡◌, ℕ, suc, ◌-◌, ◌==◌, ◌&&◌, nat_lt, nat_le, Bool, true, false, List, [], ◌∷◌, ◌++◌, length, map, slice_get, Option, Some, None, option_map, if◌then◌else◌, ℤ, pos, neg_ℤ, int_le, int_lt, ◌^◌}
+use Rattle.std.specs.Prelude.{◌≡◌, ℕ, suc, ◌-◌, ◌==◌, ◌&&◌, nat_lt, Bool, true, false, List, [], ◌∷◌, ◌++◌, length, map, slice_get, Option, Some, None, option_map, if◌then◌else◌, ℤ, pos, neg_ℤ, int_le, int_lt, ◌^◌}
 use Rattle.std.specs.Option.{is_some}
 use Rattle.dh_base.specs.declared.places.Place.{Place}
 use Rattle.dh_base.specs.declared.rules.Rule.TheVariants.{TypeMismatch, WidthLost}
@@ -15,7 +15,7 @@ use Rattle.dh_tree.specs.declared.tables.Shape.{Shape}
 use Rattle.dh_tree.specs.declared.trees.expressions.Ref.{Ref}
 use Rattle.dh_tree.specs.LeastBreach.{breach}
 use Rattle.dh_tree.specs.Meaning.{wider}
-use Rattle.dh_tree.specs.PlainTrees.{Term, term, TermForm, number, truth_value, named, accessed, in_bank, applied, converted, Terms, no_terms, term_then, Suffixed, ViewPlan, shrinks, splits, suffixes, shifts, Placed, Action, action, ActionForm, lets, lets_memory, views, assigns, stores, reduces, calls, blocks, decides, repeats, counts, MaybeAction, no_action, one_action, Actions, no_actions, action_then, Groups, no_groups, group_then, Declared, Formal, Defined, Program}
+use Rattle.dh_tree.specs.PlainTrees.{Term, term, TermForm, number, truth_value, named, accessed, in_bank, applied, converted, Terms, no_terms, term_then, Suffixed, ViewPlan, shrinks, splits, suffixes, shifts, Action, action, ActionForm, lets, lets_memory, views, assigns, stores, reduces, calls, blocks, decides, repeats, counts, MaybeAction, no_action, one_action, Actions, no_actions, action_then, Groups, no_groups, group_then, Declared, Formal, Defined, Program}
 
 -- what is known of an entity
 pub data Fact : Type 0 where
@@ -338,10 +338,11 @@ parameters_of _ = []
 abbrev pub target_kind : Option Fact → Option Kind
 target_kind fact = value_kind fact
 
--- what is known of a variable: its kind as it is written, or that of its right side
+-- what is known of a variable: its kind as it is written, or that of its right side; no text has a `let`
+-- with neither, whose variable is Bool
 abbrev pub variable_fact : Option Kind → Option Term → Fact
 variable_fact (Some k) value = of_variable (Some k)
-variable_fact None None = of_variable None
+variable_fact None None = of_variable (Some kind.Bool)
 variable_fact None (Some value) = of_variable (found value)
 
 -- an iterator is of `ubit<32>` where no kind is written

@@ -83,10 +83,10 @@ abbrev pub first_value : Option Kind → Option plain.Term → Term
 first_value declared None = number (kind_or_first declared) false 0
 first_value declared (Some value) = term_meant value
 
--- a store, of which the target is an access
+-- a store, of which the target is an access; no text has another target, which would store nothing
 abbrev pub store_meant : plain.Term → plain.Term → Command
 store_meant (plain.term at kind (plain.accessed r indices)) value = store at (memory_of r) (terms_meant indices) (term_meant value)
-store_meant (plain.term at kind form) value = store at 0 no_terms (number Bool false 0)
+store_meant (plain.term at kind form) value = choose (truth_value false) no_commands no_commands
 
 abbrev mutual
   -- the straight commands of a command, in front of those that follow: a block has those of its content

@@ -1,7 +1,7 @@
 -- Which sizes and literal indices of a program break the rule `ConstantRange` (K12): a size 0, and a
 -- literal index that is negative or too large. (The rules on ranges of this profile.) Forms that are not
 -- built have none; where a size is 0, accesses add no breach.
-use Rattle.std.specs.Prelude.{ℕ, ◌==◌, ◌&&◌, ◌||◌, not, nat_le, Bool, true, false, List, [], ◌∷◌, ◌++◌, slice_get, Option, Some, None, if◌then◌else◌}
+use Rattle.std.specs.Prelude.{ℕ, ◌==◌, ◌&&◌, ◌||◌, not, nat_le, Bool, List, [], ◌∷◌, ◌++◌, slice_get, Option, Some, None, if◌then◌else◌}
 use Rattle.dh_base.specs.declared.places.Place.{Place}
 use Rattle.dh_base.specs.declared.rules.Rule.TheVariants.{ConstantRange}
 use Rattle.dh_tree.specs.declared.breaches.Breach.{Breach}

@@ -1,11 +1,11 @@
 -- The checked run of a program: its phases, its logical steps, and how it stands after n of them
 -- (after the checked semantics of Nigam and others, PLDI 2020; threads and lockstep are this profile's).
-use Rattle.std.specs.Prelude.{ℕ, max, zero, suc, Bool, true, false, if◌then◌else◌, List, [], ◌∷◌, ◌++◌, Option, Some, None}
+use Rattle.std.specs.Prelude.{ℕ, max, zero, suc, Bool, true, false, if◌then◌else◌, List, [], ◌∷◌, Option, Some, None}
 use Rattle.dh_base.specs.declared.outcomes.Outcome.{Outcome}
 use Rattle.dh_base.specs.declared.outcomes.Outcome.TheVariants.{Going, Ended, Faulted, Stuck}
 use Rattle.dh_tree.specs.declared.tables.MemEntry.{MemEntry}
 use Rattle.dh_tree.specs.Tree.{Term, number, truth_value, variable, access, binary, convert, Terms, no_terms, term, Command, store, assign, choose, Commands, no_commands, command, Phase, straight, Tree}
-use Rattle.dh_tree.specs.Effects.{Event, Variables, unset, Effect, outer_paths, commands_run, written, stop_after}
+use Rattle.dh_tree.specs.Effects.{Variables, unset, Effect, outer_paths, commands_run, written, stop_after}
 
 -- The level of an expression: the most reads of which each needs the one before. What a variable
 -- carries on from a read of its own phase is not counted yet: nothing with variables is compiled.

@@ -12,7 +12,13 @@ ghost use Rattle.dh_tree.specs.LeastBreach.{IsLeast, least_of};
 ghost use Rattle.dh_tree.specs.Forms.{unbuilt_forms};
 ghost use Rattle.dh_tree.specs.UncheckedForms.{unchecked_forms};
 ghost use Rattle.dh_tree.specs.PlainTrees.{Program, accessed, blocks};
-ghost use Rattle.dh_tree.specs.Resolved.{resolved};
+ghost use Rattle.dh_tree.specs.Resolved.{HasEntities, resolved};
+ghost use Rattle.dh_tree.specs.Breaches.{KeepsNames};
+ghost use Rattle.dh_tree.specs.Kinds.{HasKinds, typed};
+ghost use Rattle.dh_tree.specs.KindBreaches.{KeepsKinds};
+ghost use Rattle.dh_tree.specs.Meaning.{meaning_of};
+ghost use Rattle.dh_tree.specs.Suited.{IsSuitedTree};
+ghost use Rattle.dh_tree.specs.Widths.{HasWidths};
 ghost use Rattle.dh_tree.specs.Written.{IsOfText, IsWritten};
 ghost use Rattle.dh_tree.specs.Seen.{term_seen, form_seen, terms, action_seen, action_form_seen, part_seen, groups};
 
@@ -38,4 +44,26 @@ pub fn resolving_keeps_forms()
     ensures unchecked { (p : Program) → unchecked_forms (resolved p) ≡ unchecked_forms p }
     ensures of_text { (tokens : ℕ) (p : Program) → IsOfText tokens p → IsOfText tokens (resolved p) }
     ensures written { (tokens : ℕ) (p : Program) → IsWritten tokens p → IsWritten tokens (resolved p) }
+{}
+
+/// Filling in the kinds of expressions changes kinds alone: every expression then has the kind that it is
+/// found to have, names and entities stay as they were, the same forms are not built, and the tree is
+/// written as it was.
+pub fn typing_keeps_programs()
+    ensures kinds { (p : Program) → HasKinds (typed p) }
+    ensures names { (p : Program) → KeepsNames p → KeepsNames (typed p) }
+    ensures entities { (p : Program) → HasEntities p → HasEntities (typed p) }
+    ensures forms { (p : Program) → unbuilt_forms (typed p) ≡ unbuilt_forms p }
+    ensures unchecked { (p : Program) → unchecked_forms (typed p) ≡ unchecked_forms p }
+    ensures of_text { (tokens : ℕ) (p : Program) → IsOfText tokens p → IsOfText tokens (typed p) }
+    ensures written { (tokens : ℕ) (p : Program) → IsWritten tokens p → IsWritten tokens (typed p) }
+{}
+
+/// A typed program that breaks no rule on names or kinds, whose kinds have their widths and whose forms are
+/// built for a run without the check of ports, means terms that suit their operators: each has a value of
+/// its kind, whatever memories and variables hold. Forms that are built for check and compile are built for
+/// such a run.
+pub fn typed_programs_suit()
+    ensures suits { (p : Program) → KeepsNames p → HasEntities p → HasKinds p → KeepsKinds p → HasWidths p → unchecked_forms p ≡ [] → IsSuitedTree (meaning_of p) }
+    ensures built { (p : Program) → unbuilt_forms p ≡ [] → unchecked_forms p ≡ [] }
 {}

@@ -14,7 +14,10 @@ mod trees;
 pub use breaches::{Breach, is_before, keep_least};
 pub use contents::Memories;
 pub use dh_value::Kind;
-pub use laws::{kept_is_least, lists_are_seen_in_order, resolving_keeps_forms};
+pub use laws::{
+    kept_is_least, lists_are_seen_in_order, resolving_keeps_forms, typed_programs_suit,
+    typing_keeps_programs,
+};
 pub use loads::{loads_are_largest_sums, ports_are_spent_once};
 pub use tables::{Dim, MemEntry, MemTable, Name, Shape, copy_table, element_count, is_table};
 pub use trees::{

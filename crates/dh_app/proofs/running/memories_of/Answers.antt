@@ -1,10 +1,10 @@
--- Bytes that are not read hold no memories.
-use Rattle.dh_base.specs.declared.statuses.Status.TheVariants as status
-use Rattle.dh_app.specs.Lines.{not_json_line}
-use Rattle.dh_app.proofs.Replying.{with_line, bad_bytes}
+-- What the bytes mean, or the line of their fault.
+use Rattle.std.proofs.Common.{ap}
+use Rattle.dh_app.proofs.Replying.{bad_bytes, good_bytes}
 use Rattle.dh_app.proofs.running.memories_of.Goals as goal
 
-pub returns-in-Err-NotJson : goal.returns-in-Err-NotJson
-returns-in-Err-NotJson c =
-    bad_bytes c.args.bytes.now c.args.table.now c.answer_with.result (rw c.in-Err-NotJson.field-0-is at c.in-Err-NotJson.ensures.reads)
-    (with_line status.BadData not_json_line c.not_json_line.result c.answer_with.result c.not_json_line.ensures c.answer_with.ensures)
+pub returns-in-Err : goal.returns-in-Err
+returns-in-Err c = bad_bytes c.args.bytes.now c.args.table.now c.in-Err.fault c.bad_data_line.result c.answer_with.result c.in-Err.ensures.reads c.in-Err.ensures.only c.bad_data_line.ensures c.answer_with.ensures
+
+pub returns-in-Ok : goal.returns-in-Ok
+returns-in-Ok c = good_bytes c.args.bytes.now c.args.table.now c.in-Ok.memories c.in-Ok.ensures.reads c.in-Ok.ensures.only c.in-Ok.ensures.fits

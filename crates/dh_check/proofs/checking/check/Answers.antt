@@ -1,33 +1,24 @@
-use Rattle.std.proofs.Common.{◌≡◌, refl, ap, sym, ◌∙◌}
-use Rattle.dh_check.specs.Verdicts.{tokens_excess}
+use Rattle.std.proofs.Common.{◌≡◌, ap}
 use Rattle.dh_tree.specs.Seen.{program_seen}
-use Rattle.dh_check.proofs.Texts.{no_tokens, tokens_exceed, token_refused, tree_checked, written_text}
+use Rattle.dh_check.proofs.Checked.{ports_judged, accepted_is, keeps_ports, spends_ports, handed_on}
 use Rattle.dh_check.proofs.checking.check.Goals as goal
 
-pub returns-in-Err-Refused : goal.returns-in-Err-Refused
-returns-in-Err-Refused c =
-    rw c.in-Err-Refused.field-0-is (no_tokens c.args.text.now c.in-Err-Refused.rule c.in-Err-Refused.place (rw c.in-Err-Refused.field-0-is at c.in-Err-Refused.ensures.lexed))
+pub ports_kept-requires : goal.ports_kept-requires
+ports_kept-requires c = record { forms = ports_judged c.args.forms (program_seen c.in_ok-typed.typed) (program_seen c.tree.result.now) (ap program_seen c.tree.ensures.tree) c.requires.forms c.in_ok-typed.ensures.0 }
 
-pub returns-in-Some : goal.returns-in-Some
-returns-in-Some c =
-    tokens_exceed c.args.text.now c.in-Ok.tokens.items c.as_slice.result.now c.in-Some.excess c.as_slice.ensures.value c.in-Ok.ensures.lexed.0
-    (sym (c.tokens_excess.ensures c.as_slice.result.now c.counts.ensures.brackets c.counts.ensures.operators c.counts.ensures.else_ifs) ∙ c.in-Some.is)
+pub of-requires : goal.of-requires
+of-requires c =
+    accepted_is c.args.forms (program_seen c.in_ok-typed.typed) (program_seen c.tree.result.now) (ap program_seen c.tree.ensures.tree) c.requires.forms c.in_ok-typed.ensures.0 (rw c.in-Ok-None.field-0-is at c.in-Ok-None.ensures.told)
 
-pub check_tree-requires : goal.check_tree-requires
-check_tree-requires c =
-    written_text c.args.text.now c.in-Ok.tokens.items c.as_slice-2.result.now (program_seen c.in-Ok-parse.tree) c.as_slice-2.ensures.value c.requires c.in-Ok.ensures.ready.few c.in-Ok.ensures.ready.ended c.in-Ok-parse.ensures
+pub returns-in-Ok-None : goal.returns-in-Ok-None
+returns-in-Ok-None c =
+    keeps_ports c.args.forms c.args.text.now (program_seen c.in_ok-typed.typed) (program_seen c.tree.result.now) (program_seen c.of.result) (ap program_seen c.tree.ensures.tree) (ap program_seen c.of.ensures) c.in_ok-typed.ensures.1
+    (rw c.in-Ok-None.field-0-is at c.in-Ok-None.ensures.told)
 
-pub returns-in-Ok-parse : goal.returns-in-Ok-parse
-returns-in-Ok-parse c =
-    tree_checked c.args.text.now c.in-Ok.tokens.items c.as_slice-2.result.now (program_seen c.in-Ok-parse.tree) c.check_tree.result c.as_slice-2.ensures.value c.in-Ok.ensures.lexed.0
-    (ap tokens_excess (c.as_slice-2.ensures.value ∙ sym c.as_slice.ensures.value)
-    ∙ (sym (c.tokens_excess.ensures c.as_slice.result.now c.counts.ensures.brackets c.counts.ensures.operators c.counts.ensures.else_ifs) ∙ c.in_default.is))
-    c.in-Ok-parse.ensures c.check_tree.ensures
+pub returns-in-Ok-Some : goal.returns-in-Ok-Some
+returns-in-Ok-Some c =
+    spends_ports c.args.forms c.args.text.now (program_seen c.in_ok-typed.typed) (program_seen c.tree.result.now) c.in-Ok-Some.place (ap program_seen c.tree.ensures.tree) c.in_ok-typed.ensures.1
+    (rw c.in-Ok-Some.field-0-is at c.in-Ok-Some.ensures.told)
 
-pub returns-in-Err-Refused-parse : goal.returns-in-Err-Refused-parse
-returns-in-Err-Refused-parse c =
-    rw c.in-Err-Refused-parse.field-0-is
-    (token_refused c.args.text.now c.in-Ok.tokens.items c.as_slice-2.result.now c.in-Err-Refused-parse.rule c.in-Err-Refused-parse.place c.as_slice-2.ensures.value c.in-Ok.ensures.lexed.0
-    (ap tokens_excess (c.as_slice-2.ensures.value ∙ sym c.as_slice.ensures.value)
-    ∙ (sym (c.tokens_excess.ensures c.as_slice.result.now c.counts.ensures.brackets c.counts.ensures.operators c.counts.ensures.else_ifs) ∙ c.in_default.is))
-    (rw c.in-Err-Refused-parse.field-0-is at c.in-Err-Refused-parse.ensures))
+pub returns-in_err-typed : goal.returns-in_err-typed
+returns-in_err-typed c = handed_on c.args.forms c.args.text.now c.from_residual.result c.in_err-typed.field-0.0 c.from_residual.ensures.1 c.in_err-typed.ensures

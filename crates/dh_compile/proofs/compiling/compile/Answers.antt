@@ -8,5 +8,5 @@ use Rattle.dh_compile.proofs.compiling.compile.Goals as goal
 pub returns : goal.returns
 returns c =
     built_plays_program (program_seen c.args.accepted.now) c.in_ok-program.program c.build.result
-    (c.in_ok-program.ensures.meaning ∙ ap (λ t. meaning_of (program_seen t)) c.tree.ensures.tree)
+    (c.in_ok-program.ensures.meaning ∙ ap (λ t. meaning_of (program_seen t)) c.typed.ensures.typed)
     c.in_ok-program.ensures.grouped c.build.ensures.built c.build.ensures.valid

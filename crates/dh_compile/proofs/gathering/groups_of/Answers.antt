@@ -9,6 +9,6 @@ use Rattle.dh_compile.proofs.gathering.groups_of.Goals as goal
 
 pub returns : goal.returns
 returns c = record {
-  meaning = IfOk-weaker c.program_in.result _ _ (λ program is. ap tree_of is ∙ accepted_meant (program_seen c.args.tree.now) c.requires) c.program_in.ensures;
-  grouped = IfOk-weaker c.program_in.result _ _ (λ program is. subst (λ (p : Program). IsGrouped p) (sym is) (accepted_grouped (program_seen c.args.tree.now) c.requires)) c.program_in.ensures;
+  meaning = IfOk-weaker c.program_in.result _ _ (λ program is. ap tree_of is ∙ accepted_meant (program_seen c.args.typed.now) c.requires) c.program_in.ensures;
+  grouped = IfOk-weaker c.program_in.result _ _ (λ program is. subst (λ (p : Program). IsGrouped p) (sym is) (accepted_grouped (program_seen c.args.typed.now) c.requires)) c.program_in.ensures;
 }

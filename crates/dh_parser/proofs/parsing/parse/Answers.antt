@@ -1,4 +1,4 @@
-use Rattle.std.proofs.Common.{rules, ◌≡◌, ◌∙◌}
+use Rattle.std.proofs.Common.{◌∙◌}
 use Rattle.dh_parser.proofs.Parsed.{parsed, stopped, stopped_few, stopped_within, stopped_before, stopped_token, refused}
 use Rattle.dh_parser.proofs.parsing.parse.Goals as goal
 

@@ -1,4 +1,4 @@
-use Rattle.std.proofs.Common.{rules, ◌≡◌, ◌+◌, refl, ap, sym, ◌∙◌}
+use Rattle.std.proofs.Common.{rules, ◌+◌, refl, ap, sym, ◌∙◌}
 use Rattle.dh_parser.specs.Grammar.{if_alone, simple_then, compound_then, semicolon_then, part_then}
 use Rattle.dh_parser.specs.Reading.{the_part, the_parts, the_block, begins_simple, begins_compound, begins_nothing}
 use Rattle.dh_parser.proofs.Going.{ok_then, err_then, given, known}

@@ -1,4 +1,4 @@
-use Rattle.std.proofs.Common.{◌≡◌, ◌≤◌, ◌+◌, ◌*◌, length, map}
+use Rattle.std.proofs.Common.{◌≤◌, ◌+◌, ◌*◌, length}
 use Rattle.dh_parser.specs.Reading.{the_part, the_parts, the_block, steps}
 use Rattle.dh_parser.proofs.Loops.{Loops}
 use Rattle.dh_parser.proofs.PartLoops.{PartSoFar, PartsSoFar}

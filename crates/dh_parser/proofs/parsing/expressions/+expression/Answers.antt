@@ -1,12 +1,9 @@
-use Rattle.std.proofs.Common.{rules, ◌≡◌, refl, ap, sym, ◌∙◌}
-use Rattle.dh_parser.specs.Grammar.{index_then, no_indices, cast}
-use Rattle.dh_parser.specs.TreesOfTexts.{index_of, indices_of}
-use Rattle.dh_parser.specs.Marks.{comes}
-use Rattle.dh_parser.specs.declared.parsing.reading.Mark.TheVariants as mark
+use Rattle.std.proofs.Common.{rules, refl, sym}
+use Rattle.dh_parser.specs.Grammar.{index_then, no_indices}
 use Rattle.dh_parser.specs.Reading.{expression, the_index, more_indices}
 use Rattle.dh_parser.proofs.Going.{ok_then, err_then, given, when_true, when_false}
 use Rattle.dh_parser.proofs.Loops.{loop_after, loop_goes, loop_refused, loop_done}
-use Rattle.dh_parser.proofs.OperatorLoops.{chain_begins, chain_none, chain_goes, chain_refused, chain_done}
+use Rattle.dh_parser.proofs.OperatorLoops.{chain_begins, chain_none, chain_goes}
 use Rattle.dh_parser.proofs.TermLoops.{terms_first, terms_listed, terms_listed_all, indices_go, indices_end, element_is}
 use Rattle.dh_parser.proofs.TermForms.{variable_seen, access_seen, physical_seen, cast_seen}
 use Rattle.dh_parser.proofs.parsing.expressions.+expression.Goals as goal

@@ -1,10 +1,9 @@
-use Rattle.std.proofs.Common.{rules, ◌≡◌, ◌++◌, map, refl, ap, sym, ◌∙◌, subst}
+use Rattle.std.proofs.Common.{rules, ◌≡◌, ◌++◌, map, refl, sym, subst}
 use Rattle.dh_tree.specs.Seen.{term_seen}
 use Rattle.dh_parser.specs.Grammar.{MoreArgumentsText, ArgumentsText, argument_then, some_arguments, no_more_arguments}
-use Rattle.dh_parser.specs.TreesOfTexts.{term_of, arguments_of, more_arguments_of}
-use Rattle.dh_parser.specs.Reading.{Outcome, good, bind, the, more_arguments, the_argument, the_arguments}
-use Rattle.dh_parser.specs.declared.parsing.reading.Mark.TheVariants as mark
-use Rattle.dh_parser.proofs.Going.{ok_then, err_then, given, when_true, when_false}
+use Rattle.dh_parser.specs.TreesOfTexts.{arguments_of, more_arguments_of}
+use Rattle.dh_parser.specs.Reading.{Outcome, more_arguments, the_argument}
+use Rattle.dh_parser.proofs.Going.{ok_then, err_then, given}
 use Rattle.dh_parser.proofs.Loops.{Loops, loop_after, loop_goes, loop_refused, loop_last}
 use Rattle.dh_parser.proofs.TermLoops.{seen_first, seen_listed, seen_all, arguments_go, arguments_end, some_arguments_is}
 use Rattle.dh_parser.proofs.parsing.expressions.read_arguments.Goals as goal

@@ -1,5 +1,5 @@
-use Rattle.std.proofs.Common.{rules, ◌≡◌, refl, ap, sym, ◌∙◌, arith}
-use Rattle.dh_parser.proofs.Going.{ok_as, ok_then, err_then, given}
+use Rattle.std.proofs.Common.{refl}
+use Rattle.dh_parser.proofs.Going.{ok_then, err_then, given}
 use Rattle.dh_parser.proofs.FirstTokens.{same_head}
 use Rattle.dh_parser.proofs.parsing.loops.read_loop_head.Goals as goal
 

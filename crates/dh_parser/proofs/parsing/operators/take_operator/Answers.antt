@@ -1,4 +1,4 @@
-use Rattle.std.proofs.Common.{rules, ◌≡◌, refl, ap, sym, ◌∙◌, arith}
+use Rattle.std.proofs.Common.{rules, sym, ◌∙◌}
 use Rattle.dh_parser.proofs.FirstTokens.{first_is, sign_is}
 use Rattle.dh_parser.proofs.parsing.operators.take_operator.Goals as goal
 

@@ -1,4 +1,4 @@
-use Rattle.std.proofs.Common.{rules, ◌≡◌, ◌+◌, ◌++◌, Ok, map, refl, ap, sym, ◌∙◌, subst}
+use Rattle.std.proofs.Common.{refl}
 use Rattle.dh_parser.proofs.Going.{ok_then, err_then, given, known, answered}
 use Rattle.dh_parser.proofs.BlockForms.{body_made}
 use Rattle.dh_parser.proofs.BodyPlaces.{body_stands}

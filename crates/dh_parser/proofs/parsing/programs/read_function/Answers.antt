@@ -1,4 +1,4 @@
-use Rattle.std.proofs.Common.{rules, ◌≡◌, ◌+◌, ◌++◌, Ok, map, refl, ap, sym, ◌∙◌, subst}
+use Rattle.std.proofs.Common.{refl, ◌∙◌}
 use Rattle.dh_parser.proofs.Going.{ok_then, err_then, given}
 use Rattle.dh_parser.proofs.ItemLoops.{function_made}
 use Rattle.dh_parser.proofs.parsing.programs.read_function.Goals as goal

@@ -1,6 +1,6 @@
-use Rattle.std.proofs.Common.{rules, ◌≡◌, ◌+◌, ◌++◌, Ok, map, refl, ap, sym, ◌∙◌, subst}
+use Rattle.std.proofs.Common.{rules, refl, ap, ◌∙◌}
 use Rattle.dh_parser.specs.Reading.{the_items, good}
-use Rattle.dh_parser.proofs.Going.{ok_then, err_then, given, known}
+use Rattle.dh_parser.proofs.Going.{err_then, given, known}
 use Rattle.dh_parser.proofs.Loops.{loop_begins, loop_turn, loop_ends}
 use Rattle.dh_parser.proofs.ItemLoops.{items_by, items_turn, items_end, items_begin, items_stay, items_done, item_goes, item_none, item_more}
 use Rattle.dh_parser.proofs.parsing.programs.read_items.Goals as goal

@@ -1,4 +1,4 @@
-use Rattle.std.proofs.Common.{rules, ◌≡◌, ◌+◌, ◌++◌, Ok, map, refl, ap, sym, ◌∙◌, subst}
+use Rattle.std.proofs.Common.{rules, ◌≡◌, ◌++◌, map, refl, ap, sym, subst}
 use Rattle.dh_tree.specs.Seen.{formal_seen}
 use Rattle.dh_parser.specs.Grammar.{MoreParametersText, ParametersText, parameter_then, some_parameters, no_more_parameters}
 use Rattle.dh_parser.specs.TreesOfTexts.{formals_of, more_formals}

@@ -1,4 +1,4 @@
-use Rattle.std.proofs.Common.{rules, ◌≡◌, ◌∙◌}
+use Rattle.std.proofs.Common.{◌∙◌}
 use Rattle.dh_parser.proofs.WidthPlaces.{none_before, last_two}
 use Rattle.dh_parser.proofs.parsing.refusals.ends_before_width.Goals as goal
 

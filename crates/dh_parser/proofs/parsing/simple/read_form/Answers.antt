@@ -1,4 +1,4 @@
-use Rattle.std.proofs.Common.{rules, ◌≡◌, ◌+◌, Ok, refl, ap, sym, ◌∙◌, subst}
+use Rattle.std.proofs.Common.{rules, ◌≡◌, ◌∙◌}
 use Rattle.dh_parser.proofs.Going.{ok_then, ok_as, also}
 use Rattle.dh_parser.proofs.FirstTokens.{first_is}
 use Rattle.dh_parser.proofs.SimpleTokens.{named_simple, name_starts}

@@ -1,6 +1,6 @@
-use Rattle.std.proofs.Common.{rules, ◌≡◌, Ok, refl, ap, sym, ◌∙◌, subst}
-use Rattle.dh_parser.proofs.Going.{ok_then, err_then, given, also, when_true, when_false}
-use Rattle.dh_parser.proofs.ActionForms.{value_seen, assign_seen, call_seen, store_seen, reduce_seen}
+use Rattle.std.proofs.Common.{refl, sym}
+use Rattle.dh_parser.proofs.Going.{ok_then, err_then, given, when_true, when_false}
+use Rattle.dh_parser.proofs.ActionForms.{value_seen}
 use Rattle.dh_parser.proofs.parsing.simple.read_let.Goals as goal
 
 pub returns-then-not-is_next-clause-answer : goal.returns-then-not-is_next-clause-answer

@@ -1,8 +1,8 @@
-use Rattle.std.proofs.Common.{rules, ◌≡◌, Ok, refl, ap, sym, ◌∙◌, subst}
-use Rattle.dh_parser.proofs.Going.{ok_then, err_then, given, also, when_true, when_false}
-use Rattle.dh_parser.proofs.ActionForms.{value_seen, assign_seen, call_seen, store_seen, reduce_seen}
+use Rattle.std.proofs.Common.{rules, refl}
+use Rattle.dh_parser.proofs.Going.{ok_then, err_then, given}
+use Rattle.dh_parser.proofs.ActionForms.{assign_seen, call_seen, reduce_seen}
 use Rattle.dh_parser.proofs.FirstTokens.{first_is}
-use Rattle.dh_parser.proofs.SimpleTokens.{after_at, reduces_at, reduced, reducer_some}
+use Rattle.dh_parser.proofs.SimpleTokens.{after_at, reduces_at, reducer_some}
 use Rattle.dh_parser.proofs.parsing.simple.read_named.Goals as goal
 
 pub returns-in_err-arguments-in-OpenParen-clause-answer : goal.returns-in_err-arguments-in-OpenParen-clause-answer

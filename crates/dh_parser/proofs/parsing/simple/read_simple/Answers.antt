@@ -1,4 +1,4 @@
-use Rattle.std.proofs.Common.{rules, ◌≡◌, ◌+◌, Ok, refl, ap, sym, ◌∙◌, subst}
+use Rattle.std.proofs.Common.{◌+◌, ap, sym, ◌∙◌}
 use Rattle.dh_tree.specs.PlainTrees.{action}
 use Rattle.dh_tree.specs.Seen.{action_form_seen}
 use Rattle.dh_parser.proofs.Going.{ok_as, err_as, given}

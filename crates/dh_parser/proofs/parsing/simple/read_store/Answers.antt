@@ -1,9 +1,9 @@
-use Rattle.std.proofs.Common.{rules, ◌≡◌, Ok, refl, ap, sym, ◌∙◌, subst}
+use Rattle.std.proofs.Common.{◌≡◌, refl}
 use Rattle.dh_parser.specs.TreesOfTexts.{place_of, access_of}
 use Rattle.dh_parser.specs.Reading.{read, steps}
 use Rattle.dh_parser.proofs.WholeExpressions.{access_is}
-use Rattle.dh_parser.proofs.Going.{ok_then, err_then, given, also, when_true, when_false}
-use Rattle.dh_parser.proofs.ActionForms.{value_seen, assign_seen, call_seen, store_seen, reduce_seen}
+use Rattle.dh_parser.proofs.Going.{ok_then, err_then, given, also}
+use Rattle.dh_parser.proofs.ActionForms.{store_seen}
 use Rattle.dh_parser.proofs.SimpleTokens.{access_starts}
 use Rattle.dh_parser.proofs.parsing.simple.read_store.Goals as goal
 

@@ -1,4 +1,3 @@
-use Rattle.std.proofs.Common.{rules}
 use Rattle.dh_parser.proofs.Going.{ok_then, err_then, given}
 use Rattle.dh_parser.proofs.parsing.types.read_dim.Goals as goal
 

@@ -1,6 +1,5 @@
-use Rattle.std.proofs.Common.{rules, ◌≡◌, ◌++◌, ap, refl, sym, ◌∙◌, append_assoc}
-use Rattle.dh_parser.specs.Grammar.{DimsText, no_dims}
-use Rattle.dh_parser.specs.TreesOfTexts.{dims_of, places_of}
+use Rattle.std.proofs.Common.{rules}
+use Rattle.dh_parser.specs.Grammar.{no_dims}
 use Rattle.dh_parser.specs.Reading.{the_dims, the_dim}
 use Rattle.dh_parser.proofs.Going.{given}
 use Rattle.dh_parser.proofs.Loops.{loop_goes, loop_refused, loop_done, loop_begins, listed, all_listed}

@@ -1,6 +1,6 @@
-use Rattle.std.proofs.Common.{rules, ap, ◌≡◌}
+use Rattle.std.proofs.Common.{rules}
 use Rattle.dh_parser.proofs.FirstTokens.{first_is, kind_at}
-use Rattle.dh_parser.proofs.Going.{ok_as, ok_then}
+use Rattle.dh_parser.proofs.Going.{ok_as}
 use Rattle.dh_parser.proofs.parsing.types.read_kind.Goals as goal
 
 pub returns-in_err-read_width-in-Bit-clause-answer :

@@ -2,7 +2,7 @@ use Rattle.std.proofs.Common.{◌≡◌, refl}
 use Rattle.dh_parser.specs.TreesOfTexts.{kind_place}
 use Rattle.dh_parser.specs.Reading.{type_text}
 use Rattle.dh_parser.proofs.FirstTokens.{kind_starts}
-use Rattle.dh_parser.proofs.Going.{ok_as, ok_then, err_then, given, also}
+use Rattle.dh_parser.proofs.Going.{ok_then, err_then, given, also}
 use Rattle.dh_parser.proofs.parsing.types.read_type.Goals as goal
 
 pub returns-in_err-ports-clause-answer : goal.returns-in_err-ports-clause-answer

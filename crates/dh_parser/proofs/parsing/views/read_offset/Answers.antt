@@ -1,4 +1,3 @@
-use Rattle.std.proofs.Common.{rules, ◌≡◌, [], ◌∷◌, refl, ap, sym, ◌∙◌}
 use Rattle.dh_parser.proofs.Going.{ok_then, err_then, given}
 use Rattle.dh_parser.proofs.parsing.views.read_offset.Goals as goal
 

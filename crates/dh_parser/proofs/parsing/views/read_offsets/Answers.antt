@@ -1,9 +1,9 @@
-use Rattle.std.proofs.Common.{rules, ◌≡◌, [], ◌∷◌, map, refl, ap, sym, ◌∙◌}
-use Rattle.dh_tree.specs.Seen.{term_seen, factor_seen}
-use Rattle.dh_parser.specs.Reading.{the_factor, the_suffix, the_offset, more_of}
+use Rattle.std.proofs.Common.{rules, [], ◌∷◌, map, ap, sym}
+use Rattle.dh_tree.specs.Seen.{term_seen}
+use Rattle.dh_parser.specs.Reading.{the_offset, more_of}
 use Rattle.dh_parser.proofs.Going.{given}
 use Rattle.dh_parser.proofs.Loops.{loop_after, loop_goes, loop_refused, loop_done}
-use Rattle.dh_parser.proofs.BracketLoops.{pushed_map, first_in, next_in, all_in, suffix_seen, brackets_go, brackets_end, brackets_is, view_at}
+use Rattle.dh_parser.proofs.BracketLoops.{pushed_map, first_in, next_in, all_in, brackets_go, brackets_end}
 use Rattle.dh_parser.proofs.parsing.views.read_offsets.Goals as goal
 
 pub loop-reader-init : goal.loop-reader-init

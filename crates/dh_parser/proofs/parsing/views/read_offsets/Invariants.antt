@@ -1,8 +1,8 @@
 use Rattle.std.proofs.Common.{◌≡◌, ◌≤◌, ◌++◌, ◌∷◌, List, length, map}
-use Rattle.dh_tree.specs.Seen.{term_seen, factor_seen}
-use Rattle.dh_parser.specs.Grammar.{FactorText, SuffixText, OffsetText}
-use Rattle.dh_parser.specs.TreesOfTexts.{suffix_of, term_of}
-use Rattle.dh_parser.specs.Reading.{the_factor, the_suffix, the_offset, more_of, all_of}
+use Rattle.dh_tree.specs.Seen.{term_seen}
+use Rattle.dh_parser.specs.Grammar.{OffsetText}
+use Rattle.dh_parser.specs.TreesOfTexts.{term_of}
+use Rattle.dh_parser.specs.Reading.{the_offset, more_of, all_of}
 use Rattle.dh_parser.proofs.Loops.{Loops}
 use Rattle.dh_parser.proofs.parsing.views.read_offsets.Given as goal
 

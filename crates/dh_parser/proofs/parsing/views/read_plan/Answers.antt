@@ -1,4 +1,4 @@
-use Rattle.std.proofs.Common.{rules, ◌≡◌, [], ◌∷◌, map, refl, ap, sym, ◌∙◌, length, take, drop, ◌-◌}
+use Rattle.std.proofs.Common.{refl, ap, ◌∙◌, length, take, drop, ◌-◌}
 use Rattle.dh_tree.specs.PlainTrees.{shrinks, splits, suffixes, shifts}
 use Rattle.dh_parser.specs.Grammar.{shrink, split, suffix, shift}
 use Rattle.dh_parser.specs.Reading.{the_factor, the_suffix, the_offset}

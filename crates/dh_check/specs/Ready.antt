@@ -1,0 +1,58 @@
+-- What the passes before that over ports tell: a fault, or a program that comes to what its ports come
+-- to, where these are asked for.
+use Rattle.std.specs.Prelude.{◌≡◌, ℕ, List, [], Bool, Option, Some, None, Result, Ok, Err}
+use Rattle.dh_base.specs.declared.limits.Excess.{Excess}
+use Rattle.dh_tree.specs.declared.trees.typed.Typed.{Typed}
+use Rattle.dh_tree.specs.LeastBreach.{IsLeast, breach}
+use Rattle.dh_tree.specs.PlainTrees.{Program}
+use Rattle.dh_tree.specs.Forms.{unbuilt_forms}
+use Rattle.dh_tree.specs.Kinds.{typed}
+use Rattle.dh_tree.specs.Ranges.{range_breaches}
+use Rattle.dh_tree.specs.Meaning.{table_of}
+use Rattle.dh_tree.specs.Tables.{elements_in}
+use Rattle.dh_tree.specs.Written.{IsWritten}
+use Rattle.dh_tree.specs.Seen.{program_seen}
+use Rattle.dh_check.specs.Acceptance.{most_tokens, unbuilt_by, IsReady}
+use Rattle.dh_check.specs.Elements.{excess_of}
+use Rattle.dh_check.specs.Verdicts.{Verdict, FaultTells, JudgedLast, JudgedTyped, JudgedTree, IsVerdict, asked_of}
+use Rattle.dh_check.specs.declared.checking.Forms.{Forms}
+use Rattle.dh_check.specs.declared.checking.CheckFault.{CheckFault}
+use Rattle.dh_check.specs.declared.checking.CheckFault.TheVariants as fault
+
+-- a program comes to what the last pass comes to; verdicts are told by whether ports are asked for
+abbrev pub GoesOn : (Bool → Verdict → Type 0) → Program → Type 0
+GoesOn tells p = (ports : Bool) (v : Verdict) → JudgedLast ports p v → tells ports v
+
+-- a fault that tells the same whether ports are asked for or not
+abbrev pub Stops : (Bool → Verdict → Type 0) → CheckFault → Type 0
+Stops tells e = (ports : Bool) → FaultTells (tells ports) e
+
+-- the sizes and indices that are out of range, or else the excess of elements
+abbrev pub TellsSizes : Program → Option CheckFault → Type 0
+TellsSizes p None = (range_breaches p ≡ []) × (excess_of (elements_in (table_of p)) ≡ None)
+TellsSizes p (Some (fault.Refused rule place)) = IsLeast (range_breaches p) (breach rule place)
+TellsSizes p (Some (fault.TooLarge excess)) = (range_breaches p ≡ []) × (excess_of (elements_in (table_of p)) ≡ Some excess)
+TellsSizes p (Some fault.NoMemory) = ⊥
+
+-- of a program whose names are resolved: kinds, sizes and indices, and the limit on elements
+abbrev pub TellsNamed : Program → Result Typed CheckFault → Type 0
+TellsNamed p (Ok t) = (program_seen t ≡ typed p) × (IsReady (typed p) × GoesOn (λ ports v. JudgedTyped ports (typed p) v) (typed p))
+TellsNamed p (Err e) = Stops (λ ports v. JudgedTyped ports (typed p) v) e
+
+-- a program that is ready, and that is built for a command
+pub record IsReadyBy (forms : Forms) (p : Program) : Type 0 where
+  pub ready : IsReady p
+  pub built : unbuilt_by forms p ≡ []
+  pub written : unbuilt_forms p ≡ [] → IsWritten most_tokens p
+
+-- of a tree: forms, names, and the rest
+abbrev pub TellsReady : Forms → (Bool → Verdict → Type 0) → Result Typed CheckFault → Type 0
+TellsReady forms tells (Ok t) = IsReadyBy forms (program_seen t) × GoesOn tells (program_seen t)
+TellsReady forms tells (Err e) = Stops tells e
+
+abbrev pub TellsTree : Forms → Program → Result Typed CheckFault → Type 0
+TellsTree forms p result = TellsReady forms (λ ports v. JudgedTree (asked_of forms ports) p v) result
+
+-- of a text: its tokens and their limits, its tree, and the rest
+abbrev pub TellsText : Forms → List ℕ → Result Typed CheckFault → Type 0
+TellsText forms text result = TellsReady forms (λ ports v. IsVerdict (asked_of forms ports) text v) result

@@ -1,0 +1,189 @@
+//! Reads the member that a data file has for a memory.
+
+ghost use Rattle.std.specs.Prelude.{◌≡◌, ◌↔◌, IfOk, IsTrue, option_map};
+ghost use Rattle.serde_json.specs.Data.{boolean, number, string, unsigned};
+ghost use Rattle.serde_json.specs.Find.{get_member};
+ghost use Rattle.serde_json.specs.View.{view, members_view};
+ghost use Rattle.dh_tree.specs.Tables.{IsEntry};
+ghost use Rattle.dh_value.specs.Words.{IsInteger, IsValue, width_of, word_of};
+ghost use Rattle.dh_data.specs.Reports.{is_signed as sign_of};
+ghost use Rattle.dh_data.specs.DataFiles.{IsThisIfThere, IsFormat, Agrees, IsSized as SizedBy, in_order};
+ghost use Rattle.dh_data.specs.Reading.{SaysContents, FindsData, FindsElement, Pushes, bitnum};
+
+use crate::data_files::DataFault;
+use crate::reports::signed;
+use dh_tree::{Dim, Kind, MemEntry, element_count};
+use dh_value::{fits, width};
+use serde_json::{Map, Value};
+use std::alloc::{AllocError, Global};
+
+/// The member with this name.
+pub fn member<'v>(members: &'v Map<String, Value>, name: &str) -> Option<&'v Value>
+    ensures { option_map (λ v. view v.now) result ≡ get_member name.now (members_view members.now.entries) }
+{
+    members.get(name)
+}
+
+/// The contents of a memory, whose number is for the faults.
+pub fn contents_of(
+    alloc: Global,
+    memory: u32,
+    entry: &MemEntry,
+    members: &Map<String, Value>,
+) -> Result<Vec<u64>, DataFault>
+    requires { IsEntry entry.now }
+    ensures { SaysContents (members_view members.now.entries) memory entry.now result }
+{
+    if !entry.outside {
+        return Ok(vec![in alloc; 0; element_count(entry) as usize]?);
+    }
+    let Some(data) = data_of(entry.shape.kind, member(members, entry.name.as_str())) else {
+        return Err(DataFault::Format { memory });
+    };
+    let dims = entry.shape.dims.as_slice();
+    if !is_sized(dims, data) {
+        return Err(DataFault::Size { memory });
+    }
+    let mut values = Vec::with_capacity(alloc, element_count(entry) as usize)?;
+    if push_elements(&mut values, entry.shape.kind, dims, data)? {
+        Ok(values)
+    } else {
+        let position = values.len() as u64;
+        Err(DataFault::Value { memory, position })
+    }
+}
+
+/// The value of `data`, where what was found is an object that has one, and its `format` agrees.
+fn data_of(kind: Kind, found: Option<&Value>) -> Option<&Value>
+    ensures { FindsData kind (option_map (λ v. view v.now) found.entry) (option_map (λ v. view v.now) result) }
+{
+    let members = found?.as_object()?;
+    let data = member(members, "data")?;
+    if agrees(kind, member(members, "format")) {
+        Some(data)
+    } else {
+        None
+    }
+}
+
+fn agrees(kind: Kind, format: Option<&Value>) -> bool
+    ensures { IsTrue result ↔ Agrees kind (option_map (λ v. view v.now) format.entry) }
+{
+    match format {
+        Some(format) => is_format(kind, format),
+        None => true,
+    }
+}
+
+fn is_format(kind: Kind, format: &Value) -> bool
+    ensures { IsTrue result ↔ IsFormat kind (view format.now) }
+{
+    match format.as_object() {
+        Some(members) => {
+            is_sign(kind, member(members, "is_signed"))
+                && is_bitnum(member(members, "numeric_type"))
+                && is_width(kind, member(members, "width"))
+        }
+        None => false,
+    }
+}
+
+fn is_sign(kind: Kind, found: Option<&Value>) -> bool
+    ensures { IsTrue result ↔ IsThisIfThere (option_map (λ v. view v.now) found.entry) (boolean (sign_of kind)) }
+{
+    match found {
+        Some(value) => value.as_bool() == Some(signed(kind)),
+        None => true,
+    }
+}
+
+fn is_bitnum(found: Option<&Value>) -> bool
+    ensures { IsTrue result ↔ IsThisIfThere (option_map (λ v. view v.now) found.entry) (string bitnum) }
+{
+    match found {
+        Some(value) => value.as_str() == Some("bitnum"),
+        None => true,
+    }
+}
+
+fn is_width(kind: Kind, found: Option<&Value>) -> bool
+    ensures { IsTrue result ↔ IsThisIfThere (option_map (λ v. view v.now) found.entry) (number (unsigned (width_of kind))) }
+{
+    match found {
+        Some(value) => value.as_u64() == Some(u64::from(width(kind))),
+        None => true,
+    }
+}
+
+/// Whether the value is lists nested and as long as the dimensions say.
+fn is_sized(dims: &[Dim], value: &Value) -> bool
+    ensures { IsTrue result ↔ SizedBy dims.now (view value.now) }
+{
+    let Some((dim, rest)) = dims.split_first() else {
+        return !value.is_array();
+    };
+    let Some(items) = value.as_array() else {
+        return false;
+    };
+    if items.len() as u64 != dim.size {
+        return false;
+    }
+    for item in items {
+        if !is_sized(rest, item) {
+            return false;
+        }
+    }
+    true
+}
+
+/// Adds the elements of nested lists in order of indices, up to the first that is no whole number of
+/// the kind. Answers whether there was none such.
+fn push_elements(
+    values: &mut Vec<u64>,
+    kind: Kind,
+    dims: &[Dim],
+    value: &Value,
+) -> Result<bool, AllocError>
+    requires { IsInteger kind }
+    ensures { IfOk result (λ all. Pushes kind (in_order dims.now (view value.now)) values.old.items values.new.items all) }
+{
+    let Some((_, rest)) = dims.split_first() else {
+        let Some(bits) = element_of(kind, value) else {
+            return Ok(false);
+        };
+        values.push(bits)?;
+        return Ok(true);
+    };
+    let Some(items) = value.as_array() else {
+        return Ok(true);
+    };
+    for item in items {
+        if !push_elements(values, kind, rest, item)? {
+            return Ok(false);
+        }
+    }
+    Ok(true)
+}
+
+/// The bits of a whole number of the kind.
+fn element_of(kind: Kind, value: &Value) -> Option<u64>
+    requires { IsInteger kind }
+    ensures { FindsElement kind (view value.now) result }
+{
+    let whole = value.as_number()?.as_i128()?;
+    if fits(kind, whole) {
+        Some(bits_of(kind, whole))
+    } else {
+        None
+    }
+}
+
+/// The bits of a value of the kind.
+fn bits_of(kind: Kind, whole: i128) -> u64
+    requires kind { IsInteger kind }
+    requires of_kind { IsValue kind whole }
+    ensures { result ≡ (word_of kind whole).bits }
+{
+    // In two's complement a negative number stands for 2^width more.
+    whole.rem_euclid(1 << width(kind)) as u64
+}

@@ -1,0 +1,103 @@
+-- The phases of a list, from those of its commands.
+use Rattle.std.proofs.Common.{◌≡◌, ℕ, suc, ◌+◌, ◌<◌, List, [], ◌∷◌, ◌++◌, length, ◌≤◌, get_or, drop, map, refl, ap, sym, ◌∙◌, add-one, append_assoc}
+use Rattle.std.proofs.Math.Seq.{drop-cons}
+use Rattle.std.proofs.lemmas.List.{drop_all}
+use Rattle.dh_tree.proofs.SeenActions as seen
+use Rattle.dh_tree.specs.declared.trees.commands.CommandForm.TheVariants.{Block}
+use Rattle.std.specs.Prelude.{Vec}
+use Rattle.std.specs.Global.{Global}
+use denote.Ref.{Bor}
+use Rattle.dh_tree.specs.PlainTrees as plain
+use Rattle.dh_tree.specs.PlainTrees.{Action, Actions, no_actions, action_then}
+use Rattle.dh_tree.specs.Phases.{Phase, straight, one_straight, joined}
+use Rattle.dh_tree.specs.Seen.{actions, groups, action_seen, action_form_seen, part_seen}
+use Rattle.dh_tree.specs.declared.trees.commands.Command.{Command}
+use Rattle.dh_sem.specs.Straight.{form_straight_phases, groups_straight_phases, parts_straight_phases, commands_in, gathered_in, phase_seen, one_phase, done_by, current_after, gathered, part_gathered, parts_gathered}
+
+pub map_append : {A B : Type 0} (f : A → B) (xs ys : List A) → map f (xs ++ ys) ≡ map f xs ++ map f ys
+map_append f [] ys = refl
+map_append f (x ∷ xs) ys = ap (λ l. f x ∷ l) (map_append f xs ys)
+
+one_is : (cs : List Action) → map commands_in (one_straight cs) ≡ one_phase cs
+one_is [] = refl
+one_is (c ∷ cs) = refl
+
+pub joined_is : (cs : List Action) (parts : List (List Phase)) → map commands_in (joined cs parts) ≡ gathered cs (map (λ ps. map commands_in ps) parts)
+joined_is cs [] = one_is cs
+joined_is cs ([] ∷ parts) = joined_is cs parts
+joined_is cs ((straight ds ∷ []) ∷ parts) = joined_is (cs ++ ds) parts
+joined_is cs ((p ∷ q ∷ ps) ∷ parts) =
+    map_append commands_in (one_straight cs) ((p ∷ q ∷ ps) ++ joined [] parts)
+    ∙ (ap (λ l. l ++ map commands_in ((p ∷ q ∷ ps) ++ joined [] parts)) (one_is cs)
+    ∙ (ap (λ l. one_phase cs ++ l) (map_append commands_in (p ∷ q ∷ ps) (joined [] parts))
+    ∙ (ap (λ l. one_phase cs ++ (map commands_in (p ∷ q ∷ ps) ++ l)) (joined_is [] parts)
+    ∙ sym (append_assoc (one_phase cs) (map commands_in (p ∷ q ∷ ps)) (gathered [] (map (λ ps. map commands_in ps) parts))))))
+
+parts_are : (cs : List Action) → map (λ ps. map commands_in ps) (parts_straight_phases (actions cs)) ≡ map gathered_in cs
+parts_are [] = refl
+parts_are (c ∷ cs) = ap (λ l. gathered_in c ∷ l) (parts_are cs)
+
+pub map_twice : {A B C : Type 0} (g : B → C) (f : A → B) (xs : List A) → map g (map f xs) ≡ map (λ x. g (f x)) xs
+map_twice g f [] = refl
+map_twice g f (x ∷ xs) = ap (λ l. g (f x) ∷ l) (map_twice g f xs)
+
+-- the phases of a command of the code
+abbrev pub command_phases : Command → List (List Action)
+command_phases c = gathered_in (action_seen c)
+
+pub part_is : (cs : List Command) → part_gathered (actions (map action_seen cs)) ≡ gathered [] (map command_phases cs)
+part_is cs =
+    joined_is [] (parts_straight_phases (actions (map action_seen cs)))
+    ∙ ap (λ l. gathered [] l) (parts_are (map action_seen cs) ∙ map_twice gathered_in action_seen cs)
+
+pub block_is : (gs : plain.Groups) → map commands_in (groups_straight_phases gs) ≡ parts_gathered gs
+block_is plain.no_groups = refl
+block_is (plain.group_then part rest) =
+    map_append commands_in (joined [] (parts_straight_phases part)) (groups_straight_phases rest) ∙ ap (λ l. part_gathered part ++ l) (block_is rest)
+
+-- what is left of a list is its next item and what is left behind that
+at_item : {A : Type 0} (xs : List A) (i : ℕ) (x : A) → i < length xs → x ≡ get_or xs i x → drop i xs ≡ x ∷ drop (i + 1) xs
+at_item xs i x within is = drop-cons xs i x within ∙ (ap (λ y. y ∷ drop (suc i) xs) (sym is) ∙ ap (λ n. x ∷ drop n xs) (sym (add-one i)))
+
+-- what the parts from one on give is what its commands give, and then the parts behind it
+pub part_begin : (ps : List (Vec Command Global)) (i : ℕ) (p : Vec Command Global) (done all : List (List Action)) (open_phase : List (Bor Command)) (cs : List Command) → i < length ps → p ≡ get_or ps i p → cs ≡ p.items
+    → open_phase ≡ [] → done ++ parts_gathered (groups (map part_seen (drop i ps))) ≡ all
+    → done ++ (gathered (phase_seen open_phase) (map command_phases cs) ++ parts_gathered (groups (map part_seen (drop (i + 1) ps)))) ≡ all
+part_begin ps i p done all open_phase cs within is items empty before =
+    ap (λ l. done ++ (gathered (phase_seen open_phase) (map command_phases l) ++ parts_gathered (groups (map part_seen (drop (i + 1) ps))))) items
+    ∙ (ap (λ o. done ++ (gathered (phase_seen o) (map command_phases p.items) ++ parts_gathered (groups (map part_seen (drop (i + 1) ps))))) empty
+    ∙ (ap (λ g. done ++ (g ++ parts_gathered (groups (map part_seen (drop (i + 1) ps))))) (sym (part_is p.items))
+    ∙ (ap (λ l. done ++ parts_gathered (groups (map part_seen l))) (sym (at_item ps i p within is))
+    ∙ before)))
+
+regroup : (a b c d : List (List Action)) → (a ++ b) ++ (c ++ d) ≡ a ++ ((b ++ c) ++ d)
+regroup a b c d = append_assoc a b (c ++ d) ∙ ap (λ l. a ++ l) (sym (append_assoc b c d))
+
+-- one turn of the loop over the commands of a part
+pub part_turn : (cs : List Command) (i : ℕ) (c : Command) (done done' : List (List Action)) (current current' : List Action) (next tail all : List (List Action)) → i < length cs → c ≡ get_or cs i c
+    → next ≡ command_phases c → done' ≡ done ++ done_by current next → current' ≡ current_after current next
+    → done ++ (gathered current (map command_phases (drop i cs)) ++ tail) ≡ all
+    → done' ++ (gathered current' (map command_phases (drop (i + 1) cs)) ++ tail) ≡ all
+part_turn cs i c done done' current current' next tail all within is read ended left before =
+    ap (λ d. d ++ (gathered current' (map command_phases (drop (i + 1) cs)) ++ tail)) ended
+    ∙ (ap (λ g. (done ++ done_by current next) ++ (gathered g (map command_phases (drop (i + 1) cs)) ++ tail)) left
+    ∙ (regroup done (done_by current next) (gathered (current_after current next) (map command_phases (drop (i + 1) cs))) tail
+    ∙ (ap (λ n. done ++ ((done_by current n ++ gathered (current_after current n) (map command_phases (drop (i + 1) cs))) ++ tail)) read
+    ∙ (ap (λ l. done ++ (gathered current (map command_phases l) ++ tail)) (sym (at_item cs i c within is))
+    ∙ before))))
+
+-- at the end of a part its open phase ends
+pub part_end : (cs : List Command) (i : ℕ) (done done' tail all : List (List Action)) (current : List Action) → length cs ≤ i → done' ≡ done ++ one_phase current
+    → done ++ (gathered current (map command_phases (drop i cs)) ++ tail) ≡ all → done' ++ tail ≡ all
+part_end cs i done done' tail all current over ended inv =
+    ap (λ d. d ++ tail) ended
+    ∙ (append_assoc done (one_phase current) tail
+    ∙ (ap (λ l. done ++ (gathered current (map command_phases l) ++ tail)) (sym (drop_all i cs over)) ∙ inv))
+
+-- the phases of a block are those of its parts
+pub block_read : (c : Command) (body : Vec (Vec Command Global) Global) (parts : List (Vec Command Global)) → c.form ≡ Block body → parts ≡ body.items
+    → parts_gathered (groups (map part_seen parts)) ≡ gathered_in (action_seen c)
+block_read c body parts is same =
+    ap (λ l. parts_gathered (groups (map part_seen l))) same
+    ∙ sym (ap (λ f. map commands_in (form_straight_phases c.id c.place (action_form_seen f))) is
+    ∙ (ap (λ f. map commands_in (form_straight_phases c.id c.place f)) (seen.block_is body) ∙ block_is (groups (map part_seen body.items))))

@@ -1,0 +1,108 @@
+use Rattle.std.proofs.Common.{◌∙◌, ap, refl, map, option_map, arith}
+use Rattle.std.specs.Box.{with_value}
+use Rattle.std.specs.Vec.{with_items}
+use Rattle.dh_tree.specs.Seen.{term_seen, plan_seen, action_seen, action_form_seen, part_seen, groups, maybe_seen, placed}
+use Rattle.dh_tree.proofs.SeenActions.{let_is, let_memory_is, view_is, assign_is, store_is, reduce_is, call_is, block_is, if_is, while_is, for_is}
+use Rattle.dh_tree.specs.Kinds.{of_iterator}
+use Rattle.dh_types.specs.Walks.{state_of}
+use Rattle.dh_types.proofs.InPlace.{start, turn}
+use Rattle.dh_types.proofs.ListsDone.{action_step, action_made, part_step, part_made, action_turn, part_turn, part_done, parts_done}
+use Rattle.dh_types.proofs.FormsDone.{form_done, lets_done, memory_done, views_done, assigns_done, stores_done, reduces_done, calls_done, blocks_done, repeats_done, decides_done, counts_done, types_at}
+use Rattle.dh_types.proofs.walks.Walk.+commands.Goals as goal
+
+pub form-returns-in_ok-learn-in-Let : goal.form-returns-in_ok-learn-in-Let
+form-returns-in_ok-learn-in-Let t c =
+    form_done _ _ _ _ _ _ (ap action_form_seen c.in-Let.is ∙ let_is c.in-Let.name c.in-Let.declared c.in-Let.value) (let_is c.in-Let.name c.in-Let.declared c.value-value.result)
+    (lets_done (state_of c.args.self.now) (state_of c.value-value.new.self) (state_of c.learn.new.self) c.in-Let.name c.in-Let.declared (option_map term_seen c.in-Let.value) (option_map term_seen c.value-value.result) _
+    c.value-value.ensures.tree c.value-value.ensures.state c.variable_fact.ensures c.in_ok-learn-in-Let.ensures)
+
+pub form-returns-in_ok-learn-in-LetMemory : goal.form-returns-in_ok-learn-in-LetMemory
+form-returns-in_ok-learn-in-LetMemory t c =
+    form_done _ _ _ _ _ _ (ap action_form_seen c.in-LetMemory.is ∙ let_memory_is c.in-LetMemory.name c.in-LetMemory.shape c.in-LetMemory.shape_places c.in-LetMemory.value)
+    (let_memory_is c.in-LetMemory.name c.in-LetMemory.shape c.in-LetMemory.shape_places c.value-value-in-LetMemory.result)
+    (memory_done (state_of c.args.self.now) (state_of c.value-value-in-LetMemory.new.self) (state_of c.learn-in-LetMemory.new.self) c.in-LetMemory.name c.in-LetMemory.shape c.in-LetMemory.shape_places
+    (option_map term_seen c.in-LetMemory.value) (option_map term_seen c.value-value-in-LetMemory.result) _
+    c.value-value-in-LetMemory.ensures.tree c.value-value-in-LetMemory.ensures.state c.memory_fact.ensures c.in_ok-learn-in-LetMemory.ensures)
+
+pub form-returns-in_ok-learn-in-View : goal.form-returns-in_ok-learn-in-View
+form-returns-in_ok-learn-in-View t c =
+    form_done _ _ _ _ _ _ (ap action_form_seen c.in-View.is ∙ view_is c.in-View.name c.in-View.parent c.in-View.form) (view_is c.in-View.name c.in-View.parent c.plan-form.result)
+    (views_done (state_of c.args.self.now) (state_of c.parent.new.self) (state_of c.plan-form.new.self) (state_of c.learn-in-View.new.self) c.in-View.name c.in-View.parent (plan_seen c.in-View.form) (plan_seen c.plan-form.result) _
+    c.parent.ensures c.plan-form.ensures.tree c.plan-form.ensures.state c.view.ensures c.in_ok-learn-in-View.ensures)
+
+pub form-returns-in-Assign : goal.form-returns-in-Assign
+form-returns-in-Assign t c =
+    form_done _ _ _ _ _ _ (ap action_form_seen c.in-Assign.is ∙ assign_is c.in-Assign.target c.in-Assign.value) (assign_is c.in-Assign.target c.assignment.new.value)
+    (assigns_done (state_of c.args.self.now) (state_of c.assignment.new.self) c.in-Assign.target (term_seen c.in-Assign.value) (term_seen c.assignment.new.value) c.assignment.ensures.tree c.assignment.ensures.state)
+
+pub form-returns-in-Store : goal.form-returns-in-Store
+form-returns-in-Store t c =
+    form_done _ _ _ _ _ _ (ap action_form_seen c.in-Store.is ∙ store_is c.in-Store.target c.in-Store.value) (store_is c.access.new.target c.right_side.new.value)
+    (stores_done (state_of c.args.self.now) (state_of c.access.new.self) (state_of c.right_side.new.self) (term_seen c.in-Store.target) (term_seen c.access.new.target) (term_seen c.in-Store.value) (term_seen c.right_side.new.value)
+    c.access.ensures.tree c.access.ensures.state c.right_side.ensures.tree c.right_side.ensures.state)
+
+pub form-returns-in-Reduce : goal.form-returns-in-Reduce
+form-returns-in-Reduce t c =
+    form_done _ _ _ _ _ _ (ap action_form_seen c.in-Reduce.is ∙ reduce_is c.in-Reduce.target c.in-Reduce.op c.in-Reduce.value) (reduce_is c.in-Reduce.target c.in-Reduce.op c.reduction.new.value)
+    (reduces_done (state_of c.args.self.now) (state_of c.reduction.new.self) c.in-Reduce.target c.in-Reduce.op (term_seen c.in-Reduce.value) (term_seen c.reduction.new.value) c.reduction.ensures.tree c.reduction.ensures.state)
+
+pub form-returns-in-Call : goal.form-returns-in-Call
+form-returns-in-Call t c =
+    form_done _ _ _ _ _ _ (ap action_form_seen c.in-Call.is ∙ call_is c.in-Call.function c.in-Call.arguments) (call_is c.in-Call.function c.arguments.new.arguments)
+    (calls_done (state_of c.args.self.now) (state_of c.arguments.new.self) c.in-Call.function (map term_seen c.in-Call.arguments.items) (map term_seen c.arguments.new.arguments.items) c.arguments.ensures.tree c.arguments.ensures.state)
+
+pub form-returns-after-loop-part : goal.form-returns-after-loop-part
+form-returns-after-loop-part t c =
+    form_done _ _ _ _ _ _ (ap action_form_seen c.in-Block.is ∙ block_is c.in-Block.body) (block_is (with_items c.in-Block.body c.loop-part.part-items))
+    (blocks_done (state_of c.args.self.now) (state_of c.loop-part.self) (groups (map part_seen c.in-Block.body.items)) (groups (map part_seen (with_items c.in-Block.body c.loop-part.part-items).items))
+    (parts_done (state_of c.args.self.now) (state_of c.loop-part.self) c.in-Block.body c.deref_mut-part-items.result.now c.loop-part.part-items c.loop-part.part-index
+    c.deref_mut-part-items.ensures.value c.deref_mut-part-items.ensures.len c.loop-part-test.false c.loop-part.invariant.0 c.loop-part.invariant.1))
+
+pub form-returns-in_ok-other-in-If : goal.form-returns-in_ok-other-in-If
+form-returns-in_ok-other-in-If t c =
+    form_done _ _ _ _ _ _ (ap action_form_seen c.in-If.is ∙ if_is c.in-If.test c.in-If.then c.in-If.other) (if_is c.condition.new.test (with_value c.in-If.then c.command.new.command) c.in_ok-other-in-If.other)
+    (decides_done (state_of c.args.self.now) (state_of c.condition.new.self) (state_of c.command.new.self) (state_of c.optional.new.self)
+    (term_seen c.in-If.test) (term_seen c.condition.new.test) (action_seen c.in-If.then.value) (action_seen c.command.new.command)
+    (maybe_seen (option_map (λ b. action_seen b.value) c.in-If.other)) (maybe_seen (option_map (λ b. action_seen b.value) c.in_ok-other-in-If.other))
+    c.condition.ensures.tree c.condition.ensures.state (types_at _ _ _ _ _ c.deref_mut.ensures.value c.in_ok-command-in-If.ensures) c.in_ok-other-in-If.ensures)
+
+pub form-returns-in_ok-command-in-While : goal.form-returns-in_ok-command-in-While
+form-returns-in_ok-command-in-While t c =
+    form_done _ _ _ _ _ _ (ap action_form_seen c.in-While.is ∙ while_is c.in-While.test c.in-While.body) (while_is c.condition-in-While.new.test (with_value c.in-While.body c.command-in-While.new.command))
+    (repeats_done (state_of c.args.self.now) (state_of c.condition-in-While.new.self) (state_of c.command-in-While.new.self) (term_seen c.in-While.test) (term_seen c.condition-in-While.new.test) (action_seen c.in-While.body.value) (action_seen c.command-in-While.new.command)
+    c.condition-in-While.ensures.tree c.condition-in-While.ensures.state (types_at _ _ _ _ _ c.deref_mut-in-While.ensures.value c.in_ok-command-in-While.ensures))
+
+pub form-returns-in_ok-combine-in-For : goal.form-returns-in_ok-combine-in-For
+form-returns-in_ok-combine-in-For t c =
+    form_done _ _ _ _ _ _
+    (ap action_form_seen c.in-For.is ∙ for_is c.in-For.iterator c.in-For.declared c.in-For.low c.in-For.low_place c.in-For.high c.in-For.high_place c.in-For.factor c.in-For.factor_place c.in-For.body c.in-For.combine c.in-For.combine_place)
+    (for_is c.in-For.iterator c.in-For.declared c.in-For.low c.in-For.low_place c.in-For.high c.in-For.high_place c.in-For.factor c.in-For.factor_place (with_value c.in-For.body c.command-in-For.new.command) c.in_ok-combine-in-For.combine c.in-For.combine_place)
+    (counts_done (state_of c.args.self.now) (state_of c.bounds.new.self) (state_of c.learn-in-For.new.self) (state_of c.command-in-For.new.self) (state_of c.optional-in-For.new.self)
+    c.in-For.iterator c.in-For.declared c.iterator_kind-kind.result (placed c.in-For.low c.in-For.low_place) (placed c.in-For.high c.in-For.high_place) (placed c.in-For.factor c.in-For.factor_place)
+    (action_seen c.in-For.body.value) (action_seen c.command-in-For.new.command)
+    (maybe_seen (option_map (λ b. action_seen b.value) c.in-For.combine)) (maybe_seen (option_map (λ b. action_seen b.value) c.in_ok-combine-in-For.combine)) c.in-For.combine_place (of_iterator c.iterator_kind-kind.result)
+    c.iterator_kind-kind.ensures c.bounds.ensures refl c.in_ok-learn-in-For.ensures
+    (types_at _ _ _ _ _ c.deref_mut-in-For.ensures.value c.in_ok-command-in-For.ensures) c.in_ok-combine-in-For.ensures)
+
+pub part-loop-command-init : goal.part-loop-command-init
+part-loop-command-init t c = ((refl, λ k d past. refl), start action_seen action_step action_made _ _)
+
+pub part-loop-command-preserved : goal.part-loop-command-preserved
+part-loop-command-preserved t c =
+    let made = action_turn (state_of c.loop-command.self) (state_of c.command.new.self) c.command-item.result _ (action_seen c.command.new.command) c.command-item.is c.in_ok-command.ensures in
+    turn action_seen action_step action_made c.deref_mut-command-items.result.now c.loop-command.command-items c.loop-command.command-index (state_of c.args.self.now) (state_of c.loop-command.self) (state_of c.command.new.self) c.command-item.result c.command.new.command
+    (omega (arith, c.loop-command-test.true, c.loop-command.auto.command-items)) c.loop-command.invariant.0 c.loop-command.invariant.1 c.command-item.is made.0 made.1
+
+pub part-returns : goal.part-returns
+part-returns t c =
+    part_done (state_of c.args.self.now) (state_of c.loop-command.self) c.args.part.now c.deref_mut-command-items.result.now c.loop-command.command-items c.loop-command.command-index
+    c.deref_mut-command-items.ensures.value c.deref_mut-command-items.ensures.len c.loop-command-test.false c.loop-command.invariant.0 c.loop-command.invariant.1
+
+pub form-loop-part-init : goal.form-loop-part-init
+form-loop-part-init t c = ((refl, λ k d past. refl), start part_seen part_step part_made _ _)
+
+pub form-loop-part-preserved : goal.form-loop-part-preserved
+form-loop-part-preserved t c =
+    let made = part_turn (state_of c.loop-part.self) (state_of c.part.new.self) c.part-item.result _ (part_seen c.part.new.part) c.part-item.is c.in_ok-part-in-Block.ensures in
+    turn part_seen part_step part_made c.deref_mut-part-items.result.now c.loop-part.part-items c.loop-part.part-index (state_of c.args.self.now) (state_of c.loop-part.self) (state_of c.part.new.self) c.part-item.result c.part.new.part
+    (omega (arith, c.loop-part-test.true, c.loop-part.auto.part-items)) c.loop-part.invariant.0 c.loop-part.invariant.1 c.part-item.is made.0 made.1

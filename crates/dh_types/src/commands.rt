@@ -1,0 +1,193 @@
+//! The kinds within commands.
+
+ghost use Rattle.std.specs.Prelude.{◌≡◌, OnOk, IfOk, option_map};
+ghost use Rattle.dh_tree.specs.Seen.{action_seen, action_form_seen, part_seen, maybe_seen};
+ghost use Rattle.dh_tree.specs.Kinds as rules;
+ghost use Rattle.dh_types.specs.Walks.{state_of, Types, TypesForm, TypesOther, TypesActions};
+
+use crate::facts::{Fact, memory_fact, variable_fact};
+use crate::walks::Walk;
+use dh_base::NoMemory;
+use dh_tree::{Command, CommandForm, Kind};
+use std::alloc::Global;
+use std::mem;
+
+// The kind of an iterator: the unsigned one of 32 bits where none is written.
+fn iterator_kind(declared: Option<Kind>) -> Kind
+    ensures { result ≡ rules.iterator_kind declared }
+{
+    match declared {
+        Some(kind) => kind,
+        None => Kind::Unsigned(32),
+    }
+}
+
+impl Walk {
+    /// Gives the expressions of a command their kinds.
+    #[cycle(commands)]
+    pub fn command(&mut self, alloc: Global, command: &mut Command) -> Result<(), NoMemory>
+        ensures { OnOk result (Types (state_of self.old) (state_of self.new) (action_seen command.old) (action_seen command.new)) }
+    {
+        let blank = CommandForm::Block {
+            body: Vec::new(alloc),
+        };
+        let form = mem::replace(&mut command.form, blank);
+        command.form = self.form(alloc, form)?;
+        Ok(())
+    }
+
+    // The form with the kinds of its expressions.
+    #[cycle(commands)]
+    fn form(&mut self, alloc: Global, form: CommandForm) -> Result<CommandForm, NoMemory>
+        ensures { IfOk result (λ done. TypesForm (state_of self.old) (state_of self.new) (action_form_seen form) (action_form_seen done)) }
+    {
+        match form {
+            CommandForm::Let {
+                name,
+                declared,
+                value,
+            } => {
+                let value = self.value(declared, value);
+                self.learn(variable_fact(declared, &value))?;
+                Ok(CommandForm::Let {
+                    name,
+                    declared,
+                    value,
+                })
+            }
+            CommandForm::LetMemory {
+                name,
+                shape,
+                shape_places,
+                value,
+            } => {
+                let value = self.value(Some(shape.kind), value);
+                self.learn(memory_fact(&shape))?;
+                Ok(CommandForm::LetMemory {
+                    name,
+                    shape,
+                    shape_places,
+                    value,
+                })
+            }
+            CommandForm::View { name, parent, form } => {
+                self.parent(&parent);
+                let form = self.plan(form);
+                self.learn(self.view(&parent, &form))?;
+                Ok(CommandForm::View { name, parent, form })
+            }
+            CommandForm::Assign { target, mut value } => {
+                self.assignment(&target, &mut value);
+                Ok(CommandForm::Assign { target, value })
+            }
+            CommandForm::Store {
+                mut target,
+                mut value,
+            } => {
+                self.access(&mut target);
+                self.right_side(target.kind, &mut value);
+                Ok(CommandForm::Store { target, value })
+            }
+            CommandForm::Reduce {
+                target,
+                op,
+                mut value,
+            } => {
+                self.reduction(&target, &mut value);
+                Ok(CommandForm::Reduce { target, op, value })
+            }
+            CommandForm::Call {
+                function,
+                mut arguments,
+            } => {
+                self.arguments(&function, &mut arguments);
+                Ok(CommandForm::Call {
+                    function,
+                    arguments,
+                })
+            }
+            CommandForm::Block { mut body } => {
+                for part in body.iter_mut() {
+                    self.part(alloc, part)?;
+                }
+                Ok(CommandForm::Block { body })
+            }
+            CommandForm::If {
+                mut test,
+                mut then,
+                other,
+            } => {
+                self.condition(&mut test);
+                self.command(alloc, &mut then)?;
+                let other = self.optional(alloc, other)?;
+                Ok(CommandForm::If { test, then, other })
+            }
+            CommandForm::While { mut test, mut body } => {
+                self.condition(&mut test);
+                self.command(alloc, &mut body)?;
+                Ok(CommandForm::While { test, body })
+            }
+            CommandForm::For {
+                iterator,
+                declared,
+                low,
+                low_place,
+                high,
+                high_place,
+                factor,
+                factor_place,
+                mut body,
+                combine,
+                combine_place,
+            } => {
+                let kind = iterator_kind(declared);
+                self.bounds(&iterator, kind, (low, low_place), (high, high_place));
+                self.learn(Fact::Iterator { kind })?;
+                self.command(alloc, &mut body)?;
+                let combine = self.optional(alloc, combine)?;
+                Ok(CommandForm::For {
+                    iterator,
+                    declared,
+                    low,
+                    low_place,
+                    high,
+                    high_place,
+                    factor,
+                    factor_place,
+                    body,
+                    combine,
+                    combine_place,
+                })
+            }
+        }
+    }
+
+    // A block that may lack.
+    #[cycle(commands)]
+    fn optional(
+        &mut self,
+        alloc: Global,
+        block: Option<Box<Command>>,
+    ) -> Result<Option<Box<Command>>, NoMemory>
+        ensures { IfOk result (λ done. TypesOther (state_of self.old) (state_of self.new) (maybe_seen (option_map (λ b. action_seen b.value) block)) (maybe_seen (option_map (λ b. action_seen b.value) done))) }
+    {
+        match block {
+            Some(mut command) => {
+                self.command(alloc, &mut command)?;
+                Ok(Some(command))
+            }
+            None => Ok(None),
+        }
+    }
+
+    // The commands between two `---`.
+    #[cycle(commands)]
+    fn part(&mut self, alloc: Global, part: &mut Vec<Command>) -> Result<(), NoMemory>
+        ensures { OnOk result (TypesActions (state_of self.old) (state_of self.new) (part_seen part.old) (part_seen part.new)) }
+    {
+        for command in part.iter_mut() {
+            self.command(alloc, command)?;
+        }
+        Ok(())
+    }
+}

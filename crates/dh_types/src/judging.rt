@@ -1,0 +1,288 @@
+//! Breaches of the rules on kinds in expressions that have their kinds, and at the places of commands
+//! where they stand.
+
+ghost use Rattle.std.specs.Prelude.{◌≡◌, ◌&&◌, ◌==◌, true, false, if◌then◌else◌, option_map, map};
+ghost use Rattle.std.specs.Option.{is_some};
+ghost use Rattle.dh_tree.specs.Seen.{term_seen, terms, factor_seen, plan_seen, placed};
+ghost use Rattle.dh_tree.specs.LeastBreach.{least_of};
+ghost use Rattle.dh_tree.specs.Kinds as rules;
+ghost use Rattle.dh_tree.specs.KindBreaches as breaches;
+ghost use Rattle.dh_types.specs.Facts.{fact_seen, facts_seen, listed, is_memory as names_it, is_memory_name};
+
+use crate::facts::{Fact, fact_of};
+use crate::keeping::{keep, lost_unless, mismatch_unless};
+use crate::operands::applied_breach;
+use crate::sorts::{are_alike, is_integer, is_truth, is_value, is_wider};
+use dh_base::Place;
+use dh_tree::{Breach, Expr, ExprForm, Kind, Ref};
+
+// The breach of a name that is used as a value.
+fn value_breach(fact: Option<&Fact>, place: Place) -> Option<Breach>
+    ensures { listed result ≡ rules.value_breaches (option_map (λ f. fact_seen f.now) fact.entry) place }
+{
+    match fact {
+        Some(Fact::Memory { .. } | Fact::Function { .. }) => mismatch_unless(false, place),
+        Some(Fact::Variable { .. } | Fact::Iterator { .. }) | None => None,
+    }
+}
+
+// Whether an expression has a kind.
+fn has_kind(term: &Expr) -> bool
+    ensures { result ≡ is_some (rules.found (term_seen term.now)) }
+{
+    term.kind.is_some()
+}
+
+// Whether each of the indices has a kind.
+fn all_found(indices: &[Expr]) -> bool
+    ensures { result ≡ rules.all_found (terms (map term_seen indices.now)) }
+{
+    for index in indices {
+        if !has_kind(index) {
+            return false;
+        }
+    }
+    true
+}
+
+// Whether indices have kinds and are not as many as the dimensions.
+#[tactic(auto, using(crate::proofs::Indices::counted))]
+fn are_miscounted(indices: &[Expr], dims: usize) -> bool
+    ensures { result ≡ (rules.all_found (terms (map term_seen indices.now)) && (if rules.count_of (terms (map term_seen indices.now)) == dims then false else true)) }
+{
+    all_found(indices) && indices.len() != dims
+}
+
+// The breach at the name of an access.
+fn access_breach(fact: Option<&Fact>, place: Place, indices: &[Expr]) -> Option<Breach>
+    ensures { listed result ≡ rules.access_breaches (option_map (λ f. fact_seen f.now) fact.entry) place (terms (map term_seen indices.now)) }
+{
+    match fact {
+        Some(Fact::Memory { dims, .. }) => {
+            mismatch_unless(!are_miscounted(indices, *dims), place)
+        }
+        Some(_) => mismatch_unless(false, place),
+        None => None,
+    }
+}
+
+// The breach of a name at whose place a memory or a view stands.
+fn memory_breach(fact: Option<&Fact>, place: Place) -> Option<Breach>
+    ensures { listed result ≡ rules.bank_breaches (option_map (λ f. fact_seen f.now) fact.entry) place }
+{
+    match fact {
+        Some(Fact::Memory { .. }) | None => None,
+        Some(_) => mismatch_unless(false, place),
+    }
+}
+
+// The breach of an index, an offset or a row of this kind.
+fn index_breach(kind: Option<Kind>, place: Place) -> Option<Breach>
+    ensures { listed result ≡ rules.index_breaches kind place }
+{
+    match kind {
+        Some(kind) => mismatch_unless(is_integer(kind), place),
+        None => None,
+    }
+}
+
+// The breach of a cast of an expression of this kind.
+fn cast_breach(place: Place, inner: Option<Kind>, to: Kind) -> Option<Breach>
+    ensures { listed result ≡ rules.cast_breaches place inner to }
+{
+    match inner {
+        Some(_) => mismatch_unless(!is_truth(to), place),
+        None => None,
+    }
+}
+
+/// Keeps the breaches of an expression.
+#[cycle(breaches)]
+#[tactic(auto, using(dh_tree::proofs::SeenTerms::terms_are, crate::proofs::LeastKept::least_then))]
+pub fn keep_term(facts: &[Fact], kept: &mut Option<Breach>, term: &Expr)
+    ensures { kept.new ≡ least_of kept.old (breaches.term_kind_breaches (facts_seen facts.now) (term_seen term.now)) }
+{
+    let place = term.place;
+    match &term.form {
+        ExprForm::Number { .. } => keep(kept, lost_unless(term.kind.is_some(), place)),
+        ExprForm::Truth { .. } => {}
+        ExprForm::Variable { of } => keep(kept, value_breach(fact_of(facts, of), place)),
+        ExprForm::Access { of, indices } => {
+            keep(kept, access_breach(fact_of(facts, of), place, indices));
+            keep_indices(facts, kept, indices);
+        }
+        ExprForm::Physical { of, row, .. } => {
+            keep(kept, memory_breach(fact_of(facts, of), place));
+            keep(kept, index_breach(row.kind, row.place));
+            keep_term(facts, kept, row);
+        }
+        ExprForm::Binary { op, left, right } => {
+            let breach = applied_breach(*op, (left.place, left.kind), (right.place, right.kind));
+            keep(kept, breach);
+            keep_term(facts, kept, left);
+            keep_term(facts, kept, right);
+        }
+        ExprForm::Cast { inner, to } => {
+            keep(kept, cast_breach(place, inner.kind, *to));
+            keep_term(facts, kept, inner);
+        }
+    }
+}
+
+// Keeps the breaches of indices.
+#[cycle(breaches)]
+fn keep_indices(facts: &[Fact], kept: &mut Option<Breach>, indices: &[Expr])
+    ensures { kept.new ≡ least_of kept.old (breaches.indices_kind_breaches (facts_seen facts.now) (terms (map term_seen indices.now))) }
+{
+    for index in indices {
+        keep(kept, index_breach(index.kind, index.place));
+        keep_term(facts, kept, index);
+    }
+}
+
+/// Keeps the breaches of an offset.
+#[tactic(auto, using(crate::proofs::LeastKept::least_then))]
+pub fn keep_offset(facts: &[Fact], kept: &mut Option<Breach>, offset: &Expr)
+    ensures { kept.new ≡ least_of kept.old (breaches.offset_breaches (facts_seen facts.now) (term_seen offset.now)) }
+{
+    keep(kept, index_breach(offset.kind, offset.place));
+    keep_term(facts, kept, offset);
+}
+
+// The breach of a right side of a kind for a target of a kind.
+fn assigned_breach(target: Option<Kind>, value: Option<Kind>, place: Place) -> Option<Breach>
+    ensures { listed result ≡ breaches.assigned_breaches target value place }
+{
+    match (target, value) {
+        (Some(target), Some(value)) => {
+            if are_alike(target, value) {
+                lost_unless(!is_wider(value, target), place)
+            } else {
+                mismatch_unless(false, place)
+            }
+        }
+        _ => None,
+    }
+}
+
+/// Keeps the breaches of a right side for a target of this kind.
+#[tactic(auto, using(crate::proofs::LeastKept::least_then))]
+pub fn keep_right_side(
+    facts: &[Fact],
+    kept: &mut Option<Breach>,
+    target: Option<Kind>,
+    value: &Expr,
+)
+    ensures { kept.new ≡ least_of kept.old (breaches.right_side_breaches (facts_seen facts.now) target (term_seen value.now)) }
+{
+    keep(kept, assigned_breach(target, value.kind, value.place));
+    keep_term(facts, kept, value);
+}
+
+// The breach of a condition of this kind.
+fn truth_breach(kind: Option<Kind>, place: Place) -> Option<Breach>
+    ensures { listed result ≡ breaches.truth_breaches kind place }
+{
+    match kind {
+        Some(kind) => mismatch_unless(is_truth(kind), place),
+        None => None,
+    }
+}
+
+/// Keeps the breaches of a condition.
+#[tactic(auto, using(crate::proofs::LeastKept::least_then))]
+pub fn keep_condition(facts: &[Fact], kept: &mut Option<Breach>, test: &Expr)
+    ensures { kept.new ≡ least_of kept.old (breaches.condition_breaches (facts_seen facts.now) (term_seen test.now)) }
+{
+    keep(kept, truth_breach(test.kind, test.place));
+    keep_term(facts, kept, test);
+}
+
+// Whether it is a memory or a view.
+fn is_memory(fact: Option<&Fact>) -> bool
+    ensures { result ≡ names_it (option_map (λ f. fact_seen f.now) fact.entry) }
+{
+    match fact {
+        Some(Fact::Memory { .. }) => true,
+        _ => false,
+    }
+}
+
+// Whether an expression is the name of a memory or a view.
+#[tactic(auto, using(dh_tree::proofs::SeenTerms::terms_are))]
+fn names_memory(facts: &[Fact], term: &Expr) -> bool
+    ensures { result ≡ is_memory_name (facts_seen facts.now) (term_seen term.now) }
+{
+    match &term.form {
+        ExprForm::Variable { of } => is_memory(fact_of(facts, of)),
+        ExprForm::Number { .. }
+        | ExprForm::Truth { .. }
+        | ExprForm::Access { .. }
+        | ExprForm::Physical { .. }
+        | ExprForm::Binary { .. }
+        | ExprForm::Cast { .. } => false,
+    }
+}
+
+/// Keeps the breaches of an argument: the name of a memory or a view is left to another rule.
+pub fn keep_argument(facts: &[Fact], kept: &mut Option<Breach>, argument: &Expr)
+    ensures { kept.new ≡ least_of kept.old (breaches.argument_breaches (facts_seen facts.now) (term_seen argument.now)) }
+{
+    if !names_memory(facts, argument) {
+        keep_term(facts, kept, argument);
+    }
+}
+
+/// The breach of the name of what is assigned to, where it stands for no variable; an iterator is left
+/// to another rule.
+pub fn target_breach(fact: Option<&Fact>, place: Place) -> Option<Breach>
+    ensures { listed result ≡ breaches.target_breaches (option_map (λ f. fact_seen f.now) fact.entry) place }
+{
+    match fact {
+        Some(Fact::Memory { .. } | Fact::Function { .. }) => mismatch_unless(false, place),
+        Some(Fact::Variable { .. } | Fact::Iterator { .. }) | None => None,
+    }
+}
+
+/// The breach of the name of a view's parent, where it stands for no memory and no view.
+pub fn parent_breach(fact: Option<&Fact>, place: Place) -> Option<Breach>
+    ensures { listed result ≡ breaches.parent_breaches (option_map (λ f. fact_seen f.now) fact.entry) place }
+{
+    memory_breach(fact, place)
+}
+
+/// The breach of a reducer whose target is Bool.
+pub fn reducer_breach(target: Option<Kind>, value: Option<Kind>, place: Place) -> Option<Breach>
+    ensures { listed result ≡ breaches.reducer_breaches target value place }
+{
+    match (target, value) {
+        (Some(target), Some(_)) => mismatch_unless(!is_truth(target), place),
+        _ => None,
+    }
+}
+
+/// The breach of an iterator that is declared Bool.
+pub fn iterator_breach(iterator: &Ref, kind: Kind) -> Option<Breach>
+    ensures { listed result ≡ breaches.iterator_breaches iterator.now kind }
+{
+    mismatch_unless(!is_truth(kind), iterator.place)
+}
+
+/// The breach of a lower bound that is no value of the iterator's kind.
+pub fn low_breach(kind: Kind, low: (u64, Place)) -> Option<Breach>
+    ensures { listed result ≡ breaches.low_breaches kind (placed low.0 low.1) }
+{
+    lost_unless(is_value(kind, false, low.0), low.1)
+}
+
+/// The breach of an upper bound above the lower one, where the number before it is no value of the
+/// iterator's kind.
+pub fn high_breach(kind: Kind, low: (u64, Place), high: (u64, Place)) -> Option<Breach>
+    ensures { listed result ≡ breaches.high_breaches kind (placed low.0 low.1) (placed high.0 high.1) }
+{
+    if low.0 < high.0 {
+        lost_unless(is_value(kind, false, high.0 - 1), high.1)
+    } else {
+        None
+    }
+}
