@@ -124,6 +124,9 @@ has_added rows row r = by (has_row rows row) refl (cases_Bool (row == r))
     by false h e = list_any-append (λ k. k == r) rows (row ∷ []) ∙ last (has_row rows r) (row == r)
 
 module _ (table : List MemEntry) (es : List Event) (memory now : ℕ) (old new : Bank) (h : HasSpent table es memory now old) (ports : new.ports ≡ old.ports) (step : new.step ≡ now) where
+  last_step : new.step ≤ now
+  last_step = omega (arith, step)
+
   rows_new : rows_now new now ≡ new.rows.items
   rows_new = ap (λ (b : Bool). if b then new.rows.items else []) (eq-eqb new.step now step)
 
@@ -152,6 +155,7 @@ module _ (table : List MemEntry) (es : List Event) (memory now : ℕ) (old new :
       ports = ports ∙ h.ports;
       rows = λ k. ap (λ l. has_row l k) (rows_new ∙ r.0) ∙ (has_added (rows_now old now) row k ∙ (ap (λ b. (row == k) || b) (h.rows k) ∙ sym (read_has memory 0 es place (spot_at memory row) k ∙ ap (λ (a : Bool). (a && (row == k)) || has_row (rows_read es memory 0) k) (at_itself memory row))));
       left = counted (has_row (rows_now old now) row) (left_now old now) (left_now new now) new.left (spent es memory 0) (spent after_read memory 0) (ports_at table memory) left_new r.1 more_spent h.left;
+      used = last_step;
     }
       where
         counted : (b : Bool) (l l' k n n' p : ℕ) → l' ≡ k → l ≡ (if b then k else suc k) → n' ≡ extra (not b) + n → l + n ≡ p → l' + n' ≡ p
@@ -184,6 +188,7 @@ module _ (table : List MemEntry) (es : List Event) (memory now : ℕ) (old new :
       ports = ports ∙ h.ports;
       rows = λ k. ap (λ l. has_row l k) (rows_new ∙ r.0) ∙ (h.rows k ∙ ap (λ rows. has_row rows k) (sym (write_rows memory 0 es place (spot_at memory row) value)));
       left = counted (left_now old now) (left_now new now) new.left (spent es memory 0) (spent after_write memory 0) (ports_at table memory) left_new r.1 more_writes h.left;
+      used = last_step;
     }
       where
         counted : (l l' k n n' p : ℕ) → l' ≡ k → l ≡ suc k → n' ≡ suc n → l + n ≡ p → l' + n' ≡ p
@@ -203,6 +208,7 @@ other_read table es place memory row now m b other h = record {
   left = ap (λ n. left_now b now + n) (sums _ _ _ _
       (read_length m 0 es place (spot_at memory row) ∙ ap (λ (a : Bool). extra (a && not (has_row (rows_read es m 0) row)) + length (rows_read es m 0)) (at_another memory row m other))
       (read_writes m 0 es place (spot_at memory row))) ∙ h.left;
+  used = h.used;
 }
   where
     sums : (l l' w w' : ℕ) → l' ≡ 0 + l → w' ≡ w → l' + w' ≡ l + w
@@ -215,6 +221,7 @@ other_write table es place memory row value now m b other h = record {
   left = ap (λ n. left_now b now + n) (sums _ _ _ _
       (ap (λ rows. length rows) (write_rows m 0 es place (spot_at memory row) value))
       (write_writes m 0 es place (spot_at memory row) value ∙ ap (λ (a : Bool). extra a + writes_made es m 0) (at_another memory row m other))) ∙ h.left;
+  used = h.used;
 }
   where
     sums : (l l' w w' : ℕ) → l' ≡ l → w' ≡ 0 + w → l' + w' ≡ l + w

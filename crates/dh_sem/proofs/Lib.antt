@@ -14,4 +14,7 @@ pub mod Undoing
 pub mod Making
 pub mod Ran
 pub mod RunLoops
+pub mod Advanced
+pub mod SmallWrites
+pub mod StandsOn
 pub mod RunParts

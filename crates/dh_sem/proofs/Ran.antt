@@ -86,7 +86,7 @@ set_all [] n w h i = tt
 set_all (x ∷ words) zero w h i = (i, h.1)
 set_all (x ∷ words) (suc n) w h i = (h.0, set_all words n w h.1 i)
 
-writes_then : (es fs : List Event) → writes_in (es ++ fs) ≡ writes_in es ++ writes_in fs
+pub writes_then : (es fs : List Event) → writes_in (es ++ fs) ≡ writes_in es ++ writes_in fs
 writes_then [] fs = refl
 writes_then (reads q s ∷ es) fs = writes_then es fs
 writes_then (writes q s v ∷ es) fs = ap (λ l. record { memory = s.memory; position = s.position; bits = v } ∷ l) (writes_then es fs)

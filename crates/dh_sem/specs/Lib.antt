@@ -6,4 +6,5 @@ pub mod Weights
 pub mod States
 pub mod Straight
 pub mod Runs
+pub mod Advances
 pub mod Starting

@@ -1,5 +1,5 @@
 -- What banks keep of what a step has spent of their ports.
-use Rattle.std.specs.Prelude.{◌≡◌, ℕ, ◌+◌, ◌==◌, suc, Bool, true, false, if◌then◌else◌, List, [], ◌∷◌, ◌++◌, length, slice_get, Some, None, Result, Ok, Err}
+use Rattle.std.specs.Prelude.{◌≡◌, ℕ, ◌+◌, ◌≤◌, ◌==◌, suc, Bool, true, false, if◌then◌else◌, List, [], ◌∷◌, ◌++◌, length, slice_get, Some, None, Result, Ok, Err}
 use Rattle.std.specs.List.{list_any}
 use Rattle.dh_base.specs.declared.lists.NoMemory.{NoMemory}
 use Rattle.dh_tree.specs.declared.tables.MemEntry.{MemEntry}
@@ -30,11 +30,12 @@ abbrev pub WritesRow : (rows : List ℕ) → (left : ℕ) → Bool → (rows' : 
 WritesRow rows left true rows' left' = (rows' ≡ rows) × (left ≡ suc left')
 WritesRow rows left false rows' left' = left ≡ 0
 
--- a bank keeps what these events have spent of the bank of a memory
+-- a bank keeps what these events of the latest step have spent of the bank of a memory
 pub record HasSpent (table : List MemEntry) (es : List Event) (memory now : ℕ) (b : Bank) : Type 0 where
   pub ports : b.ports ≡ ports_at table memory
   pub rows : (row : ℕ) → has_row (rows_now b now) row ≡ has_row (rows_read es memory 0) row
   pub left : left_now b now + spent es memory 0 ≡ ports_at table memory
+  pub used : b.step ≤ now
 
 -- the banks keep what these events of a step have spent, which is within the ports, without a fault
 pub record HaveSpent (table : List MemEntry) (es : List Event) (now : ℕ) (banks : List Bank) : Type 0 where

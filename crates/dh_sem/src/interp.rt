@@ -13,14 +13,14 @@ ghost use Rattle.dh_sem.specs.Starting.{AreUnused};
 use crate::evaluating::{Scene, Stop};
 use crate::gathering::phases_in;
 use crate::operands::UNSET;
-use crate::running::{State, run_phase, undo, write_all};
+use crate::running::State;
 use crate::spending::Bank;
+use crate::stepping::{advance, make_writes, outcome_at};
 use dh_base::{NoMemory, Outcome};
 use dh_tree::{Command, MemEntry, Memories, Typed};
 use dh_value::Word;
 use std::alloc::Global;
 use std::marker::Model;
-use std::mem;
 
 /// A program in a run, after a number of logical steps.
 #[derive(Drop)]
@@ -76,13 +76,6 @@ fn unset(alloc: Global, count: usize) -> Result<Vec<Word>, NoMemory>
         variables.push(UNSET)?;
     }
     Ok(variables)
-}
-
-/// Frees each bank of what an interrupted step has spent.
-fn release(banks: &mut [Bank]) {
-    for bank in banks {
-        bank.step = 0;
-    }
 }
 
 impl<'a> Interp<'a> {
@@ -141,41 +134,24 @@ impl<'a> Interp<'a> {
         if self.outcome != Outcome::Going {
             return Ok(self.outcome);
         }
-        self.state.writes.clear();
-        self.state.changes.clear();
         let scene = Scene {
             entries: self.entries,
             memories: self.memories.lists(),
             step: self.steps + 1,
         };
-        match run_phase(&scene, &mut self.state, self.phases[self.next].as_slice()) {
+        match advance(&scene, &mut self.state, self.phases[self.next].as_slice()) {
             Ok(()) => {
-                self.finish();
+                make_writes(self.alloc, &mut self.memories, self.state.writes.as_slice());
+                self.steps += 1;
+                self.next += 1;
+                self.outcome = outcome_at(self.next, self.phases.len());
                 Ok(self.outcome)
             }
             Err(Stop::At(outcome)) => {
-                undo(&mut self.state.variables, self.state.changes.as_slice());
                 self.outcome = outcome;
                 Ok(outcome)
             }
-            Err(Stop::NoMemory) => {
-                undo(&mut self.state.variables, self.state.changes.as_slice());
-                release(self.state.banks.as_mut_slice());
-                Err(NoMemory)
-            }
-        }
-    }
-
-    /// Makes the writes of a step that did not stop, and goes on behind its phase.
-    fn finish(&mut self) {
-        let held = mem::replace(&mut self.memories, Memories::new(Vec::new(self.alloc)));
-        let mut lists = held.into_lists();
-        write_all(&mut lists, self.state.writes.as_slice());
-        self.memories = Memories::new(lists);
-        self.steps += 1;
-        self.next += 1;
-        if self.next == self.phases.len() {
-            self.outcome = Outcome::Ended;
+            Err(Stop::NoMemory) => Err(NoMemory),
         }
     }
 

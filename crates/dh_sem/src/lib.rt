@@ -8,7 +8,6 @@ mod interp;
 mod operands;
 mod running;
 mod spending;
-#[cfg(test)]
-mod tests;
+mod stepping;
 
 pub use interp::Interp;
