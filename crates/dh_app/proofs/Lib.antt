@@ -1,4 +1,8 @@
+pub mod Interpreted
 pub mod Naming
+pub mod OneJob
 pub mod Replying
 pub mod Runs
+pub mod Standings
+pub mod StepWords
 pub mod Succeeding

@@ -1,11 +1,12 @@
--- The words that a job names are there: the job of a list tells its length. By cases on the list.
-use Rattle.std.proofs.Common.{◌≡◌, ℕ, ◌<◌, ◌&&◌, Bool, true, false, if◌then◌else◌, List, [], ◌∷◌, length, map, get_or, codes, Option, Some, None, sym, ap, subst, zero, suc, arith}
+-- The words that a job names are there: a job is over the words 1 and 2 at most, and the list has them.
+use Rattle.std.proofs.Common.{◌≡◌, ℕ, ◌<◌, ◌≤◌, ◌&&◌, Bool, true, false, if◌then◌else◌, List, [], ◌∷◌, length, map, get_or, codes, Option, Some, None, sym, ap, subst, zero, suc, arith}
 use Rattle.std.specs.Str.{bytes_eq}
 use Rattle.std.proofs.lemmas.List.{length-map}
-use Rattle.dh_app.specs.Words.{is_file_word, over_file, job_of}
-use Rattle.dh_app.specs.Ends.{Names, NamesCheck, NamesLower}
+use Rattle.dh_app.specs.Words.{is_file_word, usual_steps, steps_of, over_file, interpret_for, interpret_with, simulate_with, over_data, job_of}
+use Rattle.dh_app.specs.Asking.{data_at}
+use Rattle.dh_app.specs.Ends.{Names, NamesCheck, NamesLower, NamesInterpret}
 use Rattle.dh_app.specs.declared.words.Job.{Job}
-use Rattle.dh_app.specs.declared.words.Job.TheVariants.{Check, Lower, Simulate}
+use Rattle.dh_app.specs.declared.words.Job.TheVariants.{Check, Lower, Interpret, Simulate}
 
 -- the word of a list at a place, by its view
 word_at : {S : Type 0} (view : S → List ℕ) (ws : List S) (k : ℕ) (w : S) → k < length ws → w ≡ get_or ws k w → get_or (map view ws) k [] ≡ view w
@@ -17,25 +18,68 @@ word_at view (x ∷ xs) (suc k) w l e = word_at view xs k w (let z : suc k < suc
 abbrev Within : Job → ℕ → Type 0
 Within (Check file) n = file < n
 Within (Lower file) n = file < n
+Within (Interpret file data_ steps unchecked) n = (file < n) × (data_ < n)
 Within (Simulate file data_) n = (file < n) × (data_ < n)
 
-two_words : (b c d : Bool) (j : Job) → (if b then (if c then Some (Check 1) else (if d then Some (Lower 1) else None)) else None) ≡ Some j → Within j 2
-two_words true true d j e = let same : ◌≡◌ {A = Job} (Check 1) j = cc in subst (λ (x : Job). Within x 2) same (omega arith)
-two_words true false true j e = let same : ◌≡◌ {A = Job} (Lower 1) j = cc in subst (λ (x : Job). Within x 2) same (omega arith)
-two_words true false false j e = cc
-two_words false c d j e = cc
+-- whatever job it is, if it is one
+abbrev WithinAll : Option Job → ℕ → Type 0
+WithinAll None n = Unit {0}
+WithinAll (Some j) n = Within j n
 
-three_words : (b : Bool) (j : Job) → (if b then Some (Simulate 1 2) else None) ≡ Some j → Within j 3
-three_words true j e = let same : ◌≡◌ {A = Job} (Simulate 1 2) j = cc in subst (λ (x : Job). Within x 3) same (omega arith, omega arith)
-three_words false j e = cc
+either : (b : Bool) (x y : Option Job) (n : ℕ) → WithinAll x n → WithinAll y n → WithinAll (if b then x else y) n
+either true x y n h k = h
+either false x y n h k = k
+
+over_one : (command : List ℕ) (n : ℕ) → 2 ≤ n → WithinAll (over_file command) n
+over_one command n l =
+    either (bytes_eq command (codes "check")) _ _ n (omega (arith, l)) (either (bytes_eq command (codes "lower")) _ _ n (omega (arith, l)) tt)
+
+for_steps : (unchecked : Bool) (steps : Option ℕ) (n : ℕ) → 3 ≤ n → WithinAll (interpret_for unchecked steps) n
+for_steps unchecked None n l = tt
+for_steps unchecked (Some steps) n l = (omega (arith, l), omega (arith, l))
+
+with_options : (options : List (List ℕ)) (n : ℕ) → 3 ≤ n → WithinAll (interpret_with options) n
+with_options [] n l = for_steps false (Some usual_steps) n l
+with_options (a ∷ []) n l = either (bytes_eq a (codes "--unchecked")) _ _ n (for_steps true (Some usual_steps) n l) tt
+with_options (a ∷ (b ∷ [])) n l = either (bytes_eq a (codes "--steps")) _ _ n (for_steps false (steps_of b) n l) tt
+with_options (a ∷ (b ∷ (c ∷ []))) n l =
+    either (bytes_eq a (codes "--unchecked") && bytes_eq b (codes "--steps")) _ _ n (for_steps true (steps_of c) n l)
+    (either (bytes_eq a (codes "--steps") && bytes_eq c (codes "--unchecked")) _ _ n (for_steps true (steps_of b) n l) tt)
+with_options (a ∷ (b ∷ (c ∷ (d ∷ more)))) n l = tt
+
+without_options : (options : List (List ℕ)) (n : ℕ) → 3 ≤ n → WithinAll (simulate_with options) n
+without_options [] n l = (omega (arith, l), omega (arith, l))
+without_options (a ∷ more) n l = tt
+
+over_two : (command : List ℕ) (options : List (List ℕ)) (n : ℕ) → 3 ≤ n → WithinAll (over_data command options) n
+over_two command options n l =
+    either (bytes_eq command (codes "simulate")) _ _ n (without_options options n l)
+    (either (bytes_eq command (codes "interpret")) _ _ n (with_options options n l) tt)
+
+within_all : (ws : List (List ℕ)) → WithinAll (job_of ws) (length ws)
+within_all [] = tt
+within_all (a ∷ []) = tt
+within_all (a ∷ (b ∷ [])) = either (is_file_word b) _ _ 2 (over_one a 2 (omega arith)) tt
+within_all (a ∷ (b ∷ (c ∷ ws))) =
+    either (is_file_word b && is_file_word c) _ _ (length (a ∷ (b ∷ (c ∷ ws)))) (over_two a ws (length (a ∷ (b ∷ (c ∷ ws)))) (omega arith)) tt
 
 within : (ws : List (List ℕ)) (j : Job) → job_of ws ≡ Some j → Within j (length ws)
-within [] j e = cc
-within (a ∷ []) j e = cc
-within (a ∷ (b ∷ [])) j e = two_words (is_file_word b) (bytes_eq a (codes "check")) (bytes_eq a (codes "lower")) j e
-within (a ∷ (b ∷ (c ∷ []))) j e = three_words (bytes_eq a (codes "simulate") && (is_file_word b && is_file_word c)) j e
-within (a ∷ (b ∷ (c ∷ (d ∷ ws)))) j e = cc
+within ws j e = subst (λ (o : Option Job). WithinAll o (length ws)) e (within_all ws)
 
+-- the places of a job over data
+pub data_within : {S : Type 0} (view : S → List ℕ) (ws : List S) (j : Job) (d : ℕ) → job_of (map view ws) ≡ Some j → data_at j ≡ Some d → d < length ws
+data_within view ws (Check file) d job e = cc
+data_within view ws (Lower file) d job e = cc
+data_within view ws (Interpret file data_ steps unchecked) d job e =
+    let both = within (map view ws) (Interpret file data_ steps unchecked) job in
+    let same : data_ ≡ d = cc in
+    omega (arith, both.1, same, length-map ws view)
+data_within view ws (Simulate file data_) d job e =
+    let both = within (map view ws) (Simulate file data_) job in
+    let same : data_ ≡ d = cc in
+    omega (arith, both.1, same, length-map ws view)
+
+-- so they are those that are read
 pub names_check : {S : Type 0} (view : S → List ℕ) (ws : List S) (f : ℕ) (w : S) → job_of (map view ws) ≡ Some (Check f) → w ≡ get_or ws f w
     → NamesCheck (map view ws) (view w)
 names_check view ws f w job e =
@@ -52,6 +96,14 @@ pub names_simulate : {S : Type 0} (view : S → List ℕ) (ws : List S) (f d : �
     → Names (map view ws) (view v) (view w)
 names_simulate view ws f d v w job e h =
     let both = within (map view ws) (Simulate f d) job in
+    let first : f < length ws = omega (arith, both.0, length-map ws view) in
+    let second : d < length ws = omega (arith, both.1, length-map ws view) in
+    record { file_at = f; data_at = d; job = job; file_is = word_at view ws f v first e; data_is = word_at view ws d w second h }
+
+pub names_interpret : {S : Type 0} (view : S → List ℕ) (ws : List S) (f d : ℕ) (steps : ℕ) (unchecked : Bool) (v w : S) → job_of (map view ws) ≡ Some (Interpret f d steps unchecked)
+    → v ≡ get_or ws f v → w ≡ get_or ws d w → NamesInterpret (map view ws) (view v) (view w) steps unchecked
+names_interpret view ws f d steps unchecked v w job e h =
+    let both = within (map view ws) (Interpret f d steps unchecked) job in
     let first : f < length ws = omega (arith, both.0, length-map ws view) in
     let second : d < length ws = omega (arith, both.1, length-map ws view) in
     record { file_at = f; data_at = d; job = job; file_is = word_at view ws f v first e; data_is = word_at view ws d w second h }

@@ -13,44 +13,33 @@ use Rattle.dh_base.specs.declared.statuses.Status.TheVariants as status
 use Rattle.dh_tree.specs.Tables.{Fits}
 use Rattle.dh_tree.specs.Meaning.{table_of}
 use Rattle.dh_tree.specs.PlainTrees.{Program}
-use Rattle.dh_tree.specs.Seen.{program_seen}
 use Rattle.dh_tree.specs.declared.tables.MemEntry.{MemEntry}
-use Rattle.dh_check.specs.Verdicts.{Verdict, accepts, refuses, exceeds, IsVerdict}
-use Rattle.dh_check.specs.declared.accepted.Accepted.{Accepted}
+use Rattle.dh_check.specs.Verdicts.{Asked, Verdict, accepts, refuses, exceeds, IsVerdict, FaultTells}
+use Rattle.dh_check.specs.declared.checking.CheckFault.{CheckFault}
+use Rattle.dh_check.specs.declared.checking.CheckFault.TheVariants as check_fault
 use Rattle.dh_data.specs.Reports.{report_text}
+use Rattle.dh_data.specs.declared.reports.Ending.{Ending}
 use Rattle.dh_net.specs.declared.nets.Net.{Net}
 use Rattle.dh_net.specs.Plays.{IsStuck}
 use Rattle.dh_net.proofs.Reporting.{reports_by}
 use Rattle.dh_compile.specs.Compiled.{PlaysProgram}
-use Rattle.dh_data.specs.DataFiles.{Means, Holds, IfTold}
+use Rattle.dh_data.specs.DataFiles.{Means, IfTold}
 use Rattle.dh_data.specs.declared.data_files.DataFault.{DataFault}
 use Rattle.dh_data.specs.declared.data_files.DataFault.TheVariants as fault
 use Rattle.dh_base.specs.declared.lists.NoMemory.{NoMemory}
 use Rattle.std.specs.declared.alloc.Global.{Global}
 use Rattle.dh_app.specs.Engines.{AnswersTo, AreRuns}
-use Rattle.dh_app.specs.Ends.{most_clocks, Names, NamesCheck, NamesLower, NamesProgram, MayRead, IsTooLong, FailsToRead, ComesTo, IsProgram, IsData, IsBadData, status_of, ending_of, IsReport, Reported, Answers, verdict_line, verdict_status}
+use Rattle.dh_app.specs.Asking.{checked, compiled, interpreted, NamesProgram, NamesData}
+use Rattle.dh_app.specs.Interpreting.{status_of, stands_after, ending_at, IsStandingReport}
+use Rattle.dh_app.specs.Ends.{most_clocks, Names, NamesCheck, NamesLower, NamesInterpret, MayRead, IsTooLong, FailsToRead, ComesTo, IsProgram, IsData, IsBadData, ending_of, IsReport, Reported, Interpreted, Answers, verdict_line, verdict_status}
 use Rattle.dh_app.specs.Lines.{bad_data_line}
-use Rattle.dh_app.specs.Replies.{AnswersLine, AnswersWith, WritesFault, Replies, IsRefusal, ProgramOf, ProgramRead, DataOf, DataRead, RunReplies, ReportsFirst, LowerReplies, CheckReplies}
+use Rattle.dh_app.specs.Replies.{AnswersLine, AnswersWith, AnswersFault, WritesFault, Replies, IsRefusal, Refusing, NoProgram, DataOf, DataRead, RunReplies, ReportsEnding, ReportsFirst, StandingReplies, LowerReplies, CheckReplies}
 use Rattle.dh_app.specs.declared.engine.Finish.{Finish}
 use Rattle.dh_app.specs.declared.running.Answer.{Answer}
 use Rattle.dh_app.specs.declared.running.Reply.{Reply}
 use Rattle.dh_app.specs.declared.running.Reply.TheVariants as reply
 
--- a file that was read, and its text
-pub program_read : (old new : FilesSeen) (name text : List ℕ) (r : Result Accepted Reply) → MayBe (old.told name) text → length text ≤ greatest_of limit.Source
-    → ProgramOf text r → ProgramRead old new name r
-program_read old new name text (Ok p) m l h = record { text = text; read = record { contents = m; within = l }; verdict = h }
-program_read old new name text (Err (reply.Answer a)) m l h =
-    inr (record {
-      verdict = h.verdict;
-      refuses_it = h.refuses_it;
-      comes = record { text = text; read = record { contents = m; within = l }; verdict = h.answers.verdict };
-      status_is = h.answers.status_is;
-      text_is = h.answers.text_is;
-    })
-program_read old new name text (Err reply.ReadFault) m l h = absurd h
-program_read old new name text (Err reply.NoMemory) m l h = tt
-
+-- a file that was read, and its bytes
 pub data_read : (old new : FilesSeen) (name bytes : List ℕ) (table : List MemEntry) (r : Result (List (List ℕ)) Reply) → MayBe (old.told name) bytes → length bytes ≤ greatest_of limit.Data
     → DataOf bytes table r → DataRead old new name table r
 data_read old new name bytes table (Ok memories) m l h = (record { bytes = bytes; read = record { contents = m; within = l }; holds = h.0; only = h.1.0 }, h.1.1)
@@ -94,10 +83,17 @@ bad_data_before old mid name table f k h = record { bytes = h.bytes; read = read
 -- a report's status is that of an outcome
 report_answers : (words : List (List ℕ)) (old new : FilesSeen) (exact : Bool) (answers : List Finish) (o : Outcome) (text : List ℕ) → (IsStuck o → ⊥)
     → Reported words old exact answers (status_of o) text → Answers words old new exact answers (status_of o) text
-report_answers words old new exact answers outcome.Going text n h = h
+report_answers words old new exact answers outcome.Going text n h = inl h
 report_answers words old new exact answers outcome.Ended text n h = inl h
-report_answers words old new exact answers (outcome.Faulted kind place) text n h = h
+report_answers words old new exact answers (outcome.Faulted kind place) text n h = inl h
 report_answers words old new exact answers (outcome.Stuck memory bank place) text n h = absurd (n tt)
+
+standing_answers : (words : List (List ℕ)) (old new : FilesSeen) (exact : Bool) (answers : List Finish) (o : Outcome) (text : List ℕ)
+    → Interpreted words old (status_of o) text → Answers words old new exact answers (status_of o) text
+standing_answers words old new exact answers outcome.Going text h = inr h
+standing_answers words old new exact answers outcome.Ended text h = inr (inl h)
+standing_answers words old new exact answers (outcome.Faulted kind place) text h = inr h
+standing_answers words old new exact answers (outcome.Stuck memory bank place) text h = h
 
 -- the text of the answer is this line, and its status that one
 with_status : (words : List (List ℕ)) (old new : FilesSeen) (exact : Bool) (answers : List Finish) (a : Answer) (s : Status) → a.status ≡ s
@@ -107,57 +103,57 @@ with_status words old new exact answers a s e h =
     subst P (sym e) h
 
 -- a verdict that refuses is answered
-refused : (words : List (List ℕ)) (old new : FilesSeen) (exact : Bool) (answers : List Finish) (file : List ℕ) (a : Answer) (v : Verdict) → IsRefusal v → NamesProgram words file
-    → ComesTo old file v → a.status ≡ verdict_status v → a.text.items ≡ verdict_line v → Replies words old new exact answers (reply.Answer a)
-refused words old new exact answers file a (accepts p) r names comes s t = absurd r
-refused words old new exact answers file a (refuses rule place) r names comes s t =
-    with_status words old new exact answers a status.Refused s (record { file = file; names = names; rule = rule; place = place; comes = comes; text_is = t })
-refused words old new exact answers file a (exceeds excess) r names comes s t =
-    with_status words old new exact answers a status.TooLarge s (inr (inl (record { file = file; names = names; excess = excess; comes = comes; text_is = t })))
+refused : (words : List (List ℕ)) (old new : FilesSeen) (exact : Bool) (answers : List Finish) (asked : Asked) (file : List ℕ) (a : Answer) (v : Verdict) → IsRefusal v
+    → NamesProgram words file asked → ComesTo old asked file v → a.status ≡ verdict_status v → a.text.items ≡ verdict_line v → Replies words old new exact answers (reply.Answer a)
+refused words old new exact answers asked file a (accepts p) r names comes s t = absurd r
+refused words old new exact answers asked file a (refuses rule place) r names comes s t =
+    with_status words old new exact answers a status.Refused s (record { file = file; asked = asked; names = names; rule = rule; place = place; comes = comes; text_is = t })
+refused words old new exact answers asked file a (exceeds excess) r names comes s t =
+    with_status words old new exact answers a status.TooLarge s (inr (inl (record { file = file; asked = asked; names = names; excess = excess; comes = comes; text_is = t })))
 
 -- the program's file gave no program
-pub no_program : (old new : FilesSeen) (file : List ℕ) (exact : Bool) (answers : List Finish) (r : Reply) → ProgramRead old new file (Err r)
-    → (words : List (List ℕ)) → NamesProgram words file → Replies words old new exact answers r
-no_program old new file exact answers (reply.Answer a) (inl h) words names =
-    with_status words old new exact answers a status.TooLarge h.status_is (inl (record { file = file; names = names; too_long = h.long; text_is = h.text_is }))
-no_program old new file exact answers (reply.Answer a) (inr h) words names =
-    refused words old new exact answers file a h.verdict h.refuses_it names h.comes h.status_is h.text_is
-no_program old new file exact answers reply.ReadFault h words names = inl (record { file = file; names = names; fails = h })
-no_program old new file exact answers reply.NoMemory h words names = tt
+pub no_program : (old new : FilesSeen) (asked : Asked) (file : List ℕ) (exact : Bool) (answers : List Finish) (r : Reply) → NoProgram old new asked file r
+    → (words : List (List ℕ)) → NamesProgram words file asked → Replies words old new exact answers r
+no_program old new asked file exact answers (reply.Answer a) (inl h) words names =
+    with_status words old new exact answers a status.TooLarge h.status_is (inl (record { file = file; asked = asked; names = names; too_long = h.long; text_is = h.text_is }))
+no_program old new asked file exact answers (reply.Answer a) (inr h) words names =
+    refused words old new exact answers asked file a h.verdict h.refuses_it names h.comes h.status_is h.text_is
+no_program old new asked file exact answers reply.ReadFault h words names = inl (record { file = file; asked = asked; names = names; fails = h })
+no_program old new asked file exact answers reply.NoMemory h words names = tt
 
 -- the program was accepted
-pub check_replied : (old new : FilesSeen) (file : List ℕ) (p : Program) (exact : Bool) (answers : List Finish) (r : Reply) → IsProgram old file p → CheckReplies r
+pub check_replied : (old new : FilesSeen) (file : List ℕ) (p : Program) (exact : Bool) (answers : List Finish) (r : Reply) → IsProgram old checked file p → CheckReplies r
     → (words : List (List ℕ)) → NamesCheck words file → Replies words old new exact answers r
 check_replied old new file p exact answers (reply.Answer a) program h words names =
     with_status words old new exact answers a status.Done h.status_is
-    (inr (inr (record { file = file; names = names; program = p; is_program = program; text_is = h.text_is })))
+    (inr (inr (inr (record { file = file; names = names; program = p; is_program = program; text_is = h.text_is }))))
 check_replied old new file p exact answers reply.ReadFault program h words names = absurd h
 check_replied old new file p exact answers reply.NoMemory program h words names = tt
 
 -- the program was lowered
-pub net_written : (old new : FilesSeen) (file : List ℕ) (p : Program) (exact : Bool) (answers : List Finish) (r : Reply) → IsProgram old file p → LowerReplies p r
+pub net_written : (old new : FilesSeen) (file : List ℕ) (p : Program) (exact : Bool) (answers : List Finish) (r : Reply) → IsProgram old compiled file p → LowerReplies p r
     → (words : List (List ℕ)) → NamesLower words file → Replies words old new exact answers r
 net_written old new file p exact answers (reply.Answer a) program h words names =
     with_status words old new exact answers a status.Done h.status_is
-    (inr (inl (record { file = file; names = names; program = p; is_program = program; net = h.net; plays = h.plays; text_is = h.text_is; alone = h.alone })))
+    (inr (inr (inl (record { file = file; names = names; program = p; is_program = program; net = h.net; plays = h.plays; text_is = h.text_is; alone = h.alone }))))
 net_written old new file p exact answers reply.ReadFault program h words names = absurd h
 net_written old new file p exact answers reply.NoMemory program h words names = tt
 
 -- the data file gave no memories
-pub no_memories : (old mid new : FilesSeen) (file data_ : List ℕ) (p : Program) (exact : Bool) (answers : List Finish) (r : Reply) → KeepsFiles old mid → IsProgram old file p
-    → DataRead mid new data_ (table_of p) (Err r) → (words : List (List ℕ)) → Names words file data_ → Replies words old new exact answers r
-no_memories old mid new file data_ p exact answers (reply.Answer a) k program (inl h) words names =
+pub no_memories : (old mid new : FilesSeen) (asked : Asked) (file data_ : List ℕ) (p : Program) (exact : Bool) (answers : List Finish) (r : Reply) → KeepsFiles old mid → IsProgram old asked file p
+    → DataRead mid new data_ (table_of p) (Err r) → (words : List (List ℕ)) → NamesData words file data_ asked → Replies words old new exact answers r
+no_memories old mid new asked file data_ p exact answers (reply.Answer a) k program (inl h) words names =
     with_status words old new exact answers a status.TooLarge h.status_is
-    (inr (inr (record { file = file; data_ = data_; names = names; program = p; is_program = program; too_long = long_before old mid new data_ limit.Data k h.long; text_is = h.text_is })))
-no_memories old mid new file data_ p exact answers (reply.Answer a) k program (inr h) words names =
+    (inr (inr (record { file = file; data_ = data_; asked = asked; names = names; program = p; is_program = program; too_long = long_before old mid new data_ limit.Data k h.long; text_is = h.text_is })))
+no_memories old mid new asked file data_ p exact answers (reply.Answer a) k program (inr h) words names =
     with_status words old new exact answers a status.BadData h.status_is
-    (record { file = file; data_ = data_; names = names; program = p; is_program = program; fault = h.fault; bad_data = bad_data_before old mid data_ (table_of p) h.fault k h.bad_data; text_is = h.text_is })
-no_memories old mid new file data_ p exact answers reply.ReadFault k program h words names =
-    inr (record { file = file; data_ = data_; names = names; program = p; is_program = program; fails = fails_before old mid new data_ k h })
-no_memories old mid new file data_ p exact answers reply.NoMemory k program h words names = tt
+    (record { file = file; data_ = data_; asked = asked; names = names; program = p; is_program = program; fault = h.fault; bad_data = bad_data_before old mid data_ (table_of p) h.fault k h.bad_data; text_is = h.text_is })
+no_memories old mid new asked file data_ p exact answers reply.ReadFault k program h words names =
+    inr (record { file = file; data_ = data_; asked = asked; names = names; program = p; is_program = program; fails = fails_before old mid new data_ k h })
+no_memories old mid new asked file data_ p exact answers reply.NoMemory k program h words names = tt
 
 -- the run was reported
-pub run_replied : (old mid new : FilesSeen) (file data_ : List ℕ) (p : Program) (memories : List (List ℕ)) (exact : Bool) (answers : List Finish) (r : Reply) → KeepsFiles old mid → IsProgram old file p
+pub run_replied : (old mid new : FilesSeen) (file data_ : List ℕ) (p : Program) (memories : List (List ℕ)) (exact : Bool) (answers : List Finish) (r : Reply) → KeepsFiles old mid → IsProgram old compiled file p
     → DataRead mid new data_ (table_of p) (Ok memories) → RunReplies p memories exact answers r → (words : List (List ℕ)) → Names words file data_ → Replies words old new exact answers r
 run_replied old mid new file data_ p memories exact answers (reply.Answer a) k program found h words names =
     let o = h.finish.outcome in
@@ -167,6 +163,38 @@ run_replied old mid new file data_ p memories exact answers (reply.Answer a) k p
     (record { file = file; data_ = data_; names = names; program = p; is_program = program; memories = memories; is_data = data_before old mid data_ (table_of p) memories k found.0; report = subst P h.status_is h }))
 run_replied old mid new file data_ p memories exact answers reply.ReadFault k program found h words names = absurd h
 run_replied old mid new file data_ p memories exact answers reply.NoMemory k program found h words names = tt
+
+-- how the checked run stands was reported
+pub standing_replied : (old mid new : FilesSeen) (file data_ : List ℕ) (p : Program) (memories : List (List ℕ)) (steps : ℕ) (unchecked : Bool) (exact : Bool) (answers : List Finish) (r : Reply)
+    → KeepsFiles old mid → IsProgram old (interpreted unchecked) file p → DataRead mid new data_ (table_of p) (Ok memories) → StandingReplies p memories steps r
+    → (words : List (List ℕ)) → NamesInterpret words file data_ steps unchecked → Replies words old new exact answers r
+standing_replied old mid new file data_ p memories steps unchecked exact answers (reply.Answer a) k program found h words names =
+    let o = (stands_after p memories steps).outcome in
+    let P : Status → Type 0 = λ s. IsStandingReport p memories steps s a.text.items in
+    with_status words old new exact answers a (status_of o) h.status_is
+    (standing_answers words old new exact answers o a.text.items
+    (record {
+      file = file;
+      data_ = data_;
+      steps = steps;
+      unchecked = unchecked;
+      names = names;
+      program = p;
+      is_program = program;
+      memories = memories;
+      is_data = data_before old mid data_ (table_of p) memories k found.0;
+      report = subst P h.status_is h;
+    }))
+standing_replied old mid new file data_ p memories steps unchecked exact answers reply.ReadFault k program found h words names = absurd h
+standing_replied old mid new file data_ p memories steps unchecked exact answers reply.NoMemory k program found h words names = tt
+
+-- a report of an ending that is how the run stands
+pub standing_reported : (p : Program) (memories : List (List ℕ)) (steps : ℕ) (table : List MemEntry) (after : List (List ℕ)) (ending : Ending) (r : Reply) → table ≡ table_of p
+    → after ≡ (stands_after p memories steps).memories → ending ≡ ending_at (stands_after p memories steps) → ReportsEnding table after ending r → StandingReplies p memories steps r
+standing_reported p memories steps table after ending (reply.Answer a) t m e h =
+    record { status_is = h.status_is ∙ ap (λ x. status_of x.outcome) e; text_is = h.text_is ∙ (ap (λ x. report_text x after ending) t ∙ (ap (λ x. report_text (table_of p) x ending) m ∙ ap (λ x. report_text (table_of p) (stands_after p memories steps).memories x) e)) }
+standing_reported p memories steps table after ending reply.ReadFault t m e h = absurd h
+standing_reported p memories steps table after ending reply.NoMemory t m e h = tt
 
 -- the one answer of the engine is reported
 pub one_report : (p : Program) (net : Net) (memories : List (List ℕ)) (exact : Bool) (answers : List Finish) (r : Reply) → PlaysProgram net p → Fits net.table memories
@@ -194,10 +222,20 @@ only_answer net memories (f ∷ []) h = (f, (refl, h.0.fits))
 only_answer net memories (f ∷ (g ∷ fs)) h = absurd h.1
 
 -- a text that a verdict refuses
-pub refused_text : (text : List ℕ) (v : Verdict) (r : Reply) → IsRefusal v → IsVerdict text v → AnswersLine (verdict_status v) (verdict_line v) r → ProgramOf text (Err r)
-refused_text text v (reply.Answer a) h k l = record { verdict = v; refuses_it = h; answers = record { verdict = k; status_is = l.0; text_is = l.1 } }
-refused_text text v reply.ReadFault h k l = absurd l
-refused_text text v reply.NoMemory h k l = tt
+refused_text : (asked : Asked) (text : List ℕ) (v : Verdict) (r : Reply) → IsRefusal v → IsVerdict asked text v → AnswersLine (verdict_status v) (verdict_line v) r → Refusing asked text r
+refused_text asked text v (reply.Answer a) h k l = record { verdict = v; refuses_it = h; answers = record { verdict = k; status_is = l.0; text_is = l.1 } }
+refused_text asked text v reply.ReadFault h k l = absurd l
+refused_text asked text v reply.NoMemory h k l = tt
+
+no_verdict : (asked : Asked) (text : List ℕ) (r : Reply) → AnswersFault check_fault.NoMemory r → Refusing asked text r
+no_verdict asked text (reply.Answer a) h = absurd h
+no_verdict asked text reply.ReadFault h = absurd h
+no_verdict asked text reply.NoMemory h = tt
+
+pub fault_refuses : (asked : Asked) (text : List ℕ) (f : CheckFault) (r : Reply) → FaultTells (IsVerdict asked text) f → AnswersFault f r → Refusing asked text r
+fault_refuses asked text (check_fault.Refused rule place) r tells h = refused_text asked text (refuses rule place) r tt tells h
+fault_refuses asked text (check_fault.TooLarge excess) r tells h = refused_text asked text (exceeds excess) r tt tells h
+fault_refuses asked text check_fault.NoMemory r tells h = no_verdict asked text r h
 
 -- an answer with a line that is this text
 pub with_line : (s : Status) (text : List ℕ) (line : Result (Vec ℕ Global) NoMemory) (r : Reply) → IfOk line (λ v. v.items ≡ text) → AnswersWith s line r → AnswersLine s text r

@@ -7,8 +7,6 @@ use Rattle.dh_base.specs.Outside as outside
 use Rattle.dh_base.specs.Outside.{FilesSeen, SinkSeen, Rose, RoseBy, MayBe, IsAbsent, MayExceed, Grew, GrewByPart}
 use Rattle.dh_base.specs.declared.limits.Limit.{Limit}
 use Rattle.dh_base.specs.declared.limits.Limit.TheVariants as limit
-use Rattle.dh_base.specs.declared.outcomes.Outcome.{Outcome}
-use Rattle.dh_base.specs.declared.outcomes.Outcome.TheVariants as outcome
 use Rattle.dh_base.specs.declared.places.Place.{Place}
 use Rattle.dh_base.specs.declared.limits.Excess.{Excess}
 use Rattle.dh_base.specs.declared.rules.Rule.{Rule}
@@ -17,7 +15,7 @@ use Rattle.dh_base.specs.declared.statuses.Status.TheVariants as status
 use Rattle.dh_tree.specs.Meaning.{table_of}
 use Rattle.dh_tree.specs.declared.tables.MemEntry.{MemEntry}
 use Rattle.dh_tree.specs.PlainTrees.{Program}
-use Rattle.dh_check.specs.Verdicts.{Verdict, accepts, refuses, exceeds, Judged, IsVerdict}
+use Rattle.dh_check.specs.Verdicts.{Asked, Verdict, accepts, refuses, exceeds, Judged, IsVerdict}
 use Rattle.dh_net.specs.Plays.{IsStuck}
 use Rattle.dh_net.specs.Reports.{Reports}
 use Rattle.dh_net.specs.declared.nets.Net.{Net}
@@ -29,9 +27,11 @@ use Rattle.dh_data.specs.declared.data_files.DataFault.{DataFault}
 use Rattle.dh_data.specs.Reports.{report_text}
 use Rattle.dh_data.specs.declared.reports.Ending.{Ending}
 use Rattle.dh_app.specs.Words.{job_of}
+use Rattle.dh_app.specs.Asking.{checked, compiled, interpreted, NamesProgram, NamesData}
+use Rattle.dh_app.specs.Interpreting.{status_of, stands_after, standing_text, IsStandingReport}
 use Rattle.dh_app.specs.Lines.{usage_line, ok_line, refused_line, too_large_line, bad_data_line}
 use Rattle.dh_app.specs.declared.engine.Finish.{Finish}
-use Rattle.dh_app.specs.declared.words.Job.TheVariants.{Check, Lower, Simulate}
+use Rattle.dh_app.specs.declared.words.Job.TheVariants.{Check, Lower, Interpret, Simulate}
 
 -- the clocks that a run may take
 abbrev pub most_clocks : ℕ
@@ -57,9 +57,13 @@ pub record NamesLower (words : List (List ℕ)) (file : List ℕ) : Type 0 where
   pub job : job_of words ≡ Some (Lower file_at)
   pub file_is : slice_index_or words file_at [] ≡ file
 
--- the words are a job over the program of this file
-abbrev pub NamesProgram : List (List ℕ) → List ℕ → Type 0
-NamesProgram words file = NamesCheck words file ⊎ (NamesLower words file ⊎ ((data_ : List ℕ) × Names words file data_))
+-- the words are to interpret the program of the one file from the memories of the other, for these steps
+pub record NamesInterpret (words : List (List ℕ)) (file data_ : List ℕ) (steps : ℕ) (unchecked : Bool) : Type 0 where
+  pub file_at : ℕ
+  pub data_at : ℕ
+  pub job : job_of words ≡ Some (Interpret file_at data_at steps unchecked)
+  pub file_is : slice_index_or words file_at [] ≡ file
+  pub data_is : slice_index_or words data_at [] ≡ data_
 
 -- the contents of a file under a limit may be these
 pub record MayRead (files : FilesSeen) (name : List ℕ) (l : Limit) (bytes : List ℕ) : Type 0 where
@@ -75,15 +79,15 @@ pub record IsTooLong (old new : FilesSeen) (name : List ℕ) (l : Limit) : Type 
 abbrev pub FailsToRead : (old new : FilesSeen) → (name : List ℕ) → Type 0
 FailsToRead old new name = Rose old.faults new.faults ⊎ IsAbsent (old.told name)
 
--- the text of the file comes to this verdict, and to no other
-pub record ComesTo (files : FilesSeen) (file : List ℕ) (v : Verdict) : Type 0 where
+-- by what is asked of it, the text of the file comes to this verdict, and to no other
+pub record ComesTo (files : FilesSeen) (asked : Asked) (file : List ℕ) (v : Verdict) : Type 0 where
   pub text : List ℕ
   pub read : MayRead files file limit.Source text
-  pub verdict : IsVerdict text v
+  pub verdict : IsVerdict asked text v
 
--- the file is the text of this accepted program
-abbrev pub IsProgram : FilesSeen → (file : List ℕ) → Program → Type 0
-IsProgram files file p = ComesTo files file (accepts p)
+-- the file is the text of this program, accepted by what is asked of it
+abbrev pub IsProgram : FilesSeen → Asked → (file : List ℕ) → Program → Type 0
+IsProgram files asked file p = ComesTo files asked file (accepts p)
 
 -- the file holds these memories of a table, and no others
 pub record IsData (files : FilesSeen) (data_ : List ℕ) (table : List MemEntry) (memories : List (List ℕ)) : Type 0 where
@@ -98,12 +102,6 @@ pub record IsBadData (files : FilesSeen) (data_ : List ℕ) (table : List MemEnt
   pub read : MayRead files data_ limit.Data bytes
   pub means : Means table bytes (Err fault)
   pub only : (other : Result (List (List ℕ)) DataFault) → Means table bytes other → other ≡ Err fault
-
-abbrev pub status_of : Outcome → Status
-status_of outcome.Going = status.Going
-status_of outcome.Ended = status.Done
-status_of (outcome.Faulted kind place) = status.Faulted
-status_of (outcome.Stuck memory bank place) = status.Stuck
 
 abbrev pub ending_of : Finish → Ending
 ending_of f = record { outcome = f.outcome; steps = f.steps; clocks = Some f.clocks }
@@ -123,10 +121,23 @@ pub record Reported (words : List (List ℕ)) (files : FilesSeen) (exact : Bool)
   pub data_ : List ℕ
   pub names : Names words file data_
   pub program : Program
-  pub is_program : IsProgram files file program
+  pub is_program : IsProgram files compiled file program
   pub memories : List (List ℕ)
   pub is_data : IsData files data_ (table_of program) memories
   pub report : IsReport program memories exact answers s text
+
+-- the same of a job that interprets: the checked run of the program after the steps that it names
+pub record Interpreted (words : List (List ℕ)) (files : FilesSeen) (s : Status) (text : List ℕ) : Type 0 where
+  pub file : List ℕ
+  pub data_ : List ℕ
+  pub steps : ℕ
+  pub unchecked : Bool
+  pub names : NamesInterpret words file data_ steps unchecked
+  pub program : Program
+  pub is_program : IsProgram files (interpreted unchecked) file program
+  pub memories : List (List ℕ)
+  pub is_data : IsData files data_ (table_of program) memories
+  pub report : IsStandingReport program memories steps s text
 
 -- the program of the job is lowered: the text is that of a net that plays the program from all fitting
 -- memories, and of no other net
@@ -134,7 +145,7 @@ pub record Lowered (words : List (List ℕ)) (files : FilesSeen) (text : List �
   pub file : List ℕ
   pub names : NamesLower words file
   pub program : Program
-  pub is_program : IsProgram files file program
+  pub is_program : IsProgram files compiled file program
   pub net : Net
   pub plays : PlaysProgram net program
   pub text_is : text ≡ text_of net
@@ -143,34 +154,38 @@ pub record Lowered (words : List (List ℕ)) (files : FilesSeen) (text : List �
 -- a file is too long
 pub record ProgramTooLong (words : List (List ℕ)) (old new : FilesSeen) (text : List ℕ) : Type 0 where
   pub file : List ℕ
-  pub names : NamesProgram words file
+  pub asked : Asked
+  pub names : NamesProgram words file asked
   pub too_long : IsTooLong old new file limit.Source
   pub text_is : text ≡ too_large_line limit.Source (greatest_of limit.Source + 1)
 
 pub record DataTooLong (words : List (List ℕ)) (old new : FilesSeen) (text : List ℕ) : Type 0 where
   pub file : List ℕ
   pub data_ : List ℕ
-  pub names : Names words file data_
+  pub asked : Asked
+  pub names : NamesData words file data_ asked
   pub program : Program
-  pub is_program : IsProgram old file program
+  pub is_program : IsProgram old asked file program
   pub too_long : IsTooLong old new data_ limit.Data
   pub text_is : text ≡ too_large_line limit.Data (greatest_of limit.Data + 1)
 
--- the program breaks a rule
+-- the program breaks a rule of the passes that are asked for
 pub record IsRefused (words : List (List ℕ)) (files : FilesSeen) (text : List ℕ) : Type 0 where
   pub file : List ℕ
-  pub names : NamesProgram words file
+  pub asked : Asked
+  pub names : NamesProgram words file asked
   pub rule : Rule
   pub place : Place
-  pub comes : ComesTo files file (refuses rule place)
+  pub comes : ComesTo files asked file (refuses rule place)
   pub text_is : text ≡ refused_line rule place
 
--- the program exceeds a limit
+-- the program exceeds a limit of them
 pub record IsExceeding (words : List (List ℕ)) (files : FilesSeen) (text : List ℕ) : Type 0 where
   pub file : List ℕ
-  pub names : NamesProgram words file
+  pub asked : Asked
+  pub names : NamesProgram words file asked
   pub excess : Excess
-  pub comes : ComesTo files file (exceeds excess)
+  pub comes : ComesTo files asked file (exceeds excess)
   pub text_is : text ≡ too_large_line excess.limit excess.count
 
 -- the program of the job is accepted
@@ -178,27 +193,29 @@ pub record IsChecked (words : List (List ℕ)) (files : FilesSeen) (text : List 
   pub file : List ℕ
   pub names : NamesCheck words file
   pub program : Program
-  pub is_program : IsProgram files file program
+  pub is_program : IsProgram files checked file program
   pub text_is : text ≡ ok_line
 
 pub record HasBadData (words : List (List ℕ)) (files : FilesSeen) (text : List ℕ) : Type 0 where
   pub file : List ℕ
   pub data_ : List ℕ
-  pub names : Names words file data_
+  pub asked : Asked
+  pub names : NamesData words file data_ asked
   pub program : Program
-  pub is_program : IsProgram files file program
+  pub is_program : IsProgram files asked file program
   pub fault : DataFault
   pub bad_data : IsBadData files data_ (table_of program) fault
   pub text_is : text ≡ bad_data_line (table_of program) fault
 
 -- this status and this text answer the words
 abbrev pub Answers : List (List ℕ) → (old new : FilesSeen) → (exact : Bool) → List Finish → Status → List ℕ → Type 0
-Answers words old new exact answers status.Done text = Reported words old exact answers status.Done text ⊎ (Lowered words old text ⊎ IsChecked words old text)
+Answers words old new exact answers status.Done text =
+    Reported words old exact answers status.Done text ⊎ (Interpreted words old status.Done text ⊎ (Lowered words old text ⊎ IsChecked words old text))
 Answers words old new exact answers status.Refused text = IsRefused words old text
 Answers words old new exact answers status.Usage text = (job_of words ≡ None) × (text ≡ usage_line)
-Answers words old new exact answers status.Faulted text = Reported words old exact answers status.Faulted text
-Answers words old new exact answers status.Stuck text = ⊥
-Answers words old new exact answers status.Going text = Reported words old exact answers status.Going text
+Answers words old new exact answers status.Faulted text = Reported words old exact answers status.Faulted text ⊎ Interpreted words old status.Faulted text
+Answers words old new exact answers status.Stuck text = Interpreted words old status.Stuck text
+Answers words old new exact answers status.Going text = Reported words old exact answers status.Going text ⊎ Interpreted words old status.Going text
 Answers words old new exact answers status.BadData text = HasBadData words old text
 Answers words old new exact answers status.TooLarge text = ProgramTooLong words old new text ⊎ (IsExceeding words old text ⊎ DataTooLong words old new text)
 Answers words old new exact answers status.ReadFault text = ⊥
@@ -221,16 +238,18 @@ pub record WritesPart (words : List (List ℕ)) (old new : FilesSeen) (before af
 -- the file of the program could not be read
 pub record ProgramUnread (words : List (List ℕ)) (old new : FilesSeen) : Type 0 where
   pub file : List ℕ
-  pub names : NamesProgram words file
+  pub asked : Asked
+  pub names : NamesProgram words file asked
   pub fails : FailsToRead old new file
 
 -- the program is one, and the file of the data could not be read
 pub record DataUnread (words : List (List ℕ)) (old new : FilesSeen) : Type 0 where
   pub file : List ℕ
   pub data_ : List ℕ
-  pub names : Names words file data_
+  pub asked : Asked
+  pub names : NamesData words file data_ asked
   pub program : Program
-  pub is_program : IsProgram old file program
+  pub is_program : IsProgram old asked file program
   pub fails : FailsToRead old new data_
 
 abbrev pub ReadFails : List (List ℕ) → (old new : FilesSeen) → Type 0
@@ -242,7 +261,7 @@ Ends words old new before after exact answers status.Done = WritesAll words old 
 Ends words old new before after exact answers status.Refused = WritesAll words old new before after exact answers status.Refused
 Ends words old new before after exact answers status.Usage = WritesAll words old new before after exact answers status.Usage
 Ends words old new before after exact answers status.Faulted = WritesAll words old new before after exact answers status.Faulted
-Ends words old new before after exact answers status.Stuck = ⊥
+Ends words old new before after exact answers status.Stuck = WritesAll words old new before after exact answers status.Stuck
 Ends words old new before after exact answers status.Going = WritesAll words old new before after exact answers status.Going
 Ends words old new before after exact answers status.BadData = WritesAll words old new before after exact answers status.BadData
 Ends words old new before after exact answers status.TooLarge = WritesAll words old new before after exact answers status.TooLarge
@@ -259,7 +278,7 @@ pub record NothingFails (words : List (List ℕ)) (old new : FilesSeen) (before 
   pub text : List ℕ
   pub text_told : old.told file ≡ outside.Holds text
   pub text_within : length text ≤ greatest_of limit.Source
-  pub judged : Judged text (accepts p)
+  pub judged : Judged compiled text (accepts p)
   pub bytes : List ℕ
   pub bytes_told : old.told data_ ≡ outside.Holds bytes
   pub bytes_within : length bytes ≤ greatest_of limit.Data
@@ -276,6 +295,28 @@ pub record ReportsRun (p : Program) (memories : List (List ℕ)) (before after :
   pub status_is : s ≡ status_of finish.outcome
   pub grew : Grew before after (report_text (table_of p) finish.memories (ending_of finish))
 
+-- the same of a call that interprets, where no engine is asked
+pub record NothingFailsInterpret (words : List (List ℕ)) (old new : FilesSeen) (before after : SinkSeen) (p : Program) (memories : List (List ℕ)) (steps : ℕ) : Type 0 where
+  pub file : List ℕ
+  pub data_ : List ℕ
+  pub unchecked : Bool
+  pub names : NamesInterpret words file data_ steps unchecked
+  pub text : List ℕ
+  pub text_told : old.told file ≡ outside.Holds text
+  pub text_within : length text ≤ greatest_of limit.Source
+  pub judged : Judged (interpreted unchecked) text (accepts p)
+  pub bytes : List ℕ
+  pub bytes_told : old.told data_ ≡ outside.Holds bytes
+  pub bytes_within : length bytes ≤ greatest_of limit.Data
+  pub holds : Holds (table_of p) bytes memories
+  pub reads : Rose old.faults new.faults → ⊥
+  pub writes : Rose before.faults after.faults → ⊥
+
+-- the whole report of how the checked run stands after these steps was written
+pub record ReportsStanding (p : Program) (memories : List (List ℕ)) (steps : ℕ) (before after : SinkSeen) (s : Status) : Type 0 where
+  pub status_is : s ≡ status_of (stands_after p memories steps).outcome
+  pub grew : Grew before after (standing_text p (stands_after p memories steps))
+
 -- the same of a call that lowers
 pub record NothingFailsLower (words : List (List ℕ)) (old new : FilesSeen) (before after : SinkSeen) (p : Program) : Type 0 where
   pub file : List ℕ
@@ -283,7 +324,7 @@ pub record NothingFailsLower (words : List (List ℕ)) (old new : FilesSeen) (be
   pub text : List ℕ
   pub text_told : old.told file ≡ outside.Holds text
   pub text_within : length text ≤ greatest_of limit.Source
-  pub judged : Judged text (accepts p)
+  pub judged : Judged compiled text (accepts p)
   pub reads : Rose old.faults new.faults → ⊥
   pub writes : Rose before.faults after.faults → ⊥
 
@@ -302,7 +343,7 @@ pub record NothingFailsCheck (words : List (List ℕ)) (old new : FilesSeen) (be
   pub text : List ℕ
   pub text_told : old.told file ≡ outside.Holds text
   pub text_within : length text ≤ greatest_of limit.Source
-  pub judged : Judged text v
+  pub judged : Judged checked text v
   pub reads : Rose old.faults new.faults → ⊥
   pub writes : Rose before.faults after.faults → ⊥
 
@@ -325,5 +366,7 @@ pub record WritesVerdict (v : Verdict) (before after : SinkSeen) (s : Status) : 
 -- so the call succeeds, or memory was refused
 pub record Succeeds (words : List (List ℕ)) (old new : FilesSeen) (before after : SinkSeen) (exact : Bool) (s : Status) : Type 0 where
   pub reports : (p : Program) (memories : List (List ℕ)) → NothingFails words old new before after exact p memories → ReportsRun p memories before after s ⊎ (s ≡ status.NoMemory)
+  pub interprets : (p : Program) (memories : List (List ℕ)) (steps : ℕ) → NothingFailsInterpret words old new before after p memories steps
+      → ReportsStanding p memories steps before after s ⊎ (s ≡ status.NoMemory)
   pub lowers : (p : Program) → NothingFailsLower words old new before after p → WritesNet p before after s ⊎ (s ≡ status.NoMemory)
   pub checks : (v : Verdict) → NothingFailsCheck words old new before after v → WritesVerdict v before after s ⊎ (s ≡ status.NoMemory)

@@ -9,12 +9,15 @@ use Rattle.dh_base.specs.declared.lists.NoMemory.{NoMemory}
 use Rattle.dh_base.specs.declared.statuses.Status.{Status}
 use Rattle.dh_base.specs.declared.statuses.Status.TheVariants as status
 use Rattle.dh_tree.specs.Tables.{Fits}
-use Rattle.dh_tree.specs.Meaning.{table_of}
 use Rattle.dh_tree.specs.declared.tables.MemEntry.{MemEntry}
 use Rattle.dh_tree.specs.PlainTrees.{Program}
 use Rattle.dh_tree.specs.Seen.{program_seen}
-use Rattle.dh_check.specs.Verdicts.{Verdict, accepts, refuses, exceeds, IsVerdict}
+use Rattle.dh_check.specs.Acceptance.{IsReady}
+use Rattle.dh_check.specs.Verdicts.{Asked, Verdict, accepts, refuses, exceeds, IsVerdict}
 use Rattle.dh_check.specs.declared.accepted.Accepted.{Accepted}
+use Rattle.dh_check.specs.declared.checking.CheckFault.{CheckFault}
+use Rattle.dh_check.specs.declared.checking.CheckFault.TheVariants as check_fault
+use Rattle.dh_tree.specs.declared.trees.typed.Typed.{Typed}
 use Rattle.dh_net.specs.declared.nets.Net.{Net}
 use Rattle.dh_compile.specs.Compiled.{PlaysProgram}
 use Rattle.dh_verilog.specs.Ranges.{IsAlone}
@@ -23,8 +26,10 @@ use Rattle.dh_data.specs.DataFiles.{Holds, Means}
 use Rattle.dh_data.specs.declared.data_files.DataFault.{DataFault}
 use Rattle.dh_data.specs.declared.data_files.DataFault.TheVariants as fault
 use Rattle.dh_data.specs.Reports.{report_text}
-use Rattle.dh_app.specs.Ends.{IsTooLong, FailsToRead, ComesTo, IsProgram, IsData, IsBadData, IsReport, ReadFails, Answers, status_of, ending_of, verdict_line, verdict_status}
-use Rattle.dh_app.specs.Lines.{ok_line, too_large_line, bad_data_line}
+use Rattle.dh_app.specs.Ends.{MayRead, IsTooLong, FailsToRead, ComesTo, IsProgram, IsData, IsBadData, IsReport, ReadFails, Answers, ending_of, verdict_line, verdict_status}
+use Rattle.dh_app.specs.Interpreting.{status_of, IsStandingReport}
+use Rattle.dh_app.specs.Lines.{ok_line, refused_line, too_large_line, bad_data_line}
+use Rattle.dh_data.specs.declared.reports.Ending.{Ending}
 use Rattle.dh_app.specs.declared.engine.Finish.{Finish}
 use Rattle.dh_app.specs.declared.running.Answer.{Answer}
 use Rattle.dh_app.specs.declared.running.Reply.{Reply}
@@ -63,22 +68,38 @@ IsRefusal (refuses rule place) = Unit {0}
 IsRefusal (exceeds excess) = Unit {0}
 
 -- a text comes to a verdict, whose line is the answer
-pub record VerdictOf (text : List ℕ) (v : Verdict) (a : Answer) : Type 0 where
-  pub verdict : IsVerdict text v
+pub record VerdictOf (asked : Asked) (text : List ℕ) (v : Verdict) (a : Answer) : Type 0 where
+  pub verdict : IsVerdict asked text v
   pub status_is : a.status ≡ verdict_status v
   pub text_is : a.text.items ≡ verdict_line v
 
 -- the verdict refuses
-pub record RefusalOf (text : List ℕ) (a : Answer) : Type 0 where
+pub record RefusalOf (asked : Asked) (text : List ℕ) (a : Answer) : Type 0 where
   pub verdict : Verdict
   pub refuses_it : IsRefusal verdict
-  pub answers : VerdictOf text verdict a
+  pub answers : VerdictOf asked text verdict a
 
-abbrev pub ProgramOf : List ℕ → Result Accepted Reply → Type 0
-ProgramOf text (Ok p) = IsVerdict text (accepts (program_seen p))
-ProgramOf text (Err (reply.Answer a)) = RefusalOf text a
-ProgramOf text (Err reply.ReadFault) = ⊥
-ProgramOf text (Err reply.NoMemory) = Unit {0}
+abbrev pub Refusing : Asked → List ℕ → Reply → Type 0
+Refusing asked text (reply.Answer a) = RefusalOf asked text a
+Refusing asked text reply.ReadFault = ⊥
+Refusing asked text reply.NoMemory = Unit {0}
+
+-- the line of a fault of the check
+abbrev pub AnswersFault : CheckFault → Reply → Type 0
+AnswersFault (check_fault.Refused rule place) r = AnswersLine status.Refused (refused_line rule place) r
+AnswersFault (check_fault.TooLarge excess) r = AnswersLine status.TooLarge (too_large_line excess.limit excess.count) r
+AnswersFault check_fault.NoMemory (reply.Answer a) = ⊥
+AnswersFault check_fault.NoMemory reply.ReadFault = ⊥
+AnswersFault check_fault.NoMemory reply.NoMemory = Unit {0}
+
+abbrev pub ProgramOf : Asked → List ℕ → Result Accepted Reply → Type 0
+ProgramOf asked text (Ok p) = IsVerdict asked text (accepts (program_seen p))
+ProgramOf asked text (Err r) = Refusing asked text r
+
+-- the same of a text whose ports are not judged
+abbrev pub TypedOf : Asked → List ℕ → Result Typed Reply → Type 0
+TypedOf asked text (Ok t) = IsVerdict asked text (accepts (program_seen t)) × IsReady (program_seen t)
+TypedOf asked text (Err r) = Refusing asked text r
 
 -- a file is longer than a limit
 pub record LongFile (old new : FilesSeen) (name : List ℕ) (l : Limit) (a : Answer) : Type 0 where
@@ -86,19 +107,34 @@ pub record LongFile (old new : FilesSeen) (name : List ℕ) (l : Limit) (a : Ans
   pub status_is : a.status ≡ status.TooLarge
   pub text_is : a.text.items ≡ too_large_line l (greatest_of l + 1)
 
+-- the text of a program's file
+abbrev pub SourceRead : (old new : FilesSeen) → (name : List ℕ) → Result (Vec ℕ Global) Reply → Type 0
+SourceRead old new name (Ok text) = MayRead old name limit.Source text.items
+SourceRead old new name (Err (reply.Answer a)) = LongFile old new name limit.Source a
+SourceRead old new name (Err reply.ReadFault) = FailsToRead old new name
+SourceRead old new name (Err reply.NoMemory) = Unit {0}
+
 -- a file comes to a verdict that refuses it, whose line is the answer
-pub record RefusedFile (old : FilesSeen) (name : List ℕ) (a : Answer) : Type 0 where
+pub record RefusedFile (old : FilesSeen) (asked : Asked) (name : List ℕ) (a : Answer) : Type 0 where
   pub verdict : Verdict
   pub refuses_it : IsRefusal verdict
-  pub comes : ComesTo old name verdict
+  pub comes : ComesTo old asked name verdict
   pub status_is : a.status ≡ verdict_status verdict
   pub text_is : a.text.items ≡ verdict_line verdict
 
-abbrev pub ProgramRead : (old new : FilesSeen) → (name : List ℕ) → Result Accepted Reply → Type 0
-ProgramRead old new name (Ok p) = IsProgram old name (program_seen p)
-ProgramRead old new name (Err (reply.Answer a)) = LongFile old new name limit.Source a ⊎ RefusedFile old name a
-ProgramRead old new name (Err reply.ReadFault) = FailsToRead old new name
-ProgramRead old new name (Err reply.NoMemory) = Unit {0}
+-- a file has no program that is accepted by what is asked
+abbrev pub NoProgram : (old new : FilesSeen) → Asked → (name : List ℕ) → Reply → Type 0
+NoProgram old new asked name (reply.Answer a) = LongFile old new name limit.Source a ⊎ RefusedFile old asked name a
+NoProgram old new asked name reply.ReadFault = FailsToRead old new name
+NoProgram old new asked name reply.NoMemory = Unit {0}
+
+abbrev pub ProgramRead : (old new : FilesSeen) → Asked → (name : List ℕ) → Result Accepted Reply → Type 0
+ProgramRead old new asked name (Ok p) = IsProgram old asked name (program_seen p)
+ProgramRead old new asked name (Err r) = NoProgram old new asked name r
+
+abbrev pub TypedRead : (old new : FilesSeen) → Asked → (name : List ℕ) → Result Typed Reply → Type 0
+TypedRead old new asked name (Ok t) = IsProgram old asked name (program_seen t) × IsReady (program_seen t)
+TypedRead old new asked name (Err r) = NoProgram old new asked name r
 
 -- a line was written of a fault; want of memory has none
 abbrev pub WritesFault : List MemEntry → DataFault → Result (Vec ℕ Global) NoMemory → Type 0
@@ -142,6 +178,22 @@ abbrev pub RunReplies : Program → List (List ℕ) → (exact : Bool) → List 
 RunReplies p memories exact answers (reply.Answer a) = IsReport p memories exact answers a.status a.text.items
 RunReplies p memories exact answers reply.ReadFault = ⊥
 RunReplies p memories exact answers reply.NoMemory = Unit {0}
+
+-- how a run stands is reported
+pub record EndingText (table : List MemEntry) (memories : List (List ℕ)) (ending : Ending) (a : Answer) : Type 0 where
+  pub status_is : a.status ≡ status_of ending.outcome
+  pub text_is : a.text.items ≡ report_text table memories ending
+
+abbrev pub ReportsEnding : List MemEntry → List (List ℕ) → Ending → Reply → Type 0
+ReportsEnding table memories ending (reply.Answer a) = EndingText table memories ending a
+ReportsEnding table memories ending reply.ReadFault = ⊥
+ReportsEnding table memories ending reply.NoMemory = Unit {0}
+
+-- how the checked run of a program stands after these steps is reported
+abbrev pub StandingReplies : Program → List (List ℕ) → (steps : ℕ) → Reply → Type 0
+StandingReplies p memories steps (reply.Answer a) = IsStandingReport p memories steps a.status a.text.items
+StandingReplies p memories steps reply.ReadFault = ⊥
+StandingReplies p memories steps reply.NoMemory = Unit {0}
 
 -- the one answer is reported
 pub record ReportOf (table : List MemEntry) (answers : List Finish) (a : Answer) : Type 0 where

@@ -3,6 +3,7 @@
 #![tactic(auto)]
 
 mod engine;
+mod interpreting;
 mod lines;
 mod running;
 #[cfg(test)]

@@ -1,6 +1,6 @@
 //! The top call: from the words to the status.
 
-ghost use Rattle.std.specs.Prelude.{◌≡◌, ◌+◌, ◌≤◌, [], ◌∷◌, length, map, string_bytes, Bool, List, ℕ, IfOk};
+ghost use Rattle.std.specs.Prelude.{◌≡◌, ◌+◌, ◌≤◌, [], ◌∷◌, length, map, string_bytes, Bool, true, List, ℕ, IfOk};
 ghost use Rattle.dh_base.specs.Outside.{FilesSeen, KeepsFiles, KeepsSink};
 ghost use Rattle.dh_tree.specs.Tables.{Fits, IsTable};
 ghost use Rattle.dh_tree.specs.Meaning.{table_of};
@@ -8,22 +8,27 @@ ghost use Rattle.dh_tree.specs.PlainTrees.{Program};
 ghost use Rattle.dh_tree.specs.Seen.{program_seen};
 ghost use Rattle.dh_net.specs.Valid.{IsValid};
 ghost use Rattle.dh_compile.specs.Compiled.{PlaysProgram};
-ghost use Rattle.dh_app.specs.Ends.{IsProgram, Names, NamesCheck, NamesLower, Ends, Succeeds, status_of as status_of_lem};
+ghost use Rattle.dh_check.specs.Verdicts.{asked_of};
+ghost use Rattle.dh_check.specs.declared.checking.Forms.TheVariants as column;
+ghost use Rattle.dh_app.specs.Asking.{compiled, interpreted};
+ghost use Rattle.dh_app.specs.Ends.{IsProgram, Names, NamesCheck, NamesLower, Ends, Succeeds};
+ghost use Rattle.dh_app.specs.Interpreting.{status_of as status_of_lem};
 ghost use Rattle.dh_app.specs.declared.engine.Finish.{Finish};
-ghost use Rattle.dh_app.specs.Replies.{AnswersLine, AnswersWith, Written, Replies, ProgramRead, ProgramOf, DataRead, DataOf, RunReplies, ReportsFirst, LowerReplies, CheckReplies};
+ghost use Rattle.dh_app.specs.Replies.{AnswersLine, AnswersWith, AnswersFault, Written, Replies, SourceRead, ProgramRead, ProgramOf, TypedRead, TypedOf, DataRead, DataOf, RunReplies, ReportsEnding, ReportsFirst, LowerReplies, CheckReplies};
 ghost use Rattle.dh_app.specs.Lines as lines;
 ghost use Rattle.dh_base.specs.Limits.{greatest_of};
 ghost use Rattle.dh_base.specs.declared.statuses.Status.TheVariants as status;
 
 use crate::engine::{Engine, Finish};
+use crate::interpreting::interpret;
 use crate::lines::{bad_data_line, ok_line, refused_line, too_large_line, usage_line};
 use crate::words::Job;
 use dh_base::{Excess, FileFault, Files, Limit, NoMemory, Outcome, Sink, SinkFault, Status};
-use dh_check::{Accepted, CheckFault, Forms, check};
+use dh_check::{Accepted, CheckFault, Forms, check, check_without_ports};
 use dh_compile::compile;
 use dh_data::{Ending, report};
 use dh_net::Net;
-use dh_tree::{MemTable, Memories};
+use dh_tree::{MemTable, Memories, Typed};
 use std::alloc::Global;
 
 /// The clocks that a run may take.
@@ -50,7 +55,10 @@ pub enum Reply {
 /// Does all that the program does. `check FILE` says whether the program of a file breaks a rule or
 /// exceeds a limit, and which and where. `lower FILE` compiles the program of a file and writes the Verilog
 /// text of its net: the text of a net that plays the program from all fitting memories, and of no
-/// other net. `simulate FILE DATA` compiles the program of the one file, has the engine run the net
+/// other net. `interpret FILE DATA` runs the program of the one file from the memories of the other by
+/// the checked semantics, and writes the report of how the run stands after the steps that it is given;
+/// with `--unchecked` more forms may stand in the program, and its ports are not judged before the run.
+/// `simulate FILE DATA` compiles the program of the one file, has the engine run the net
 /// from the memories of the other, and writes the report of the engine's answer. `Ends` says for each
 /// status what is the case and what was written, and `Succeeds` when a call must succeed.
 pub fn run<F: Files, S: Sink, E: Engine>(
@@ -114,6 +122,18 @@ fn reply_to<F: Files, E: Engine>(
         None => answer_with(Status::Usage, usage_line(alloc)),
         Some(Job::Check { file }) => check_file(alloc, words[file as usize].as_str(), files),
         Some(Job::Lower { file }) => lower(alloc, words[file as usize].as_str(), files),
+        Some(
+            Job::Interpret {
+                file,
+                data_,
+                steps,
+                unchecked,
+            },
+        ) => {
+            let file = words[file as usize].as_str();
+            let data_ = words[data_ as usize].as_str();
+            interpret(alloc, file, data_, steps, unchecked, files)
+        }
         Some(Job::Simulate { file, data_ }) => {
             let file = words[file as usize].as_str();
             let data_ = words[data_ as usize].as_str();
@@ -204,7 +224,7 @@ fn simulate_accepted<F: Files, E: Engine>(
 ) -> Reply
     ensures files { KeepsFiles (F.seen files.old) (F.seen files.new) }
     ensures engine { E.exact engine.new ≡ E.exact engine.old }
-    ensures replies { (first : FilesSeen) (file : List ℕ) (words : List (List ℕ)) → KeepsFiles first (F.seen files.old) → IsProgram first file (program_seen accepted.now) → Names words file data_.now → Replies words first (F.seen files.new) (E.exact engine.old) (E.given engine.new) result }
+    ensures replies { (first : FilesSeen) (file : List ℕ) (words : List (List ℕ)) → KeepsFiles first (F.seen files.old) → IsProgram first compiled file (program_seen accepted.now) → Names words file data_.now → Replies words first (F.seen files.new) (E.exact engine.old) (E.given engine.new) result }
 {
     let Ok(net) = compile(alloc, accepted) else {
         return Reply::NoMemory;
@@ -215,40 +235,78 @@ fn simulate_accepted<F: Files, E: Engine>(
     }
 }
 
-/// The program of a file.
-fn read_program<F: Files>(
-    alloc: Global,
-    name: &str,
-    files: &mut F,
-    forms: Forms,
-) -> Result<Accepted, Reply>
+/// The text of a program's file.
+fn read_source<F: Files>(alloc: Global, name: &str, files: &mut F) -> Result<Vec<u8>, Reply>
     ensures files { KeepsFiles (F.seen files.old) (F.seen files.new) }
-    ensures read { ProgramRead (F.seen files.old) (F.seen files.new) name.now result }
+    ensures read { SourceRead (F.seen files.old) (F.seen files.new) name.now result }
 {
     match files.read(alloc, name, Limit::Source.greatest()) {
-        Ok(text) => program_of(alloc, text.as_slice(), forms),
+        Ok(text) => Ok(text),
         Err(FileFault::Failed) => Err(Reply::ReadFault),
         Err(FileFault::TooLong) => Err(too_large(alloc, Limit::Source)),
         Err(FileFault::NoMemory) => Err(Reply::NoMemory),
     }
 }
 
+/// The program of a file, accepted with these forms.
+pub fn read_program<F: Files>(
+    alloc: Global,
+    name: &str,
+    files: &mut F,
+    forms: Forms,
+) -> Result<Accepted, Reply>
+    requires forms { forms ≡ column.Unchecked → ⊥ }
+    ensures files { KeepsFiles (F.seen files.old) (F.seen files.new) }
+    ensures read { ProgramRead (F.seen files.old) (F.seen files.new) (asked_of forms true) name.now result }
+{
+    let text = read_source(alloc, name, files)?;
+    program_of(alloc, text.as_slice(), forms)
+}
+
+/// The program of a file, whose ports are not judged.
+pub fn read_typed<F: Files>(alloc: Global, name: &str, files: &mut F) -> Result<Typed, Reply>
+    ensures files { KeepsFiles (F.seen files.old) (F.seen files.new) }
+    ensures read { TypedRead (F.seen files.old) (F.seen files.new) (interpreted true) name.now result }
+{
+    let text = read_source(alloc, name, files)?;
+    typed_of(alloc, text.as_slice())
+}
+
 /// The program of a text, or the line of its verdict.
 fn program_of(alloc: Global, text: &[u8], forms: Forms) -> Result<Accepted, Reply>
-    requires { length text.now ≤ 1048576 }
-    ensures { ProgramOf text.now result }
+    requires text { length text.now ≤ 1048576 }
+    requires forms { forms ≡ column.Unchecked → ⊥ }
+    ensures { ProgramOf (asked_of forms true) text.now result }
 {
     match check(alloc, text, forms) {
         Ok(accepted) => Ok(accepted),
-        Err(CheckFault::Refused { rule, place }) => Err(answer_with(
-            Status::Refused,
-            refused_line(alloc, rule, place),
-        )),
-        Err(CheckFault::TooLarge { excess }) => Err(answer_with(
-            Status::TooLarge,
-            too_large_line(alloc, excess),
-        )),
-        Err(CheckFault::NoMemory) => Err(Reply::NoMemory),
+        Err(fault) => Err(fault_line(alloc, fault)),
+    }
+}
+
+/// The program of a text, whose ports are not judged, or the line of its verdict.
+fn typed_of(alloc: Global, text: &[u8]) -> Result<Typed, Reply>
+    requires { length text.now ≤ 1048576 }
+    ensures { TypedOf (interpreted true) text.now result }
+{
+    match check_without_ports(alloc, text, Forms::Unchecked) {
+        Ok(typed) => Ok(typed),
+        Err(fault) => Err(fault_line(alloc, fault)),
+    }
+}
+
+/// The line of a fault of the check.
+fn fault_line(alloc: Global, fault: CheckFault) -> Reply
+    ensures { AnswersFault fault result }
+{
+    match fault {
+        CheckFault::Refused { rule, place } => {
+            answer_with(Status::Refused, refused_line(alloc, rule, place))
+        }
+        CheckFault::TooLarge { excess } => {
+            answer_with(Status::TooLarge, too_large_line(alloc, excess))
+        }
+        CheckFault::NoMemory => Reply::NoMemory,
     }
 }
 
@@ -264,7 +322,7 @@ fn too_large(alloc: Global, limit: Limit) -> Reply
 }
 
 /// The memories that a data file holds.
-fn read_memories<F: Files>(
+pub fn read_memories<F: Files>(
     alloc: Global,
     name: &str,
     table: &MemTable,
@@ -329,9 +387,18 @@ fn report_first(alloc: Global, table: &MemTable, answers: &[Finish]) -> Reply
         steps: finish.steps,
         clocks: Some(finish.clocks),
     };
-    match report(alloc, table, &finish.memories, &ending) {
+    report_ending(alloc, table, &finish.memories, &ending)
+}
+
+/// Reports how a run stands.
+pub fn report_ending(alloc: Global, table: &MemTable, memories: &Memories, ending: &Ending) -> Reply
+    requires table { IsTable table.now }
+    requires fits { Fits table.now memories.now }
+    ensures { ReportsEnding table.now memories.now ending.now result }
+{
+    match report(alloc, table, memories, ending) {
         Ok(text) => Reply::Answer(Answer {
-            status: status_of(finish.outcome),
+            status: status_of(ending.outcome),
             text,
         }),
         Err(NoMemory) => Reply::NoMemory,

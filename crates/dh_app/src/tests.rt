@@ -1,5 +1,5 @@
 //! The top call over files and an output in memory: what is written for whole calls, where reading or
-//! writing fails, and that the report is the engine's answer.
+//! writing fails, that the report is the engine's answer, and what the interpreter reports.
 
 ghost use Rattle.std.specs.Prelude.{◌≡◌, ◌≤◌, [], IfOk, vec_len};
 ghost use Rattle.std.specs.List.{AllByRecursion};
@@ -9,6 +9,7 @@ ghost use Rattle.dh_app.specs.Engines.{IsAnswer, AnswersTo};
 
 use crate::engine::{Engine, Finish, NetEngine};
 use crate::running::run;
+use crate::words::Job;
 use dh_base::{MemFiles, MemSink, NoMemory, Status};
 use dh_net::Net;
 use dh_sim::run_net;
@@ -29,6 +30,24 @@ const REPORT: &str =
 
 const LONGER: &str =
     "{\"clocks\":3,\"memories\":{\"A\":{\"data\":[7],\"format\":{\"is_signed\":false,\"numeric_type\":\"bitnum\",\"width\":32}},\"B\":{\"data\":[8],\"format\":{\"is_signed\":false,\"numeric_type\":\"bitnum\",\"width\":32}}},\"outcome\":\"done\",\"steps\":3}\n";
+
+/// The report of the interpreter, which counts no clocks.
+const STANDING: &str =
+    "{\"memories\":{\"A\":{\"data\":[7],\"format\":{\"is_signed\":false,\"numeric_type\":\"bitnum\",\"width\":32}},\"B\":{\"data\":[8],\"format\":{\"is_signed\":false,\"numeric_type\":\"bitnum\",\"width\":32}}},\"outcome\":\"done\",\"steps\":2}\n";
+
+const AT_THE_START: &str =
+    "{\"memories\":{\"A\":{\"data\":[0],\"format\":{\"is_signed\":false,\"numeric_type\":\"bitnum\",\"width\":32}},\"B\":{\"data\":[0],\"format\":{\"is_signed\":false,\"numeric_type\":\"bitnum\",\"width\":32}}},\"outcome\":\"going\",\"steps\":0}\n";
+
+const ONE_MEMORY: &str = "{\"A\":{\"data\":[0]}}";
+
+const STUCK: &str =
+    "{\"memories\":{\"A\":{\"data\":[0],\"format\":{\"is_signed\":false,\"numeric_type\":\"bitnum\",\"width\":32}}},\"outcome\":\"stuck A 0 1:22\",\"steps\":0}\n";
+
+/// The index is computed, and lies outside the memory.
+const OUTSIDE: &str = "decl A: ubit<32>[1]; let x = A[0] + 1 --- A[x] := 1;";
+
+const FAULTED: &str =
+    "{\"memories\":{\"A\":{\"data\":[0],\"format\":{\"is_signed\":false,\"numeric_type\":\"bitnum\",\"width\":32}}},\"outcome\":\"fault OutOfRange 1:43\",\"steps\":1}\n";
 
 /// An engine that is not exact: it tells one step more than the net took.
 #[derive(Debug, Drop)]
@@ -108,6 +127,15 @@ fn words(alloc: Global) -> Result<Vec<String>, AllocError> {
 fn words_over_file(alloc: Global, command: &str) -> Result<Vec<String>, AllocError> {
     let mut words = Vec::new(alloc);
     for word in [command, "a"] {
+        words.push(String::from_str(alloc, word)?)?;
+    }
+    Ok(words)
+}
+
+/// Any words.
+fn words_in(alloc: Global, list: &[&str]) -> Result<Vec<String>, AllocError> {
+    let mut words = Vec::new(alloc);
+    for word in list {
         words.push(String::from_str(alloc, word)?)?;
     }
     Ok(words)
@@ -266,5 +294,110 @@ fn the_report_is_the_engines_answer(rt: HostRuntime) -> Result<(), Fail> {
     let ended = run(alloc, words.as_slice(), &mut files, &mut out, &mut engine);
     assert_eq!(rt; ended, Status::Done);
     assert_eq!(rt; out.bytes(), LONGER.as_bytes());
+    Ok(())
+}
+
+#[test]
+fn the_interpreter_reports_how_the_run_stands(rt: HostRuntime) -> Result<(), Fail> {
+    let alloc = rt.alloc();
+    let plain: &[&str] = &["interpret", "a", "b"];
+    let unchecked: &[&str] = &["interpret", "a", "b", "--unchecked"];
+    let table = [
+        (plain, PROGRAM, DATA, Status::Done, STANDING),
+        (unchecked, PROGRAM, DATA, Status::Done, STANDING),
+        (
+            plain,
+            READ_AND_WRITTEN,
+            ONE_MEMORY,
+            Status::Refused,
+            "refused K19 PortsSpent 1:22\n",
+        ),
+        (
+            unchecked,
+            READ_AND_WRITTEN,
+            ONE_MEMORY,
+            Status::Stuck,
+            STUCK,
+        ),
+        (unchecked, OUTSIDE, ONE_MEMORY, Status::Faulted, FAULTED),
+    ];
+    for (list, text, data, status, written) in table {
+        let words = words_in(alloc, list)?;
+        let mut files = files(alloc, text, data, &[])?;
+        let mut out = MemSink::new(alloc, Vec::new(alloc), 0);
+        let mut engine = NetEngine::new(alloc);
+        let ended = run(alloc, words.as_slice(), &mut files, &mut out, &mut engine);
+        assert_eq!(rt; ended, status, "{text}");
+        assert_eq!(rt; out.bytes(), written.as_bytes(), "{text}");
+    }
+    Ok(())
+}
+
+#[test]
+fn options_of_interpret_stand_in_any_order(rt: HostRuntime) -> Result<(), Fail> {
+    let alloc = rt.alloc();
+    let lists: [&[&str]; 3] = [
+        &["interpret", "a", "b", "--steps", "0"],
+        &["interpret", "a", "b", "--steps", "0", "--unchecked"],
+        &["interpret", "a", "b", "--unchecked", "--steps", "0"],
+    ];
+    for list in lists {
+        let words = words_in(alloc, list)?;
+        let mut files = files(alloc, PROGRAM, DATA, &[])?;
+        let mut out = MemSink::new(alloc, Vec::new(alloc), 0);
+        let mut engine = NetEngine::new(alloc);
+        let ended = run(alloc, words.as_slice(), &mut files, &mut out, &mut engine);
+        assert_eq!(rt; ended, Status::Going);
+        assert_eq!(rt; out.bytes(), AT_THE_START.as_bytes());
+    }
+    Ok(())
+}
+
+#[test]
+fn other_options_are_no_job(rt: HostRuntime) -> Result<(), Fail> {
+    let alloc = rt.alloc();
+    let lists: [&[&str]; 12] = [
+        &["interpret", "a"],
+        &["interpret", "a", "--unchecked"],
+        &["interpret", "a", "b", "--steps"],
+        &["interpret", "a", "b", "--steps", "01"],
+        &["interpret", "a", "b", "--steps", "+1"],
+        &["interpret", "a", "b", "--steps", ""],
+        &["interpret", "a", "b", "--steps", "1000000000001"],
+        &["interpret", "a", "b", "--steps", "99999999999999999999"],
+        &["interpret", "a", "b", "--unchecked", "--unchecked"],
+        &["interpret", "a", "b", "--steps", "1", "--steps", "1"],
+        &["interpret", "--unchecked", "a", "b"],
+        &["simulate", "a", "b", "--unchecked"],
+    ];
+    for list in lists {
+        let words = words_in(alloc, list)?;
+        assert_eq!(rt; Job::of(words.as_slice()), None);
+    }
+    let words = words_in(alloc, &["interpret", "a", "b", "--steps", "1000000000000"])?;
+    let most = Job::Interpret {
+        file: 1,
+        data_: 2,
+        steps: 1_000_000_000_000,
+        unchecked: false,
+    };
+    assert_eq!(rt; Job::of(words.as_slice()), Some(most));
+    Ok(())
+}
+
+#[test]
+fn an_interpreter_without_files_or_output_says_so(rt: HostRuntime) -> Result<(), Fail> {
+    let alloc = rt.alloc();
+    let words = words_in(alloc, &["interpret", "a", "b"])?;
+    let mut engine = NetEngine::new(alloc);
+    let mut unread = files(alloc, PROGRAM, DATA, &[2])?;
+    let mut out = MemSink::new(alloc, Vec::from_slice(alloc, &[1])?, 11);
+    let ended = run(alloc, words.as_slice(), &mut unread, &mut out, &mut engine);
+    assert_eq!(rt; ended, Status::ReadFault);
+    assert_eq!(rt; out.bytes().len(), 0);
+    let mut files = files(alloc, PROGRAM, DATA, &[])?;
+    let ended = run(alloc, words.as_slice(), &mut files, &mut out, &mut engine);
+    assert_eq!(rt; ended, Status::WriteFault);
+    assert_eq!(rt; out.bytes(), b"{\"memories\"".as_slice());
     Ok(())
 }

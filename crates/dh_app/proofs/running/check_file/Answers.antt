@@ -1,6 +1,7 @@
 -- The reply is that of the step that stopped, or that the program is accepted.
-use Rattle.std.proofs.Common.{inl}
 use Rattle.dh_tree.specs.Seen.{program_seen}
+use Rattle.dh_app.specs.Asking.{checked}
+use Rattle.dh_app.proofs.OneJob.{over_check}
 use Rattle.dh_app.proofs.Replying.{no_program, check_replied}
 use Rattle.dh_app.proofs.running.check_file.Goals as goal
 
@@ -12,4 +13,4 @@ returns-in-Ok-clause-replies g c =
 pub returns-clause-replies : goal.returns-clause-replies
 returns-clause-replies g c =
     λ words exact answers names.
-    no_program (g.F.Files.seen c.args.files.now) (g.F.Files.seen c.read_program.new.files) c.args.file.now exact answers c.in-Err.reply c.in-Err.ensures.read words (inl names)
+    no_program (g.F.Files.seen c.args.files.now) (g.F.Files.seen c.read_program.new.files) checked c.args.file.now exact answers c.in-Err.reply c.in-Err.ensures.read words (over_check words c.args.file.now names)

@@ -1,6 +1,7 @@
 -- The reply is that of the step that stopped, or the text of the net.
-use Rattle.std.proofs.Common.{inl, inr}
 use Rattle.dh_tree.specs.Seen.{program_seen}
+use Rattle.dh_app.specs.Asking.{compiled}
+use Rattle.dh_app.proofs.OneJob.{over_lower}
 use Rattle.dh_app.proofs.Replying.{no_program, net_written}
 use Rattle.dh_app.proofs.running.lower.Goals as goal
 
@@ -12,4 +13,4 @@ returns-in-Ok-clause-replies g c =
 pub returns-in-Err-clause-replies : goal.returns-in-Err-clause-replies
 returns-in-Err-clause-replies g c =
     λ words exact answers names.
-    no_program (g.F.Files.seen c.args.files.now) (g.F.Files.seen c.read_program.new.files) c.args.file.now exact answers c.in-Err.reply c.in-Err.ensures.read words (inr (inl names))
+    no_program (g.F.Files.seen c.args.files.now) (g.F.Files.seen c.read_program.new.files) compiled c.args.file.now exact answers c.in-Err.reply c.in-Err.ensures.read words (over_lower words c.args.file.now names)

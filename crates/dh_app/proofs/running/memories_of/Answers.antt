@@ -1,5 +1,4 @@
 -- What the bytes mean, or the line of their fault.
-use Rattle.std.proofs.Common.{ap}
 use Rattle.dh_app.proofs.Replying.{bad_bytes, good_bytes}
 use Rattle.dh_app.proofs.running.memories_of.Goals as goal
 

@@ -1,5 +1,6 @@
 -- The reply is that of the step that stopped, or of the run.
-use Rattle.std.proofs.Common.{inr}
+use Rattle.dh_app.specs.Asking.{compiled}
+use Rattle.dh_app.proofs.OneJob.{over_simulate}
 use Rattle.dh_app.proofs.Replying.{no_program}
 use Rattle.dh_app.proofs.running.simulate.Goals as goal
 
@@ -11,5 +12,5 @@ returns-in-Ok-clause-replies g c =
 pub returns-in-Err-clause-replies : goal.returns-in-Err-clause-replies
 returns-in-Err-clause-replies g c =
     λ words names.
-    no_program (g.F.Files.seen c.args.files.now) (g.F.Files.seen c.read_program.new.files) c.args.file.now
-    (g.E.Engine.exact c.args.engine.now) (g.E.Engine.given c.args.engine.now) c.in-Err.reply c.in-Err.ensures.read words (inr (inr (c.args.data_.now, names)))
+    no_program (g.F.Files.seen c.args.files.now) (g.F.Files.seen c.read_program.new.files) compiled c.args.file.now
+    (g.E.Engine.exact c.args.engine.now) (g.E.Engine.given c.args.engine.now) c.in-Err.reply c.in-Err.ensures.read words (over_simulate words c.args.file.now c.args.data_.now names).program

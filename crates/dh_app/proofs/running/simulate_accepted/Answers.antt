@@ -1,9 +1,11 @@
 -- The reply is that of the step that stopped, or of the run. The data are read by the net's table,
 -- which is the program's.
-use Rattle.std.proofs.Common.{List, Result, Ok, Err, subst}
+use Rattle.std.proofs.Common.{List, Ok, Err, subst}
 use Rattle.dh_tree.specs.declared.tables.MemEntry.{MemEntry}
 use Rattle.dh_tree.specs.Seen.{program_seen}
 use Rattle.dh_app.specs.Replies.{DataRead}
+use Rattle.dh_app.specs.Asking.{compiled}
+use Rattle.dh_app.proofs.OneJob.{over_simulate}
 use Rattle.dh_app.proofs.Replying.{no_memories, run_replied}
 use Rattle.dh_app.proofs.running.simulate_accepted.Goals as goal
 
@@ -27,6 +29,6 @@ returns-clause-replies g c =
     λ first file words kept program names.
     let plays = c.in-Ok.ensures in
     let P : List MemEntry → Type 0 = λ t. DataRead (g.F.Files.seen c.args.files.now) (g.F.Files.seen c.read_memories.new.files) c.args.data_.now t (Err c.in-Err.reply) in
-    no_memories first (g.F.Files.seen c.args.files.now) (g.F.Files.seen c.read_memories.new.files) file c.args.data_.now
+    no_memories first (g.F.Files.seen c.args.files.now) (g.F.Files.seen c.read_memories.new.files) compiled file c.args.data_.now
     (program_seen c.args.accepted.now) (g.E.Engine.exact c.args.engine.now) (g.E.Engine.given c.args.engine.now) c.in-Err.reply
-    kept program (subst P plays.table c.in-Err.ensures.read) words names
+    kept program (subst P plays.table c.in-Err.ensures.read) words (over_simulate words file c.args.data_.now names)
