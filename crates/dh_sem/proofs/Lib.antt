@@ -18,3 +18,4 @@ pub mod Advanced
 pub mod SmallWrites
 pub mod StandsOn
 pub mod RunParts
+pub mod NoStore

@@ -167,7 +167,7 @@ fn store_element(
     put(scene, state, place, memory, index, word)
 }
 
-/// Stores a value at an access.
+/// Stores a value at an access; another target stores nothing.
 #[tactic(auto, using(dh_tree::proofs::SeenTerms::terms_are))]
 fn store(scene: &Scene<'_>, state: &mut State, target: &Expr, value: &Expr) -> Result<(), Stop>
     requires ready { IsReady scene.now.entries.now (contents_of scene.now.memories.now) state.old }
@@ -193,7 +193,7 @@ fn store(scene: &Scene<'_>, state: &mut State, target: &Expr, value: &Expr) -> R
         | ExprForm::Variable { .. }
         | ExprForm::Physical { .. }
         | ExprForm::Binary { .. }
-        | ExprForm::Cast { .. } => put(scene, state, target.place, 0, None, UNSET),
+        | ExprForm::Cast { .. } => Ok(()),
     }
 }
 
