@@ -1,13 +1,12 @@
 -- Literals in two's complement.
-use Rattle.std.proofs.Common.{◌≡◌, ℕ, ◌+◌, ◌-◌, ◌*◌, ◌/◌, ◌%◌, ◌^◌, ◌<◌, ◌≤◌, ℤ, pos, ◌+ℤ◌, ◌-ℤ◌, Bool, true, false, if◌then◌else◌, refl, sym, ap, ◌∙◌, arith}
-use Rattle.std.proofs.lemmas.Int.{ints}
+use Rattle.std.proofs.Common.{◌≡◌, ℕ, ◌+◌, ◌-◌, ◌*◌, ◌/◌, ◌%◌, ◌^◌, ◌<◌, ◌≤◌, pos, ◌+ℤ◌, ◌-ℤ◌, Bool, true, false, refl, sym, ap, ◌∙◌, arith}
 use Rattle.std.proofs.lemmas.Nat.{div-add-mod', pow_pos}
 use Rattle.std.proofs.Math.Nat.{mod-lt}
-use borrow.Author.Differences.{up, down, same_in, same_out, sum_is_lem, neg_is}
+use borrow.Author.Differences.{same_in, same_out, sum_is_lem, neg_is}
 use Rattle.dh_value.specs.declared.kinds.Kind.{Kind}
 use Rattle.dh_value.specs.declared.kinds.Kind.TheVariants as kind
 use Rattle.dh_value.specs.declared.words.Word.{Word}
-use Rattle.dh_value.specs.Words.{IsKind, residue, width_of, with_bits, word_of, value_of}
+use Rattle.dh_value.specs.Words.{IsKind, width_of, with_bits, word_of}
 use Rattle.dh_value.proofs.Residues.{Above, residue_is}
 use Rattle.dh_value.proofs.Values.{difference_bits}
 use Rattle.dh_tree.specs.Effects.{bits_of}

@@ -1,5 +1,5 @@
 -- A store to what is no access stores nothing.
-use Rattle.std.proofs.Common.{◌≡◌, ℕ, Bool, false, List, [], Box, ◌⊎◌, inl, inr, ap, sym, ◌∙◌, subst, append-nil, Option}
+use Rattle.std.proofs.Common.{◌≡◌, ℕ, Bool, false, List, Box, ◌⊎◌, inl, inr, ap, sym, ◌∙◌, subst, append-nil, Option}
 use Rattle.std.specs.Global.{Global}
 use Rattle.dh_base.specs.declared.places.Place.{Place}
 use Rattle.dh_value.specs.declared.kinds.Kind.{Kind}

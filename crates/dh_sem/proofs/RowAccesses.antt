@@ -1,18 +1,14 @@
 -- Accesses of memories of one dimension in one bank.
-use Rattle.std.proofs.Common.{◌≡◌, ℕ, zero, suc, ◌+◌, ◌*◌, ◌/◌, ◌%◌, ◌<◌, ◌≤◌, ◌==◌, ◌&&◌, Bool, true, false, if◌then◌else◌, List, [], ◌∷◌, ◌++◌, length, map, get_or, ◌⊎◌, inl, inr, Option, Some, None, Ok, Err, ℤ, pos, refl, ap, sym, ◌∙◌, subst, arith}
+use Rattle.std.proofs.Common.{◌≡◌, ℕ, zero, suc, ◌+◌, ◌*◌, ◌/◌, ◌%◌, ◌<◌, ◌&&◌, Bool, true, false, if◌then◌else◌, List, [], ◌∷◌, ◌++◌, length, map, get_or, Option, Some, None, Ok, Err, ℤ, pos, refl, ap, sym, ◌∙◌, subst, arith}
 use Rattle.std.specs.Prelude.{slice_get, slice_set, slice_index, slice_index_or, int_le, int_lt, unsigned_abs, Result}
 use Rattle.std.specs.List.{AllByRecursion}
-use Rattle.std.proofs.lemmas.Option.{slice_get-get_or, get_or_from_slice_get}
+use Rattle.std.proofs.lemmas.Option.{slice_get-get_or}
 use Rattle.std.proofs.Math.Nat.{div-one, mod-one}
 use Rattle.dh_base.specs.declared.places.Place.{Place}
-use Rattle.dh_base.specs.declared.lists.NoMemory.{NoMemory}
 use Rattle.dh_base.specs.declared.outcomes.FaultKind.TheVariants.{OutOfRange}
-use Rattle.dh_base.specs.declared.outcomes.Outcome.{Outcome}
-use Rattle.dh_base.specs.declared.outcomes.Outcome.TheVariants.{Faulted, Stuck}
+use Rattle.dh_base.specs.declared.outcomes.Outcome.TheVariants.{Stuck}
 use Rattle.dh_value.specs.declared.kinds.Kind.TheVariants as kind
-use Rattle.dh_value.specs.declared.words.Word.{Word}
 use Rattle.dh_value.specs.Words.{with_bits}
-use Rattle.dh_tree.specs.declared.tables.Dim.{Dim}
 use Rattle.dh_tree.specs.declared.tables.MemEntry.{MemEntry}
 use Rattle.dh_tree.specs.Tables.{IsEntry, line_of}
 use Rattle.dh_tree.specs.Elements.{Spot, dims_at, spot_of, bank_of, row_of, position_of}
@@ -20,8 +16,8 @@ use Rattle.dh_tree.specs.Effects.{Event, reads, writes, faults, is_inside, acces
 use Rattle.dh_sem.specs.declared.spending.Bank.{Bank}
 use Rattle.dh_sem.specs.declared.evaluating.Stop.{Stop}
 use Rattle.dh_sem.specs.declared.evaluating.Stop.TheVariants as stop
-use Rattle.dh_sem.specs.Rows.{sole_of, row_within, row_found, element_in}
-use Rattle.dh_sem.specs.Spent.{rows_now, left_now, ReadsRow, WritesRow, HasSpent, HaveSpent}
+use Rattle.dh_sem.specs.Rows.{sole_of, row_found, element_in}
+use Rattle.dh_sem.specs.Spent.{rows_now, left_now, ReadsRow, WritesRow, HaveSpent}
 use Rattle.dh_sem.specs.Scenes.{Spends, FindsRow}
 use Rattle.dh_sem.proofs.BanksSpent.{spot_at, stop_more, banks_read, banks_stuck, banks_written, banks_full}
 

@@ -1,5 +1,5 @@
 -- Writes of values that their memories can keep.
-use Rattle.std.proofs.Common.{◌≡◌, ℕ, zero, suc, ◌+◌, ◌<◌, ◌^◌, Bool, true, false, if◌then◌else◌, List, [], ◌∷◌, ◌++◌, length, get_or, ℤ, ◌⊎◌, inl, inr, refl, ap, sym, ◌∙◌, subst}
+use Rattle.std.proofs.Common.{◌≡◌, ℕ, zero, suc, ◌<◌, ◌^◌, Bool, true, false, if◌then◌else◌, List, [], ◌∷◌, ◌++◌, get_or, ℤ, ◌⊎◌, inl, inr, refl, ap, sym, subst}
 use Rattle.std.specs.Prelude.{slice_set, slice_index, slice_index_or}
 use Rattle.std.specs.List.{AllByRecursion}
 use Rattle.std.proofs.lemmas.Nat.{pow_pos}
@@ -12,7 +12,7 @@ use Rattle.dh_value.proofs.Residues.{residue-lt}
 use Rattle.dh_tree.specs.declared.tables.MemEntry.{MemEntry}
 use Rattle.dh_tree.specs.Elements.{Spot, dims_at}
 use Rattle.dh_tree.specs.Tree.{Term, Terms, Command, store, assign, choose, Commands, no_commands, command}
-use Rattle.dh_tree.specs.Effects.{Event, reads, writes, faults, Effect, Variables, kind_in, kept_bits, access_made, is_inside, term_events, terms_events, values_of, value_of, at_each, stored_at, assigned_at, tested_at, holds_at, paths_where, command_run, commands_run, written}
+use Rattle.dh_tree.specs.Effects.{Event, reads, writes, faults, Effect, kind_in, kept_bits, access_made, is_inside, term_events, terms_events, values_of, value_of, at_each, stored_at, assigned_at, tested_at, holds_at, paths_where, command_run, commands_run, written}
 use Rattle.dh_sem.specs.declared.running.Write.{Write}
 use Rattle.dh_sem.specs.Rows.{element_in}
 use Rattle.dh_sem.specs.Scenes.{AreSmall}

@@ -1,12 +1,10 @@
 -- Where a run stands after a step.
-use Rattle.std.proofs.Common.{◌≡◌, ℕ, zero, suc, ◌+◌, ◌<◌, ◌≤◌, ◌==◌, Bool, true, false, if◌then◌else◌, List, [], ◌∷◌, ◌++◌, length, map, drop, get_or, Some, None, Ok, Err, Result, Vec, Bor, ◌⊎◌, inl, inr, refl, ap, sym, ◌∙◌, subst, arith}
-use Rattle.std.specs.Prelude.{slice_get}
+use Rattle.std.proofs.Common.{◌≡◌, ℕ, zero, suc, ◌+◌, ◌<◌, ◌≤◌, ◌==◌, Bool, true, false, if◌then◌else◌, List, [], ◌∷◌, length, map, drop, get_or, Some, None, Vec, Bor, ◌⊎◌, inl, inr, refl, ap, sym, ◌∙◌, subst, arith}
 use Rattle.std.specs.List.{AllByRecursion}
 use Rattle.std.specs.Global.{Global}
 use Rattle.std.proofs.Math.Seq.{drop-cons}
 use Rattle.std.proofs.lemmas.Bool.{eqb-true, eq-eqb, cases_Bool}
 use Rattle.std.proofs.lemmas.Bool.Decides.{nat_tests}
-use Rattle.dh_base.specs.declared.lists.NoMemory.{NoMemory}
 use Rattle.dh_base.specs.declared.outcomes.Outcome.{Outcome}
 use Rattle.dh_base.specs.declared.outcomes.Outcome.TheVariants.{Going, Ended, Faulted, Stuck}
 use Rattle.dh_value.specs.declared.words.Word.{Word}
@@ -14,18 +12,18 @@ use Rattle.dh_value.specs.Words.{IsWord}
 use Rattle.dh_tree.specs.declared.tables.MemEntry.{MemEntry}
 use Rattle.dh_tree.specs.declared.trees.commands.Command.{Command}
 use Rattle.dh_tree.specs.PlainTrees.{Program}
-use Rattle.dh_tree.specs.Tree.{Phase, straight, Commands}
+use Rattle.dh_tree.specs.Tree.{Commands}
 use Rattle.dh_tree.specs.Meaning.{meaning_of, table_of, commands_meant, action_meant}
 use Rattle.dh_tree.specs.Seen.{action_seen}
-use Rattle.dh_tree.specs.Effects.{Effect, Variables, commands_run, outer_paths, stop_after, written}
-use Rattle.dh_tree.specs.Steps.{Threads, Standing, standing, outcome_of, step_from, next_step, next_standing, step_effect}
+use Rattle.dh_tree.specs.Effects.{Effect, Variables, commands_run, outer_paths, stop_after}
+use Rattle.dh_tree.specs.Steps.{Threads, Standing, standing, outcome_of, step_from, next_step, next_standing}
 use Rattle.dh_sem.specs.declared.spending.Bank.{Bank}
 use Rattle.dh_sem.specs.Scenes.{AreSmall, IsSound, variables_of}
 use Rattle.dh_sem.specs.declared.running.State.{State}
 use Rattle.dh_sem.specs.Rows.{contents_of}
 use Rattle.dh_sem.specs.States.{AreRunnable, IsReady, writes_in, written_by}
-use Rattle.dh_sem.specs.Runs.{Run, meant_of, phases_of, standing_of, StandsAt, StepsOn, IsFree, IsSteady}
-use Rattle.dh_sem.specs.Advances.{AreUnspent, IsUnspent, HasDone, IsBack, effect_of}
+use Rattle.dh_sem.specs.Runs.{Run, meant_of, phases_of, standing_of, StandsAt, IsSteady}
+use Rattle.dh_sem.specs.Advances.{AreUnspent, HasDone, IsBack, effect_of}
 use Rattle.dh_sem.proofs.SmallWrites.{written_same, small_commands, small_written}
 
 abbrev pub run_of : List MemEntry → Outcome → ℕ → List (List ℕ) → List Word → List (List Command) → Run

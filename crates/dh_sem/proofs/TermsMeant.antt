@@ -1,6 +1,6 @@
 -- Terms that a program means: their values, kinds, accesses and operands.
-use Rattle.std.proofs.Common.{◌≡◌, ℕ, zero, suc, ◌+◌, ◌-◌, ◌%◌, ◌^◌, ◌<◌, ◌≤◌, Bool, true, false, List, [], ◌∷◌, ◌++◌, length, map, take, drop, get_or, ℤ, refl, ap, sym, ◌∙◌, subst, arith}
-use Rattle.std.specs.Prelude.{unsigned_abs, slice_get}
+use Rattle.std.proofs.Common.{◌≡◌, ℕ, ◌-◌, ◌%◌, ◌^◌, ◌<◌, Bool, true, false, List, ◌++◌, map, refl, ap, sym, ◌∙◌, subst}
+use Rattle.std.specs.Prelude.{unsigned_abs}
 use Rattle.std.specs.List.{AllByRecursion}
 use Rattle.std.proofs.lemmas.Nat.{pow_pos}
 use Rattle.std.proofs.Math.Nat.{mod-lt}
@@ -9,18 +9,17 @@ use Rattle.dh_value.specs.declared.kinds.Kind.TheVariants as kind
 use Rattle.dh_value.specs.declared.operators.Op.{Op}
 use Rattle.dh_value.specs.declared.operators.Op.TheVariants as op
 use Rattle.dh_value.specs.declared.words.Word.{Word}
-use Rattle.dh_value.specs.Words.{IsKind, IsWord, IsInteger, width_of, with_bits, word_of}
-use Rattle.dh_value.specs.Words as words
-use Rattle.dh_value.specs.Operations.{Suits, result_of, binary_of, truth}
+use Rattle.dh_value.specs.Words.{IsWord, IsInteger, width_of}
+use Rattle.dh_value.specs.Operations.{Suits, result_of, binary_of}
 use Rattle.dh_value.proofs.Values.{integer_width}
 use Rattle.dh_value.proofs.WordLaws.{word_of_is_word, truth_is_word, binary_is_word, binary_kind}
 use Rattle.dh_tree.specs.declared.tables.MemEntry.{MemEntry}
 use Rattle.dh_tree.specs.Tables.{IsEntry}
-use Rattle.dh_tree.specs.Tree.{Term, number, truth_value, variable, access, binary, convert, Terms, no_terms, term}
+use Rattle.dh_tree.specs.Tree.{Term, number, truth_value, variable, access, binary, convert}
 use Rattle.dh_tree.specs.Elements.{dims_at, position_of}
-use Rattle.dh_tree.specs.Effects.{Event, Variables, value_of, values_of, term_events, kind_in, element_at, bits_of}
+use Rattle.dh_tree.specs.Effects.{Event, Variables, value_of, values_of, term_events, bits_of}
 use Rattle.dh_tree.specs.Meaning.{wider, extended, extended_both, applied_meant}
-use Rattle.dh_tree.specs.Suited.{IsSuited, AreSuited, term_kind}
+use Rattle.dh_tree.specs.Suited.{IsSuited, term_kind}
 use Rattle.dh_sem.specs.Applied.{extended_word, IsExtension, applied_of, SuitsApplied, SuitsExtended}
 use Rattle.dh_sem.specs.Scenes.{AreSmall}
 use Rattle.dh_sem.proofs.RowAccesses.{entry_at, kind_is, no_entry}

@@ -1,11 +1,10 @@
 -- What an operation gives, by the words of its operands and the kinds that were found for them.
-use Rattle.std.specs.Prelude.{◌≡◌, ℕ}
 use Rattle.dh_value.specs.declared.kinds.Kind.{Kind}
 use Rattle.dh_value.specs.declared.kinds.Kind.TheVariants.{Bool, Unsigned, Signed}
 use Rattle.dh_value.specs.declared.operators.Op.{Op}
 use Rattle.dh_value.specs.declared.operators.Op.TheVariants as op
 use Rattle.dh_value.specs.declared.words.Word.{Word}
-use Rattle.dh_value.specs.Words.{IsWord, IsInteger, value_of, word_of}
+use Rattle.dh_value.specs.Words.{IsInteger, value_of, word_of}
 use Rattle.dh_value.specs.Operations.{Suits, binary_of}
 use Rattle.dh_tree.specs.Meaning.{wider}
 

@@ -1,6 +1,6 @@
 -- A run of a program as the interpreter keeps it, and where it stands among the steps of the checked
 -- semantics.
-use Rattle.std.specs.Prelude.{◌≡◌, ℕ, ◌+◌, ◌<◌, ◌≤◌, List, [], ◌∷◌, length, map, slice_get, Some, Result, Ok, Err}
+use Rattle.std.specs.Prelude.{◌≡◌, ℕ, ◌+◌, ◌≤◌, List, [], ◌∷◌, length, map, slice_get, Some, Result, Ok, Err}
 use Rattle.std.specs.List.{AllByRecursion}
 use Rattle.dh_base.specs.declared.lists.NoMemory.{NoMemory}
 use Rattle.dh_base.specs.declared.outcomes.Outcome.{Outcome}
@@ -14,7 +14,6 @@ use Rattle.dh_tree.specs.Elements.{ports_at}
 use Rattle.dh_tree.specs.Tree.{Commands, Phase, straight}
 use Rattle.dh_tree.specs.Meaning.{commands_meant, meaning_of, table_of}
 use Rattle.dh_tree.specs.Steps.{Standing, standing, outcome_of}
-use Rattle.dh_tree.specs.Tables.{IsEntry}
 use Rattle.dh_sem.specs.declared.spending.Bank.{Bank}
 use Rattle.dh_sem.specs.Scenes.{IsSound, variables_of}
 use Rattle.dh_sem.specs.States.{AreRunnable}

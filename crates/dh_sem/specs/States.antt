@@ -1,11 +1,7 @@
 -- What a step keeps of what its commands did so far.
-use Rattle.std.specs.Prelude.{◌≡◌, ℕ, ◌<◌, List, [], ◌∷◌, length, map, slice_set, slice_index_or, Some, Result, Ok, Err, Vec}
-use Rattle.std.specs.List.{AllByRecursion}
-use Rattle.dh_base.specs.declared.places.Place.{Place}
+use Rattle.std.specs.Prelude.{◌≡◌, ℕ, ◌<◌, List, [], ◌∷◌, length, slice_set, slice_index_or, Some, Result, Ok, Err}
 use Rattle.dh_value.specs.declared.words.Word.{Word}
-use Rattle.dh_value.specs.Words.{IsWord}
 use Rattle.dh_tree.specs.declared.tables.MemEntry.{MemEntry}
-use Rattle.dh_tree.specs.Tables.{IsEntry}
 use Rattle.dh_tree.specs.Tree.{Command, store, assign, choose, Commands, no_commands, command}
 use Rattle.dh_tree.specs.Effects.{Event, reads, writes, faults, Effect, stop_after}
 use Rattle.dh_tree.specs.Suited.{AreSuitedCommands}
@@ -15,7 +11,7 @@ use Rattle.dh_sem.specs.declared.running.State.{State}
 use Rattle.dh_sem.specs.declared.evaluating.Stop.{Stop}
 use Rattle.dh_sem.specs.declared.evaluating.Stop.TheVariants as stop
 use Rattle.dh_sem.specs.Spent.{HaveSpent}
-use Rattle.dh_sem.specs.Scenes.{AreSmall, IsSound, variables_of}
+use Rattle.dh_sem.specs.Scenes.{IsSound, variables_of}
 
 -- the writes among events, in order
 abbrev pub writes_in : List Event → List Write

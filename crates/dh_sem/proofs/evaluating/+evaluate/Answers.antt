@@ -1,4 +1,4 @@
-use Rattle.std.proofs.Common.{◌≡◌, ℤ, Option, Some, ℕ, ◌+◌, refl, ap, sym, subst, ◌∙◌, Ok, Err, [], ◌∷◌, ◌++◌, map}
+use Rattle.std.proofs.Common.{ℤ, Option, Some, ℕ, ◌+◌, refl, ap, sym, subst, ◌∙◌, Err, [], ◌∷◌, ◌++◌, map}
 use Rattle.std.proofs.lemmas.Result.{err_from_is_err_and}
 use Rattle.std.proofs.lemmas.Int.{to_z-of_z}
 use Rattle.std.specs.Int.{w128}
@@ -10,7 +10,7 @@ use Rattle.dh_tree.specs.PlainTrees.{accessed, converted}
 use Rattle.dh_tree.specs.Meaning.{term_meant, form_meant, kind_or_first, terms_meant, memory_of}
 use Rattle.dh_tree.specs.Effects.{term_events, terms_events, values_of, access_made, reads}
 use Rattle.dh_tree.specs.Seen.{term_seen, form_seen, terms}
-use Rattle.dh_tree.proofs.SeenTerms.{number_is, truth_is, variable_is, physical_is, binary_is, cast_is, access_is}
+use Rattle.dh_tree.proofs.SeenTerms.{number_is, truth_is, variable_is, physical_is, cast_is, access_is}
 use Rattle.dh_sem.specs.Rows.{contents_of}
 use Rattle.dh_sem.specs.Scenes.{variables_of, Spends}
 use Rattle.dh_sem.proofs.TermsMeant.{value_word}

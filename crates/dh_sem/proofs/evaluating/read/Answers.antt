@@ -1,10 +1,7 @@
-use Rattle.std.proofs.Common.{◌≡◌, ap, sym, subst, ◌∙◌, Ok, Err, Bool, length, get_or, [], ◌∷◌, ◌++◌}
-use Rattle.std.specs.Prelude.{Result, slice_index_or, slice_set}
+use Rattle.std.proofs.Common.{ap, sym, subst, ◌∙◌, Ok, Err, Bool, get_or, [], ◌∷◌, ◌++◌}
+use Rattle.std.specs.Prelude.{slice_set}
 use Rattle.std.proofs.lemmas.Result.{err_from_is_err_and}
-use Rattle.dh_base.specs.declared.lists.NoMemory.{NoMemory}
-use Rattle.dh_base.specs.declared.outcomes.Outcome.TheVariants.{Stuck}
 use Rattle.dh_value.specs.declared.words.Word.{Word}
-use Rattle.dh_value.specs.Words.{with_bits}
 use Rattle.dh_tree.specs.Effects.{reads, access_made}
 use Rattle.dh_sem.specs.declared.evaluating.Stop.{Stop}
 use Rattle.dh_sem.specs.Scenes.{Spends}

@@ -1,6 +1,3 @@
-use Rattle.std.proofs.Common.{◌≡◌, sym, ap, subst, ◌∙◌}
-use Rattle.dh_value.specs.Words.{with_bits}
-use Rattle.dh_tree.specs.Effects.{bits_of}
 use Rattle.dh_sem.proofs.Literals.{negative_literal, other_literal}
 use Rattle.dh_sem.proofs.operands.literal.Goals as goal
 use Rattle.dh_sem.proofs.operands.literal.Goals.{then-negative, else-negative}

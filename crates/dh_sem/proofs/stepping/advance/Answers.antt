@@ -1,4 +1,4 @@
-use Rattle.std.proofs.Common.{◌≡◌, List, refl, ap, sym, ◌∙◌, subst, [], map, Err}
+use Rattle.std.proofs.Common.{List, refl, ap, sym, ◌∙◌, subst, [], map}
 use Rattle.std.specs.Vec.{with_items}
 use Rattle.std.proofs.lemmas.List.{with_items_is}
 use Rattle.dh_tree.specs.Meaning.{commands_meant}

@@ -1,4 +1,4 @@
-use Rattle.std.proofs.Common.{◌≡◌, ◌+◌, ◌==◌, if◌then◌else◌, refl, ap, sym, ◌∙◌, subst, map, rules}
+use Rattle.std.proofs.Common.{◌+◌, ◌==◌, if◌then◌else◌, refl, ap, sym, ◌∙◌, subst, map, rules}
 use Rattle.dh_base.specs.declared.outcomes.Outcome.TheVariants.{Going, Ended}
 use Rattle.dh_tree.specs.Meaning.{commands_meant}
 use Rattle.dh_tree.specs.Seen.{action_seen}
