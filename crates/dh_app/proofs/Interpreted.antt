@@ -2,7 +2,8 @@
 use Rattle.std.proofs.Common.{◌≡◌, ℕ, ◌+◌, ◌<◌, List, Ok, None, sym, ap, ◌∙◌, subst, arith}
 use Rattle.dh_base.specs.declared.outcomes.Outcome.{Outcome}
 use Rattle.dh_base.specs.declared.outcomes.Outcome.TheVariants.{Going}
-use Rattle.dh_tree.specs.Meaning.{meaning_of, table_of}
+use Rattle.dh_tree.specs.Meaning.{meaning_of}
+use Rattle.dh_tree.specs.Memories.{table_of}
 use Rattle.dh_tree.specs.PlainTrees.{Program}
 use Rattle.dh_tree.specs.Tables.{Fits}
 use Rattle.dh_data.specs.declared.reports.Ending.{Ending}

@@ -11,7 +11,7 @@ use Rattle.dh_base.specs.declared.outcomes.Outcome.TheVariants as outcome
 use Rattle.dh_base.specs.declared.statuses.Status.{Status}
 use Rattle.dh_base.specs.declared.statuses.Status.TheVariants as status
 use Rattle.dh_tree.specs.Tables.{Fits}
-use Rattle.dh_tree.specs.Meaning.{table_of}
+use Rattle.dh_tree.specs.Memories.{table_of}
 use Rattle.dh_tree.specs.PlainTrees.{Program}
 use Rattle.dh_tree.specs.declared.tables.MemEntry.{MemEntry}
 use Rattle.dh_check.specs.Verdicts.{Asked, Verdict, accepts, refuses, exceeds, IsVerdict, FaultTells}

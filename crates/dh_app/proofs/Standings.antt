@@ -14,19 +14,19 @@ use Rattle.dh_value.proofs.Residues.{residue-lt}
 use Rattle.dh_value.specs.Words as words
 use Rattle.dh_value.specs.Words.{width_of}
 use Rattle.dh_tree.specs.declared.tables.MemEntry.{MemEntry}
-use Rattle.dh_tree.specs.Elements.{Spot, spot_of, dims_at}
-use Rattle.dh_tree.specs.Effects.{Event, reads, writes, faults, Variables, kind_in, is_inside, value_of, values_of, access_made, term_events, terms_events, Effect, kept_bits, stored_at, assigned_at, tested_at, at_each, paths_where, holds_at, command_run, commands_run, outer_paths, written}
+use Rattle.dh_tree.specs.Elements.{Spot, spot_of, spot_in_bank, dims_at}
+use Rattle.dh_tree.specs.Effects.{Event, reads, writes, faults, Variables, kind_in, is_inside, is_row, value_of, values_of, access_made, bank_access_made, term_events, terms_events, Effect, kept_bits, stored_at, stored_in_bank_at, assigned_at, tested_at, at_each, paths_where, holds_at, command_run, commands_run, outer_paths, written}
 use Rattle.dh_tree.specs.Effects as effects
-use Rattle.dh_tree.specs.Steps.{Threads, phase_run, threads_run, Standing, step_effect, next_standing, step_from, next_step, standing}
+use Rattle.dh_tree.specs.Steps.{Threads, turn_begun, phase_run, first_run, threads_run, Standing, step_effect, next_standing, step_from, next_step, standing}
 use Rattle.dh_tree.specs.Tables.{Fits}
-use Rattle.dh_tree.specs.Tree.{Term, number, truth_value, variable, access, binary, convert, Terms, no_terms, term, Command, store, assign, choose, Commands, no_commands, command, Phase, straight, Tree}
+use Rattle.dh_tree.specs.Tree.{Term, number, truth_value, variable, access, in_bank, binary, convert, Terms, no_terms, term, Command, store, store_in_bank, assign, choose, Commands, no_commands, command, Phase, straight, turns, repeated, decided, Phases, no_phases, phase, Tree}
 
 -- ---- steps
 
 step_more : (table : List MemEntry) (s : Standing) (o : Outcome) → (step_from table s o).steps ≤ suc s.steps
 step_more table s Going = by (effects.stop_after table [] (step_effect table s).events)
   where
-    by : (stop : Option Outcome) → (next_standing (step_effect table s) s stop).steps ≤ suc s.steps
+    by : (stop : Option Outcome) → (next_standing table (step_effect table s) s stop).steps ≤ suc s.steps
     by None = omega arith
     by (Some outcome) = omega arith
 step_more table s Ended = omega arith
@@ -79,6 +79,10 @@ access_small : (table : List MemEntry) (place : Place) (memory : ℕ) (indices :
     → IsSmall table (access_made table place memory indices made)
 access_small table place memory indices made h = made_small table place (spot_of table memory (map unsigned_abs indices)) made h (is_inside (dims_at table memory) indices)
 
+bank_small : (table : List MemEntry) (place : Place) (memory bank : ℕ) (row : ℤ) (made : Spot → Event) → IsSmall table (made (spot_in_bank table memory bank (unsigned_abs row)))
+    → IsSmall table (bank_access_made table place memory bank row made)
+bank_small table place memory bank row made h = made_small table place (spot_in_bank table memory bank (unsigned_abs row)) made h (is_row (dims_at table memory) row)
+
 module _ (table : List MemEntry) (memories : List (List ℕ)) where
   mutual
     term_small : (variables : Variables) (path : List ℕ) (t : Term) → AreSmall table (term_events table memories variables path t)
@@ -88,6 +92,9 @@ module _ (table : List MemEntry) (memories : List (List ℕ)) where
     term_small variables path (access place memory indices) =
         joined table (terms_events table memories variables path indices) _ (terms_small variables path indices)
         (access_small table place memory (values_of table memories variables path indices) (reads place) tt, tt)
+    term_small variables path (in_bank place memory bank row) =
+        joined table (term_events table memories variables path row) _ (term_small variables path row)
+        (bank_small table place memory bank (words.value_of (value_of table memories variables path row)) (reads place) tt, tt)
     term_small variables path (binary op left right) =
         joined table (term_events table memories variables path left) _ (term_small variables path left) (term_small variables path right)
     term_small variables path (convert to inner) = term_small variables path inner
@@ -107,6 +114,17 @@ module _ (table : List MemEntry) (memories : List (List ℕ)) where
         tt,
       )))
 
+  bank_store_small : (place : Place) (memory bank : ℕ) (row value : Term) (path : List ℕ) (e : Effect) → AreSmall table e.events
+      → AreSmall table (stored_in_bank_at table memories place memory bank row value path e).events
+  bank_store_small place memory bank row value path e h =
+      joined table e.events _ h
+      (joined table (term_events table memories e.variables path value) _ (term_small e.variables path value)
+      (joined table (term_events table memories e.variables path row) _ (term_small e.variables path row) (
+        bank_small table place memory bank (words.value_of (value_of table memories e.variables path row)) (λ s. writes place s (kept_bits table memory (value_of table memories e.variables path value)))
+            (residue-lt (2 ^ width_of (kind_in table memory)) (words.value_of (value_of table memories e.variables path value)) (pow_pos (width_of (kind_in table memory)))),
+        tt,
+      )))
+
   each_small : (run : List ℕ → Effect → Effect) → ((path : List ℕ) (e : Effect) → AreSmall table e.events → AreSmall table (run path e).events) → (paths : List (List ℕ)) (e : Effect)
       → AreSmall table e.events → AreSmall table (at_each run paths e).events
   each_small run one [] e h = h
@@ -116,6 +134,8 @@ module _ (table : List MemEntry) (memories : List (List ℕ)) where
     command_small : (paths : List (List ℕ)) (c : Command) (e : Effect) → AreSmall table e.events → AreSmall table (command_run table memories paths c e).events
     command_small paths (store place memory indices value) e h =
         each_small (stored_at table memories place memory indices value) (store_small place memory indices value) paths e h
+    command_small paths (store_in_bank place memory bank row value) e h =
+        each_small (stored_in_bank_at table memories place memory bank row value) (bank_store_small place memory bank row value) paths e h
     command_small paths (assign depth entity value) e h =
         each_small (assigned_at table memories depth entity value) (λ path e k. joined table e.events _ k (term_small e.variables path value)) paths e h
     command_small paths (choose test chosen other) e h =
@@ -128,8 +148,19 @@ module _ (table : List MemEntry) (memories : List (List ℕ)) where
     commands_small paths no_commands e h = h
     commands_small paths (command c cs) e h = commands_small paths cs (command_run table memories paths c e) (command_small paths c e h)
 
-  phase_small : (p : Phase) (e : Effect) → AreSmall table e.events → AreSmall table (phase_run table memories p e).events
-  phase_small (straight cs) e h = commands_small outer_paths cs e h
+  test_small : (test : Term) (e : Effect) → AreSmall table e.events → AreSmall table (at_each (tested_at table memories test) outer_paths e).events
+  test_small test e h = each_small (tested_at table memories test) (λ path e k. joined table e.events _ k (term_small e.variables path test)) outer_paths e h
+
+  mutual
+    phase_small : (p : Phase) (e : Effect) → AreSmall table e.events → AreSmall table (phase_run table memories p e).events
+    phase_small (straight cs) e h = commands_small outer_paths cs e h
+    phase_small (turns iterator low count body) e h = first_small body (turn_begun iterator low e) h
+    phase_small (repeated test body) e h = test_small test e h
+    phase_small (decided test chosen other) e h = test_small test e h
+
+    first_small : (ps : Phases) (e : Effect) → AreSmall table e.events → AreSmall table (first_run table memories ps e).events
+    first_small no_phases e h = h
+    first_small (phase p ps) e h = phase_small p e h
 
   threads_small : (ts : Threads) (e : Effect) → AreSmall table e.events → AreSmall table (threads_run table memories ts e).events
   threads_small [] e h = h
@@ -162,7 +193,7 @@ written_fits table (faults kind place ∷ es) ms small h = written_fits table es
 step_fits : (table : List MemEntry) (s : Standing) (o : Outcome) → Fits table s.memories → Fits table (step_from table s o).memories
 step_fits table s Going h = by (effects.stop_after table [] (step_effect table s).events)
   where
-    by : (stop : Option Outcome) → Fits table (next_standing (step_effect table s) s stop).memories
+    by : (stop : Option Outcome) → Fits table (next_standing table (step_effect table s) s stop).memories
     by None = written_fits table (step_effect table s).events s.memories (threads_small table s.memories s.threads (record { variables = s.variables; events = [] }) tt) h
     by (Some outcome) = h
 step_fits table s Ended h = h

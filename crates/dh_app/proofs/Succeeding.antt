@@ -8,7 +8,7 @@ use Rattle.dh_base.specs.Outside.{Told, FilesSeen, SinkSeen, Rose, MayBe, IsAbse
 use Rattle.dh_base.specs.declared.limits.Limit.TheVariants as limit
 use Rattle.dh_base.specs.declared.statuses.Status.{Status}
 use Rattle.dh_base.specs.declared.statuses.Status.TheVariants as status
-use Rattle.dh_tree.specs.Meaning.{table_of}
+use Rattle.dh_tree.specs.Memories.{table_of}
 use Rattle.dh_tree.specs.PlainTrees.{Program}
 use Rattle.dh_check.specs.Verdicts.{Asked, Verdict, accepts, refuses, exceeds, Judged}
 use Rattle.dh_compile.specs.Compiled.{PlaysProgram}

@@ -12,7 +12,7 @@ use Rattle.dh_base.specs.declared.limits.Excess.{Excess}
 use Rattle.dh_base.specs.declared.rules.Rule.{Rule}
 use Rattle.dh_base.specs.declared.statuses.Status.{Status}
 use Rattle.dh_base.specs.declared.statuses.Status.TheVariants as status
-use Rattle.dh_tree.specs.Meaning.{table_of}
+use Rattle.dh_tree.specs.Memories.{table_of}
 use Rattle.dh_tree.specs.declared.tables.MemEntry.{MemEntry}
 use Rattle.dh_tree.specs.PlainTrees.{Program}
 use Rattle.dh_check.specs.Verdicts.{Asked, Verdict, accepts, refuses, exceeds, Judged, IsVerdict}

@@ -4,7 +4,8 @@ use Rattle.dh_base.specs.declared.outcomes.Outcome.{Outcome}
 use Rattle.dh_base.specs.declared.outcomes.Outcome.TheVariants as outcome
 use Rattle.dh_base.specs.declared.statuses.Status.{Status}
 use Rattle.dh_base.specs.declared.statuses.Status.TheVariants as status
-use Rattle.dh_tree.specs.Meaning.{table_of, meaning_of}
+use Rattle.dh_tree.specs.Meaning.{meaning_of}
+use Rattle.dh_tree.specs.Memories.{table_of}
 use Rattle.dh_tree.specs.PlainTrees.{Program}
 use Rattle.dh_tree.specs.Steps.{Standing, standing}
 use Rattle.dh_data.specs.Reports.{report_text}

@@ -12,9 +12,9 @@ use Rattle.dh_tree.specs.Tables.{Fits}
 use Rattle.dh_tree.specs.declared.tables.MemEntry.{MemEntry}
 use Rattle.dh_tree.specs.PlainTrees.{Program}
 use Rattle.dh_tree.specs.Seen.{program_seen}
-use Rattle.dh_check.specs.Acceptance.{IsReady}
+use Rattle.dh_tree.specs.Ready.{IsReady}
 use Rattle.dh_check.specs.Verdicts.{Asked, Verdict, accepts, refuses, exceeds, IsVerdict}
-use Rattle.dh_check.specs.declared.accepted.Accepted.{Accepted}
+use Rattle.dh_ports.specs.declared.accepted.Accepted.{Accepted}
 use Rattle.dh_check.specs.declared.checking.CheckFault.{CheckFault}
 use Rattle.dh_check.specs.declared.checking.CheckFault.TheVariants as check_fault
 use Rattle.dh_tree.specs.declared.trees.typed.Typed.{Typed}

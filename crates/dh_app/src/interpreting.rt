@@ -3,9 +3,9 @@
 ghost use Rattle.std.specs.Prelude.{◌≡◌, List, ℕ, Bool, IfOk};
 ghost use Rattle.dh_base.specs.Outside.{FilesSeen, KeepsFiles};
 ghost use Rattle.dh_tree.specs.Tables.{Fits};
-ghost use Rattle.dh_tree.specs.Meaning.{table_of};
+ghost use Rattle.dh_tree.specs.Memories.{table_of};
 ghost use Rattle.dh_tree.specs.Seen.{program_seen};
-ghost use Rattle.dh_check.specs.Acceptance.{IsReady};
+ghost use Rattle.dh_tree.specs.Ready.{IsReady};
 ghost use Rattle.dh_sem.specs.Runs.{StandsAt};
 ghost use Rattle.dh_app.specs.Asking.{interpreted};
 ghost use Rattle.dh_app.specs.Ends.{IsProgram, NamesInterpret};

@@ -2,12 +2,14 @@
 
 ghost use Rattle.std.specs.Prelude.{◌≡◌, ◌+◌, ◌≤◌, [], ◌∷◌, length, map, string_bytes, Bool, true, List, ℕ, IfOk};
 ghost use Rattle.dh_base.specs.Outside.{FilesSeen, KeepsFiles, KeepsSink};
-ghost use Rattle.dh_tree.specs.Tables.{Fits, IsTable};
-ghost use Rattle.dh_tree.specs.Meaning.{table_of};
+ghost use Rattle.dh_tree.specs.Tables.{Fits};
+ghost use Rattle.dh_tree.specs.Shapes.{IsProgramTable};
+ghost use Rattle.dh_tree.specs.Memories.{table_of};
 ghost use Rattle.dh_tree.specs.PlainTrees.{Program};
 ghost use Rattle.dh_tree.specs.Seen.{program_seen};
 ghost use Rattle.dh_net.specs.Valid.{IsValid};
 ghost use Rattle.dh_compile.specs.Compiled.{PlaysProgram};
+ghost use Rattle.dh_check.specs.Acceptance.{IsCompilable};
 ghost use Rattle.dh_check.specs.Verdicts.{asked_of};
 ghost use Rattle.dh_check.specs.declared.checking.Forms.TheVariants as column;
 ghost use Rattle.dh_app.specs.Asking.{compiled, interpreted};
@@ -183,6 +185,7 @@ fn lower<F: Files>(alloc: Global, file: &str, files: &mut F) -> Reply
 
 /// The text of the net of a program.
 fn net_text(alloc: Global, accepted: &Accepted) -> Reply
+    requires { IsCompilable (program_seen accepted.now) }
     ensures { LowerReplies (program_seen accepted.now) result }
 {
     let Ok(net) = compile(alloc, accepted) else {
@@ -222,6 +225,7 @@ fn simulate_accepted<F: Files, E: Engine>(
     files: &mut F,
     engine: &mut E,
 ) -> Reply
+    requires { IsCompilable (program_seen accepted.now) }
     ensures files { KeepsFiles (F.seen files.old) (F.seen files.new) }
     ensures engine { E.exact engine.new ≡ E.exact engine.old }
     ensures replies { (first : FilesSeen) (file : List ℕ) (words : List (List ℕ)) → KeepsFiles first (F.seen files.old) → IsProgram first compiled file (program_seen accepted.now) → Names words file data_.now → Replies words first (F.seen files.new) (E.exact engine.old) (E.given engine.new) result }
@@ -255,9 +259,9 @@ pub fn read_program<F: Files>(
     files: &mut F,
     forms: Forms,
 ) -> Result<Accepted, Reply>
-    requires forms { forms ≡ column.Unchecked → ⊥ }
     ensures files { KeepsFiles (F.seen files.old) (F.seen files.new) }
     ensures read { ProgramRead (F.seen files.old) (F.seen files.new) (asked_of forms true) name.now result }
+    ensures compilable { forms ≡ column.Compiled → IfOk result (λ a. IsCompilable (program_seen a)) }
 {
     let text = read_source(alloc, name, files)?;
     program_of(alloc, text.as_slice(), forms)
@@ -274,9 +278,9 @@ pub fn read_typed<F: Files>(alloc: Global, name: &str, files: &mut F) -> Result<
 
 /// The program of a text, or the line of its verdict.
 fn program_of(alloc: Global, text: &[u8], forms: Forms) -> Result<Accepted, Reply>
-    requires text { length text.now ≤ 1048576 }
-    requires forms { forms ≡ column.Unchecked → ⊥ }
-    ensures { ProgramOf (asked_of forms true) text.now result }
+    requires { length text.now ≤ 1048576 }
+    ensures program { ProgramOf (asked_of forms true) text.now result }
+    ensures compilable { forms ≡ column.Compiled → IfOk result (λ a. IsCompilable (program_seen a)) }
 {
     match check(alloc, text, forms) {
         Ok(accepted) => Ok(accepted),
@@ -328,7 +332,7 @@ pub fn read_memories<F: Files>(
     table: &MemTable,
     files: &mut F,
 ) -> Result<Memories, Reply>
-    requires { IsTable table.now }
+    requires { IsProgramTable table.now }
     ensures files { KeepsFiles (F.seen files.old) (F.seen files.new) }
     ensures read { DataRead (F.seen files.old) (F.seen files.new) name.now table.now result }
 {
@@ -341,7 +345,7 @@ pub fn read_memories<F: Files>(
 }
 
 fn memories_of(alloc: Global, table: &MemTable, bytes: &[u8]) -> Result<Memories, Reply>
-    requires { IsTable table.now }
+    requires { IsProgramTable table.now }
     ensures { DataOf bytes.now table.now result }
 {
     match dh_data::read(alloc, table, bytes) {
@@ -378,7 +382,7 @@ fn only(alloc: Global, memories: Memories) -> Result<Vec<Memories>, NoMemory>
 /// Reports the first of an engine's answers.
 fn report_first(alloc: Global, table: &MemTable, answers: &[Finish]) -> Reply
     requires answers { (finish : Finish) × ((answers.now ≡ finish ∷ []) × Fits table.now finish.memories) }
-    requires table { IsTable table.now }
+    requires table { IsProgramTable table.now }
     ensures { ReportsFirst table.now answers.now result }
 {
     let finish = &answers[0];
@@ -392,7 +396,7 @@ fn report_first(alloc: Global, table: &MemTable, answers: &[Finish]) -> Reply
 
 /// Reports how a run stands.
 pub fn report_ending(alloc: Global, table: &MemTable, memories: &Memories, ending: &Ending) -> Reply
-    requires table { IsTable table.now }
+    requires table { IsProgramTable table.now }
     requires fits { Fits table.now memories.now }
     ensures { ReportsEnding table.now memories.now ending.now result }
 {

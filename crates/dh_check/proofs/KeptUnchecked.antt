@@ -10,7 +10,7 @@ use Rattle.dh_tree.specs.LeastBreach.{least_of}
 use Rattle.dh_tree.specs.Seen.{action_seen, action_form_seen, actions, groups, part_seen}
 use Rattle.dh_tree.specs.Forms.{unbuilt, form_holds}
 use Rattle.dh_tree.specs.UncheckedForms.{unchecked_form, unchecked_part, unchecked_groups}
-use Rattle.dh_check.proofs.Leasts.{at_item}
+use Rattle.dh_check.proofs.Leasts.{least_append, at_item}
 use Rattle.dh_check.proofs.KeptForms.{in_turn}
 
 -- the least of what is kept, of the rest of a part, and of the parts from a place on
@@ -35,3 +35,10 @@ kept_next kept first second stepped steps cs k c parts i within is e told f =
     ∙ (ap (λ l. least_of kept (own ++ l)) (sym (append_assoc (again (form_holds (action_form_seen c.form))) (left (form_holds (action_form_seen c.form))) behind))
     ∙ (ap (λ l. least_of kept l) (sym (append_assoc own (again (form_holds (action_form_seen c.form)) ++ left (form_holds (action_form_seen c.form))) behind))
     ∙ ap (λ l. least_of kept (unchecked_part stepped (actions (map action_seen l)) ++ behind)) (sym (at_item cs k c within is)))))
+
+-- three lists, one after the other
+pub three_kept : (kept first second third : Option Breach) (xs ys zs : List Breach) → first ≡ least_of kept xs → second ≡ least_of first ys → third ≡ least_of second zs
+    → third ≡ least_of kept (xs ++ (ys ++ zs))
+three_kept kept first second third xs ys zs e f g =
+    g ∙ (ap (λ k. least_of k zs) (f ∙ ap (λ k. least_of k ys) e)
+    ∙ (sym (least_append (least_of kept xs) ys zs) ∙ sym (least_append kept xs (ys ++ zs))))

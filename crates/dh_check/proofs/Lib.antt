@@ -1,11 +1,7 @@
 pub mod Leasts
-pub mod LeastSwaps
 pub mod StepsHeld
 pub mod KeptForms
 pub mod KeptUnchecked
-pub mod KeptRanges
-pub mod OuterNames
-pub mod FirstPrograms
 pub mod OneVerdict
 pub mod Passing
 pub mod Texts

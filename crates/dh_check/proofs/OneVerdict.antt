@@ -2,7 +2,7 @@
 -- spelled by one tree or have one token out of place, and of each pass one breach is the least.
 use Rattle.std.proofs.Common.{◌≡◌, inl, inr, Bool, true, false, List, Option, Some, None, ap, sym, ◌∙◌, subst}
 use Rattle.dh_base.specs.declared.limits.Excess.{Excess}
-use Rattle.dh_base.specs.declared.rules.Rule.TheVariants.{Lex, PortsSpent}
+use Rattle.dh_base.specs.declared.rules.Rule.TheVariants.{Lex}
 use Rattle.dh_lexer.specs.declared.tokens.Token.{Token}
 use Rattle.dh_lexer.proofs.CutOnce.{one_list, one_breach, not_both}
 use Rattle.dh_parser.specs.Programs.{rule_at}
@@ -13,15 +13,14 @@ use Rattle.dh_tree.specs.PlainTrees.{Program}
 use Rattle.dh_tree.specs.Breaches.{breaches_of}
 use Rattle.dh_tree.specs.Kinds.{typed}
 use Rattle.dh_tree.specs.KindBreaches.{kind_breaches}
-use Rattle.dh_tree.specs.Meaning.{table_of}
-use Rattle.dh_tree.specs.Ranges.{range_breaches}
+use Rattle.dh_tree.specs.Excesses.{first_excess}
+use Rattle.dh_tree.specs.Indices.{index_breaches_of}
+use Rattle.dh_tree.specs.Placements.{placement_breaches}
 use Rattle.dh_tree.specs.Resolved.{resolved}
-use Rattle.dh_tree.specs.Tables.{elements_in}
 use Rattle.dh_tree.proofs.FirstBreaches.{least_is_one, least_not_none}
-use Rattle.dh_tree.proofs.SpentOnce.{spent_once, kept_not_spent}
+use Rattle.dh_ports.proofs.PlacesOnce.{one_first, none_first}
 use Rattle.dh_check.specs.Acceptance.{unbuilt_by}
-use Rattle.dh_check.specs.Elements.{excess_of}
-use Rattle.dh_check.specs.Verdicts.{Verdict, refuses, tokens_excess, Passes, JudgedPorts, Asked, JudgedLast, JudgedElements, JudgedTyped, JudgedTree, JudgedToken, JudgedTokens, Judged, IsVerdict}
+use Rattle.dh_check.specs.Verdicts.{Verdict, refuses, tokens_excess, Passes, JudgedPorts, Asked, JudgedLast, JudgedLimits, JudgedTyped, JudgedTree, JudgedToken, JudgedTokens, Judged, IsVerdict}
 
 -- of two verdicts one is possible
 abbrev OneOf : (Verdict → Type 0) → Type 0
@@ -34,23 +33,23 @@ passes_once bs next once v w (inr (none, m)) (inl (b, (k, f))) = absurd (least_n
 passes_once bs next once v w (inr (none, m)) (inr (none', n)) = once v w m n
 
 ports_once : (p : Program) → OneOf (JudgedPorts p)
-ports_once p v w (inl (a, (h, e))) (inl (b, (k, f))) = e ∙ (ap (λ place. refuses PortsSpent place) (spent_once p a b h k) ∙ sym f)
-ports_once p v w (inl (a, (h, e))) (inr (kept, f)) = absurd (kept_not_spent p a kept h)
-ports_once p v w (inr (kept, e)) (inl (b, (k, f))) = absurd (kept_not_spent p b kept k)
+ports_once p v w (inl (a, (h, e))) (inl (b, (k, f))) = e ∙ (ap (λ (c : Breach). refuses c.rule c.place) (one_first p a b h k) ∙ sym f)
+ports_once p v w (inl (a, (h, e))) (inr (kept, f)) = absurd (none_first p a kept h)
+ports_once p v w (inr (kept, e)) (inl (b, (k, f))) = absurd (none_first p b kept k)
 ports_once p v w (inr (kept, e)) (inr (kept', f)) = e ∙ sym f
 
 last_once : (ports : Bool) (p : Program) → OneOf (JudgedLast ports p)
 last_once true p v w e f = ports_once p v w e f
 last_once false p v w e f = e ∙ sym f
 
-elements_once : (ports : Bool) (p : Program) (o : Option Excess) → OneOf (JudgedElements ports p o)
-elements_once ports p (Some x) v w e f = e ∙ sym f
-elements_once ports p None v w e f = last_once ports p v w e f
+limits_once : (ports : Bool) (p : Program) (o : Option Excess) → OneOf (JudgedLimits ports p o)
+limits_once ports p (Some x) v w e f = e ∙ sym f
+limits_once ports p None v w e f = passes_once (placement_breaches p) (λ v. JudgedLast ports p v) (last_once ports p) v w e f
 
 typed_once : (ports : Bool) (p : Program) → OneOf (JudgedTyped ports p)
 typed_once ports p =
-    passes_once (kind_breaches p) (λ v. Passes (range_breaches p) v (JudgedElements ports p (excess_of (elements_in (table_of p))) v))
-    (passes_once (range_breaches p) (λ v. JudgedElements ports p (excess_of (elements_in (table_of p))) v) (elements_once ports p (excess_of (elements_in (table_of p)))))
+    passes_once (kind_breaches p) (λ v. Passes (index_breaches_of p) v (JudgedLimits ports p (first_excess p) v))
+    (passes_once (index_breaches_of p) (λ v. JudgedLimits ports p (first_excess p) v) (limits_once ports p (first_excess p)))
 
 tree_once : (asked : Asked) (p : Program) → OneOf (JudgedTree asked p)
 tree_once asked p =

@@ -1,7 +1,6 @@
 -- What the passes over a tree tell, one after the other: each keeps its least breach, so that it refuses
 -- the tree or lets the next pass follow.
 use Rattle.std.proofs.Common.{◌≡◌, ℕ, ◌≤◌, nat_lt, inl, inr, Bool, true, false, if◌then◌else◌, List, [], Option, Some, None, Result, Ok, Err, refl, ap, sym, ◌∙◌, subst, arith}
-use Rattle.std.proofs.lemmas.Bool.Decides.{nat_tests}
 use Rattle.dh_base.specs.declared.limits.Excess.{Excess}
 use Rattle.dh_base.specs.declared.places.Place.{Place}
 use Rattle.dh_base.specs.declared.rules.Rule.{Rule}
@@ -14,12 +13,13 @@ use Rattle.dh_tree.specs.Forms.{unbuilt_forms}
 use Rattle.dh_tree.specs.UncheckedForms.{unchecked_forms}
 use Rattle.dh_tree.specs.KindBreaches.{kind_breaches, KeepsKinds}
 use Rattle.dh_tree.specs.Kinds.{typed, HasKinds}
-use Rattle.dh_tree.specs.Meaning.{table_of}
+use Rattle.dh_tree.specs.Excesses.{first_excess}
+use Rattle.dh_tree.specs.Indices.{index_breaches_of}
+use Rattle.dh_tree.specs.Placements.{placement_breaches}
+use Rattle.dh_tree.specs.Ready.{most_tokens, IsReady}
 use Rattle.dh_tree.specs.NameCounts.{HasFewNames}
-use Rattle.dh_tree.specs.Ranges.{range_breaches}
 use Rattle.dh_tree.specs.Resolved.{resolved, HasEntities}
 use Rattle.dh_tree.specs.Seen.{program_seen}
-use Rattle.dh_tree.specs.Tables.{elements_in, most_elements}
 use Rattle.dh_tree.specs.Written.{IsOfText, IsWritten}
 use Rattle.dh_tree.proofs.FirstBreaches.{none_is_kept, least_is_kept}
 use Rattle.dh_tree.proofs.ResolvedForms as resolving
@@ -31,10 +31,9 @@ use Rattle.dh_check.specs.declared.checking.Forms.{Forms}
 use Rattle.dh_check.specs.declared.checking.Forms.TheVariants.{Unchecked, Checked, Compiled}
 use Rattle.dh_check.specs.declared.checking.CheckFault.{CheckFault}
 use Rattle.dh_check.specs.declared.checking.CheckFault.TheVariants as fault
-use Rattle.dh_check.specs.Acceptance.{unbuilt_by, IsReady, most_tokens}
-use Rattle.dh_check.specs.Elements.{excess_of}
-use Rattle.dh_check.specs.Ready.{GoesOn, Stops, TellsSizes, TellsNamed, TellsTree}
-use Rattle.dh_check.specs.Verdicts.{Verdict, refuses, exceeds, Passes, JudgedLast, JudgedElements, JudgedTyped, JudgedTree, asked_of}
+use Rattle.dh_check.specs.Acceptance.{unbuilt_by}
+use Rattle.dh_check.specs.Ready.{GoesOn, Stops, TellsShapes, TellsNamed, TellsTree}
+use Rattle.dh_check.specs.Verdicts.{Verdict, refuses, exceeds, Passes, JudgedLast, JudgedLimits, JudgedTyped, JudgedTree, asked_of}
 
 -- a pass that keeps a breach refuses, and one that keeps none lets the next follow
 refused_at : (bs : List Breach) (r : Rule) (place : Place) (next : Type 0) → IsLeast bs (breach r place) → Passes bs (refuses r place) next
@@ -44,62 +43,61 @@ passed : (bs : List Breach) (v : Verdict) (next : Type 0) → bs ≡ [] → next
 passed bs v next none h = inr (none, h)
 
 -- the passes over a program whose expressions have their kinds
-after_kinds : (ports : Bool) (p : Program) (v : Verdict) → KeepsKinds p → Passes (range_breaches p) v (JudgedElements ports p (excess_of (elements_in (table_of p))) v) → JudgedTyped ports p v
-after_kinds ports p v keeps h = passed (kind_breaches p) v (Passes (range_breaches p) v (JudgedElements ports p (excess_of (elements_in (table_of p))) v)) keeps h
+after_kinds : (ports : Bool) (p : Program) (v : Verdict) → KeepsKinds p → Passes (index_breaches_of p) v (JudgedLimits ports p (first_excess p) v) → JudgedTyped ports p v
+after_kinds ports p v keeps h = passed (kind_breaches p) v (Passes (index_breaches_of p) v (JudgedLimits ports p (first_excess p) v)) keeps h
 
-after_ranges : (ports : Bool) (p : Program) (v : Verdict) → KeepsKinds p → range_breaches p ≡ [] → JudgedElements ports p (excess_of (elements_in (table_of p))) v → JudgedTyped ports p v
-after_ranges ports p v keeps within h = after_kinds ports p v keeps (passed (range_breaches p) v (JudgedElements ports p (excess_of (elements_in (table_of p))) v) within h)
+after_indices : (ports : Bool) (p : Program) (v : Verdict) → KeepsKinds p → index_breaches_of p ≡ [] → JudgedLimits ports p (first_excess p) v → JudgedTyped ports p v
+after_indices ports p v keeps within h = after_kinds ports p v keeps (passed (index_breaches_of p) v (JudgedLimits ports p (first_excess p) v) within h)
 
-after_elements : (ports : Bool) (p : Program) (v : Verdict) (o : Option Excess) → KeepsKinds p → range_breaches p ≡ [] → excess_of (elements_in (table_of p)) ≡ o → JudgedElements ports p o v → JudgedTyped ports p v
-after_elements ports p v o keeps within e h =
-    after_ranges ports p v keeps within (subst (λ (x : Option Excess). JudgedElements ports p x v) (sym e) h)
+after_limits : (ports : Bool) (p : Program) (v : Verdict) (o : Option Excess) → KeepsKinds p → index_breaches_of p ≡ [] → first_excess p ≡ o → JudgedLimits ports p o v → JudgedTyped ports p v
+after_limits ports p v o keeps within e h =
+    after_indices ports p v keeps within (subst (λ (x : Option Excess). JudgedLimits ports p x v) (sym e) h)
 
 -- a kind is wrong
 pub kinds_stop : (p : Program) (r : Rule) (place : Place) → IsLeast (kind_breaches (typed p)) (breach r place) → Stops (λ ports v. JudgedTyped ports (typed p) v) (fault.Refused r place)
 kinds_stop p r place h =
-    λ ports. refused_at (kind_breaches (typed p)) r place (Passes (range_breaches (typed p)) (refuses r place) (JudgedElements ports (typed p) (excess_of (elements_in (table_of (typed p)))) (refuses r place))) h
+    λ ports. refused_at (kind_breaches (typed p)) r place (Passes (index_breaches_of (typed p)) (refuses r place) (JudgedLimits ports (typed p) (first_excess (typed p)) (refuses r place))) h
 
--- a size or an index is out of range, or there are too many elements
-sizes_stop : (p : Program) (e : CheckFault) → KeepsKinds p → TellsSizes p (Some e) → Stops (λ ports v. JudgedTyped ports p v) e
-sizes_stop p (fault.Refused r place) keeps h =
-    λ ports. after_kinds ports p (refuses r place) keeps (refused_at (range_breaches p) r place (JudgedElements ports p (excess_of (elements_in (table_of p))) (refuses r place)) h)
-sizes_stop p (fault.TooLarge x) keeps h = λ ports. after_elements ports p (exceeds x) (Some x) keeps h.0 h.1 refl
-sizes_stop p fault.NoMemory keeps h = absurd h
+-- where memories stand
+after_places : (ports : Bool) (p : Program) (v : Verdict) → KeepsKinds p → index_breaches_of p ≡ [] → first_excess p ≡ None → Passes (placement_breaches p) v (JudgedLast ports p v) → JudgedTyped ports p v
+after_places ports p v keeps within few h = after_limits ports p v None keeps within few h
+
+-- a rule on shapes, indices, bounds or places is broken, or a limit on memories is exceeded
+shapes_stop : (p : Program) (e : CheckFault) → KeepsKinds p → TellsShapes p (Some e) → Stops (λ ports v. JudgedTyped ports p v) e
+shapes_stop p (fault.Refused r place) keeps (inl h) =
+    λ ports. after_kinds ports p (refuses r place) keeps (refused_at (index_breaches_of p) r place (JudgedLimits ports p (first_excess p) (refuses r place)) h)
+shapes_stop p (fault.Refused r place) keeps (inr h) =
+    λ ports. after_places ports p (refuses r place) keeps h.0 h.1.0 (refused_at (placement_breaches p) r place (JudgedLast ports p (refuses r place)) h.1.1)
+shapes_stop p (fault.TooLarge x) keeps h = λ ports. after_limits ports p (exceeds x) (Some x) keeps h.0 h.1 refl
+shapes_stop p fault.NoMemory keeps h = absurd h
 
 -- the same of the typed program; `t` and `s` are that program as the code holds it
-pub named_stops : (p t s : Program) (e : CheckFault) → t ≡ typed p → s ≡ t → KeepsKinds t → TellsSizes s (Some e) → Stops (λ ports v. JudgedTyped ports (typed p) v) e
+pub named_stops : (p t s : Program) (e : CheckFault) → t ≡ typed p → s ≡ t → KeepsKinds t → TellsShapes s (Some e) → Stops (λ ports v. JudgedTyped ports (typed p) v) e
 named_stops p t s e same again keeps h =
-    subst (λ (x : Program). Stops (λ ports v. JudgedTyped ports x v) e) same (sizes_stop t e keeps (subst (λ (x : Program). TellsSizes x (Some e)) again h))
-
--- no excess, and so no more elements than there may be
-no_excess : (t : Bool) (x : Excess) → (if t then Some x else None) ≡ None → t ≡ false
-no_excess true x e = absurd (cc)
-no_excess false x e = refl
-
-not_above : (n : ℕ) → nat_lt most_elements n ≡ false → n ≤ most_elements
-not_above n e = grind (arith, nat_tests)
+    subst (λ (x : Program). Stops (λ ports v. JudgedTyped ports x v) e) same (shapes_stop t e keeps (subst (λ (x : Program). TellsShapes x (Some e)) again h))
 
 -- what has passed them is ready, and goes on to its ports
-is_ready : (p t : Program) → t ≡ typed p → IsOfText most_tokens p → unchecked_forms p ≡ [] → KeepsNames t → HasEntities t → HasKinds t → KeepsKinds t → TellsSizes t None → IsReady t
-is_ready p t same of_text built names entities kinds suits sizes = record {
+is_ready : (p t : Program) → t ≡ typed p → IsOfText most_tokens p → unchecked_forms p ≡ [] → KeepsNames t → HasEntities t → HasKinds t → KeepsKinds t → TellsShapes t None → IsReady t
+is_ready p t same of_text built names entities kinds suits shapes = record {
   of_text = subst (λ (x : Program). IsOfText most_tokens x) (sym same) (typing.of_text_kept most_tokens p (typing_texts.widths_kept p of_text.widths) of_text);
   built = ap unchecked_forms same ∙ (typing_texts.unchecked_forms_kept p ∙ built);
   names = names;
   entities = entities;
   kinds = kinds;
   suits = suits;
-  ranges = sizes.0;
-  elements = not_above (elements_in (table_of t)) (no_excess (nat_lt most_elements (elements_in (table_of t))) _ sizes.1);
+  indices = shapes.0;
+  limits = shapes.1.0;
+  placements = shapes.1.1;
 }
 
-pub named_ready : (p t s : Program) → t ≡ typed p → s ≡ t → IsOfText most_tokens p → unchecked_forms p ≡ [] → KeepsNames t → HasEntities t → HasKinds t → KeepsKinds t → TellsSizes s None
+pub named_ready : (p t s : Program) → t ≡ typed p → s ≡ t → IsOfText most_tokens p → unchecked_forms p ≡ [] → KeepsNames t → HasEntities t → HasKinds t → KeepsKinds t → TellsShapes s None
     → (t ≡ typed p) × (IsReady (typed p) × GoesOn (λ ports v. JudgedTyped ports (typed p) v) (typed p))
 named_ready p t s same again of_text built names entities kinds suits h =
-    let sizes : TellsSizes t None = subst (λ (x : Program). TellsSizes x None) again h in (
+    let shapes : TellsShapes t None = subst (λ (x : Program). TellsShapes x None) again h in (
       same,
       subst (λ (x : Program). IsReady x × GoesOn (λ ports v. JudgedTyped ports x v) x) same (
-        is_ready p t same of_text built names entities kinds suits sizes,
-        λ ports v j. after_elements ports t v None suits sizes.0 sizes.1 j,
+        is_ready p t same of_text built names entities kinds suits shapes,
+        λ ports v j. after_places ports t v suits shapes.0 shapes.1.0 (passed (placement_breaches t) v (JudgedLast ports t v) shapes.1.1 j),
       ),
     )
 
@@ -126,12 +124,12 @@ tree_named forms ports p q v e same keeps h =
 -- what resolving and typing take over
 built_typed : (forms : Forms) (p : Program) → unbuilt_by forms (typed p) ≡ unbuilt_by forms p
 built_typed Unchecked p = typing_texts.unchecked_forms_kept p
-built_typed Checked p = typing.forms_kept p
+built_typed Checked p = typing_texts.unchecked_forms_kept p
 built_typed Compiled p = typing.forms_kept p
 
 built_resolved : (forms : Forms) (p : Program) → unbuilt_by forms (resolved p) ≡ unbuilt_by forms p
 built_resolved Unchecked p = resolving_texts.unchecked_forms_kept p
-built_resolved Checked p = resolving.forms_kept p
+built_resolved Checked p = resolving_texts.unchecked_forms_kept p
 built_resolved Compiled p = resolving.forms_kept p
 
 written_after : (p q t : Program) → q ≡ resolved p → t ≡ typed q → (unbuilt_forms p ≡ [] → IsWritten most_tokens p) → unbuilt_forms t ≡ [] → IsWritten most_tokens t
@@ -160,7 +158,7 @@ of_text_still p q same h = subst (λ (x : Program). IsOfText most_tokens x) (sym
 
 unchecked_by : (forms : Forms) (p : Program) → unbuilt_by forms p ≡ [] → unchecked_forms p ≡ []
 unchecked_by Unchecked p h = h
-unchecked_by Checked p h = forms_built p h
+unchecked_by Checked p h = h
 unchecked_by Compiled p h = forms_built p h
 
 pub built_still : (forms : Forms) (p q : Program) → least_of None (unbuilt_by forms p) ≡ None → q ≡ resolved p → unchecked_forms q ≡ []

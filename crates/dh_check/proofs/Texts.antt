@@ -7,7 +7,7 @@ use Rattle.dh_base.specs.declared.rules.Rule.{Rule}
 use Rattle.dh_lexer.specs.declared.tokens.Token.{Token}
 use Rattle.dh_lexer.specs.LexedText.{HasTokens, Lexed, AreEnded}
 use Rattle.dh_parser.specs.Programs.{Spells, RefusedAt, rule_at}
-use Rattle.dh_parser.proofs.TextNames.{texts_are_sound}
+use Rattle.dh_parser.proofs.TextsSound.{texts_are_sound}
 use Rattle.dh_parser.proofs.WrittenTexts.{written}
 use Rattle.dh_tree.specs.Forms.{unbuilt_forms}
 use Rattle.dh_tree.specs.PlainTrees.{Program}
@@ -16,7 +16,7 @@ use Rattle.dh_tree.specs.declared.trees.typed.Typed.{Typed}
 use Rattle.dh_check.specs.declared.checking.Forms.{Forms}
 use Rattle.dh_check.specs.declared.checking.CheckFault.{CheckFault}
 use Rattle.dh_check.specs.declared.checking.CheckFault.TheVariants as fault
-use Rattle.dh_check.specs.Acceptance.{most_tokens}
+use Rattle.dh_tree.specs.Ready.{most_tokens}
 use Rattle.dh_check.specs.Ready.{Stops, TellsTree, TellsText}
 use Rattle.dh_check.specs.Verdicts.{Verdict, refuses, exceeds, tokens_excess, JudgedTree, JudgedTokens, IsVerdict, asked_of, Asked}
 use Rattle.dh_check.proofs.OneVerdict.{is_verdict}
@@ -59,6 +59,9 @@ tells_text forms text ts l p (Err fault.NoMemory) same has e spells h = λ ports
 wider_text : (n m : ℕ) (p : Program) → n ≤ m → IsOfText n p → IsOfText m p
 wider_text n m p within h = record {
   decls = h.decls;
+  locals = h.locals;
+  first = h.first;
+  numbered = h.numbered;
   names = let k = h.names in omega (arith, k, within);
   widths = h.widths;
 }

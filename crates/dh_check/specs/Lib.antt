@@ -1,4 +1,3 @@
-pub mod Elements
 pub mod Acceptance
 pub mod Verdicts
 pub mod Ready

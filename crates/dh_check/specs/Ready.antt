@@ -1,18 +1,18 @@
 -- What the passes before that over ports tell: a fault, or a program that comes to what its ports come
 -- to, where these are asked for.
-use Rattle.std.specs.Prelude.{◌≡◌, ℕ, List, [], Bool, Option, Some, None, Result, Ok, Err}
+use Rattle.std.specs.Prelude.{◌≡◌, ◌⊎◌, ℕ, List, [], Bool, Option, Some, None, Result, Ok, Err}
 use Rattle.dh_tree.specs.declared.trees.typed.Typed.{Typed}
 use Rattle.dh_tree.specs.LeastBreach.{IsLeast, breach}
 use Rattle.dh_tree.specs.PlainTrees.{Program}
 use Rattle.dh_tree.specs.Forms.{unbuilt_forms}
 use Rattle.dh_tree.specs.Kinds.{typed}
-use Rattle.dh_tree.specs.Ranges.{range_breaches}
-use Rattle.dh_tree.specs.Meaning.{table_of}
-use Rattle.dh_tree.specs.Tables.{elements_in}
+use Rattle.dh_tree.specs.Excesses.{first_excess}
+use Rattle.dh_tree.specs.Indices.{index_breaches_of}
+use Rattle.dh_tree.specs.Placements.{placement_breaches}
+use Rattle.dh_tree.specs.Ready.{most_tokens, IsReady}
 use Rattle.dh_tree.specs.Written.{IsWritten}
 use Rattle.dh_tree.specs.Seen.{program_seen}
-use Rattle.dh_check.specs.Acceptance.{most_tokens, unbuilt_by, IsReady}
-use Rattle.dh_check.specs.Elements.{excess_of}
+use Rattle.dh_check.specs.Acceptance.{unbuilt_by}
 use Rattle.dh_check.specs.Verdicts.{Verdict, FaultTells, JudgedLast, JudgedTyped, JudgedTree, IsVerdict, asked_of}
 use Rattle.dh_check.specs.declared.checking.Forms.{Forms}
 use Rattle.dh_check.specs.declared.checking.CheckFault.{CheckFault}
@@ -26,14 +26,15 @@ GoesOn tells p = (ports : Bool) (v : Verdict) → JudgedLast ports p v → tells
 abbrev pub Stops : (Bool → Verdict → Type 0) → CheckFault → Type 0
 Stops tells e = (ports : Bool) → FaultTells (tells ports) e
 
--- the sizes and indices that are out of range, or else the excess of elements
-abbrev pub TellsSizes : Program → Option CheckFault → Type 0
-TellsSizes p None = (range_breaches p ≡ []) × (excess_of (elements_in (table_of p)) ≡ None)
-TellsSizes p (Some (fault.Refused rule place)) = IsLeast (range_breaches p) (breach rule place)
-TellsSizes p (Some (fault.TooLarge excess)) = (range_breaches p ≡ []) × (excess_of (elements_in (table_of p)) ≡ Some excess)
-TellsSizes p (Some fault.NoMemory) = ⊥
+-- the rules on shapes, indices and bounds, then the limits on memories, then the rules on places
+abbrev pub TellsShapes : Program → Option CheckFault → Type 0
+TellsShapes p None = (index_breaches_of p ≡ []) × ((first_excess p ≡ None) × (placement_breaches p ≡ []))
+TellsShapes p (Some (fault.Refused rule place)) =
+    IsLeast (index_breaches_of p) (breach rule place) ⊎ ((index_breaches_of p ≡ []) × ((first_excess p ≡ None) × IsLeast (placement_breaches p) (breach rule place)))
+TellsShapes p (Some (fault.TooLarge excess)) = (index_breaches_of p ≡ []) × (first_excess p ≡ Some excess)
+TellsShapes p (Some fault.NoMemory) = ⊥
 
--- of a program whose names are resolved: kinds, sizes and indices, and the limit on elements
+-- of a program whose names are resolved: kinds, shapes, limits and places
 abbrev pub TellsNamed : Program → Result Typed CheckFault → Type 0
 TellsNamed p (Ok t) = (program_seen t ≡ typed p) × (IsReady (typed p) × GoesOn (λ ports v. JudgedTyped ports (typed p) v) (typed p))
 TellsNamed p (Err e) = Stops (λ ports v. JudgedTyped ports (typed p) v) e

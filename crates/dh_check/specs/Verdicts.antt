@@ -5,7 +5,7 @@ use Rattle.dh_base.specs.declared.limits.Excess.{Excess}
 use Rattle.dh_base.specs.declared.limits.Limit.TheVariants as limit
 use Rattle.dh_base.specs.declared.places.Place.{Place}
 use Rattle.dh_base.specs.declared.rules.Rule.{Rule}
-use Rattle.dh_base.specs.declared.rules.Rule.TheVariants.{Lex, PortsSpent}
+use Rattle.dh_base.specs.declared.rules.Rule.TheVariants.{Lex}
 use Rattle.dh_lexer.specs.declared.tokens.Token.{Token}
 use Rattle.dh_lexer.specs.Counted.{most_open, most_operators, else_ifs_after}
 use Rattle.dh_lexer.specs.LexedText.{HasTokens, IsBreach}
@@ -17,17 +17,16 @@ use Rattle.dh_tree.specs.Breaches.{breaches_of}
 use Rattle.dh_tree.specs.Resolved.{resolved}
 use Rattle.dh_tree.specs.Kinds.{typed}
 use Rattle.dh_tree.specs.KindBreaches.{kind_breaches}
-use Rattle.dh_tree.specs.Ranges.{range_breaches}
-use Rattle.dh_tree.specs.Tables.{elements_in}
-use Rattle.dh_tree.specs.Accesses as accesses
-use Rattle.dh_tree.specs.Accesses.{KeepsPorts}
-use Rattle.dh_tree.specs.Meaning.{table_of}
+use Rattle.dh_tree.specs.Excesses.{excess_at, or_else, first_excess}
+use Rattle.dh_tree.specs.Indices.{index_breaches_of}
+use Rattle.dh_tree.specs.Placements.{placement_breaches}
+use Rattle.dh_tree.specs.Ready.{IsReady}
+use Rattle.dh_tree.specs.Ports.{IsFirstPortBreach, KeepsPortRules}
 use Rattle.dh_tree.specs.Seen.{program_seen}
-use Rattle.dh_check.specs.Elements.{excess_at, excess_of}
 use Rattle.dh_tree.specs.declared.trees.typed.Typed.{Typed}
-use Rattle.dh_check.specs.Acceptance.{unbuilt_by, IsReady}
+use Rattle.dh_check.specs.Acceptance.{unbuilt_by}
 use Rattle.dh_check.specs.declared.checking.Forms.{Forms}
-use Rattle.dh_check.specs.declared.accepted.Accepted.{Accepted}
+use Rattle.dh_ports.specs.declared.accepted.Accepted.{Accepted}
 use Rattle.dh_check.specs.declared.checking.CheckFault.{CheckFault}
 use Rattle.dh_check.specs.declared.checking.CheckFault.TheVariants as fault
 
@@ -36,11 +35,6 @@ pub data Verdict : Type 0 where
   accepts : Program → Verdict
   refuses : Rule → Place → Verdict
   exceeds : Excess → Verdict
-
--- the first of these
-abbrev pub or_else : Option Excess → Option Excess → Option Excess
-or_else (Some e) next = Some e
-or_else None next = next
 
 -- the limits on tokens, in order
 abbrev pub tokens_excess : List Token → Option Excess
@@ -51,9 +45,9 @@ tokens_excess ts =
 abbrev pub Passes : List Breach → Verdict → Type 0 → Type 0
 Passes breaches v next = ((b : Breach) × (IsLeast breaches b × (v ≡ refuses b.rule b.place))) ⊎ ((breaches ≡ []) × next)
 
--- the ports of memories, by the place of the first access that spends too many
+-- the rules on ports: the first breach of them, or none
 abbrev pub JudgedPorts : Program → Verdict → Type 0
-JudgedPorts p v = ((place : Place) × (accesses.PortsSpent p place × (v ≡ refuses PortsSpent place))) ⊎ (KeepsPorts p × (v ≡ accepts p))
+JudgedPorts p v = ((b : Breach) × (IsFirstPortBreach p b × (v ≡ refuses b.rule b.place))) ⊎ (KeepsPortRules p × (v ≡ accepts p))
 
 -- what is asked of a text: which forms may stand in it, and whether the ports of memories are judged
 pub record Asked : Type 0 where
@@ -65,14 +59,18 @@ abbrev pub JudgedLast : Bool → Program → Verdict → Type 0
 JudgedLast true p v = JudgedPorts p v
 JudgedLast false p v = v ≡ accepts p
 
-abbrev pub JudgedElements : Bool → Program → Option Excess → Verdict → Type 0
-JudgedElements ports p (Some e) v = v ≡ exceeds e
-JudgedElements ports p None v = JudgedLast ports p v
+-- where memories stand, then ports
+abbrev pub JudgedPlaces : Bool → Program → Verdict → Type 0
+JudgedPlaces ports p v = Passes (placement_breaches p) v (JudgedLast ports p v)
 
--- of a program whose expressions have their kinds: kinds, then shapes and ranges, then the limit on
--- elements, then ports
+abbrev pub JudgedLimits : Bool → Program → Option Excess → Verdict → Type 0
+JudgedLimits ports p (Some e) v = v ≡ exceeds e
+JudgedLimits ports p None v = JudgedPlaces ports p v
+
+-- of a program whose expressions have their kinds: kinds, then shapes, indices and bounds, then the limits
+-- on memories, then where memories stand, then ports
 abbrev pub JudgedTyped : Bool → Program → Verdict → Type 0
-JudgedTyped ports p v = Passes (kind_breaches p) v (Passes (range_breaches p) v (JudgedElements ports p (excess_of (elements_in (table_of p))) v))
+JudgedTyped ports p v = Passes (kind_breaches p) v (Passes (index_breaches_of p) v (JudgedLimits ports p (first_excess p) v))
 
 -- the forms that are built, then names, then the rest
 abbrev pub JudgedTree : Asked → Program → Verdict → Type 0

@@ -1,34 +1,36 @@
 //! The passes over a text, in order.
 
-ghost use Rattle.std.specs.Prelude.{◌≡◌, ◌≤◌, List, [], false, length, map, None};
-ghost use Rattle.std.specs.List.{AllByRecursion};
+ghost use Rattle.std.specs.Prelude.{◌≡◌, ◌≤◌, ℕ, List, [], false, length, map, None, IfOk};
 ghost use Rattle.dh_lexer.specs.declared.tokens.Token.{Token as TokenSeen};
 ghost use Rattle.dh_lexer.specs.Counted.{most_open, most_operators, else_ifs_after};
 ghost use Rattle.dh_tree.specs.Forms.{unbuilt_forms};
 ghost use Rattle.dh_tree.specs.UncheckedForms.{unchecked_forms};
 ghost use Rattle.dh_tree.specs.LeastBreach.{least_of};
-ghost use Rattle.dh_tree.specs.Seen.{declared_seen, program_seen};
+ghost use Rattle.dh_tree.specs.Seen.{program_seen};
 ghost use Rattle.dh_tree.specs.Written.{IsOfText, IsWritten};
-ghost use Rattle.dh_check.specs.Acceptance.{most_tokens, unbuilt_by};
+ghost use Rattle.dh_tree.specs.Excesses as excesses;
+ghost use Rattle.dh_tree.specs.Ready.{most_tokens};
+ghost use Rattle.dh_tree.specs.Memories.{table_of};
+ghost use Rattle.dh_tree.specs.Spending.{AllCovered, IsNeverStuck};
+ghost use Rattle.dh_tree.specs.Tables.{Fits};
+ghost use Rattle.dh_check.specs.Acceptance.{unbuilt_by, IsCompilable};
 ghost use Rattle.dh_check.specs.declared.checking.Forms.TheVariants as column;
-ghost use Rattle.dh_check.specs.Elements as elements;
-ghost use Rattle.dh_check.specs.Elements.{HasOneDim};
-ghost use Rattle.dh_check.specs.Ready.{TellsText, TellsTree, TellsNamed, TellsSizes};
+ghost use Rattle.dh_check.specs.Ready.{TellsText, TellsTree, TellsNamed, TellsShapes};
 ghost use Rattle.dh_check.specs.Verdicts as verdicts;
 ghost use Rattle.dh_check.specs.Verdicts.{Checks, ChecksWithoutPorts};
 
-use crate::accepted::Accepted;
-use crate::elements::elements_excess;
 use crate::forms::first_unbuilt;
-use crate::ranges::first_out_of_range;
 use crate::unchecked_forms::first_unchecked;
-use dh_base::{Excess, Limit, NoMemory, PassFault, Place, Rule};
+use dh_base::{Excess, Limit, PassFault, Place, Rule};
 use dh_lexer::{Counts, counts, lex};
 use dh_names::resolve;
 use dh_parser::parse;
-use dh_ports::ports_kept;
+use dh_ports::{Accepted, check_ports};
+use dh_rules::rules;
+use dh_shape::within;
 use dh_tree::{Breach, Named, Tree, Typed};
 use dh_types::type_program;
+use dh_views::shapes;
 use std::alloc::Global;
 
 /// Which forms may stand in a text, by the command that asks.
@@ -66,7 +68,7 @@ const MOST_COUNTED: u64 = 1_000_000_000;
 
 /// That a count is above its limit, where it is.
 fn excess_at(limit: Limit, count: u64) -> Option<Excess>
-    ensures { result ≡ elements.excess_at limit count }
+    ensures { result ≡ excesses.excess_at limit count }
 {
     if count > limit.greatest() {
         let count = count.min(MOST_COUNTED);
@@ -85,27 +87,28 @@ fn tokens_excess(counts: Counts) -> Option<Excess>
 }
 
 /// Checks a text of at most 1,048,576 bytes: its tokens, the limits on them, its tree, the forms that
-/// are built, names, kinds, sizes and indices, the limit on elements, and ports, in this order. The
-/// first of these with a breach or an excess refuses it, at the least place. The forms are those of a
-/// command that checks ports.
+/// are built, names, kinds, shapes with indices and bounds, the limits on memories, where memories stand,
+/// and ports, in this order. The
+/// first of these with a breach or an excess refuses it, at the least place; of ports spent, at the first
+/// access in order of evaluation with which they are. A program that is accepted is sound: from all fitting
+/// memories no step spends more of a bank than its accesses that may meet charge, and no run is ever stuck.
 ///
 /// # Errors
 ///
 /// `Refused` with the rule that is broken and its place; `TooLarge` with the limit and the count above
 /// it, at most 1,000,000,000; `NoMemory` where an allocation was refused.
 pub fn check(alloc: Global, text: &[u8], forms: Forms) -> Result<Accepted, CheckFault>
-    requires short { length text.now ≤ 1048576 }
-    requires forms { forms ≡ column.Unchecked → ⊥ }
-    ensures { Checks forms text.now result }
+    requires { length text.now ≤ 1048576 }
+    ensures verdict { Checks forms text.now result }
+    ensures compilable { forms ≡ column.Compiled → IfOk result (λ a. IsCompilable (program_seen a)) }
+    ensures covered { IfOk result (λ a. (memories : List (List ℕ)) → Fits (table_of (program_seen a)) memories → AllCovered (program_seen a) memories) }
+    ensures never_stuck { IfOk result (λ a. (memories : List (List ℕ)) → Fits (table_of (program_seen a)) memories → IsNeverStuck (program_seen a) memories) }
 {
     let typed = ready(alloc, text, forms)?;
-    match ports_kept(alloc, typed.tree()) {
-        Ok(None) => Ok(Accepted::of(typed)),
-        Ok(Some(place)) => {
-            let rule = Rule::PortsSpent;
-            Err(CheckFault::Refused { rule, place })
-        }
-        Err(NoMemory) => Err(CheckFault::NoMemory),
+    match check_ports(alloc, typed) {
+        Ok(accepted) => Ok(accepted),
+        Err(PassFault::Refused { rule, place }) => Err(CheckFault::Refused { rule, place }),
+        Err(PassFault::NoMemory) => Err(CheckFault::NoMemory),
     }
 }
 
@@ -146,8 +149,8 @@ fn first_unbuilt_by(forms: Forms, tree: &Tree) -> Option<Breach>
     ensures { result ≡ least_of None (unbuilt_by forms (program_seen tree.now)) }
 {
     match forms {
-        Forms::Unchecked => first_unchecked(tree),
-        Forms::Checked | Forms::Compiled => first_unbuilt(tree),
+        Forms::Unchecked | Forms::Checked => first_unchecked(tree),
+        Forms::Compiled => first_unbuilt(tree),
     }
 }
 
@@ -178,22 +181,31 @@ fn ready_named(alloc: Global, named: Named) -> Result<Typed, CheckFault>
         Err(PassFault::Refused { rule, place }) => return Err(CheckFault::Refused { rule, place }),
         Err(PassFault::NoMemory) => return Err(CheckFault::NoMemory),
     };
-    match size_fault(typed.tree()) {
+    // a typed tree keeps the rules on names and kinds
+    typed.tree();
+    match shape_fault(&typed) {
         Some(fault) => Err(fault),
         None => Ok(typed),
     }
 }
 
-/// The first size or index that is out of range, or else that the memories have too many elements.
-fn size_fault(tree: &Tree) -> Option<CheckFault>
-    requires { AllByRecursion HasOneDim (map declared_seen tree.now.decls.items) }
-    ensures { TellsSizes (program_seen tree.now) result }
+/// The first breach of the rules on shapes, indices and bounds, or else the first excess of a limit on
+/// memories, or else the first breach of the rules on places.
+fn shape_fault(typed: &Typed) -> Option<CheckFault>
+    ensures { TellsShapes (program_seen typed.now) result }
 {
-    if let Some(Breach { rule, place }) = first_out_of_range(tree) {
-        return Some(CheckFault::Refused { rule, place });
+    match shapes(typed) {
+        Ok(()) => {}
+        Err(PassFault::Refused { rule, place }) => return Some(CheckFault::Refused { rule, place }),
+        Err(PassFault::NoMemory) => return Some(CheckFault::NoMemory),
     }
-    match elements_excess(tree.decls.as_slice()) {
-        Some(excess) => Some(CheckFault::TooLarge { excess }),
-        None => None,
+    match within(typed) {
+        Ok(()) => {}
+        Err(excess) => return Some(CheckFault::TooLarge { excess }),
+    }
+    match rules(typed) {
+        Ok(()) => None,
+        Err(PassFault::Refused { rule, place }) => Some(CheckFault::Refused { rule, place }),
+        Err(PassFault::NoMemory) => Some(CheckFault::NoMemory),
     }
 }

@@ -2,16 +2,13 @@
 //! Stands on the passes' crates.
 #![tactic(auto)]
 
-mod accepted;
 mod checking;
-mod elements;
 mod forms;
 mod laws;
-mod ranges;
 #[cfg(test)]
 mod tests;
 mod unchecked_forms;
 
-pub use accepted::Accepted;
 pub use checking::{CheckFault, Forms, check, check_without_ports};
+pub use dh_ports::Accepted;
 pub use laws::ready_programs_have_tables;

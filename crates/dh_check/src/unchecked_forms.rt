@@ -2,76 +2,29 @@
 
 ghost use Rattle.std.specs.Prelude.{◌≡◌, map, None, option_map};
 ghost use Rattle.dh_tree.specs.LeastBreach.{least_of};
-ghost use Rattle.dh_tree.specs.Seen.{term_seen, form_seen, terms, action_seen, declared_seen, program_seen, groups, part_seen, maybe_seen};
+ghost use Rattle.dh_tree.specs.Seen.{action_seen, program_seen, groups, part_seen, maybe_seen, unrolled};
 ghost use Rattle.dh_tree.specs.Forms.{holds_steps, other_holds, groups_hold};
-ghost use Rattle.dh_tree.specs.UncheckedForms as forms;
-ghost use Rattle.dh_tree.specs.UncheckedForms.{unchecked_decl, unchecked_decls, unchecked_term, unchecked_terms, unchecked_maybe, unchecked_action, unchecked_other, unchecked_groups, unchecked_forms};
+ghost use Rattle.dh_tree.specs.UncheckedForms.{unchecked_factor, unchecked_combine, unchecked_action, unchecked_other, unchecked_groups, unchecked_forms};
 
-use crate::forms::{
-    has_dashes, keep_dims, keep_functions, keep_second, keep_unbuilt, keep_where, keep_whole,
-};
-use dh_tree::{Breach, Command, CommandForm, Decl, Expr, ExprForm, Tree};
-use dh_value::Kind;
+use crate::forms::{has_dashes, keep_functions, keep_second, keep_unbuilt, keep_whole};
+use dh_base::Place;
+use dh_tree::{Breach, Command, CommandForm, Tree};
 
-/// Whether the kind is one of numbers.
-fn is_number_kind(kind: Kind) -> bool
-    ensures { result ≡ forms.is_number_kind kind }
+/// The word `unroll`, with another number than 1.
+fn keep_factor(kept: &mut Option<Breach>, factor: u64, place: Place, word: Place)
+    ensures { kept.new ≡ least_of kept.old (unchecked_factor (unrolled factor place word)) }
 {
-    match kind {
-        Kind::Bool => false,
-        Kind::Unsigned(_) | Kind::Signed(_) => true,
+    if factor != 1 {
+        keep_unbuilt(kept, word);
     }
 }
 
-#[tactic(auto, using(crate::proofs::Leasts::least_append))]
-fn keep_decl(kept: &mut Option<Breach>, decl: &Decl)
-    ensures { kept.new ≡ least_of kept.old (unchecked_decl (declared_seen decl.now)) }
+/// The word `combine`.
+fn keep_combine(kept: &mut Option<Breach>, word: Place, combine: &Option<Box<Command>>)
+    ensures { kept.new ≡ least_of kept.old (unchecked_combine word (maybe_seen (option_map (λ b. action_seen b.value) combine.now))) }
 {
-    let places = &decl.shape_places;
-    if !is_number_kind(decl.shape.kind) {
-        keep_unbuilt(kept, places.kind_place);
-    }
-    keep_where(kept, places.braces_place);
-    keep_dims(kept, places.kind_place, places.dims.as_slice());
-}
-
-#[tactic(auto, using(crate::proofs::Leasts::least_append))]
-fn keep_decls(kept: &mut Option<Breach>, decls: &[Decl])
-    ensures { kept.new ≡ least_of kept.old (unchecked_decls (map declared_seen decls.now)) }
-{
-    for decl in decls {
-        keep_decl(kept, decl);
-    }
-}
-
-/// The physical accesses in an expression.
-#[cycle(terms)]
-#[tactic(auto, using(dh_tree::proofs::SeenTerms::terms_are, crate::proofs::Leasts::least_append))]
-fn keep_term(kept: &mut Option<Breach>, term: &Expr)
-    ensures { kept.new ≡ least_of kept.old (unchecked_term (term_seen term.now)) }
-{
-    match &term.form {
-        ExprForm::Number { .. } => {}
-        ExprForm::Truth { .. } => {}
-        ExprForm::Variable { .. } => {}
-        ExprForm::Access { indices, .. } => keep_terms(kept, indices.as_slice()),
-        ExprForm::Physical { .. } => keep_unbuilt(kept, term.place),
-        ExprForm::Binary { left, right, .. } => {
-            keep_term(kept, left);
-            keep_term(kept, right);
-        }
-        ExprForm::Cast { inner, .. } => keep_term(kept, inner),
-    }
-}
-
-/// Those in expressions.
-#[cycle(terms)]
-#[tactic(auto, using(dh_tree::proofs::SeenTerms::terms_are, crate::proofs::Leasts::least_append))]
-fn keep_terms(kept: &mut Option<Breach>, indices: &[Expr])
-    ensures { kept.new ≡ least_of kept.old (unchecked_terms (terms (map term_seen indices.now))) }
-{
-    for index in indices {
-        keep_term(kept, index);
+    if combine.is_some() {
+        keep_unbuilt(kept, word);
     }
 }
 
@@ -83,38 +36,40 @@ fn keep_command(kept: &mut Option<Breach>, command: &Command) -> bool
     ensures steps { result ≡ holds_steps (action_seen command.now) }
 {
     match &command.form {
-        CommandForm::Let { value, .. } => {
-            if let Some(value) = value {
-                keep_term(kept, value);
-            }
-            false
-        }
-        CommandForm::Assign { value, .. } => {
-            keep_term(kept, value);
-            false
-        }
-        CommandForm::Store { target, value } => {
-            keep_term(kept, target);
-            keep_term(kept, value);
-            false
-        }
-        CommandForm::If { test, then, other } => {
-            keep_term(kept, test);
+        CommandForm::Let { .. } => false,
+        CommandForm::LetMemory { .. } => false,
+        CommandForm::Assign { .. } => false,
+        CommandForm::Store { .. } => false,
+        CommandForm::If { then, other, .. } => {
             let chosen = keep_command(kept, then);
             let others = keep_other(kept, other);
-            keep_second(kept, chosen | others, command.place);
             chosen | others
         }
         CommandForm::Block { body } => {
             let steps = keep_groups(kept, body.as_slice());
             has_dashes(body.as_slice()) || steps
         }
-        CommandForm::LetMemory { .. } => keep_whole(kept, command.place, &command.form),
+        CommandForm::While { body, .. } => {
+            keep_command(kept, body);
+            true
+        }
+        CommandForm::For {
+            factor,
+            factor_place,
+            unroll_place,
+            body,
+            combine,
+            combine_place,
+            ..
+        } => {
+            keep_factor(kept, *factor, *factor_place, *unroll_place);
+            keep_command(kept, body);
+            keep_combine(kept, *combine_place, combine);
+            true
+        }
         CommandForm::View { .. } => keep_whole(kept, command.place, &command.form),
         CommandForm::Reduce { .. } => keep_whole(kept, command.place, &command.form),
         CommandForm::Call { .. } => keep_whole(kept, command.place, &command.form),
-        CommandForm::While { .. } => keep_whole(kept, command.place, &command.form),
-        CommandForm::For { .. } => keep_whole(kept, command.place, &command.form),
     }
 }
 
@@ -158,7 +113,6 @@ pub(crate) fn first_unchecked(tree: &Tree) -> Option<Breach>
     ensures { result ≡ least_of None (unchecked_forms (program_seen tree.now)) }
 {
     let mut kept = None;
-    keep_decls(&mut kept, tree.decls.as_slice());
     keep_functions(&mut kept, tree.functions.as_slice());
     keep_command(&mut kept, &tree.body);
     kept

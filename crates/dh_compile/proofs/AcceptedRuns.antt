@@ -5,8 +5,9 @@ use Rattle.dh_base.specs.declared.lists.NoMemory.{NoMemory}
 use Rattle.dh_tree.specs.PlainTrees as plain
 use Rattle.dh_tree.specs.Tables.{Fits}
 use Rattle.dh_tree.specs.Tree.{Tree}
-use Rattle.dh_tree.specs.Meaning.{meaning_of, table_of}
-use Rattle.dh_check.specs.Acceptance.{IsAccepted}
+use Rattle.dh_tree.specs.Meaning.{meaning_of}
+use Rattle.dh_tree.specs.Memories.{table_of}
+use Rattle.dh_compile.specs.Taken.{IsTaken}
 use Rattle.dh_net.specs.declared.nets.Net.{Net}
 use Rattle.dh_net.specs.Valid.{IsValid}
 use Rattle.dh_net.specs.Plays.{EndsAfter, Plays}
@@ -37,7 +38,7 @@ pub built_plays_program : (p : plain.Program) (g : Program) (r : Result Net NoMe
 built_plays_program p g (Ok net) same grouped built valid = plays_meaning p g net same (plays_groups g net grouped valid built)
 built_plays_program p g (Err e) same grouped built valid = tt
 
-pub accepted_ends : (p : plain.Program) → IsAccepted p → EndsSoon p
+pub accepted_ends : (p : plain.Program) → IsTaken p → EndsSoon p
 accepted_ends p accepted = record {
   ends = λ memories fits.
       subst (λ (n : ℕ). EndsAfter (run_of_tree (meaning_of p) memories) n) (length-map (store_phases p.body) phase_read ∙ ap length (accepted_alone p accepted))

@@ -1,31 +1,36 @@
 -- An accepted program's groups are those of a program that the compiler takes, and mean what the program
 -- means.
 use Rattle.std.proofs.Common.{◌≡◌, ℕ, ◌+◌, ◌≤◌, ◌<◌, Option, Some, None, List, [], ◌∷◌, ◌++◌, length, map, refl, ap, sym, subst, ◌∙◌, append_assoc, append-nil, arith, length-append, inl, inr}
-use Rattle.std.specs.Prelude.{Bool, true, false, ◌||◌, slice_get, if◌then◌else◌}
+use Rattle.std.specs.Prelude.{Bool, true, false, ◌||◌, slice_get, option_map, if◌then◌else◌}
 use Rattle.std.specs.List.{AllByRecursion}
-use Rattle.std.proofs.lemmas.Option.{slice_get_cases}
+use Rattle.std.proofs.lemmas.Option.{slice_get-map, slice_get_cases}
 use Rattle.dh_tree.specs.PlainTrees.{Action, Declared, Program}
-use Rattle.dh_tree.specs.Phases.{Phase, straight, phases, id_of, in_one_straight}
+use Rattle.dh_tree.specs.Phases.{Phase, straight, turns, repeated, decided, phases, id_of, in_one_straight}
 use Rattle.dh_tree.specs.Accesses.{Access, accesses, declared_ports, KeepsPorts}
 use Rattle.dh_tree.specs.Scopes.{memory_items, items_of, body_scope}
 use Rattle.dh_tree.specs.Breaches.{items_breaches, functions_breaches, breaches}
 use Rattle.dh_tree.specs.Scopes.{first_scope}
-use Rattle.dh_tree.specs.Ranges.{decls_range_breaches, action_range_breaches}
+use Rattle.dh_tree.specs.Indices as rules
+use Rattle.dh_tree.specs.Indices.{decls_shape_breaches, action_index_breaches}
+use Rattle.dh_tree.specs.Memories.{memories_of, memory_in, number_in, outside_memory, table_of}
 use Rattle.dh_tree.specs.Kinds.{function_fact, first_facts, body_facts, facts_after_functions, typed_action, typed_functions}
 use Rattle.dh_tree.specs.KindBreaches.{action_kind_breaches, functions_kind_breaches}
-use Rattle.dh_tree.specs.Meaning.{meaning_of, table_of}
+use Rattle.dh_tree.specs.Meaning.{entity_number, meaning_of}
 use Rattle.dh_tree.specs.FirstForms.{number_after}
 use Rattle.dh_tree.specs.Forms.{unbuilt_decls, unbuilt_functions, unbuilt_action}
-use Rattle.dh_check.specs.Acceptance.{IsAccepted}
+use Rattle.dh_compile.specs.Taken.{IsTaken}
 use Rattle.dh_compile.specs.declared.stores.Operand.{Operand}
-use Rattle.dh_compile.specs.Grouped.{IsGroup, IsGrouped, phases_from, tree_of}
+use Rattle.dh_tree.specs.declared.tables.MemEntry.{MemEntry}
+use Rattle.dh_tree.specs.Tables.{elements_in, most_elements, HasDistinctNames}
+use Rattle.dh_compile.specs.Grouped.{IsLineEntry, IsGroup, IsGrouped, phases_from, tree_of}
 use Rattle.dh_compile.specs.Timetable.{any_read, is_read, total_length}
 use Rattle.dh_compile.specs.Reading.{action_read, phase_read, store_phases, program_read}
 use Rattle.dh_compile.proofs.Groups.{at_place}
 use Rattle.dh_compile.proofs.OuterNames.{no_rest, no_functions, items_are, visible_declared}
-use Rattle.dh_compile.proofs.Plain.{Known, CommandFits, PhasesFit, body_fits}
+use Rattle.dh_compile.proofs.Plain.{Known, CommandFits, PhasesFit, entity_element, body_fits}
+use Rattle.dh_compile.proofs.DeclaredTables.{entry_of, few_elements, AreFirst, memories_are, table_is, are_first, number_of, memory_at}
 use Rattle.dh_compile.proofs.Declarations.{IsLineDecl, distinct_names, decls_are, lines_are, entries_are}
-use Rattle.dh_compile.proofs.Meant.{phases_are, stores_are}
+use Rattle.dh_compile.proofs.Meant.{NamesMemories, phases_are, stores_are}
 use Rattle.dh_compile.proofs.StorePhases.{are_phases}
 use Rattle.dh_compile.proofs.Held.{PhasesHeld, body_held}
 use Rattle.dh_compile.proofs.Kinded.{PhaseKinds, lines_known, phases_kinds}
@@ -67,6 +72,9 @@ record Facts (p : Program) : Type 0 where
   pub decls : AllByRecursion IsLineDecl p.decls
   pub fits : PhasesFit p.decls (phases p.body)
   pub keeps : KeepsPorts p
+  pub memories : memories_of p ≡ map outside_memory p.decls
+  pub table : table_of p ≡ map entry_of p.decls
+  pub first : AreFirst 0 p.decls
 
 one_port : (ds : List Declared) (m : ℕ) → AllByRecursion IsLineDecl ds → declared_ports (slice_get ds m) ≤ 1
 one_port ds m h =
@@ -78,8 +86,11 @@ one_port ds m h =
 -- the groups of phases that come behind others
 groups_are : (p : Program) → Facts p → (before rest : List Phase) (low high : ℕ) → phases p.body ≡ before ++ rest → AllBelow low before
     → AllByRecursion (λ (e : Access). e.command < low) (phases_accesses before) → Ordered low high rest → PhasesFit p.decls rest
-    → AllByRecursion (IsGroup (table_of p)) (map phase_read rest)
+    → AllByRecursion (IsGroup (map entry_of p.decls)) (map phase_read rest)
 groups_are p facts before [] low high split below early o fits = tt
+groups_are p facts before (turns _ _ _ ∷ behind) low high split below early o fits = absurd fits.0
+groups_are p facts before (repeated _ _ ∷ behind) low high split below early o fits = absurd fits.0
+groups_are p facts before (decided _ _ _ ∷ behind) low high split below early o fits = absurd fits.0
 groups_are p facts before (straight cs ∷ behind) low high split below early o fits =
     let here = commands_between p.decls low o.0 cs fits.0.1 o.1.1.0 in
     let never_with : AllByRecursion (NeverWith (phases p.body) (phases_accesses before)) (commands_accesses cs) =
@@ -89,7 +100,7 @@ groups_are p facts before (straight cs ∷ behind) low high split below early o 
     (ap (λ ps. in_one_straight ps e.command a.command) (sym split) ∙ together))
     (phases_accesses before) early)
     (commands_accesses cs) here in
-    let group : IsGroup (table_of p) (map action_read cs) = record {
+    let group : IsGroup (map entry_of p.decls) (map action_read cs) = record {
       least = let e = length-map cs action_read in omega (arith, e, fits.0.0);
       stores = stores_are p.decls cs fits.0.1;
       ports = charged_keep p.decls cs fits.0.1 (λ m. phase_spent p m before cs behind facts.alone split facts.keeps (one_port p.decls m facts.decls) never_with);
@@ -150,52 +161,80 @@ long_enough false n h k = k
 -- groups take no more clocks than they have accesses
 clocks_are : (ds : List Declared) (ps : List Phase) → PhasesFit ds ps → total_length (map phase_read ps) ≤ length (phases_accesses ps)
 clocks_are ds [] h = omega arith
+clocks_are ds (turns _ _ _ ∷ ps) h = absurd h.0
+clocks_are ds (repeated _ _ ∷ ps) h = absurd h.0
+clocks_are ds (decided _ _ _ ∷ ps) h = absurd h.0
 clocks_are ds (straight cs ∷ ps) h =
     let one = long_enough (any_read (map action_read cs)) (length (commands_accesses cs)) (reads_long ds cs h.0.1) (one_long ds cs h.0.1 h.0.0) in
     let others = clocks_are ds ps h.1 in
     let e = length-append (commands_accesses cs) (phases_accesses ps) in
     omega (arith, one, others, e)
 
-accepted_items : (p : Program) → IsAccepted p → items_of p ≡ memory_items 0 p.decls
+accepted_items : (p : Program) → IsTaken p → items_of p ≡ memory_items 0 p.decls
 accepted_items p a =
     let built = no_rest (unbuilt_decls p.decls) _ a.built in
     items_are p (no_rest (unbuilt_functions p.functions) (unbuilt_action p.body) built.1).0
 
-facts_are : (p : Program) → IsAccepted p → Facts p
-facts_are p a =
+-- what the rules on shapes and indices say, whichever loops are known
+facts_from : (p : Program) → IsTaken p → (known : rules.Known) → known.memories ≡ memories_of p → decls_shape_breaches p.decls ++ action_index_breaches known p.body ≡ [] → Facts p
+facts_from p a judged of_program kept =
     let built = no_rest (unbuilt_decls p.decls) _ a.built in
     let forms = no_rest (unbuilt_functions p.functions) (unbuilt_action p.body) built.1 in
-    let ranges = no_rest (decls_range_breaches p.decls) (action_range_breaches p.decls p.body) a.ready.ranges in
+    let ranges = no_rest (decls_shape_breaches p.decls) (action_index_breaches judged p.body) kept in
     let names = no_rest (items_breaches [] (items_of p)) _ a.ready.names in
     let body_names = no_rest (functions_breaches (length p.decls) (first_scope p) p.functions) (breaches (body_scope p) p.body) names.1 in
     let decls = decls_are p.decls a.written.of_text.decls built.0 ranges.0 in
+    let first = are_first 0 p.decls (ap (λ (q : Program). q.decls) a.ready.entities) in
+    let memories = memories_are p forms.1 in
     let known : Known p.decls (body_scope p).visible = record {
       declared = visible_declared p forms.0;
       lines = lines_are p.decls decls;
+      judged = judged;
+      found = λ m d at. ap (λ ms. memory_in ms (Some m)) (of_program ∙ memories) ∙ memory_at p.decls first m d at;
     } in
     record {
       alone = are_phases p.body forms.1;
       decls = decls;
       fits = body_fits p.decls (body_scope p).visible known p.body (body_scope p) refl forms.1 ranges.1 body_names.1 (ap (λ q. q.body) a.ready.entities);
       keeps = a.ports;
+      memories = memories;
+      table = table_is p forms.1;
+      first = first;
     }
 
+facts_are : (p : Program) → IsTaken p → Facts p
+facts_are p a = facts_from p a _ refl a.ready.indices
+
+-- the memory that an accepted access is of has the number of its entity
+names_memories : (p : Program) → Facts p → NamesMemories (memories_of p) p.decls
+names_memories p facts None indices h = absurd h
+names_memories p facts (Some m) indices h =
+    elim (slice_get_cases p.decls m).1 [
+      | inl found ↦ (ap entity_number (ap (λ ms. number_in ms (Some m)) facts.memories ∙ number_of p.decls facts.first m found.1))
+      | inr over ↦ absurd (none_there (sym (slice_get-map entry_of p.decls m ∙ ap (λ o. option_map entry_of o) over.1) ∙ (entity_element p.decls (Some m) indices h).declared))
+    ]
+  where
+    none_there : {e : MemEntry} → ◌≡◌ {A = Option MemEntry} None (Some e) → ⊥
+    none_there e = cc
+
 -- all its phases are of stores
-pub accepted_alone : (p : Program) → IsAccepted p → store_phases p.body ≡ phases p.body
+pub accepted_alone : (p : Program) → IsTaken p → store_phases p.body ≡ phases p.body
 accepted_alone p a = (facts_are p a).alone
 
 -- an accepted program's groups are such as the compiler takes
-pub accepted_grouped : (p : Program) → IsAccepted p → IsGrouped (program_read p)
+pub accepted_grouped : (p : Program) → IsTaken p → IsGrouped (program_read p)
 accepted_grouped p a =
     let facts = facts_are p a in
     record {
-      entries = entries_are p.decls a.written.of_text.decls facts.decls a.ready.elements;
-      names = distinct_names [] 0 p.decls (ap (items_breaches []) (sym (accepted_items p a)) ∙ (no_rest (items_breaches [] (items_of p)) _ a.ready.names).0);
-      elements = a.ready.elements;
-      groups = subst (λ (ps : List Phase). AllByRecursion (IsGroup (table_of p)) (map phase_read ps)) (sym facts.alone)
+      entries = subst (λ (t : List MemEntry). AllByRecursion IsLineEntry t) (sym facts.table)
+          (entries_are p.decls a.written.of_text.decls facts.decls (subst (λ (t : List MemEntry). elements_in t ≤ most_elements) facts.table (few_elements p a.ready.limits)));
+      names = subst HasDistinctNames (sym facts.table) (distinct_names [] 0 p.decls (ap (items_breaches []) (sym (accepted_items p a)) ∙ (no_rest (items_breaches [] (items_of p)) _ a.ready.names).0));
+      elements = few_elements p a.ready.limits;
+      groups = subst (λ (t : List MemEntry). AllByRecursion (IsGroup t) (map phase_read (store_phases p.body))) (sym facts.table)
+          (subst (λ (ps : List Phase). AllByRecursion (IsGroup (map entry_of p.decls)) (map phase_read ps)) (sym facts.alone)
           (groups_are p facts [] (phases p.body) a.written.first_number (number_after a.written.first_number p.body) refl tt tt
           (subst (λ (ps : List Phase). Ordered a.written.first_number (number_after a.written.first_number p.body) ps) facts.alone (ordered p.body a.written.first_number a.written.counted))
-          facts.fits);
+          facts.fits));
       short = let clocks = clocks_are p.decls (phases p.body) facts.fits in
           let same : total_length (map phase_read (store_phases p.body)) ≡ total_length (map phase_read (phases p.body)) = ap (λ ps. total_length (map phase_read ps)) facts.alone in
           let e : length (accesses p.body) ≡ length (phases_accesses (phases p.body)) = ap length (accesses_are p.body) ∙ ap (λ ps. length (phases_accesses ps)) facts.alone in
@@ -203,7 +242,7 @@ accepted_grouped p a =
     }
 
 -- its expressions have their kinds, and break no rule on kinds, in each phase
-accepted_held : (p : Program) → IsAccepted p → PhasesHeld (first_facts p) (phases p.body)
+accepted_held : (p : Program) → IsTaken p → PhasesHeld (first_facts p) (phases p.body)
 accepted_held p a =
     let built = no_rest (unbuilt_functions p.functions) (unbuilt_action p.body) (no_rest (unbuilt_decls p.decls) _ a.built).1 in
     let none = no_functions p.functions built.0 in
@@ -212,12 +251,12 @@ accepted_held p a =
     (ap (λ fs. typed_action (facts_after_functions (first_facts p) (typed_functions (first_facts p) fs)) p.body) (sym none) ∙ ap (λ q. q.body) a.ready.kinds)
     (ap (λ fs. action_kind_breaches (facts_after_functions (first_facts p) fs) p.body) (sym none) ∙ suits.1)
 
-accepted_kinds : (p : Program) → IsAccepted p → Facts p → AllByRecursion PhaseKinds (phases p.body)
+accepted_kinds : (p : Program) → IsTaken p → Facts p → AllByRecursion PhaseKinds (phases p.body)
 accepted_kinds p a facts =
     phases_kinds (first_facts p) p.decls (lines_known p.decls (map function_fact p.functions) facts.decls) (phases p.body) facts.fits (accepted_held p a)
 
 -- they mean what it means
-pub accepted_meant : (p : Program) → IsAccepted p → tree_of (program_read p) ≡ meaning_of p
+pub accepted_meant : (p : Program) → IsTaken p → tree_of (program_read p) ≡ meaning_of p
 accepted_meant p a =
     let facts = facts_are p a in
-    ap (λ ps. record { table = table_of p; phases = ps }) (ap (λ ps. phases_from (map phase_read ps)) facts.alone ∙ phases_are p.decls (phases p.body) facts.fits (accepted_kinds p a facts))
+    ap (λ ps. record { table = table_of p; phases = ps }) (ap (λ ps. phases_from (map phase_read ps)) facts.alone ∙ phases_are (memories_of p) p.decls (names_memories p facts) (phases p.body) facts.fits (accepted_kinds p a facts))

@@ -1,7 +1,7 @@
 -- What acceptance says of the declarations of a program: each is of a line of `ubit<32>`, their names
 -- differ, and a visible name is that of one of them.
 use Rattle.std.proofs.Common.{◌≡◌, ℕ, ◌+◌, ◌*◌, ◌≤◌, Option, Some, None, List, [], ◌∷◌, ◌++◌, map, refl, ap, ◌∙◌, arith}
-use Rattle.std.specs.Prelude.{Bool, true, false, ◌==◌, if◌then◌else◌}
+use Rattle.std.specs.Prelude.{Bool, true, false, ◌==◌, not, if◌then◌else◌}
 use Rattle.std.specs.List.{AllByRecursion}
 use Rattle.std.specs.Option.{is_some}
 use Rattle.std.specs.Str.{bytes_eq}
@@ -19,10 +19,11 @@ use Rattle.dh_tree.specs.LeastBreach.{breach}
 use Rattle.dh_tree.specs.PlainTrees.{Declared}
 use Rattle.dh_tree.specs.Scopes.{Binding, binding, entity_of, is_visible, bind, memory_items}
 use Rattle.dh_tree.specs.Breaches.{twice, items_breaches}
-use Rattle.dh_tree.specs.Ranges.{sizes_breaches, decls_range_breaches}
+use Rattle.dh_tree.specs.Indices.{divides, dims_breaches, shape_breaches, decls_shape_breaches}
+use Rattle.dh_tree.specs.Kinds.{when}
 use Rattle.dh_tree.specs.Tables.{line_of, elements_of, elements_in, most_elements, HasNoName, HasDistinctNames}
 use Rattle.dh_tree.specs.Written.{IsOneUnless, AreDims, IsDeclared}
-use Rattle.dh_tree.specs.Meaning.{entry_of}
+use Rattle.dh_compile.proofs.DeclaredTables.{entry_of}
 use Rattle.dh_tree.specs.Forms.{is_word, unbuilt_where, further_dims, unbuilt_dims, unbuilt_decl, unbuilt_decls}
 use Rattle.dh_compile.specs.Grouped as grouped
 use Rattle.dh_compile.proofs.OuterNames.{no_rest, if_none}
@@ -94,7 +95,7 @@ one_unless : (place : Option Place) (n : ℕ) → place ≡ None → IsOneUnless
 one_unless None n e h = h
 one_unless (Some p) n e h = absurd (cc)
 
-size_least : (size : ℕ) (t : Bool) (b : Breach) → (size == 0) ≡ t → (if t then b ∷ [] else []) ≡ [] → 1 ≤ size
+size_least : (size : ℕ) (t : Bool) (b : Breach) → (size == 0) ≡ t → when t (b ∷ []) ≡ [] → 1 ≤ size
 size_least size true b is e = absurd (cc)
 size_least size false b is e = above size is
   where
@@ -110,7 +111,7 @@ pub record IsLine (dims : List Dim) : Type 0 where
 one_dim : (d : Dim) → d.banks ≡ 1 → d ∷ [] ≡ line_of d.size
 one_dim d e = ap (λ n. record { size = d.size; banks = n } ∷ []) e
 
-dims_are : (start : Place) (dims : List Dim) (places : List DimPlaces) → AreDims dims places → unbuilt_dims start places ≡ [] → sizes_breaches dims places ≡ [] → IsLine dims
+dims_are : (start : Place) (dims : List Dim) (places : List DimPlaces) → AreDims dims places → unbuilt_dims start places ≡ [] → dims_breaches start dims places ≡ [] → IsLine dims
 dims_are start [] [] are built judged = absurd (cc)
 dims_are start [] (p ∷ ps) are built judged = absurd are
 dims_are start (d ∷ ds) [] are built judged = absurd are
@@ -119,7 +120,8 @@ dims_are start (d ∷ []) (p ∷ []) are built judged =
     record {
       size = d.size;
       line = one_dim d (one_unless p.word_place d.banks none are.0);
-      least = size_least d.size (d.size == 0) _ refl (no_rest (if d.size == 0 then breach ConstantRange p.size_place ∷ [] else []) [] judged).0;
+      least = let first = (no_rest (when (d.size == 0) (breach ConstantRange p.size_place ∷ []) ++ when (not (divides d.banks d.size)) _) [] judged).0 in
+          size_least d.size (d.size == 0) _ refl (no_rest (when (d.size == 0) (breach ConstantRange p.size_place ∷ [])) (when (not (divides d.banks d.size)) _) first).0;
     }
 dims_are start (d ∷ []) (p ∷ q ∷ ps) are built judged = absurd are.1
 dims_are start (d ∷ e ∷ ds) (p ∷ []) are built judged = absurd are.1
@@ -131,26 +133,26 @@ pub record IsLineDecl (d : Declared) : Type 0 where
   pub ports : d.shape.ports ≡ 1
   pub line : IsLine d.shape.dims
 
-decl_is : (d : Declared) → IsDeclared d → unbuilt_decl d ≡ [] → sizes_breaches d.shape.dims d.shape_places.dims ≡ [] → IsLineDecl d
+decl_is : (d : Declared) → IsDeclared d → unbuilt_decl d ≡ [] → shape_breaches d.shape d.shape_places ≡ [] → IsLineDecl d
 decl_is d declared built judged =
     let first = no_rest (if is_word d.shape.kind then [] else _) (unbuilt_where d.shape_places.braces_place ++ unbuilt_dims d.shape_places.kind_place d.shape_places.dims) built in
     let rest = no_rest (unbuilt_where d.shape_places.braces_place) (unbuilt_dims d.shape_places.kind_place d.shape_places.dims) first.1 in
     record {
       kind = word_is d.shape.kind (if_none (is_word d.shape.kind) [] _ [] first.0).0;
       ports = one_unless d.shape_places.braces_place d.shape.ports (nowhere d.shape_places.braces_place rest.0) declared.ports;
-      line = dims_are d.shape_places.kind_place d.shape.dims d.shape_places.dims declared.dims rest.1 judged;
+      line = dims_are d.shape_places.kind_place d.shape.dims d.shape_places.dims declared.dims rest.1 (no_rest (when (d.shape.ports == 0) _) (dims_breaches d.shape_places.kind_place d.shape.dims d.shape_places.dims) judged).1;
     }
 
-pub decls_are : (ds : List Declared) → AllByRecursion IsDeclared ds → unbuilt_decls ds ≡ [] → decls_range_breaches ds ≡ [] → AllByRecursion IsLineDecl ds
+pub decls_are : (ds : List Declared) → AllByRecursion IsDeclared ds → unbuilt_decls ds ≡ [] → decls_shape_breaches ds ≡ [] → AllByRecursion IsLineDecl ds
 decls_are [] h built judged = tt
 decls_are (d ∷ ds) h built judged =
     let b = no_rest (unbuilt_decl d) (unbuilt_decls ds) built in
-    let j = no_rest (sizes_breaches d.shape.dims d.shape_places.dims) (decls_range_breaches ds) judged in
+    let j = no_rest (shape_breaches d.shape d.shape_places) (decls_shape_breaches ds) judged in
     (decl_is d h.0 b.0 j.0, decls_are ds h.1 b.1 j.1)
 
 pub lines_are : (ds : List Declared) → AllByRecursion IsLineDecl ds → AllByRecursion LineFits ds
 lines_are [] h = tt
-lines_are (d ∷ ds) h = (record { size = h.0.line.size; line = h.0.line.line; least = h.0.line.least }, lines_are ds h.1)
+lines_are (d ∷ ds) h = (record { size = h.0.line.size; line = h.0.line.line; least = h.0.line.least; ports = h.0.ports }, lines_are ds h.1)
 
 shape_is : (s : Shape) (size : ℕ) → s.kind ≡ kind.Unsigned 32 → s.ports ≡ 1 → s.dims ≡ line_of size → s ≡ record { kind = kind.Unsigned 32; ports = 1; dims = line_of size }
 shape_is s size k p d =

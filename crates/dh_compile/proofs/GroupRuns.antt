@@ -91,9 +91,9 @@ step_is table s g gs h k a =
     let goes : stop_after table [] (group_events s.memories g) ≡ None =
     no_stop table [] (group_events s.memories g) (group_agrees s.memories g k.ports) (group_ports table s.memories g h k.stores) in
     ap (λ o. step_from table s o) a.outcome
-    ∙ (ap (λ e. next_standing e s (stop_after table [] e.events)) does
-    ∙ (ap (λ o. next_standing (effect_of s (group_events s.memories g)) s o) goes
-    ∙ ap (λ ts. stands_at (suc s.steps) (written (group_events s.memories g) s.memories) s.variables (after_step ts)) a.threads))
+    ∙ (ap (λ e. next_standing table e s (stop_after table [] e.events)) does
+    ∙ (ap (λ o. next_standing table (effect_of s (group_events s.memories g)) s o) goes
+    ∙ ap (λ ts. stands_at (suc s.steps) (written (group_events s.memories g) s.memories) s.variables (after_step table s.memories ts (effect_of s []))) a.threads))
 
 -- the groups that are left after a step
 abbrev pub rest_of : List (List Store) → List (List Store)

@@ -5,7 +5,7 @@ use Rattle.std.specs.Prelude.{Bool, false, ◌||◌, ◌&&◌, if◌then◌else�
 use Rattle.std.specs.List.{AllByRecursion}
 use Rattle.dh_base.specs.declared.places.Place.{Place}
 use Rattle.dh_tree.specs.PlainTrees.{Action, action, ActionForm, lets, lets_memory, views, assigns, stores, reduces, calls, blocks, decides, repeats, counts, Actions, no_actions, action_then, Groups, no_groups, group_then}
-use Rattle.dh_tree.specs.Phases.{Phase, straight, phases, form_phases, one_straight, joined, parts_phases, groups_phases}
+use Rattle.dh_tree.specs.Phases.{Phase, straight, turns, repeated, decided, phases, form_phases, one_straight, joined, parts_phases, groups_phases}
 use Rattle.dh_tree.specs.Forms.{unbuilt, form_holds, unbuilt_action, unbuilt_form, unbuilt_groups, unbuilt_part}
 use Rattle.dh_tree.specs.Kinds.{Facts, facts_after_form, facts_after_actions, facts_after_groups, typed_action, typed_action_form, typed_actions, typed_groups}
 use Rattle.dh_tree.specs.KindBreaches.{action_kind_breaches, action_form_kind_breaches, actions_kind_breaches, groups_kind_breaches}
@@ -22,6 +22,9 @@ CommandHeld facts (action id place form) = FormHeld facts form
 
 abbrev pub PhaseHeld : Facts → Phase → Type 0
 PhaseHeld facts (straight cs) = AllByRecursion (CommandHeld facts) cs
+PhaseHeld facts (turns _ _ _) = ⊥
+PhaseHeld facts (repeated _ _) = ⊥
+PhaseHeld facts (decided _ _ _) = ⊥
 
 abbrev pub PhasesHeld : Facts → List Phase → Type 0
 PhasesHeld facts ps = AllByRecursion (PhaseHeld facts) ps
@@ -34,6 +37,9 @@ joined_held : (facts : Facts) (cs : List Action) (parts : List (List Phase)) →
 joined_held facts cs [] h k = one_held facts cs h
 joined_held facts cs ([] ∷ parts) h k = joined_held facts cs parts h k.1
 joined_held facts cs ((straight more ∷ []) ∷ parts) h k = joined_held facts (cs ++ more) parts (all_append (CommandHeld facts) cs more h k.0.0) k.1
+joined_held facts cs ((turns _ _ _ ∷ []) ∷ parts) h k = absurd k.0.0
+joined_held facts cs ((repeated _ _ ∷ []) ∷ parts) h k = absurd k.0.0
+joined_held facts cs ((decided _ _ _ ∷ []) ∷ parts) h k = absurd k.0.0
 joined_held facts cs ((p ∷ q ∷ ps) ∷ parts) h k =
     all_append (PhaseHeld facts) (one_straight cs) ((p ∷ q ∷ ps) ++ joined [] parts) (one_held facts cs h)
     (all_append (PhaseHeld facts) (p ∷ q ∷ ps) (joined [] parts) k.0 (joined_held facts [] parts tt k.1))

@@ -2,13 +2,16 @@
 use Rattle.std.proofs.Common.{◌≡◌, ℕ, suc, ◌+◌, ◌<◌, List, [], ◌∷◌, ◌++◌, length, ◌≤◌, get_or, drop, map, refl, ap, sym, ◌∙◌, add-one, append_assoc}
 use Rattle.std.proofs.Math.Seq.{drop-cons}
 use Rattle.std.proofs.lemmas.List.{drop_all}
+use Rattle.std.specs.List.{AllByRecursion}
+use Rattle.dh_base.specs.declared.places.Place.{Place}
+use Rattle.dh_compile.proofs.Listing.{all_append}
 use Rattle.dh_tree.proofs.SeenActions as seen
 use Rattle.dh_tree.specs.declared.trees.commands.CommandForm.TheVariants.{Block}
 use Rattle.std.specs.Prelude.{Vec}
 use Rattle.std.specs.Global.{Global}
 use Rattle.dh_tree.specs.PlainTrees as plain
-use Rattle.dh_tree.specs.PlainTrees.{Action, Actions, no_actions, action_then}
-use Rattle.dh_tree.specs.Phases.{Phase, straight, one_straight, joined}
+use Rattle.dh_tree.specs.PlainTrees.{Action, action, ActionForm, lets, lets_memory, views, assigns, stores, reduces, calls, blocks, decides, repeats, counts, Actions, no_actions, action_then}
+use Rattle.dh_tree.specs.Phases.{Phase, straight, turns, repeated, decided, one_straight, joined}
 use Rattle.dh_tree.specs.Seen.{actions, groups, action_seen, action_form_seen, part_seen}
 use Rattle.dh_tree.specs.declared.trees.commands.Command.{Command}
 use Rattle.dh_compile.specs.declared.stores.Store.{Store}
@@ -22,16 +25,63 @@ one_is : (cs : List Action) → map phase_read (one_straight cs) ≡ one_group (
 one_is [] = refl
 one_is (c ∷ cs) = refl
 
-pub joined_is : (cs : List Action) (parts : List (List Phase)) → map phase_read (joined cs parts) ≡ gathered (map action_read cs) (map (λ ps. map phase_read ps) parts)
-joined_is cs [] = one_is cs
-joined_is cs ([] ∷ parts) = joined_is cs parts
-joined_is cs ((straight ds ∷ []) ∷ parts) =
-    joined_is (cs ++ ds) parts ∙ ap (λ l. gathered l (map (λ ps. map phase_read ps) parts)) (map_append action_read cs ds)
-joined_is cs ((p ∷ q ∷ ps) ∷ parts) =
+-- phases of straight commands alone
+abbrev IsStraight : Phase → Type 0
+IsStraight (straight cs) = Unit {0}
+IsStraight (turns _ _ _) = ⊥
+IsStraight (repeated _ _) = ⊥
+IsStraight (decided _ _ _) = ⊥
+
+abbrev AreStraight : List Phase → Type 0
+AreStraight ps = AllByRecursion IsStraight ps
+
+joined_straight : (cs : List Action) (parts : List (List Phase)) → AllByRecursion AreStraight parts → AreStraight (joined cs parts)
+joined_straight [] [] h = tt
+joined_straight (c ∷ cs) [] h = (tt, tt)
+joined_straight cs ([] ∷ parts) h = joined_straight cs parts h.1
+joined_straight cs ((straight ds ∷ []) ∷ parts) h = joined_straight (cs ++ ds) parts h.1
+joined_straight cs ((turns _ _ _ ∷ []) ∷ parts) h = absurd h.0.0
+joined_straight cs ((repeated _ _ ∷ []) ∷ parts) h = absurd h.0.0
+joined_straight cs ((decided _ _ _ ∷ []) ∷ parts) h = absurd h.0.0
+joined_straight [] ((p ∷ q ∷ ps) ∷ parts) h = all_append IsStraight (p ∷ q ∷ ps) (joined [] parts) h.0 (joined_straight [] parts h.1)
+joined_straight (c ∷ cs) ((p ∷ q ∷ ps) ∷ parts) h = (tt, all_append IsStraight (p ∷ q ∷ ps) (joined [] parts) h.0 (joined_straight [] parts h.1))
+
+mutual
+  form_straight : (id : ℕ) (place : Place) (form : ActionForm) → AreStraight (form_store_phases id place form)
+  form_straight id place (lets name declared value) = tt
+  form_straight id place (lets_memory name shape shape_places value) = tt
+  form_straight id place (views name parent form) = tt
+  form_straight id place (assigns target value) = tt
+  form_straight id place (stores target value) = (tt, tt)
+  form_straight id place (reduces target o value) = tt
+  form_straight id place (calls function arguments) = tt
+  form_straight id place (blocks body) = groups_straight body
+  form_straight id place (decides test chosen other) = tt
+  form_straight id place (repeats test body) = tt
+  form_straight id place (counts iterator declared low high factor body combine combine_place) = tt
+
+  groups_straight : (gs : plain.Groups) → AreStraight (groups_store_phases gs)
+  groups_straight plain.no_groups = tt
+  groups_straight (plain.group_then part rest) =
+      all_append IsStraight (joined [] (parts_store_phases part)) (groups_store_phases rest) (joined_straight [] (parts_store_phases part) (parts_straight part)) (groups_straight rest)
+
+  parts_straight : (part : Actions) → AllByRecursion AreStraight (parts_store_phases part)
+  parts_straight no_actions = tt
+  parts_straight (action_then (action id place form) rest) = (form_straight id place form, parts_straight rest)
+
+joined_is : (cs : List Action) (parts : List (List Phase)) → AllByRecursion AreStraight parts → map phase_read (joined cs parts) ≡ gathered (map action_read cs) (map (λ ps. map phase_read ps) parts)
+joined_is cs [] h = one_is cs
+joined_is cs ([] ∷ parts) h = joined_is cs parts h.1
+joined_is cs ((turns _ _ _ ∷ []) ∷ parts) h = absurd h.0.0
+joined_is cs ((repeated _ _ ∷ []) ∷ parts) h = absurd h.0.0
+joined_is cs ((decided _ _ _ ∷ []) ∷ parts) h = absurd h.0.0
+joined_is cs ((straight ds ∷ []) ∷ parts) h =
+    joined_is (cs ++ ds) parts h.1 ∙ ap (λ l. gathered l (map (λ ps. map phase_read ps) parts)) (map_append action_read cs ds)
+joined_is cs ((p ∷ q ∷ ps) ∷ parts) h =
     map_append phase_read (one_straight cs) ((p ∷ q ∷ ps) ++ joined [] parts)
     ∙ (ap (λ l. l ++ map phase_read ((p ∷ q ∷ ps) ++ joined [] parts)) (one_is cs)
     ∙ (ap (λ l. one_group (map action_read cs) ++ l) (map_append phase_read (p ∷ q ∷ ps) (joined [] parts))
-    ∙ (ap (λ l. one_group (map action_read cs) ++ (map phase_read (p ∷ q ∷ ps) ++ l)) (joined_is [] parts)
+    ∙ (ap (λ l. one_group (map action_read cs) ++ (map phase_read (p ∷ q ∷ ps) ++ l)) (joined_is [] parts h.1)
     ∙ sym (append_assoc (one_group (map action_read cs)) (map phase_read (p ∷ q ∷ ps)) (gathered [] (map (λ ps. map phase_read ps) parts))))))
 
 parts_are : (cs : List Action) → map (λ ps. map phase_read ps) (parts_store_phases (actions cs)) ≡ map groups_read cs
@@ -48,7 +98,7 @@ command_groups c = groups_read (action_seen c)
 
 pub part_is : (cs : List Command) → part_read (actions (map action_seen cs)) ≡ gathered [] (map command_groups cs)
 part_is cs =
-    joined_is [] (parts_store_phases (actions (map action_seen cs)))
+    joined_is [] (parts_store_phases (actions (map action_seen cs))) (parts_straight (actions (map action_seen cs)))
     ∙ ap (λ l. gathered [] l) (parts_are (map action_seen cs) ∙ map_twice groups_read action_seen cs)
 
 pub block_is : (gs : plain.Groups) → map phase_read (groups_store_phases gs) ≡ parts_read gs

@@ -14,8 +14,8 @@ use Rattle.dh_value.specs.declared.operators.Op.TheVariants as op
 use Rattle.dh_tree.specs.declared.tables.MemEntry.{MemEntry}
 use Rattle.dh_tree.specs.declared.trees.expressions.Ref.{Ref}
 use Rattle.dh_tree.specs.PlainTrees.{Term, term, TermForm, number, truth_value, named, accessed, in_bank, applied, converted, Terms, no_terms, term_then, Action, action, ActionForm, lets, lets_memory, views, assigns, stores, reduces, calls, blocks, decides, repeats, counts, Declared}
-use Rattle.dh_tree.specs.Phases.{Phase, straight}
-use Rattle.dh_tree.specs.Meaning.{entry_of}
+use Rattle.dh_tree.specs.Phases.{Phase, straight, turns, repeated, decided}
+use Rattle.dh_compile.proofs.DeclaredTables.{entry_of}
 use Rattle.dh_tree.specs.Kinds.{of_memory, Facts, fact_at, fact_of, signed_number, is_value, number_kind, number_found, number_breaches, index_breaches, access_breaches, access_found, applied_breaches, for_numbers, found, declared_facts, typed_term, typed_terms}
 use Rattle.dh_tree.specs.KindBreaches.{form_kind_breaches, indices_kind_breaches, assigned_breaches, right_side_breaches}
 use Rattle.dh_compile.specs.Grouped as grouped
@@ -54,6 +54,9 @@ CommandKinds (action id place form) = FormKinds form
 
 abbrev pub PhaseKinds : Phase → Type 0
 PhaseKinds (straight cs) = AllByRecursion CommandKinds cs
+PhaseKinds (turns _ _ _) = ⊥
+PhaseKinds (repeated _ _) = ⊥
+PhaseKinds (decided _ _ _) = ⊥
 
 -- the first entities are memories of `ubit<32>` with one dimension
 abbrev pub AreLines : Facts → List Declared → Type 0
@@ -245,3 +248,6 @@ module _ (facts : Facts) (ds : List Declared) (lines : AreLines facts ds) where
   pub phases_kinds : (ps : List Phase) → PhasesFit ds ps → PhasesHeld facts ps → AllByRecursion PhaseKinds ps
   phases_kinds [] h held = tt
   phases_kinds (straight cs ∷ ps) h held = (commands_kinds cs h.0.1 held.0, phases_kinds ps h.1 held.1)
+  phases_kinds (turns _ _ _ ∷ ps) h held = absurd h.0
+  phases_kinds (repeated _ _ ∷ ps) h held = absurd h.0
+  phases_kinds (decided _ _ _ ∷ ps) h held = absurd h.0

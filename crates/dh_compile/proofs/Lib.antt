@@ -10,6 +10,7 @@ pub mod Held
 pub mod Declarations
 pub mod Plain
 pub mod OuterNames
+pub mod DeclaredTables
 pub mod StorePhases
 pub mod Meeting
 pub mod Joining
@@ -34,3 +35,4 @@ pub mod GroupWrites
 pub mod GroupRuns
 pub mod ZeroReads
 pub mod PlayingPrograms
+pub mod Taking

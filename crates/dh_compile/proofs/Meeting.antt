@@ -4,7 +4,7 @@ use Rattle.std.proofs.Common.{◌≡◌, ℕ, ◌+◌, ◌≤◌, ◌<◌, List,
 use Rattle.std.specs.Prelude.{◌⊎◌, Bool, if◌then◌else◌}
 use Rattle.dh_base.specs.declared.places.Place.{Place}
 use Rattle.dh_tree.specs.PlainTrees.{Action, action, ActionForm, lets, lets_memory, views, assigns, stores, reduces, calls, blocks, decides, repeats, counts, Actions, no_actions, action_then, Groups, no_groups, group_then}
-use Rattle.dh_tree.specs.Phases.{Phase, straight, one_straight, joined}
+use Rattle.dh_tree.specs.Phases.{Phase, straight, turns, repeated, decided, one_straight, joined}
 use Rattle.dh_tree.specs.Meets.{Meets, nothing, access, all, one, In, Apart, total}
 use Rattle.dh_compile.specs.Reading.{store_phases, form_store_phases, groups_store_phases, parts_store_phases}
 use Rattle.dh_tree.specs.Accesses.{Access, accesses, command_accesses, groups_accesses, part_accesses, row, meets, command_meets, groups_meets, part_meets}
@@ -16,6 +16,9 @@ commands_accesses (c ∷ cs) = accesses c ++ commands_accesses cs
 
 abbrev pub phase_accesses : Phase → List Access
 phase_accesses (straight cs) = commands_accesses cs
+phase_accesses (turns _ _ _) = []
+phase_accesses (repeated _ _) = []
+phase_accesses (decided _ _ _) = []
 
 abbrev pub phases_accesses : List Phase → List Access
 phases_accesses [] = []
@@ -37,6 +40,12 @@ one_accesses : (cs : List Action) → phases_accesses (one_straight cs) ≡ comm
 one_accesses [] = refl
 one_accesses (c ∷ cs) = append-nil (commands_accesses (c ∷ cs))
 
+between_accesses : (cs : List Action) (ps rest : List Phase) (xs : List Access) → phases_accesses rest ≡ xs → phases_accesses (one_straight cs ++ (ps ++ rest)) ≡ commands_accesses cs ++ (phases_accesses ps ++ xs)
+between_accesses cs ps rest xs e =
+    phases_append (one_straight cs) (ps ++ rest)
+    ∙ (ap (λ l. l ++ phases_accesses (ps ++ rest)) (one_accesses cs)
+    ∙ ap (λ l. commands_accesses cs ++ l) (phases_append ps rest ∙ ap (λ l. phases_accesses ps ++ l) e))
+
 -- joining phases leaves the order of accesses
 pub joined_accesses : (cs : List Action) (parts : List (List Phase)) → phases_accesses (joined cs parts) ≡ commands_accesses cs ++ all_accesses parts
 joined_accesses cs [] = one_accesses cs ∙ sym (append-nil (commands_accesses cs))
@@ -46,10 +55,10 @@ joined_accesses cs ((straight ds ∷ []) ∷ parts) =
     ∙ (ap (λ l. l ++ all_accesses parts) (commands_append cs ds)
     ∙ (append_assoc (commands_accesses cs) (commands_accesses ds) (all_accesses parts)
     ∙ ap (λ l. commands_accesses cs ++ (l ++ all_accesses parts)) (sym (append-nil (commands_accesses ds)))))
-joined_accesses cs ((p ∷ q ∷ ps) ∷ parts) =
-    phases_append (one_straight cs) ((p ∷ q ∷ ps) ++ joined [] parts)
-    ∙ (ap (λ l. l ++ phases_accesses ((p ∷ q ∷ ps) ++ joined [] parts)) (one_accesses cs)
-    ∙ ap (λ l. commands_accesses cs ++ l) (phases_append (p ∷ q ∷ ps) (joined [] parts) ∙ ap (λ l. phases_accesses (p ∷ q ∷ ps) ++ l) (joined_accesses [] parts)))
+joined_accesses cs ((turns l n b ∷ []) ∷ parts) = between_accesses cs (turns l n b ∷ []) (joined [] parts) (all_accesses parts) (joined_accesses [] parts)
+joined_accesses cs ((repeated l b ∷ []) ∷ parts) = between_accesses cs (repeated l b ∷ []) (joined [] parts) (all_accesses parts) (joined_accesses [] parts)
+joined_accesses cs ((decided c a b ∷ []) ∷ parts) = between_accesses cs (decided c a b ∷ []) (joined [] parts) (all_accesses parts) (joined_accesses [] parts)
+joined_accesses cs ((p ∷ q ∷ ps) ∷ parts) = between_accesses cs (p ∷ q ∷ ps) (joined [] parts) (all_accesses parts) (joined_accesses [] parts)
 
 mutual
   -- the accesses of a command are those of its phases
@@ -158,6 +167,41 @@ same_append s (p ∷ ps) qs x y (inr h) =
       | inr second ↦ inr (subst (λ (n : ℕ). Same n qs x y) (let e = length-append (phase_accesses p) (phases_accesses ps) in omega (arith, e)) second)
     ]
 
+-- phases that join no others
+apart_joined : (l r : Meets) (ps : List Phase) (parts : List (List Phase)) (cs : List Action) (s n len : ℕ)
+    → s + length (commands_accesses cs) ≡ n → len ≡ length (phases_accesses ps)
+    → ((x : ℕ) → In x l → Within n len x) → ((x : ℕ) → In x r → n + len ≤ x)
+    → ((x y : ℕ) → Same n ps x y → Apart l x y → ⊥)
+    → ((ds : List Action) (t x y : ℕ) → t + length (commands_accesses ds) ≡ n + len → Same t (joined ds parts) x y → Apart r x y → ⊥)
+    → (x y : ℕ) → Same s (one_straight cs ++ (ps ++ joined [] parts)) x y → Apart l x y ⊎ Apart r x y → ⊥
+apart_joined l r ps parts cs s n len begin many in_l in_r never_l never_r x y same h =
+    let o : length (phases_accesses (one_straight cs)) ≡ length (commands_accesses cs) = ap length (one_accesses cs) in
+    elim (same_append s (one_straight cs) (ps ++ joined [] parts) x y same) [
+      | inl before ↦
+          (let b = same_range s (one_straight cs) x y before in
+          elim h [
+            | inl k ↦ (let i = in_l x (apart_in l x y k).0 in omega (arith, b.1, i.0, o, begin))
+            | inr k ↦ (let i = in_r x (apart_in r x y k).0 in omega (arith, b.1, i, o, begin))
+          ])
+      | inr behind ↦
+          elim (same_append (s + length (phases_accesses (one_straight cs))) ps (joined [] parts) x y behind) [
+            | inl here ↦
+                (let at : Same n ps x y = subst (λ (m : ℕ). Same m ps x y) (omega (arith, o, begin)) here in
+                let b = same_range n ps x y at in
+                elim h [
+                  | inl k ↦ never_l x y at k
+                  | inr k ↦ (let i = in_r x (apart_in r x y k).0 in omega (arith, b.1, i, many))
+                ])
+            | inr after ↦
+                (let at : Same (n + len) (joined [] parts) x y = subst (λ (m : ℕ). Same m (joined [] parts) x y) (omega (arith, o, begin, many)) after in
+                let b = same_range (n + len) (joined [] parts) x y at in
+                elim h [
+                  | inl k ↦ (let i = in_l x (apart_in l x y k).0 in omega (arith, b.0, i.1))
+                  | inr k ↦ never_r [] (n + len) x y (omega arith) at k
+                ])
+          ]
+    ]
+
 -- one more command of a part, before the rest of it
 more_joined : (l r : Meets) (ps : List Phase) (parts : List (List Phase)) (cs : List Action) (s n len : ℕ)
     → s + length (commands_accesses cs) ≡ n → len ≡ length (phases_accesses ps)
@@ -178,33 +222,14 @@ more_joined l r (straight ds ∷ []) parts cs s n len begin many in_l in_r never
     let f = length-append (commands_accesses cs) (commands_accesses ds) in
     let g : length (commands_accesses (cs ++ ds)) ≡ length (commands_accesses cs ++ commands_accesses ds) = ap length (commands_append cs ds) in
     never_r (cs ++ ds) s x y (omega (arith, begin, many, e, f, g)) same h
+more_joined l r (turns a k b ∷ []) parts cs s n len begin many in_l in_r never_l never_r x y same h =
+    apart_joined l r (turns a k b ∷ []) parts cs s n len begin many in_l in_r never_l never_r x y same h
+more_joined l r (repeated a b ∷ []) parts cs s n len begin many in_l in_r never_l never_r x y same h =
+    apart_joined l r (repeated a b ∷ []) parts cs s n len begin many in_l in_r never_l never_r x y same h
+more_joined l r (decided a b c ∷ []) parts cs s n len begin many in_l in_r never_l never_r x y same h =
+    apart_joined l r (decided a b c ∷ []) parts cs s n len begin many in_l in_r never_l never_r x y same h
 more_joined l r (p ∷ q ∷ ps) parts cs s n len begin many in_l in_r never_l never_r x y same h =
-    let o : length (phases_accesses (one_straight cs)) ≡ length (commands_accesses cs) = ap length (one_accesses cs) in
-    elim (same_append s (one_straight cs) ((p ∷ q ∷ ps) ++ joined [] parts) x y same) [
-      | inl before ↦
-          (let b = same_range s (one_straight cs) x y before in
-          elim h [
-            | inl k ↦ (let i = in_l x (apart_in l x y k).0 in omega (arith, b.1, i.0, o, begin))
-            | inr k ↦ (let i = in_r x (apart_in r x y k).0 in omega (arith, b.1, i, o, begin))
-          ])
-      | inr behind ↦
-          elim (same_append (s + length (phases_accesses (one_straight cs))) (p ∷ q ∷ ps) (joined [] parts) x y behind) [
-            | inl here ↦
-                (let at : Same n (p ∷ q ∷ ps) x y = subst (λ (m : ℕ). Same m (p ∷ q ∷ ps) x y) (omega (arith, o, begin)) here in
-                let b = same_range n (p ∷ q ∷ ps) x y at in
-                elim h [
-                  | inl k ↦ never_l x y at k
-                  | inr k ↦ (let i = in_r x (apart_in r x y k).0 in omega (arith, b.1, i, many))
-                ])
-            | inr after ↦
-                (let at : Same (n + len) (joined [] parts) x y = subst (λ (m : ℕ). Same m (joined [] parts) x y) (omega (arith, o, begin, many)) after in
-                let b = same_range (n + len) (joined [] parts) x y at in
-                elim h [
-                  | inl k ↦ (let i = in_l x (apart_in l x y k).0 in omega (arith, b.0, i.1))
-                  | inr k ↦ never_r [] (n + len) x y (omega arith) at k
-                ])
-          ]
-    ]
+    apart_joined l r (p ∷ q ∷ ps) parts cs s n len begin many in_l in_r never_l never_r x y same h
 
 row_never : (n : ℕ) (xs : List Access) (x y : ℕ) → Apart (row n xs) x y → ⊥
 row_never n [] x y h = h

@@ -5,7 +5,7 @@ use Rattle.std.specs.Prelude.{true, ◌==◌}
 use Rattle.std.specs.List.{AllByRecursion}
 use Rattle.dh_base.specs.declared.places.Place.{Place}
 use Rattle.dh_tree.specs.PlainTrees.{Action, action, ActionForm, lets, lets_memory, views, assigns, stores, reduces, calls, blocks, decides, repeats, counts, Actions, no_actions, action_then, Groups, no_groups, group_then}
-use Rattle.dh_tree.specs.Phases.{Phase, straight, one_straight, joined, id_of, holds_id, holds_both, in_one_straight}
+use Rattle.dh_tree.specs.Phases.{Phase, straight, turns, repeated, decided, one_straight, joined, id_of, holds_id, holds_both, in_one_straight}
 use Rattle.dh_tree.specs.FirstForms.{number_after, form_after, groups_after, part_after, IsCounted, IsCountedForm, AreCountedGroups, AreCounted}
 use Rattle.dh_compile.specs.Reading.{store_phases, form_store_phases, groups_store_phases, parts_store_phases}
 use Rattle.dh_compile.proofs.Listing.{all_append, first_or, both, tested}
@@ -21,6 +21,9 @@ AllNumbered low high cs = AllByRecursion (Numbered low high) cs
 abbrev pub Ordered : (low high : ℕ) → List Phase → Type 0
 Ordered low high [] = low ≤ high
 Ordered low high (straight cs ∷ ps) = (middle : ℕ) × ((low ≤ middle) × (AllNumbered low middle cs × Ordered middle high ps))
+Ordered low high (turns _ _ _ ∷ ps) = ⊥
+Ordered low high (repeated _ _ ∷ ps) = ⊥
+Ordered low high (decided _ _ _ ∷ ps) = ⊥
 
 abbrev PartsOrdered : (low high : ℕ) → List (List Phase) → Type 0
 PartsOrdered low high [] = low ≤ high
@@ -33,14 +36,23 @@ widen low middle high wide (c ∷ cs) b a h = ((omega (arith, b, h.0.0), omega (
 lower : (low high wide : ℕ) (ps : List Phase) → wide ≤ low → Ordered low high ps → Ordered wide high ps
 lower low high wide [] b h = omega (arith, b, h)
 lower low high wide (straight cs ∷ ps) b h = (h.0, (omega (arith, b, h.1.0), (widen low h.0 h.0 wide cs b (omega arith) h.1.1.0, h.1.1.1)))
+lower low high wide (turns _ _ _ ∷ ps) b h = absurd h
+lower low high wide (repeated _ _ ∷ ps) b h = absurd h
+lower low high wide (decided _ _ _ ∷ ps) b h = absurd h
 
 pub ordered_ends : (low high : ℕ) (ps : List Phase) → Ordered low high ps → low ≤ high
 ordered_ends low high [] h = h
 ordered_ends low high (straight cs ∷ ps) h = let rest = ordered_ends h.0 high ps h.1.1.1 in omega (arith, rest, h.1.0)
+ordered_ends low high (turns _ _ _ ∷ ps) h = absurd h
+ordered_ends low high (repeated _ _ ∷ ps) h = absurd h
+ordered_ends low high (decided _ _ _ ∷ ps) h = absurd h
 
 ordered_append : (low middle high : ℕ) (ps qs : List Phase) → Ordered low middle ps → Ordered middle high qs → Ordered low high (ps ++ qs)
 ordered_append low middle high [] qs h k = lower middle high low qs h k
 ordered_append low middle high (straight cs ∷ ps) qs h k = (h.0, (h.1.0, (h.1.1.0, ordered_append h.0 middle high ps qs h.1.1.1 k)))
+ordered_append low middle high (turns _ _ _ ∷ ps) qs h k = absurd h
+ordered_append low middle high (repeated _ _ ∷ ps) qs h k = absurd h
+ordered_append low middle high (decided _ _ _ ∷ ps) qs h k = absurd h
 
 one_ordered : (low middle : ℕ) (cs : List Action) → low ≤ middle → AllNumbered low middle cs → Ordered low middle (one_straight cs)
 one_ordered low middle [] b h = b
@@ -56,6 +68,9 @@ joined_ordered low middle high cs ((straight ds ∷ []) ∷ parts) b h k =
     (widen low middle k.0 low cs (omega arith) (omega (arith, k.1.0.1.0, k.1.0.1.1.1)) h)
     (widen middle k.1.0.0 k.0 low ds b k.1.0.1.1.1 k.1.0.1.1.0))
     k.1.1
+joined_ordered low middle high cs ((turns _ _ _ ∷ []) ∷ parts) b h k = absurd k.1.0
+joined_ordered low middle high cs ((repeated _ _ ∷ []) ∷ parts) b h k = absurd k.1.0
+joined_ordered low middle high cs ((decided _ _ _ ∷ []) ∷ parts) b h k = absurd k.1.0
 joined_ordered low middle high cs ((p ∷ q ∷ ps) ∷ parts) b h k =
     ordered_append low middle high (one_straight cs) ((p ∷ q ∷ ps) ++ joined [] parts) (one_ordered low middle cs b h)
     (ordered_append middle k.0 high (p ∷ q ∷ ps) (joined [] parts) k.1.0 (joined_ordered k.0 k.0 high [] parts (omega arith) tt k.1.1))
@@ -99,6 +114,9 @@ held low high id (c ∷ cs) h e =
 
 abbrev pub PhaseBelow : ℕ → Phase → Type 0
 PhaseBelow high (straight cs) = AllNumbered 0 high cs
+PhaseBelow high (turns _ _ _) = ⊥
+PhaseBelow high (repeated _ _) = ⊥
+PhaseBelow high (decided _ _ _) = ⊥
 
 -- all numbers are below one
 abbrev pub AllBelow : ℕ → List Phase → Type 0
@@ -106,6 +124,9 @@ AllBelow high ps = AllByRecursion (PhaseBelow high) ps
 
 not_behind : (low high x y : ℕ) (ps : List Phase) → Ordered low high ps → y < low → in_one_straight ps x y ≡ true → ⊥
 not_behind low high x y [] h b e = absurd (cc)
+not_behind low high x y (turns _ _ _ ∷ ps) h b e = absurd h
+not_behind low high x y (repeated _ _ ∷ ps) h b e = absurd h
+not_behind low high x y (decided _ _ _ ∷ ps) h b e = absurd h
 not_behind low high x y (straight cs ∷ ps) h b e =
     first_or (holds_both x y (straight cs)) (in_one_straight ps x y) ⊥ e
     (λ t. let k = held low h.0 y cs h.1.1.0 (both (holds_id x cs) (holds_id y cs) t).1 in omega (arith, k.0, b))
@@ -118,6 +139,9 @@ not_together low middle high x y [] behind cs b h k first second third e =
     first_or (holds_both x y (straight cs)) (in_one_straight behind x y) ⊥ e
     (λ t. let m = held low middle x cs h (both (holds_id x cs) (holds_id y cs) t).0 in omega (arith, m.0, first))
     (λ t. not_behind middle high x y behind k third t)
+not_together low middle high x y (turns _ _ _ ∷ before) behind cs b h k first second third e = absurd b.0
+not_together low middle high x y (repeated _ _ ∷ before) behind cs b h k first second third e = absurd b.0
+not_together low middle high x y (decided _ _ _ ∷ before) behind cs b h k first second third e = absurd b.0
 not_together low middle high x y (straight ds ∷ before) behind cs b h k first second third e =
     first_or (holds_both x y (straight ds)) (in_one_straight (before ++ (straight cs ∷ behind)) x y) ⊥ e
     (λ t. let m = held 0 low y ds b.0 (both (holds_id x ds) (holds_id y ds) t).1 in omega (arith, m.1, second))
@@ -126,3 +150,6 @@ not_together low middle high x y (straight ds ∷ before) behind cs b h k first 
 pub below_more : (low middle : ℕ) (before : List Phase) (cs : List Action) → low ≤ middle → AllBelow low before → AllNumbered low middle cs → AllBelow middle (before ++ straight cs ∷ [])
 below_more low middle [] cs b h k = (widen low middle middle 0 cs (omega arith) (omega arith) k, tt)
 below_more low middle (straight ds ∷ before) cs b h k = (widen 0 low middle 0 ds (omega arith) b h.0, below_more low middle before cs b h.1 k)
+below_more low middle (turns _ _ _ ∷ before) cs b h k = absurd h.0
+below_more low middle (repeated _ _ ∷ before) cs b h k = absurd h.0
+below_more low middle (decided _ _ _ ∷ before) cs b h k = absurd h.0

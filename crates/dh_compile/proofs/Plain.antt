@@ -1,7 +1,9 @@
 -- What acceptance says of each store of a program: it is of the built forms, its elements are there and
 -- its number fits.
 use Rattle.std.proofs.Common.{◌≡◌, ℕ, ◌≤◌, ◌<◌, ◌^◌, Option, Some, None, List, [], ◌∷◌, ◌++◌, length, map, refl, ap, sym, ◌∙◌, arith, inl, inr}
-use Rattle.std.specs.Prelude.{Bool, true, false, ◌&&◌, ◌||◌, ◌==◌, not, nat_le, slice_get, if◌then◌else◌}
+use Rattle.std.specs.Prelude.{Bool, true, false, ◌&&◌, ◌||◌, ◌==◌, ◌%◌, not, nat_le, slice_get, if◌then◌else◌, pos}
+use Rattle.std.proofs.Math.Nat.{mod-one}
+use Rattle.std.proofs.lemmas.Bool.{eq-eqb}
 use Rattle.std.specs.List.{AllByRecursion}
 use Rattle.std.specs.Option.{is_some}
 use Rattle.std.specs.Prelude.{option_map}
@@ -15,12 +17,17 @@ use Rattle.dh_value.specs.declared.operators.Op.TheVariants as op
 use Rattle.dh_tree.specs.declared.breaches.Breach.{Breach}
 use Rattle.dh_tree.specs.declared.tables.Dim.{Dim}
 use Rattle.dh_tree.specs.PlainTrees.{Term, term, TermForm, number, truth_value, named, accessed, in_bank, applied, converted, Terms, no_terms, term_then, Action, action, ActionForm, lets, lets_memory, views, assigns, stores, reduces, calls, blocks, decides, repeats, counts, Actions, no_actions, action_then, Groups, no_groups, group_then, Declared}
-use Rattle.dh_tree.specs.Phases.{Phase, straight, phases, form_phases, one_straight, joined, parts_phases, groups_phases}
+use Rattle.dh_tree.specs.Phases.{Phase, straight, turns, repeated, decided, phases, form_phases, one_straight, joined, parts_phases, groups_phases}
 use Rattle.dh_tree.specs.Scopes.{Binding, entity_of, Scope, form_at_end, actions_at_end, past}
 use Rattle.dh_tree.specs.Breaches as names
 use Rattle.dh_tree.specs.Resolved.{resolved_term, resolved_term_form, resolved_action, resolved_form, resolved_actions, resolved_groups}
-use Rattle.dh_tree.specs.Ranges.{dims_of, declared_dims, literal_breaches, literals_breaches, terms_range_breaches, term_range_breaches, form_range_breaches, action_range_breaches, action_form_range_breaches, actions_range_breaches, groups_range_breaches}
-use Rattle.dh_tree.specs.Meaning.{entry_of, entity_number}
+use Rattle.dh_tree.specs.Indices as rules
+use Rattle.dh_tree.specs.Indices.{is_beyond, index_kind, index_breaches, indices_breaches, dim_keeps, dims_keep, divides, shape_keeps, kept_dims, access_breaches, term_index_breaches, form_index_breaches, terms_index_breaches, action_index_breaches, action_form_index_breaches, actions_index_breaches, groups_index_breaches}
+use Rattle.dh_tree.specs.Kinds.{when}
+use Rattle.dh_tree.specs.Memories.{outside_memory, memory_in}
+use Rattle.dh_tree.specs.declared.tables.Shape.{Shape}
+use Rattle.dh_tree.specs.Meaning.{entity_number}
+use Rattle.dh_compile.proofs.DeclaredTables.{entry_of}
 use Rattle.dh_tree.specs.Tables.{line_of}
 use Rattle.dh_tree.specs.Forms.{unbuilt, plain_number, is_small, is_element, further_indices, unbuilt_index, unbuilt_indices, unbuilt_element, unbuilt_access, is_sum_of, unbuilt_stored, unbuilt_value, form_holds, unbuilt_action, unbuilt_form, unbuilt_groups, unbuilt_part}
 use Rattle.dh_compile.proofs.OuterNames.{no_rest, if_none}
@@ -108,11 +115,12 @@ pub entity_element : (ds : List Declared) (e : Option ℕ) (indices : Terms) →
 entity_element ds None indices h = absurd h
 entity_element ds (Some m) indices h = index_is (grouped.IsElement (map entry_of ds) m) indices h
 
--- what a declaration has: one dimension in one bank, of at least one element
+-- what a declaration has: one dimension in one bank, of at least one element, and one port
 pub record LineFits (d : Declared) : Type 0 where
   pub size : ℕ
   pub line : d.shape.dims ≡ line_of size
   pub least : 1 ≤ size
+  pub ports : d.shape.ports ≡ 1
 
 -- a choice between nothing and something that gives nothing
 chosen_none : {A : Type 0} (b : Bool) (x : A) (xs : List A) → (if b then [] else x ∷ xs) ≡ [] → b ≡ true
@@ -132,55 +140,82 @@ small_number (in_bank r bank bank_place row) e = absurd (cc)
 small_number (applied o left right) e = absurd (cc)
 small_number (converted inner to) e = absurd (cc)
 
-in_size : (n size : ℕ) (zero_size over : Bool) (b : Breach) → (size == 0) ≡ zero_size → nat_le size n ≡ over → 1 ≤ size
-    → (if not zero_size && over then b ∷ [] else []) ≡ [] → n < size
-in_size n size true over b is test least e = omega (arith, least, zero_is size is)
-  where
-    zero_is : (size : ℕ) → (size == 0) ≡ true → size ≡ 0
-    zero_is size h = grind (arith, nat_tests)
-in_size n size false true b is test least e = absurd (cc)
-in_size n size false false b is test least e = below_is n size test
-  where
-    below_is : (n size : ℕ) → nat_le size n ≡ false → n < size
-    below_is n size h = grind (arith, nat_tests)
+nothing_when : (t : Bool) (b : Breach) → when t (b ∷ []) ≡ [] → t ≡ false
+nothing_when true b e = absurd (cc)
+nothing_when false b e = refl
+
+in_size : (n size : ℕ) → is_beyond size (pos n) ≡ false → n < size
+in_size n size h = grind (arith, nat_tests)
 
 -- the index of an element is below the size of a line
-line_index : (place : Place) (kind : Option Kind) (n : ℕ) (dims : List Dim) (size : ℕ) → dims ≡ line_of size → 1 ≤ size
-    → literals_breaches dims (term_then (term place kind (number false n)) no_terms) ≡ [] → n < size
-line_index place kind n dims size line least e =
-    let judged = ap (λ ds. literals_breaches ds (term_then (term place kind (number false n)) no_terms)) (sym line) ∙ e in
-    in_size n size (size == 0) (nat_le size n) _ refl refl least (no_rest (literal_breaches size place (number false n)) [] judged).0
+line_index : (judged_by : rules.Known) (place : Place) (kind : Option Kind) (n : ℕ) (dims : List Dim) (size : ℕ) → dims ≡ line_of size
+    → indices_breaches judged_by.counters dims (term_then (term place kind (number false n)) no_terms) ≡ [] → n < size
+line_index judged_by place kind n dims size line e =
+    let judged = ap (λ ds. indices_breaches judged_by.counters ds (term_then (term place kind (number false n)) no_terms)) (sym line) ∙ e in
+    in_size n size (nothing_when (is_beyond size (pos n)) _ (no_rest (when (is_beyond size (pos n)) _) [] judged).0)
+
+-- a line in one bank with one port breaks no rule
+one_divides : (size : ℕ) (t : Bool) → (size % 1 == 0) ≡ t → t ≡ true
+one_divides size true e = refl
+one_divides size false e = absurd (let f : size % 1 ≡ 0 = mod-one size in let g = eq-eqb (size % 1) 0 f in cc)
+
+line_keeps : (size : ℕ) → 1 ≤ size → dims_keep (line_of size) ≡ true
+line_keeps size h = by (size == 0) (size % 1 == 0) refl (one_divides size (size % 1 == 0) refl)
+  where
+    none : (size : ℕ) → 1 ≤ size → (size == 0) ≡ true → ⊥
+    none size h e = grind (arith, nat_tests)
+
+    by : (s t : Bool) → (size == 0) ≡ s → t ≡ true → (not s && (true && t)) && true ≡ true
+    by true t e f = absurd (none size h e)
+    by false true e f = refl
+    by false false e f = absurd (cc)
+
+shape_kept : (s : Shape) (size : ℕ) → s.ports ≡ 1 → s.dims ≡ line_of size → 1 ≤ size → shape_keeps s ≡ true
+shape_kept s size one line least =
+    ap (λ n. not (n == 0) && dims_keep s.dims) one ∙ (ap dims_keep line ∙ line_keeps size least)
 
 -- what is known of declarations, and of the names that are visible
 pub record Known (ds : List Declared) (bs : List Binding) : Type 0 where
   pub declared : (name : List ℕ) (m : ℕ) → entity_of bs name ≡ Some m → m < length ds
   pub lines : AllByRecursion LineFits ds
+  pub judged : rules.Known
+  pub found : (m : ℕ) (d : Declared) → slice_get ds m ≡ Some d → memory_in judged.memories (Some m) ≡ Some (outside_memory d)
 
-one_index : (ds : List Declared) (m : ℕ) (d : Declared) → slice_get ds m ≡ Some d → LineFits d → (p : Place) (kind : Option Kind) (form : TermForm)
-    → is_some (plain_number form) ≡ true → literals_breaches (dims_of ds (Some m)) (term_then (term p kind form) no_terms) ≡ []
+-- the breaches of indices of an access to the memory that is this entity
+abbrev pub judged_indices : rules.Known → Option ℕ → Terms → List Breach
+judged_indices known e indices = access_breaches known.counters (kept_dims (memory_in known.memories e)) indices
+
+-- those of the memory that is declared
+declared_indices : (known : rules.Known) (e : Option ℕ) (d : Declared) → memory_in known.memories e ≡ Some (outside_memory d) → LineFits d → (indices : Terms) → judged_indices known e indices ≡ indices_breaches known.counters d.shape.dims indices
+declared_indices known e d found line indices =
+    ap (λ m. access_breaches known.counters (kept_dims m) indices) found
+    ∙ ap (λ t. access_breaches known.counters (if t then Some d.shape.dims else None) indices) (shape_kept d.shape line.size line.ports line.line line.least)
+
+one_index : (judged_by : rules.Known) (ds : List Declared) (m : ℕ) (d : Declared) → slice_get ds m ≡ Some d → LineFits d → (p : Place) (kind : Option Kind) (form : TermForm)
+    → is_some (plain_number form) ≡ true → indices_breaches judged_by.counters d.shape.dims (term_then (term p kind form) no_terms) ≡ []
     → PlainNumber (grouped.IsElement (map entry_of ds) m) form
-one_index ds m d at line p kind (number false n) e judged = record {
+one_index judged_by ds m d at line p kind (number false n) e judged = record {
   entry = entry_of d;
   declared = slice_get-map entry_of ds m ∙ ap (λ o. option_map entry_of o) at;
   size = line.size;
   line = line.line;
-  within = line_index p kind n (dims_of ds (Some m)) line.size (ap declared_dims at ∙ line.line) line.least judged;
+  within = line_index judged_by p kind n d.shape.dims line.size line.line judged;
 }
-one_index ds m d at line p kind (number true n) e judged = absurd (cc)
-one_index ds m d at line p kind (truth_value value) e judged = absurd (cc)
-one_index ds m d at line p kind (named r) e judged = absurd (cc)
-one_index ds m d at line p kind (accessed r indices) e judged = absurd (cc)
-one_index ds m d at line p kind (in_bank r bank bank_place row) e judged = absurd (cc)
-one_index ds m d at line p kind (applied o left right) e judged = absurd (cc)
-one_index ds m d at line p kind (converted inner to) e judged = absurd (cc)
+one_index judged_by ds m d at line p kind (number true n) e judged = absurd (cc)
+one_index judged_by ds m d at line p kind (truth_value value) e judged = absurd (cc)
+one_index judged_by ds m d at line p kind (named r) e judged = absurd (cc)
+one_index judged_by ds m d at line p kind (accessed r indices) e judged = absurd (cc)
+one_index judged_by ds m d at line p kind (in_bank r bank bank_place row) e judged = absurd (cc)
+one_index judged_by ds m d at line p kind (applied o left right) e judged = absurd (cc)
+one_index judged_by ds m d at line p kind (converted inner to) e judged = absurd (cc)
 
-index_fits : (ds : List Declared) (m : ℕ) (d : Declared) → slice_get ds m ≡ Some d → LineFits d → (place : Place) (indices : Terms)
-    → unbuilt_indices place indices ≡ [] → literals_breaches (dims_of ds (Some m)) indices ≡ [] → OneIndex (grouped.IsElement (map entry_of ds) m) indices
-index_fits ds m d at line place no_terms e judged = absurd (cc)
-index_fits ds m d at line place (term_then (term p k form) no_terms) e judged =
+index_fits : (judged_by : rules.Known) (ds : List Declared) (m : ℕ) (d : Declared) → slice_get ds m ≡ Some d → LineFits d → (place : Place) (indices : Terms)
+    → unbuilt_indices place indices ≡ [] → indices_breaches judged_by.counters d.shape.dims indices ≡ [] → OneIndex (grouped.IsElement (map entry_of ds) m) indices
+index_fits judged_by ds m d at line place no_terms e judged = absurd (cc)
+index_fits judged_by ds m d at line place (term_then (term p k form) no_terms) e judged =
     let built = if_none (is_some (plain_number form)) [] _ [] (no_rest (unbuilt_index (term p k form)) [] e).0 in
-    one_index ds m d at line p k form built.0 judged
-index_fits ds m d at line place (term_then t (term_then (term p k form) rest)) e judged =
+    one_index judged_by ds m d at line p k form built.0 judged
+index_fits judged_by ds m d at line place (term_then t (term_then (term p k form) rest)) e judged =
     absurd (let x = (no_rest (unbuilt_index t) (further_indices (term_then (term p k form) rest)) e).1 in cc)
 
 -- the entity of the name of an access
@@ -188,17 +223,20 @@ abbrev access_entity : TermForm → Option ℕ
 access_entity (accessed r indices) = r.entity
 access_entity _ = None
 
-entity_fits : (ds : List Declared) (bs : List Binding) → Known ds bs → (place : Place) (name : List ℕ) (e : Option ℕ) (indices : Terms) → entity_of bs name ≡ e → is_some e ≡ true
-    → unbuilt_indices place indices ≡ [] → literals_breaches (dims_of ds e) indices ≡ [] → EntityFits ds e indices
+entity_fits : (ds : List Declared) (bs : List Binding) (known : Known ds bs) (place : Place) (name : List ℕ) (e : Option ℕ) (indices : Terms) → entity_of bs name ≡ e → is_some e ≡ true
+    → unbuilt_indices place indices ≡ [] → judged_indices known.judged e indices ≡ [] → EntityFits ds e indices
 entity_fits ds bs known place name None indices is some_one built judged = absurd (cc)
 entity_fits ds bs known place name (Some m) indices is some_one built judged =
     elim (slice_get_cases ds m).1 [
-      | inl found ↦ index_fits ds m found.0 found.2 (at_place LineFits ds m found.0 known.lines found.2) place indices built judged
+      | inl found ↦
+          (let line = at_place LineFits ds m found.0 known.lines found.2 in
+          index_fits known.judged ds m found.0 found.2 line place indices built
+          (sym (declared_indices known.judged (Some m) found.0 (known.found m found.0 found.2) line indices) ∙ judged))
       | inr over ↦ absurd (let below = known.declared name m is in omega (arith, below, over.0))
     ]
 
-element_fits : (ds : List Declared) (bs : List Binding) → Known ds bs → (place : Place) (form : TermForm) → unbuilt_element place form ≡ []
-    → form_range_breaches ds form ≡ [] → names.term_form_breaches bs form ≡ [] → resolved_term_form bs form ≡ form → ElementFits ds form
+element_fits : (ds : List Declared) (bs : List Binding) (known : Known ds bs) (place : Place) (form : TermForm) → unbuilt_element place form ≡ []
+    → form_index_breaches known.judged form ≡ [] → names.term_form_breaches bs form ≡ [] → resolved_term_form bs form ≡ form → ElementFits ds form
 element_fits ds bs known place (number negative value) built judged visible resolved = absurd (cc)
 element_fits ds bs known place (truth_value value) built judged visible resolved = absurd (cc)
 element_fits ds bs known place (named r) built judged visible resolved = absurd (cc)
@@ -207,7 +245,7 @@ element_fits ds bs known place (accessed r indices) built judged visible resolve
     let known_name = (no_rest (names.unknown bs r) (names.terms_breaches bs indices) visible).0 in
     let some_one = (if_none (is_some (entity_of bs r.name)) [] _ [] known_name).0 in
     entity_fits ds bs known place r.name r.entity indices entity (ap is_some (sym entity) ∙ some_one) built
-    (no_rest (literals_breaches (dims_of ds r.entity) indices) (terms_range_breaches ds indices) judged).0
+    (no_rest (judged_indices known.judged r.entity indices) (terms_index_breaches known.judged indices) judged).0
 element_fits ds bs known place (in_bank r bank bank_place row) built judged visible resolved = absurd (cc)
 element_fits ds bs known place (applied o left right) built judged visible resolved = absurd (cc)
 element_fits ds bs known place (converted inner to) built judged visible resolved = absurd (cc)
@@ -235,8 +273,8 @@ abbrev pub left_form : TermForm → TermForm
 left_form (applied o (term _ _ left) right) = left
 left_form form = form
 
-value_fits : (ds : List Declared) (bs : List Binding) → Known ds bs → (place : Place) (form : TermForm) → unbuilt_stored place form ≡ []
-    → form_range_breaches ds form ≡ [] → names.term_form_breaches bs form ≡ [] → resolved_term_form bs form ≡ form → ValueFits ds form
+value_fits : (ds : List Declared) (bs : List Binding) (known : Known ds bs) (place : Place) (form : TermForm) → unbuilt_stored place form ≡ []
+    → form_index_breaches known.judged form ≡ [] → names.term_form_breaches bs form ≡ [] → resolved_term_form bs form ≡ form → ValueFits ds form
 value_fits ds bs known place (number negative value) built judged visible resolved =
     small_number (number negative value) (if_none (is_small (plain_number (number negative value))) [] _ [] built).0
 value_fits ds bs known place (truth_value value) built judged visible resolved = absurd (cc)
@@ -249,7 +287,7 @@ value_fits ds bs known place (applied o (term lp lk left) (term rp rk right)) bu
     let small = both (is_element left) (is_small (plain_number right)) sum.1 in (
       sum_is o sum.0,
       (
-        element_fits ds bs known lp left test.1 (no_rest (form_range_breaches ds left) (form_range_breaches ds right) judged).0
+        element_fits ds bs known lp left test.1 (no_rest (form_index_breaches known.judged left) (form_index_breaches known.judged right) judged).0
             (no_rest (names.term_form_breaches bs left) (names.term_form_breaches bs right) visible).0 (ap left_form resolved),
         small_number right small.1,
       ),
@@ -265,18 +303,21 @@ abbrev pub value_form : ActionForm → TermForm
 value_form (stores target (term _ _ value)) = value
 value_form _ = truth_value true
 
-store_fits : (ds : List Declared) (bs : List Binding) → Known ds bs → (target value : Term) → unbuilt_access target ++ unbuilt_value value ≡ []
-    → term_range_breaches ds target ++ term_range_breaches ds value ≡ [] → names.term_breaches bs target ++ names.term_breaches bs value ≡ []
+store_fits : (ds : List Declared) (bs : List Binding) (known : Known ds bs) (target value : Term) → unbuilt_access target ++ unbuilt_value value ≡ []
+    → term_index_breaches known.judged target ++ term_index_breaches known.judged value ≡ [] → names.term_breaches bs target ++ names.term_breaches bs value ≡ []
     → stores (resolved_term bs target) (resolved_term bs value) ≡ stores target value → StoreFits ds target value
 store_fits ds bs known (term tp tk target) (term vp vk value) built judged visible resolved =
     let b = no_rest (unbuilt_element tp target) (unbuilt_stored vp value) built in
-    let j = no_rest (form_range_breaches ds target) (form_range_breaches ds value) judged in
+    let j = no_rest (form_index_breaches known.judged target) (form_index_breaches known.judged value) judged in
     let v = no_rest (names.term_form_breaches bs target) (names.term_form_breaches bs value) visible in
     (element_fits ds bs known tp target b.0 j.0 v.0 (ap target_form resolved), value_fits ds bs known vp value b.1 j.1 v.1 (ap value_form resolved))
 
 -- a phase of such stores, of which there is one at least
 abbrev pub PhaseFits : List Declared → Phase → Type 0
 PhaseFits ds (straight cs) = (1 ≤ length cs) × AllByRecursion (CommandFits ds) cs
+PhaseFits ds (turns _ _ _) = ⊥
+PhaseFits ds (repeated _ _) = ⊥
+PhaseFits ds (decided _ _ _) = ⊥
 
 abbrev pub PhasesFit : List Declared → List Phase → Type 0
 PhasesFit ds ps = AllByRecursion (PhaseFits ds) ps
@@ -289,6 +330,9 @@ joined_fit : (ds : List Declared) (cs : List Action) (parts : List (List Phase))
 joined_fit ds cs [] h k = one_fits ds cs h
 joined_fit ds cs ([] ∷ parts) h k = joined_fit ds cs parts h k.1
 joined_fit ds cs ((straight more ∷ []) ∷ parts) h k = joined_fit ds (cs ++ more) parts (all_append (CommandFits ds) cs more h k.0.0.1) k.1
+joined_fit ds cs ((turns _ _ _ ∷ []) ∷ parts) h k = absurd k.0.0
+joined_fit ds cs ((repeated _ _ ∷ []) ∷ parts) h k = absurd k.0.0
+joined_fit ds cs ((decided _ _ _ ∷ []) ∷ parts) h k = absurd k.0.0
 joined_fit ds cs ((p ∷ q ∷ ps) ∷ parts) h k =
     all_append (PhaseFits ds) (one_straight cs) ((p ∷ q ∷ ps) ++ joined [] parts) (one_fits ds cs h)
     (all_append (PhaseFits ds) (p ∷ q ∷ ps) (joined [] parts) k.0 (joined_fit ds [] parts tt k.1))
@@ -319,8 +363,8 @@ other_actions no_actions = no_actions
 
 mutual
   -- the phases of an accepted command, behind which the same names are visible
-  form_fits : (ds : List Declared) (bs : List Binding) → Known ds bs → (id : ℕ) (place : Place) (form : ActionForm) (s : Scope) → s.visible ≡ bs → unbuilt_form place form ≡ []
-      → action_form_range_breaches ds form ≡ [] → names.form_breaches s form ≡ [] → resolved_form s form ≡ form
+  form_fits : (ds : List Declared) (bs : List Binding) (known : Known ds bs) (id : ℕ) (place : Place) (form : ActionForm) (s : Scope) → s.visible ≡ bs → unbuilt_form place form ≡ []
+      → action_form_index_breaches known.judged form ≡ [] → names.form_breaches s form ≡ [] → resolved_form s form ≡ form
       → PhasesFit ds (form_phases id place form) × ((past s (action id place form) (form_at_end s form)).visible ≡ bs)
   form_fits ds bs known id place (lets name declared value) s sees built judged visible resolved = absurd (cc)
   form_fits ds bs known id place (lets_memory name shape shape_places value) s sees built judged visible resolved = absurd (cc)
@@ -349,26 +393,26 @@ mutual
   form_fits ds bs known id place (repeats test body) s sees built judged visible resolved = absurd (cc)
   form_fits ds bs known id place (counts iterator declared low high factor body combine combine_place) s sees built judged visible resolved = absurd (cc)
 
-  groups_fit : (ds : List Declared) (bs : List Binding) → Known ds bs → (gs : Groups) (s : Scope) → s.visible ≡ bs → unbuilt_groups gs ≡ []
-      → groups_range_breaches ds gs ≡ [] → names.groups_breaches s gs ≡ [] → resolved_groups s gs ≡ gs → PhasesFit ds (groups_phases gs)
+  groups_fit : (ds : List Declared) (bs : List Binding) (known : Known ds bs) (gs : Groups) (s : Scope) → s.visible ≡ bs → unbuilt_groups gs ≡ []
+      → groups_index_breaches known.judged gs ≡ [] → names.groups_breaches s gs ≡ [] → resolved_groups s gs ≡ gs → PhasesFit ds (groups_phases gs)
   groups_fit ds bs known no_groups s sees built judged visible resolved = tt
   groups_fit ds bs known (group_then part rest) s sees built judged visible resolved =
       let b = no_rest (unbuilt_part false part) (unbuilt_groups rest) built in
-      let j = no_rest (actions_range_breaches ds part) (groups_range_breaches ds rest) judged in
+      let j = no_rest (actions_index_breaches known.judged part) (groups_index_breaches known.judged rest) judged in
       let v = no_rest (names.actions_breaches s part) (names.groups_breaches (actions_at_end s part) rest) visible in
       let first = part_fits ds bs known false part s sees b.0 j.0 v.0 (ap first_part resolved) in
       all_append (PhaseFits ds) (joined [] (parts_phases part)) (groups_phases rest)
       (joined_fit ds [] (parts_phases part) tt first.0)
       (groups_fit ds bs known rest (actions_at_end s part) first.1 b.1 j.1 v.1 (ap other_parts resolved))
 
-  part_fits : (ds : List Declared) (bs : List Binding) → Known ds bs → (stepped : Bool) (part : Actions) (s : Scope) → s.visible ≡ bs → unbuilt_part stepped part ≡ []
-      → actions_range_breaches ds part ≡ [] → names.actions_breaches s part ≡ [] → resolved_actions s part ≡ part
+  part_fits : (ds : List Declared) (bs : List Binding) (known : Known ds bs) (stepped : Bool) (part : Actions) (s : Scope) → s.visible ≡ bs → unbuilt_part stepped part ≡ []
+      → actions_index_breaches known.judged part ≡ [] → names.actions_breaches s part ≡ [] → resolved_actions s part ≡ part
       → AllByRecursion (PhasesFit ds) (parts_phases part) × ((actions_at_end s part).visible ≡ bs)
   part_fits ds bs known stepped no_actions s sees built judged visible resolved = (tt, sees)
   part_fits ds bs known stepped (action_then (action id place form) rest) s sees built judged visible resolved =
       let a = no_rest (unbuilt_form place form) ((if stepped && form_holds form then unbuilt place else []) ++ unbuilt_part (stepped || form_holds form) rest) built in
       let later = no_rest (if stepped && form_holds form then unbuilt place else []) (unbuilt_part (stepped || form_holds form) rest) a.1 in
-      let j = no_rest (action_form_range_breaches ds form) (actions_range_breaches ds rest) judged in
+      let j = no_rest (action_form_index_breaches known.judged form) (actions_index_breaches known.judged rest) judged in
       let after = past s (action id place form) (form_at_end s form) in
       let v = no_rest (names.form_breaches s form) (names.actions_breaches after rest) visible in
       let first = form_fits ds bs known id place form s sees a.0 j.0 v.0 (ap first_action resolved) in
@@ -376,7 +420,7 @@ mutual
       ((first.0, others.0), others.1)
 
 -- the phases of an accepted body
-pub body_fits : (ds : List Declared) (bs : List Binding) → Known ds bs → (a : Action) (s : Scope) → s.visible ≡ bs → unbuilt_action a ≡ []
-    → action_range_breaches ds a ≡ [] → names.breaches s a ≡ [] → resolved_action s a ≡ a → PhasesFit ds (phases a)
+pub body_fits : (ds : List Declared) (bs : List Binding) (known : Known ds bs) (a : Action) (s : Scope) → s.visible ≡ bs → unbuilt_action a ≡ []
+    → action_index_breaches known.judged a ≡ [] → names.breaches s a ≡ [] → resolved_action s a ≡ a → PhasesFit ds (phases a)
 body_fits ds bs known (action id place form) s sees built judged visible resolved =
     (form_fits ds bs known id place form s sees built judged visible (ap action_form resolved)).0

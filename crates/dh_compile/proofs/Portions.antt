@@ -7,7 +7,8 @@ use Rattle.dh_base.specs.declared.places.Place.{Place}
 use Rattle.dh_tree.specs.PlainTrees.{Term, term, TermForm, number, truth_value, named, accessed, in_bank, applied, converted, Terms, no_terms, term_then, Action, action, lets, lets_memory, views, assigns, stores, reduces, calls, blocks, decides, repeats, counts, Declared}
 use Rattle.dh_tree.specs.Phases.{id_of}
 use Rattle.dh_tree.specs.Accesses.{Access, form_accesses, terms_accesses, accesses}
-use Rattle.dh_tree.specs.Meaning.{entry_of, entity_number}
+use Rattle.dh_tree.specs.Meaning.{entity_number}
+use Rattle.dh_compile.proofs.DeclaredTables.{entry_of}
 use Rattle.dh_compile.specs.declared.stores.Operand.{Operand}
 use Rattle.dh_compile.specs.declared.stores.Store.{Store}
 use Rattle.dh_compile.specs.Grouped as grouped

@@ -6,7 +6,8 @@ use Rattle.std.specs.Prelude.{◌⊎◌, Bool, true, false, not, ◌&&◌, ◌==
 use Rattle.std.specs.List.{AllByRecursion, list_any}
 use Rattle.std.proofs.lemmas.Bool.Decides.{nat_tests}
 use Rattle.dh_tree.specs.PlainTrees.{term, TermForm, number, truth_value, named, accessed, in_bank, applied, converted, Terms, no_terms, term_then}
-use Rattle.dh_tree.specs.Accesses.{Access, equal_reads, same_entity, same_sign, alike, all_alike}
+use Rattle.dh_tree.specs.Accesses.{Access, equal_reads, same_sign, alike, all_alike}
+use Rattle.dh_tree.specs.Memories.{same_entity}
 use Rattle.dh_compile.specs.Reading.{index_read, number_read}
 use Rattle.dh_compile.proofs.Listing.{all_map, first_or, both, tested}
 

@@ -7,9 +7,10 @@ use Rattle.std.specs.Prelude.{Bool, true, false, IsTrue, not, ◌&&◌, ◌||◌
 use Rattle.std.specs.List.{AllByRecursion, list_any}
 use Rattle.std.proofs.lemmas.Bool.Decides.{nat_tests}
 use Rattle.dh_tree.specs.PlainTrees.{Action, Program}
+use Rattle.dh_tree.specs.Memories.{same_entity}
 use Rattle.dh_tree.specs.Phases.{Phase, straight, phases, in_one_straight}
 use Rattle.dh_tree.specs.Meets.{total}
-use Rattle.dh_tree.specs.Accesses.{Access, accesses, meets, same_entity, equal_reads, shares, charge_behind, charge, ports_of, KeepsPorts}
+use Rattle.dh_tree.specs.Accesses.{Access, accesses, meets, equal_reads, shares, charge_behind, charge, ports_of, KeepsPorts}
 use Rattle.dh_compile.specs.Reading.{store_phases}
 use Rattle.dh_compile.proofs.Meeting.{commands_accesses, phase_accesses, phases_accesses, phases_append, accesses_are, Within, Same, never, picked, picked_append, total_is}
 use Rattle.dh_compile.proofs.Quiet.{charge_in, charges_in}

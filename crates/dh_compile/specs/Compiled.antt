@@ -5,7 +5,8 @@ use Rattle.dh_tree.specs.PlainTrees.{Program}
 use Rattle.dh_tree.specs.Phases.{phases}
 use Rattle.dh_tree.specs.Tables.{Fits}
 use Rattle.dh_tree.specs.Tree.{Tree}
-use Rattle.dh_tree.specs.Meaning.{table_of, meaning_of}
+use Rattle.dh_tree.specs.Meaning.{meaning_of}
+use Rattle.dh_tree.specs.Memories.{table_of}
 use Rattle.dh_tree.specs.Steps.{standing, step_length}
 use Rattle.dh_net.specs.declared.nets.Net.{Net}
 use Rattle.dh_net.specs.Valid.{IsValid, HasReadsZero}

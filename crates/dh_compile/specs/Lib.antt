@@ -7,3 +7,4 @@ pub mod Compiled
 pub mod Drafts
 pub mod Drivers
 pub mod Heads
+pub mod Taken

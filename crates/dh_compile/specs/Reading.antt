@@ -4,8 +4,9 @@ use Rattle.std.specs.Prelude.{ℕ, List, [], ◌∷◌, ◌++◌, map, Option, S
 use Rattle.dh_base.specs.declared.places.Place.{Place}
 use Rattle.dh_tree.specs.PlainTrees.{Term, term, TermForm, number, truth_value, named, accessed, in_bank, applied, converted, Terms, no_terms, term_then, Action, action, ActionForm, lets, lets_memory, views, assigns, stores, reduces, calls, blocks, decides, repeats, counts, Actions, no_actions, action_then}
 use Rattle.dh_tree.specs.PlainTrees as plain
-use Rattle.dh_tree.specs.Phases.{Phase, straight, joined, one_command}
-use Rattle.dh_tree.specs.Meaning.{memory_of, table_of}
+use Rattle.dh_tree.specs.Phases.{Phase, straight, turns, repeated, decided, joined, one_command}
+use Rattle.dh_tree.specs.Meaning.{entity_number}
+use Rattle.dh_tree.specs.Memories.{table_of}
 use Rattle.dh_compile.specs.declared.stores.Operand.{Operand}
 use Rattle.dh_compile.specs.declared.stores.Store.{Store}
 use Rattle.dh_compile.specs.declared.stores.Program.{Program}
@@ -29,12 +30,12 @@ index_read (term_then (term place kind form) rest) = number_read form
 abbrev pub operand : ℕ → ℕ → Operand
 operand memory index = record { memory = memory; index = index }
 
--- the element that an access is of
+-- the element that an access is of: the memories are the first entities
 abbrev pub element_read : TermForm → Option Operand
 element_read (number negative value) = None
 element_read (truth_value value) = None
 element_read (named r) = None
-element_read (accessed r indices) = Some (operand (memory_of r) (index_read indices))
+element_read (accessed r indices) = Some (operand (entity_number r.entity) (index_read indices))
 element_read (in_bank r bank bank_place row) = None
 element_read (applied o left right) = None
 element_read (converted inner to) = None
@@ -72,6 +73,9 @@ action_read (action id place form) = form_read place form
 
 abbrev pub phase_read : Phase → List Store
 phase_read (straight cs) = map action_read cs
+phase_read (turns loop count body) = []
+phase_read (repeated loop body) = []
+phase_read (decided choice chosen other) = []
 
 -- The phases of a command in which stores and blocks alone have any. Those of an accepted program, which
 -- has no other commands, are all its phases.

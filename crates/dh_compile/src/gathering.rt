@@ -2,8 +2,8 @@
 
 ghost use Rattle.std.specs.Prelude.{◌≡◌, ◌++◌, [], ◌∷◌, map, IfOk, OnOk};
 ghost use Rattle.dh_tree.specs.Seen.{term_seen, form_seen, terms, action_seen, program_seen, actions, groups, part_seen};
-ghost use Rattle.dh_tree.specs.Meaning.{memory_of, meaning_of};
-ghost use Rattle.dh_check.specs.Acceptance.{IsAccepted};
+ghost use Rattle.dh_tree.specs.Meaning.{entity_number, meaning_of};
+ghost use Rattle.dh_compile.specs.Taken.{IsTaken};
 ghost use Rattle.dh_compile.specs.Grouped.{IsGrouped, tree_of};
 ghost use Rattle.dh_compile.specs.Reading as read;
 ghost use Rattle.dh_compile.specs.Reading.{number_read, index_read, element_read, stored_read, store_read, groups_read, one_group, done_by, current_after, parts_read, part_read, program_read};
@@ -50,7 +50,7 @@ fn index_of(indices: &[Expr]) -> u64
 
 /// The number of the memory that the name stands for.
 fn memory_number(of: &Ref) -> u32
-    ensures { result ≡ memory_of of.now }
+    ensures { result ≡ entity_number of.now.entity }
 {
     match of.entity {
         Some(number) => number,
@@ -233,7 +233,7 @@ fn program_in(alloc: Global, typed: &Typed) -> Result<Program, NoMemory>
 
 /// The program of an accepted tree as its groups: one for each straight phase of its body, in order.
 pub(crate) fn groups_of(alloc: Global, typed: &Typed) -> Result<Program, NoMemory>
-    requires { IsAccepted (program_seen typed.now) }
+    requires { IsTaken (program_seen typed.now) }
     ensures meaning { IfOk result (λ program. tree_of program ≡ meaning_of (program_seen typed.now)) }
     ensures grouped { IfOk result (λ program. IsGrouped program) }
 {

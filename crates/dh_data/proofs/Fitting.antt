@@ -3,6 +3,7 @@
 use Rattle.std.proofs.Common.{◌≡◌, ℕ, zero, suc, ◌+◌, ◌*◌, ◌<◌, ◌≤◌, ◌^◌, List, [], ◌∷◌, length, Bool, true, false, Some, Result, Ok, Err, IfOk, refl, sym, ap, subst, ◌∙◌, arith}
 use Rattle.std.specs.List.{AllByRecursion}
 use Rattle.std.proofs.Math.ListN.{replicate}
+use Rattle.std.proofs.Math.Nat.{mul-pos}
 use Rattle.std.proofs.lemmas.List.{length-append, length-replicate}
 use Rattle.std.proofs.lemmas.Nat.{pow_pos}
 use Rattle.std.proofs.lemmas.Option.{none-some, same_Some}
@@ -13,28 +14,54 @@ use Rattle.dh_value.specs.Words.{width_of, IsInteger}
 use Rattle.dh_value.specs.declared.kinds.Kind.{Kind}
 use Rattle.dh_value.proofs.Values.{integer_width}
 use Rattle.dh_value.proofs.WordLaws.{word_of_is_word}
-use Rattle.dh_tree.specs.Tables.{elements_of, elements_in, IsEntry, IsTable, FitsEntry, Fits}
+use Rattle.dh_tree.specs.Shapes.{IsDim, IsMemory, IsProgramTable}
+use Rattle.dh_tree.specs.Tables.{elements_of, elements_in, most_elements, FitsEntry, Fits}
 use Rattle.dh_tree.specs.declared.tables.Dim.{Dim}
 use Rattle.dh_tree.specs.declared.tables.MemEntry.{MemEntry}
 use Rattle.dh_data.specs.DataFiles.{ReadsAs, EachItem, IsSized, joined, in_order, AreElements, IsContents, AreContents, Says, AreSaid, Reads, IfTold}
-use Rattle.dh_data.specs.Reading.{Shows, IsSaid}
+use Rattle.dh_data.specs.Reading.{IsHeld, Shows, IsSaid}
 use Rattle.dh_data.specs.declared.data_files.DataFault.{DataFault}
 use Rattle.dh_data.specs.declared.data_files.DataFault.TheVariants.{NotJson, Missing, Unknown, Format, Size, Value, NoMemory}
 
 -- ---- the number of memories
 
-at_least_one : (e : MemEntry) → IsEntry e → 1 ≤ elements_of e.shape.dims
-at_least_one e h = subst (λ (ds : List Dim). 1 ≤ elements_of ds) (sym h.line) (let one : h.size * 1 ≡ h.size = omega arith in omega (arith, one, h.least))
+both_least : (a b : ℕ) → 1 ≤ a → 1 ≤ b → 1 ≤ a * b
+both_least a b h k =
+    let p : 0 < a = omega (arith, h) in
+    let q : 0 < b = omega (arith, k) in
+    let r : 0 < a * b = mul-pos p q in
+    omega (arith, r)
 
-as_many_elements : (es : List MemEntry) → AllByRecursion IsEntry es → length es ≤ elements_in es
+at_least_one : (ds : List Dim) → AllByRecursion IsDim ds → 1 ≤ elements_of ds
+at_least_one [] h = omega arith
+at_least_one (d ∷ ds) h = both_least d.size (elements_of ds) h.0.size (at_least_one ds h.1)
+
+here_few : (a b m : ℕ) → a + b ≤ m → a ≤ m
+here_few a b m h = omega (arith, h)
+
+rest_few : (a b m : ℕ) → a + b ≤ m → b ≤ m
+rest_few a b m h = omega (arith, h)
+
+are_held : (es : List MemEntry) → AllByRecursion IsMemory es → elements_in es ≤ most_elements → AllByRecursion IsHeld es
+are_held [] h few = tt
+are_held (e ∷ es) h few = (
+  record { integer = h.0.shape.integer; least = at_least_one e.shape.dims h.0.shape.dims; few = here_few (elements_of e.shape.dims) (elements_in es) most_elements few },
+  are_held es h.1 (rest_few (elements_of e.shape.dims) (elements_in es) most_elements few),
+)
+
+-- the memories of a program
+pub held : (es : List MemEntry) → IsProgramTable es → AllByRecursion IsHeld es
+held es h = are_held es h.entries h.elements
+
+as_many_elements : (es : List MemEntry) → AllByRecursion IsHeld es → length es ≤ elements_in es
 as_many_elements [] h = omega arith
 as_many_elements (e ∷ es) h =
-    let here : 1 ≤ elements_of e.shape.dims = at_least_one e h.0 in
+    let here : 1 ≤ elements_of e.shape.dims = h.0.least in
     let rest : length es ≤ elements_in es = as_many_elements es h.1 in
     omega (arith, here, rest)
 
-pub few_memories : (es : List MemEntry) → IsTable es → length es < 2 ^ 32
-few_memories es h = let many : length es ≤ elements_in es = as_many_elements es h.entries in omega (arith, many, h.elements)
+pub few_memories : (es : List MemEntry) → IsProgramTable es → length es < 2 ^ 32
+few_memories es h = let many : length es ≤ elements_in es = as_many_elements es (held es h) in omega (arith, many, h.elements)
 
 -- ---- lengths
 
@@ -70,14 +97,14 @@ zeros_small : (w n : ℕ) → AllByRecursion (λ v. v < 2 ^ w) (replicate n 0)
 zeros_small w zero = tt
 zeros_small w (suc n) = (pow_pos w, zeros_small w n)
 
-fits_by : (ms : Members) (e : MemEntry) (v : List ℕ) (b : Bool) → e.outside ≡ b → IsEntry e → IsContents ms e v → FitsEntry e v
+fits_by : (ms : Members) (e : MemEntry) (v : List ℕ) (b : Bool) → e.outside ≡ b → IsHeld e → IsContents ms e v → FitsEntry e v
 fits_by ms e v true is h g =
     let r = g.outside is in
     record { long = as_long e.shape.kind (in_order e.shape.dims r.data_) v r.elements ∙ long_order e.shape.dims r.data_ r.sized; small = all_small e.shape.kind (in_order e.shape.dims r.data_) v h.integer r.elements }
 fits_by ms e v false is h g =
     subst (λ (x : List ℕ). FitsEntry e x) (sym (g.local is)) (record { long = length-replicate (elements_of e.shape.dims) 0; small = zeros_small (width_of e.shape.kind) (elements_of e.shape.dims) })
 
-all_fit : (ms : Members) (es : List MemEntry) (vs : List (List ℕ)) → AllByRecursion IsEntry es → AreContents ms es vs → Fits es vs
+all_fit : (ms : Members) (es : List MemEntry) (vs : List (List ℕ)) → AllByRecursion IsHeld es → AreContents ms es vs → Fits es vs
 all_fit ms [] [] h g = tt
 all_fit ms [] (v ∷ vs) h g = absurd g
 all_fit ms (e ∷ es) [] h g = absurd g
@@ -101,8 +128,8 @@ shows_means table bytes d (Err (Value i p)) at h = said table bytes d (Err (Valu
 shows_means table bytes d (Err NoMemory) at h = tt
 
 -- and the contents fit
-pub shown_fits : (table : List MemEntry) (d : Data) (r : Result (List (List ℕ)) DataFault) → IsTable table → Shows table d r → IfOk r (λ m. Fits table m)
-shown_fits table d (Ok m) h g = all_fit g.0 table m h.entries g.1.1.1.1
+pub shown_fits : (table : List MemEntry) (d : Data) (r : Result (List (List ℕ)) DataFault) → IsProgramTable table → Shows table d r → IfOk r (λ m. Fits table m)
+shown_fits table d (Ok m) h g = all_fit g.0 table m (held table h) g.1.1.1.1
 shown_fits table d (Err f) h g = tt
 
 pub of_object : (d : Data) (ms : Members) → Some ms ≡ as_object d → d ≡ object ms

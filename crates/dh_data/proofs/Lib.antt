@@ -7,4 +7,5 @@ pub mod Names
 pub mod Contents
 pub mod OneMeaning
 pub mod Fitting
+pub mod SampleTables
 pub mod Rows

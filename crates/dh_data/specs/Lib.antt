@@ -1,3 +1,4 @@
 pub mod DataFiles
 pub mod Reading
 pub mod Reports
+pub mod Samples

@@ -1,5 +1,5 @@
 -- What the parts of `read` and `report` promise one another; for private clauses.
-use Rattle.std.specs.Prelude.{◌≡◌, ◌++◌, ℕ, List, [], ◌∷◌, map, if◌then◌else◌, codes, length, Bool, true, false, Option, Some, None, Result, Ok, Err, Vec}
+use Rattle.std.specs.Prelude.{◌≡◌, ◌≤◌, ◌++◌, ℕ, List, [], ◌∷◌, map, if◌then◌else◌, codes, length, Bool, true, false, Option, Some, None, Result, Ok, Err, Vec}
 use Rattle.std.specs.List.{AllByRecursion}
 use Rattle.std.specs.Cmp.Lexicographic.{slice_cmp}
 use Rattle.std.specs.Ordering.{nat_cmp}
@@ -10,6 +10,8 @@ use Rattle.std.specs.declared.alloc.Global.{Global}
 use denote.Ref.{Bor}
 use Rattle.serde_json.specs.Data.{Data, object, Members}
 use Rattle.dh_value.specs.declared.kinds.Kind.{Kind}
+use Rattle.dh_value.specs.Words.{IsInteger}
+use Rattle.dh_tree.specs.Tables.{elements_of, most_elements}
 use Rattle.dh_tree.specs.declared.tables.MemEntry.{MemEntry}
 use Rattle.dh_data.specs.DataFiles.{outside_names, Lacks, HasNoOther, IsLeastUnknown, Offers, IsElement, IsNoElement, AreElements, IsContents, AreContents, IsFirst, IsOtherFormat, IsOtherSize, IsOtherValue, StopsAt, Says}
 use Rattle.dh_data.specs.declared.data_files.DataFault.{DataFault}
@@ -17,6 +19,12 @@ use Rattle.dh_data.specs.declared.data_files.DataFault.TheVariants.{NotJson, Mis
 
 abbrev pub bitnum : List ℕ
 bitnum = codes "bitnum"
+
+-- the elements of a memory have a kind of numbers, and are not too many to count
+pub record IsHeld (e : MemEntry) : Type 0 where
+  pub integer : IsInteger e.shape.kind
+  pub least : 1 ≤ elements_of e.shape.dims
+  pub few : elements_of e.shape.dims ≤ most_elements
 
 -- a value is an object of members that say this
 abbrev pub IsSaid : List MemEntry → Data → Result (List (List ℕ)) DataFault → Type 0

@@ -3,9 +3,10 @@
 ghost use Rattle.std.specs.Prelude.{◌≡◌, ◌<◌, ◌^◌, List, ℕ, length, map, IfOk, Result};
 ghost use Rattle.std.specs.List.{AllByRecursion};
 ghost use Rattle.serde_json.specs.View.{view, members_view};
-ghost use Rattle.dh_tree.specs.Tables.{IsTable, IsEntry, Fits};
+ghost use Rattle.dh_tree.specs.Shapes.{IsProgramTable};
+ghost use Rattle.dh_tree.specs.Tables.{Fits};
 ghost use Rattle.dh_data.specs.DataFiles.{Means, Reads, IfTold, Says};
-ghost use Rattle.dh_data.specs.Reading.{Shows, FindsMissing, FindsUnknown, KnowsNames, SaysLists};
+ghost use Rattle.dh_data.specs.Reading.{IsHeld, Shows, FindsMissing, FindsUnknown, KnowsNames, SaysLists};
 
 use crate::members::{contents_of, member};
 use dh_tree::{MemEntry, MemTable, Memories, Name};
@@ -78,7 +79,7 @@ impl<T: Drop> From<AllocFailed<T>> for DataFault {
 /// and no other; each member is an object whose `data` has the memory's elements, in lists nested in
 /// order of indices. Any bytes are safe. Takes time linear in the bytes and, for n memories, n log n.
 pub fn read(alloc: Global, table: &MemTable, bytes: &[u8]) -> Result<Memories, DataFault>
-    requires { IsTable table.now }
+    requires { IsProgramTable table.now }
     ensures reads { Reads table.now bytes.now result }
     ensures only { (other : Result (List (List ℕ)) DataFault) → Means table.now bytes.now other → IfTold result (other ≡ result) }
     ensures fits { IfOk result (λ m. Fits table.now m) }
@@ -96,7 +97,7 @@ pub fn read(alloc: Global, table: &MemTable, bytes: &[u8]) -> Result<Memories, D
 }
 
 fn contents_in(alloc: Global, table: &MemTable, value: &Value) -> Result<Memories, DataFault>
-    requires { IsTable table.now }
+    requires { IsProgramTable table.now }
     ensures { Shows table.now (view value.now) result }
 {
     match value.as_object() {
@@ -110,7 +111,7 @@ fn contents_by(
     entries: &[MemEntry],
     members: &Map<String, Value>,
 ) -> Result<Memories, DataFault>
-    requires entries { AllByRecursion IsEntry entries.now }
+    requires entries { AllByRecursion IsHeld entries.now }
     requires few { length entries.now < 2 ^ 32 }
     ensures { IfTold result (Says entries.now (members_view members.now.entries) result) }
 {
@@ -178,7 +179,7 @@ fn lists_by(
     entries: &[MemEntry],
     members: &Map<String, Value>,
 ) -> Result<Vec<Vec<u64>>, DataFault>
-    requires entries { AllByRecursion IsEntry entries.now }
+    requires entries { AllByRecursion IsHeld entries.now }
     requires few { length entries.now < 2 ^ 32 }
     ensures { SaysLists entries.now (members_view members.now.entries) result }
 {

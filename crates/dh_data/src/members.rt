@@ -4,15 +4,14 @@ ghost use Rattle.std.specs.Prelude.{◌≡◌, ◌↔◌, IfOk, IsTrue, option_m
 ghost use Rattle.serde_json.specs.Data.{boolean, number, string, unsigned};
 ghost use Rattle.serde_json.specs.Find.{get_member};
 ghost use Rattle.serde_json.specs.View.{view, members_view};
-ghost use Rattle.dh_tree.specs.Tables.{IsEntry};
 ghost use Rattle.dh_value.specs.Words.{IsInteger, IsValue, width_of, word_of};
 ghost use Rattle.dh_data.specs.Reports.{is_signed as sign_of};
 ghost use Rattle.dh_data.specs.DataFiles.{IsThisIfThere, IsFormat, Agrees, IsSized as SizedBy, in_order};
-ghost use Rattle.dh_data.specs.Reading.{SaysContents, FindsData, FindsElement, Pushes, bitnum};
+ghost use Rattle.dh_data.specs.Reading.{IsHeld, SaysContents, FindsData, FindsElement, Pushes, bitnum};
 
 use crate::data_files::DataFault;
-use crate::reports::signed;
-use dh_tree::{Dim, Kind, MemEntry, element_count};
+use crate::reports::{elements, signed};
+use dh_tree::{Dim, Kind, MemEntry};
 use dh_value::{fits, width};
 use serde_json::{Map, Value};
 use std::alloc::{AllocError, Global};
@@ -31,11 +30,12 @@ pub fn contents_of(
     entry: &MemEntry,
     members: &Map<String, Value>,
 ) -> Result<Vec<u64>, DataFault>
-    requires { IsEntry entry.now }
+    requires { IsHeld entry.now }
     ensures { SaysContents (members_view members.now.entries) memory entry.now result }
 {
     if !entry.outside {
-        return Ok(vec![in alloc; 0; element_count(entry) as usize]?);
+        let count = elements(entry.shape.dims.as_slice()) as usize;
+        return Ok(vec![in alloc; 0; count]?);
     }
     let Some(data) = data_of(entry.shape.kind, member(members, entry.name.as_str())) else {
         return Err(DataFault::Format { memory });
@@ -44,7 +44,7 @@ pub fn contents_of(
     if !is_sized(dims, data) {
         return Err(DataFault::Size { memory });
     }
-    let mut values = Vec::with_capacity(alloc, element_count(entry) as usize)?;
+    let mut values = Vec::with_capacity(alloc, elements(dims) as usize)?;
     if push_elements(&mut values, entry.shape.kind, dims, data)? {
         Ok(values)
     } else {

@@ -4,8 +4,10 @@ ghost use Rattle.std.specs.Prelude.{◌≡◌, ◌<◌, ◌≤◌, ◌^◌, ◌*
 ghost use Rattle.std.specs.List.{AllByRecursion};
 ghost use Rattle.serde_json.specs.Data.{object, no_members};
 ghost use Rattle.serde_json.specs.View.{view, members_view};
-ghost use Rattle.dh_tree.specs.Tables.{IsTable, IsEntry, FitsEntry, Fits, elements_of};
+ghost use Rattle.dh_tree.specs.Shapes.{IsProgramTable};
+ghost use Rattle.dh_tree.specs.Tables.{FitsEntry, Fits, elements_of};
 ghost use Rattle.dh_value.specs.Words.{IsInteger, width_of};
+ghost use Rattle.dh_data.specs.Reading.{IsHeld};
 ghost use Rattle.dh_data.specs.Reports.{report_text, report_data, outside_data, with_outside, memory_data, nested_data, element_data, is_signed, outcome_text as outcome_bytes, name_at, fault_name as fault_bytes};
 
 use dh_base::{FaultKind, NoMemory, Outcome, Place};
@@ -34,7 +36,7 @@ pub fn report(
     m: &Memories,
     ending: &Ending,
 ) -> Result<Vec<u8>, NoMemory>
-    requires table { IsTable table.now }
+    requires table { IsProgramTable table.now }
     requires fits { Fits table.now m.now }
     ensures { IfOk result (λ b. b.items ≡ report_text table.now m.now ending.now) }
 {
@@ -50,7 +52,7 @@ fn report_value(
     m: &Memories,
     ending: &Ending,
 ) -> Result<Value, AllocError>
-    requires table { IsTable table.now }
+    requires table { IsProgramTable table.now }
     requires fits { Fits table.now m.now }
     ensures { IfOk result (λ v. view v ≡ report_data table.now m.now ending.now) }
 {
@@ -76,7 +78,7 @@ fn memories_value(
     entries: &[MemEntry],
     lists: &[Vec<u64>],
 ) -> Result<Value, AllocError>
-    requires table { AllByRecursion IsEntry entries.now }
+    requires table { AllByRecursion IsHeld entries.now }
     requires fits { Fits entries.now (map (λ v. v.items) lists.now) }
     ensures { IfOk result (λ v. view v
         ≡ object (outside_data entries.now (map (λ l. l.items) lists.now) no_members)) }
@@ -95,7 +97,7 @@ fn put_memory(
     entry: &MemEntry,
     values: &[u64],
 ) -> Result<(), AllocError>
-    requires entry { IsEntry entry.now }
+    requires entry { IsHeld entry.now }
     requires fits { FitsEntry entry.now values.now }
     ensures { OnOk result (members_view members.new.entries
         ≡ with_outside entry.now values.now (members_view members.old.entries)) }
@@ -151,7 +153,7 @@ fn nested(alloc: Global, kind: Kind, dims: &[Dim], values: &[u64]) -> Result<Val
 }
 
 /// The product of the sizes, or the greatest number where it is greater.
-fn elements(dims: &[Dim]) -> u64
+pub fn elements(dims: &[Dim]) -> u64
     ensures { result ≡ min (elements_of dims.now) (2 ^ 64 - 1) }
 {
     let mut product = 1u64;

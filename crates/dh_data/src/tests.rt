@@ -2,8 +2,10 @@
 
 ghost use Rattle.std.specs.Prelude.{◌≡◌, ◌≤◌, IfOk};
 ghost use Rattle.dh_tree.specs.Names.{IsName};
-ghost use Rattle.dh_tree.specs.Tables.{IsTable, IsEntry, elements_of};
+ghost use Rattle.dh_tree.specs.Shapes.{IsProgramTable};
+ghost use Rattle.dh_tree.specs.Tables.{IsEntry, elements_of};
 ghost use Rattle.dh_value.specs.Words.{IsInteger};
+ghost use Rattle.dh_data.specs.Samples.{square_entry, local_entry};
 
 use crate::{DataFault, Ending, read, report};
 use dh_base::{FaultKind, Items, NoMemory, Outcome, Place};
@@ -33,11 +35,12 @@ fn memory(alloc: Global, name: &str, kind: Kind, size: u64) -> Result<MemEntry, 
 }
 
 /// Two memories, the first of two elements and the second of one.
+#[tactic(auto, using(dh_tree::proofs::NetTables::program_table))]
 fn memories(alloc: Global, first: (&str, Kind), second: (&str, Kind)) -> Result<MemTable, NoMemory>
     requires first { IsName first.0.now × IsInteger first.1 }
     requires second { IsName second.0.now × IsInteger second.1 }
     requires apart { first.0.now ≡ second.0.now → ⊥ }
-    ensures { IfOk result IsTable }
+    ensures { IfOk result IsProgramTable }
 {
     let one = memory(alloc, first.0, first.1, 2)?;
     let other = memory(alloc, second.0, second.1, 1)?;
@@ -47,9 +50,57 @@ fn memories(alloc: Global, first: (&str, Kind), second: (&str, Kind)) -> Result<
     Ok(table)
 }
 
+/// An outside memory `A` of two dimensions, the first in two banks, with two ports.
+fn square(alloc: Global) -> Result<MemEntry, NoMemory>
+    ensures { IfOk result (λ e. e ≡ square_entry) }
+{
+    let mut dims = Items::new(alloc);
+    dims.push(Dim { size: 2, banks: 2 })?;
+    dims.push(Dim { size: 3, banks: 1 })?;
+    Ok(MemEntry {
+        name: Name::new(String::from_str(alloc, "A")?),
+        shape: Shape {
+            kind: Kind::Unsigned(8),
+            ports: 2,
+            dims,
+        },
+        outside: true,
+    })
+}
+
+/// A local memory `B` of four elements.
+fn local(alloc: Global) -> Result<MemEntry, NoMemory>
+    ensures { IfOk result (λ e. e ≡ local_entry) }
+{
+    let mut dims = Items::new(alloc);
+    dims.push(Dim { size: 4, banks: 1 })?;
+    Ok(MemEntry {
+        name: Name::new(String::from_str(alloc, "B")?),
+        shape: Shape {
+            kind: Kind::Unsigned(8),
+            ports: 1,
+            dims,
+        },
+        outside: false,
+    })
+}
+
+/// A local memory behind an outside one.
+#[tactic(auto, using(crate::proofs::SampleTables::two_entries))]
+fn square_and_local(alloc: Global) -> Result<MemTable, NoMemory>
+    ensures { IfOk result IsProgramTable }
+{
+    let first = square(alloc)?;
+    let second = local(alloc)?;
+    let mut table = Items::new(alloc);
+    table.push(first)?;
+    table.push(second)?;
+    Ok(table)
+}
+
 /// What a data file says: the bits of all elements, or the fault.
 fn told(alloc: Global, table: &MemTable, bytes: &[u8]) -> Result<String, NoMemory>
-    requires { IsTable table.now }
+    requires { IsProgramTable table.now }
 {
     let mut text = String::new(alloc);
     match read(alloc, table, bytes) {
@@ -227,7 +278,7 @@ fn refuses_deep_nesting_anywhere(rt: HostRuntime) -> Result<(), Fail> {
 
 /// The report after a data file.
 fn line(alloc: Global, table: &MemTable, text: &str, ending: &Ending) -> Result<Vec<u8>, NoMemory>
-    requires { IsTable table.now }
+    requires { IsProgramTable table.now }
 {
     match read(alloc, table, text.as_bytes()) {
         Ok(m) => report(alloc, table, &m, ending),
@@ -282,5 +333,38 @@ fn reports_in_byte_order(rt: HostRuntime) -> Result<(), Fail> {
         want.push_str("\",\"steps\":18446744073709551615}\n")?;
         assert!(rt; found.as_slice() == want.as_bytes(), "at {tail}");
     }
+    Ok(())
+}
+
+#[test]
+fn reads_and_reports_lists_of_lists_and_no_local_memory(rt: HostRuntime) -> Result<(), Fail> {
+    let alloc = rt.alloc();
+    let table = square_and_local(alloc)?;
+    for (text, want) in [
+        (
+            "{\"A\":{\"data\":[[1,2,3],[4,5,6]]}}",
+            "1 2 3 4 5 6 0 0 0 0 ",
+        ),
+        ("{\"A\":{\"data\":[[1,2,3],[4,5,256]]}}", "Value 0 5"),
+        ("{\"A\":{\"data\":[[1,2],[3,4],[5,6]]}}", "Size 0"),
+        ("{\"A\":{\"data\":[1,2,3,4,5,6]}}", "Size 0"),
+        (
+            "{\"A\":{\"data\":[[1,2,3],[4,5,6]]},\"B\":{\"data\":[0,0,0,0]}}",
+            "Unknown B",
+        ),
+        ("{\"B\":{\"data\":[0,0,0,0]}}", "Missing 0"),
+    ] {
+        let found = told(alloc, &table, text.as_bytes())?;
+        assert!(rt; found.as_str() == want, "at {text}");
+    }
+    let done = Ending {
+        outcome: Outcome::Ended,
+        steps: 1,
+        clocks: None,
+    };
+    let text = "{\"A\":{\"data\":[[1,2,3],[4,5,6]]}}";
+    let want =
+        "{\"memories\":{\"A\":{\"data\":[[1,2,3],[4,5,6]],\"format\":{\"is_signed\":false,\"numeric_type\":\"bitnum\",\"width\":8}}},\"outcome\":\"done\",\"steps\":1}\n";
+    assert!(rt; line(alloc, &table, text, &done)?.as_slice() == want.as_bytes());
     Ok(())
 }

@@ -1,5 +1,5 @@
 -- A program without names declares none.
-use Rattle.std.proofs.Common.{◌≡◌, ℕ, ◌+◌, ◌<◌, ◌^◌, List, [], length, map, Vec, refl, ap, ◌∙◌, arith}
+use Rattle.std.proofs.Common.{◌≡◌, [], length, map, Vec, ap, ◌∙◌, arith}
 use Rattle.std.specs.Global.{Global}
 use Rattle.dh_tree.specs.declared.trees.commands.Command.{Command}
 use Rattle.dh_tree.specs.declared.trees.commands.CommandForm.TheVariants.{Block}

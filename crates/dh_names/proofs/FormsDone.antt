@@ -9,7 +9,7 @@ use Rattle.dh_tree.specs.declared.breaches.Breach.{Breach}
 use Rattle.dh_tree.specs.declared.trees.expressions.Ref.{Ref}
 use Rattle.dh_tree.specs.declared.trees.programs.ShapePlaces.{ShapePlaces}
 use Rattle.dh_tree.specs.declared.trees.programs.Sort.TheVariants.{Variable, Iterator, Memory, View}
-use Rattle.dh_tree.specs.PlainTrees.{Term, ViewPlan, Placed, Action, action, ActionForm, lets, lets_memory, views, assigns, stores, reduces, calls, blocks, decides, repeats, counts, MaybeAction, Groups}
+use Rattle.dh_tree.specs.PlainTrees.{Term, ViewPlan, Placed, Unrolled, Action, action, ActionForm, lets, lets_memory, views, assigns, stores, reduces, calls, blocks, decides, repeats, counts, MaybeAction, Groups}
 use Rattle.dh_tree.specs.declared.trees.commands.Command.{Command}
 use Rattle.dh_tree.specs.Seen.{action_seen}
 use Rattle.dh_tree.specs.LeastBreach.{least_of}
@@ -157,7 +157,7 @@ decides_done s0 s1 s2 s3 s4 own t t' a a' o o' test one start inner optional cut
       state = next_step s0 s1 s4 (term_breaches s0.scope.visible t) s0.scope (λ s. breaches s.scope a ++ other_breaches (leave s.scope (at_end s.scope a)) o) (λ s. leave s.scope (other_at_end (leave s.scope (at_end s.scope a)) o)) one ended;
     }
 
-pub counts_done : (s0 s1 s2 s3 s4 : State) (own : ℕ) (i i' : Ref) (k : Option Kind) (low high factor : Placed) (a a' : Action) (o o' : MaybeAction) (place : Place)
+pub counts_done : (s0 s1 s2 s3 s4 : State) (own : ℕ) (i i' : Ref) (k : Option Kind) (low high : Placed) (factor : Unrolled) (a a' : Action) (o o' : MaybeAction) (place : Place)
     → length s0.outer + own ≡ length s0.scope.visible
     → (Room s0 1 → i' ≡ declares s0.scope i) → (Room s0 1 → s1 ≡ walked s0 (twice s0.scope.visible i) (declare s0.scope i Iterator))
     → (Room s1 (declared_in a) → Resolves s1 s2 a a') → (Room s2 (declared_in_other o) → ResolvesOther s2 s3 o o') → s4 ≡ cut s3 own

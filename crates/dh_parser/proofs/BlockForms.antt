@@ -6,14 +6,14 @@ use Rattle.dh_base.specs.declared.places.Place.{Place}
 use Rattle.dh_tree.specs.declared.trees.expressions.Expr.{Expr}
 use Rattle.dh_tree.specs.declared.trees.commands.Command.{Command}
 use Rattle.dh_tree.specs.declared.trees.commands.CommandForm.TheVariants.{Block, If, While}
-use Rattle.dh_tree.specs.PlainTrees.{Placed, Action, action, MaybeAction, blocks, decides, repeats, counts}
-use Rattle.dh_tree.specs.Seen.{action_form_seen, action_seen, maybe_seen, placed}
+use Rattle.dh_tree.specs.PlainTrees.{Placed, Unrolled, Action, action, MaybeAction, blocks, decides, repeats, counts}
+use Rattle.dh_tree.specs.Seen.{action_form_seen, action_seen, maybe_seen, placed, unrolled}
 use Rattle.dh_tree.proofs.SeenActions.{block_is, if_is, while_is}
 use Rattle.dh_parser.specs.declared.parsing.loops.LoopHead.{LoopHead}
 use Rattle.dh_parser.specs.declared.parsing.reading.Numeral.{Numeral}
 use Rattle.dh_parser.specs.Grammar.{ExprText, HeadText, BlockText, block, PartsText, while_loop, for_loop, if_else, ElseText, CombineText}
 use Rattle.dh_parser.specs.TreesOfTexts.{ref_of, placed_of, term_of, declared_of, factor_of, block_of, parts_of, compound_of, if_of, else_of, combine_of, combine_place_of, body_of, parts_place, count_block, count_parts, count_else, count_combine}
-use Rattle.dh_parser.specs.Answers.{Numbered, SameParts, SameBlock, SameElse, SameCombine, SameTerm, SameHead, SameNumber}
+use Rattle.dh_parser.specs.Answers.{Numbered, SameParts, SameBlock, SameElse, SameCombine, SameTerm, SameHead, SameNumber, SameUnrolled}
 
 add_one : (n : ℕ) → n + 1 ≡ suc n
 add_one n = omega arith
@@ -66,26 +66,29 @@ while_made id old count new place word opener closer test body v e b h i f g s w
 placed_is : (n : Numeral) (p : Placed) → SameNumber n p → placed n.value n.place ≡ p
 placed_is n p h = ap (λ v. placed v n.place) h.0 ∙ ap (λ q. placed p.value q) h.1
 
+unrolled_is : (n : Numeral) (word : Place) (u : Unrolled) → SameUnrolled n word u → unrolled n.value n.place word ≡ u
+unrolled_is n word u h = ap (λ v. unrolled v n.place word) h.0.0 ∙ (ap (λ q. unrolled u.value q word) h.0.1 ∙ ap (λ w. unrolled u.value u.place w) h.1)
+
 headed : (old : ℕ) (c : CombineText) (head : LoopHead) (h : HeadText) (x : Action) (y : MaybeAction) → SameHead head h
-    → action old head.place (counts head.iterator head.declared (placed head.low.value head.low.place) (placed head.high.value head.high.place) (placed head.factor.value head.factor.place) x y (combine_place_of h.word c))
+    → action old head.place (counts head.iterator head.declared (placed head.low.value head.low.place) (placed head.high.value head.high.place) (unrolled head.factor.value head.factor.place head.unroll) x y (combine_place_of h.word c))
     ≡ action old h.word (counts (ref_of h.iterator) (declared_of h.declared) (placed_of h.low) (placed_of h.high) (factor_of h.word h.unroll) x y (combine_place_of h.word c))
 headed old c head h x y s =
-    ap (λ z. action old z (counts head.iterator head.declared (placed head.low.value head.low.place) (placed head.high.value head.high.place) (placed head.factor.value head.factor.place) x y (combine_place_of h.word c))) s.place
-    ∙ (ap (λ z. action old h.word (counts z head.declared (placed head.low.value head.low.place) (placed head.high.value head.high.place) (placed head.factor.value head.factor.place) x y (combine_place_of h.word c))) s.iterator
-    ∙ (ap (λ z. action old h.word (counts (ref_of h.iterator) z (placed head.low.value head.low.place) (placed head.high.value head.high.place) (placed head.factor.value head.factor.place) x y (combine_place_of h.word c))) s.declared
-    ∙ (ap (λ z. action old h.word (counts (ref_of h.iterator) (declared_of h.declared) z (placed head.high.value head.high.place) (placed head.factor.value head.factor.place) x y (combine_place_of h.word c))) (placed_is head.low (placed_of h.low) s.low)
-    ∙ (ap (λ z. action old h.word (counts (ref_of h.iterator) (declared_of h.declared) (placed_of h.low) z (placed head.factor.value head.factor.place) x y (combine_place_of h.word c))) (placed_is head.high (placed_of h.high) s.high)
-    ∙ ap (λ z. action old h.word (counts (ref_of h.iterator) (declared_of h.declared) (placed_of h.low) (placed_of h.high) z x y (combine_place_of h.word c))) (placed_is head.factor (factor_of h.word h.unroll) s.factor)))))
+    ap (λ z. action old z (counts head.iterator head.declared (placed head.low.value head.low.place) (placed head.high.value head.high.place) (unrolled head.factor.value head.factor.place head.unroll) x y (combine_place_of h.word c))) s.place
+    ∙ (ap (λ z. action old h.word (counts z head.declared (placed head.low.value head.low.place) (placed head.high.value head.high.place) (unrolled head.factor.value head.factor.place head.unroll) x y (combine_place_of h.word c))) s.iterator
+    ∙ (ap (λ z. action old h.word (counts (ref_of h.iterator) z (placed head.low.value head.low.place) (placed head.high.value head.high.place) (unrolled head.factor.value head.factor.place head.unroll) x y (combine_place_of h.word c))) s.declared
+    ∙ (ap (λ z. action old h.word (counts (ref_of h.iterator) (declared_of h.declared) z (placed head.high.value head.high.place) (unrolled head.factor.value head.factor.place head.unroll) x y (combine_place_of h.word c))) (placed_is head.low (placed_of h.low) s.low)
+    ∙ (ap (λ z. action old h.word (counts (ref_of h.iterator) (declared_of h.declared) (placed_of h.low) z (unrolled head.factor.value head.factor.place head.unroll) x y (combine_place_of h.word c))) (placed_is head.high (placed_of h.high) s.high)
+    ∙ ap (λ z. action old h.word (counts (ref_of h.iterator) (declared_of h.declared) (placed_of h.low) (placed_of h.high) z x y (combine_place_of h.word c))) (unrolled_is head.factor head.unroll (factor_of h.word h.unroll) s.factor)))))
 
 pub for_made : {t : Action} (id old count mid new : ℕ) (head : LoopHead) (h : HeadText) (body v : Command) (seen : Option Action) (place : Place) (b : BlockText) (c : CombineText)
-    → t ≡ action id head.place (counts head.iterator head.declared (placed head.low.value head.low.place) (placed head.high.value head.high.place) (placed head.factor.value head.factor.place) (action_seen body) (maybe_seen seen) place)
+    → t ≡ action id head.place (counts head.iterator head.declared (placed head.low.value head.low.place) (placed head.high.value head.high.place) (unrolled head.factor.value head.factor.place head.unroll) (action_seen body) (maybe_seen seen) place)
     → id ≡ old → count ≡ old + 1 → SameHead head h → body ≡ v → SameBlock v b count mid → SameCombine seen c mid new → place ≡ combine_place_of head.place c
     → Numbered t (compound_of old (for_loop h b c)) old new (suc (count_block b + count_combine c))
 for_made id old count mid new head h body v seen place b c e i f s w x y p = record {
-  is = e ∙ (ap (λ z. action z head.place (counts head.iterator head.declared (placed head.low.value head.low.place) (placed head.high.value head.high.place) (placed head.factor.value head.factor.place) (action_seen body) (maybe_seen seen) place)) i
-      ∙ (ap (λ z. action old head.place (counts head.iterator head.declared (placed head.low.value head.low.place) (placed head.high.value head.high.place) (placed head.factor.value head.factor.place) z (maybe_seen seen) place)) (ap action_seen w ∙ (x.is ∙ ap (λ n. block_of n b) (f ∙ add_one old)))
-      ∙ (ap (λ z. action old head.place (counts head.iterator head.declared (placed head.low.value head.low.place) (placed head.high.value head.high.place) (placed head.factor.value head.factor.place) (block_of (suc old) b) z place)) (y.is ∙ ap (λ n. combine_of n c) (middle old count mid (count_block b) f x.counted))
-      ∙ (ap (λ z. action old head.place (counts head.iterator head.declared (placed head.low.value head.low.place) (placed head.high.value head.high.place) (placed head.factor.value head.factor.place) (block_of (suc old) b) (combine_of (suc (old + count_block b)) c) z)) (p ∙ ap (λ q. combine_place_of q c) s.place)
+  is = e ∙ (ap (λ z. action z head.place (counts head.iterator head.declared (placed head.low.value head.low.place) (placed head.high.value head.high.place) (unrolled head.factor.value head.factor.place head.unroll) (action_seen body) (maybe_seen seen) place)) i
+      ∙ (ap (λ z. action old head.place (counts head.iterator head.declared (placed head.low.value head.low.place) (placed head.high.value head.high.place) (unrolled head.factor.value head.factor.place head.unroll) z (maybe_seen seen) place)) (ap action_seen w ∙ (x.is ∙ ap (λ n. block_of n b) (f ∙ add_one old)))
+      ∙ (ap (λ z. action old head.place (counts head.iterator head.declared (placed head.low.value head.low.place) (placed head.high.value head.high.place) (unrolled head.factor.value head.factor.place head.unroll) (block_of (suc old) b) z place)) (y.is ∙ ap (λ n. combine_of n c) (middle old count mid (count_block b) f x.counted))
+      ∙ (ap (λ z. action old head.place (counts head.iterator head.declared (placed head.low.value head.low.place) (placed head.high.value head.high.place) (unrolled head.factor.value head.factor.place head.unroll) (block_of (suc old) b) (combine_of (suc (old + count_block b)) c) z)) (p ∙ ap (λ q. combine_place_of q c) s.place)
       ∙ headed old c head h (block_of (suc old) b) (combine_of (suc (old + count_block b)) c) s))));
   counted = after_two old count mid new (count_block b) (count_combine c) f x.counted y.counted;
 }

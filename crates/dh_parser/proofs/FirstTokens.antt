@@ -12,7 +12,7 @@ use Rattle.dh_lexer.specs.declared.tokens.TokenKind.TheVariants as kind
 use Rattle.dh_parser.specs.declared.parsing.reading.Mark.{Mark}
 use Rattle.dh_parser.specs.declared.parsing.reading.Mark.TheVariants as mark
 use Rattle.dh_parser.specs.Marks.{is_mark}
-use Rattle.dh_parser.specs.Answers.{Took, StandsAt, SameNumber, SameHead}
+use Rattle.dh_parser.specs.Answers.{Took, StandsAt, SameNumber, SameUnrolled, SameHead}
 use Rattle.dh_parser.specs.Grammar.{KindText, NumberText, HeadText, bit_kind, ubit_kind}
 use Rattle.dh_parser.specs.Reading.{good, bad, the, kind_from, the_kind, the_width, width_then, Sign, op_from, sign_text, sign_from, sign_at}
 use Rattle.dh_parser.specs.TreesOfTexts.{kind_place, ref_of, placed_of, declared_of, factor_of}
@@ -69,5 +69,5 @@ sign_is k all ts t o e f h =
 
 -- the head of a loop, part by part
 pub same_head : (h : LoopHead) (t : HeadText) → h.place ≡ t.word → h.iterator ≡ ref_of t.iterator → h.declared ≡ declared_of t.declared
-    → SameNumber h.low (placed_of t.low) → SameNumber h.high (placed_of t.high) → SameNumber h.factor (factor_of h.place t.unroll) → SameHead h t
+    → SameNumber h.low (placed_of t.low) → SameNumber h.high (placed_of t.high) → SameUnrolled h.factor h.unroll (factor_of h.place t.unroll) → SameHead h t
 same_head h t p i d l g f = record { place = p; iterator = i; declared = d; low = l; high = g; factor = rw (← p) f }

@@ -23,6 +23,9 @@ pub mod AlikePrograms
 pub mod PlacedTokens
 pub mod TextWidths
 pub mod TextNames
+pub mod TextLocals
+pub mod TextNumbers
+pub mod TextsSound
 pub mod WrittenTexts
 pub mod OnePlace
 pub mod WholeExpressions

@@ -22,10 +22,10 @@ pub longer : {s : List Token → List Token} → Front s → (x : List Token) �
 longer f x = let e = ap length (f.stands x) in let n = length-append f.tokens x in omega (arith, e, n)
 
 -- each token holds what it may
-abbrev AreSound : List Token → Type 0
+abbrev pub AreSound : List Token → Type 0
 AreSound ts = AllByRecursion (λ (t : Token). IsSound t.kind) ts
 
-ended_sound : (ts : List Token) → AreEnded ts → AreSound ts
+pub ended_sound : (ts : List Token) → AreEnded ts → AreSound ts
 ended_sound [] h = absurd h
 ended_sound (t ∷ []) h = (subst IsSound (sym h) tt, tt)
 ended_sound (t ∷ (u ∷ ts)) h = (h.1.0, ended_sound (u ∷ ts) h.1.1)
@@ -34,7 +34,7 @@ cut_off : (front x : List Token) → AreSound (front ++ x) → AreSound x
 cut_off [] x h = h
 cut_off (t ∷ ts) x h = cut_off ts x h.1
 
-behind : {s : List Token → List Token} → Front s → (x : List Token) → AreSound (s x) → AreSound x
+pub behind : {s : List Token → List Token} → Front s → (x : List Token) → AreSound (s x) → AreSound x
 behind f x h = cut_off f.tokens x (subst AreSound (f.stands x) h)
 
 -- what a type does not write is 1
@@ -51,7 +51,7 @@ are_dims no_dims = tt
 are_dims (dim_then opener size banks closer more) = (one_bank size.place banks, are_dims more)
 
 -- memories: their names are names
-decls_declared : (items : ItemsText) (x : List Token) → AreSound (spell_items items x) → AllByRecursion IsDeclared (decls_of items)
+pub decls_declared : (items : ItemsText) (x : List Token) → AreSound (spell_items items x) → AllByRecursion IsDeclared (decls_of items)
 decls_declared no_items x h = tt
 decls_declared (decl_then word n colon t semicolon more) x h = (
   record { named = h.1.0; ports = one_port (kind_place t.kind) t.ports; dims = are_dims t.dims },
@@ -90,7 +90,7 @@ mutual
   block_names : (id : ℕ) (b : BlockText) (x : List Token) → declared_in (block_of id b) + length x ≤ length (spell_block b x)
   block_names id (block opener parts closer) x = let f = parts_names (suc id) parts (put kind.CloseBrace closer x) in omega (arith, f)
 
-  parts_names : (id : ℕ) (ps : PartsText) (x : List Token) → declared_in_groups (parts_of id ps) + length x ≤ length (spell_parts ps x)
+  pub parts_names : (id : ℕ) (ps : PartsText) (x : List Token) → declared_in_groups (parts_of id ps) + length x ≤ length (spell_parts ps x)
   parts_names id (last_part p) x = let f = part_names id p x in omega (arith, f)
   parts_names id (part_then p dashes more) x =
       let f = part_names id p (put kind.Dashes dashes (spell_parts more x)) in
@@ -154,7 +154,7 @@ formals_short (some_parameters p more) x =
     omega (arith, rest, typed)
 
 -- memories and functions, with all that functions declare
-items_names : (id : ℕ) (items : ItemsText) (x : List Token)
+pub items_names : (id : ℕ) (items : ItemsText) (x : List Token)
     → ((length (decls_of items) + length (functions_of id items)) + declared_in_functions (functions_of id items)) + length x ≤ length (spell_items items x)
 items_names id no_items x = omega arith
 items_names id (decl_then word n colon t semicolon more) x =
@@ -166,20 +166,3 @@ items_names id (def_then word n opener ps equal b more) x =
     let body = block_names id b (spell_items more x) in
     let rest = items_names (id + count_block b) more x in
     omega (arith, taken, body, rest)
-
--- what holds of the tree of any text
-pub of_text : (t : ProgramText) (tokens : List Token) → ProgramFits t → spell_program t [] ≡ tokens → AreEnded tokens → IsOfText (length tokens) (program_of t)
-of_text t tokens fits same ended =
-    let sound = subst AreSound (sym same) (ended_sound tokens ended) in
-    let begin = items_names 0 t.items (spell_parts t.parts (put kind.End t.end [])) in
-    let body = parts_names (suc (count_items t.items)) t.parts (put kind.End t.end []) in
-    let all = ap length same in
-    record {
-      decls = decls_declared t.items (spell_parts t.parts (put kind.End t.end [])) sound;
-      names = omega (arith, begin, body, all);
-      widths = program_sized t fits;
-    }
-
-pub texts_are_sound : (p : Program) (tokens : List Token) → Spells p tokens → AreEnded tokens → IsOfText (length tokens) p
-texts_are_sound p tokens spelled ended =
-    subst (λ (q : Program). IsOfText (length tokens) q) spelled.tree_is (of_text spelled.text tokens spelled.fits spelled.tokens_are ended)

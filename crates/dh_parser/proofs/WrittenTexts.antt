@@ -18,7 +18,8 @@ use Rattle.dh_parser.specs.Spelling.{put, spell, spell_access, spell_index, spel
 use Rattle.dh_parser.specs.TreesOfTexts.{term_of, access_of, is_memory_type, let_of, simple_form, simple_place, count_block, count_parts, count_part, block_of, parts_of, part_of, decls_of, functions_of, count_items, program_of}
 use Rattle.dh_parser.specs.Allowed.{ProgramFits}
 use Rattle.dh_parser.proofs.Fronts.{front_of, expression_front, index_front, indices_front, items_front}
-use Rattle.dh_parser.proofs.TextNames.{longer, of_text}
+use Rattle.dh_parser.proofs.TextNames.{longer}
+use Rattle.dh_parser.proofs.TextsSound.{of_text}
 
 -- two lists that are empty together
 pub both_none : {A : Type 0} (xs ys : List A) → xs ++ ys ≡ [] → (xs ≡ []) × (ys ≡ [])

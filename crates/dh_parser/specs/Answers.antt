@@ -17,8 +17,8 @@ use Rattle.dh_parser.specs.declared.parsing.programs.ItemsRead.{ItemsRead}
 use Rattle.dh_parser.specs.declared.parsing.commands.Beginning as commands
 use Rattle.dh_parser.specs.declared.parsing.commands.Beginning.TheVariants as beginnings
 use Rattle.dh_tree.specs.declared.trees.commands.CommandForm.{CommandForm}
-use Rattle.dh_tree.specs.PlainTrees.{Placed, term_then, Action, action, MaybeAction, Actions, no_actions, action_then, Groups, no_groups, group_then, blocks}
-use Rattle.dh_tree.specs.Seen.{term_seen, terms, factor_seen, plan_seen, action_form_seen, action_seen, part_seen, groups, maybe_seen, declared_seen, defined_seen}
+use Rattle.dh_tree.specs.PlainTrees.{Placed, Unrolled, term_then, Action, action, MaybeAction, Actions, no_actions, action_then, Groups, no_groups, group_then, blocks}
+use Rattle.dh_tree.specs.Seen.{term_seen, terms, factor_seen, plan_seen, action_form_seen, action_seen, part_seen, groups, maybe_seen, placed, declared_seen, defined_seen}
 use Rattle.dh_parser.specs.declared.parsing.reading.Stop.{Stop}
 use Rattle.dh_parser.specs.declared.parsing.reading.Stop.TheVariants as stop
 use Rattle.dh_parser.specs.declared.parsing.reading.Mark.{Mark}
@@ -58,6 +58,10 @@ StandsAt _ _ = ⊥
 abbrev pub SameNumber : Numeral → Placed → Type 0
 SameNumber n p = (n.value ≡ p.value) × (n.place ≡ p.place)
 
+-- the copies of a loop's body, with the place of their word
+abbrev pub SameUnrolled : Numeral → Place → Unrolled → Type 0
+SameUnrolled n word u = SameNumber n (placed u.value u.place) × (word ≡ u.word)
+
 -- the number of ports and the place of its braces, where it is written
 abbrev pub SamePorts : Option WrittenPorts → PortsText → Type 0
 SamePorts None no_ports = Unit {0}
@@ -83,7 +87,7 @@ pub record SameHead (h : LoopHead) (t : HeadText) : Type 0 where
   pub declared : h.declared ≡ declared_of t.declared
   pub low : SameNumber h.low (placed_of t.low)
   pub high : SameNumber h.high (placed_of t.high)
-  pub factor : SameNumber h.factor (factor_of t.word t.unroll)
+  pub factor : SameUnrolled h.factor h.unroll (factor_of t.word t.unroll)
 
 -- an operator of at least this level, if one came next
 abbrev pub TookOperator : ℕ → Option Op → List Token → List Token → Type 0

@@ -1,13 +1,13 @@
--- Logs as functions of the memory: a mark more, undoing from the end, lowering from the front.
+-- Logs as functions of the slot: a mark more, undoing from the end, lowering from the front.
 use Rattle.std.proofs.Common.{◌≡◌, ℕ, zero, suc, ◌-◌, ◌≤◌, ◌<◌, ◌==◌, Bool, true, false, List, [], ◌∷◌, ◌++◌, length, take, get_or, slice_index, slice_set, min, if◌then◌else◌, refl, ap, sym, ◌∙◌, subst, arith, ◌⊎◌, inl, inr}
 use Rattle.std.proofs.lemmas.Bool.{eqb-true, eq-eqb, cases_Bool}
 use Rattle.std.proofs.lemmas.Option.{slice_get-get_or}
 use Rattle.std.proofs.lemmas.List.{get_or-set_same, get_or-set_other, length-set}
 use Rattle.dh_ports.specs.declared.marks.Mark.{Mark}
-use Rattle.dh_ports.specs.Logs.{at_begin, least, AreMarks}
+use Rattle.dh_ports.specs.Logs.{at_begin, least, AreMarks, marks_now}
 
 abbrev pub mark : ℕ → ℕ → Mark
-mark memory left = record { memory = memory; left = left }
+mark slot left = record { slot = slot; left = left }
 
 other_number : (a b : ℕ) → (a == b) ≡ false → b ≡ a → ⊥
 other_number a b f i = let g : (a == b) ≡ true = eq-eqb a b (sym i) in cc
@@ -21,9 +21,9 @@ index_set xs k v m within = by_test (cases_Bool (k == m))
 
 pub begin_more : (log : List Mark) (k v m x : ℕ) → at_begin (log ++ mark k v ∷ []) m x ≡ at_begin log m (if k == m then v else x)
 begin_more [] k v m x = refl
-begin_more (b ∷ log) k v m x = ap (λ n. if b.memory == m then b.left else n) (begin_more log k v m x)
+begin_more (b ∷ log) k v m x = ap (λ n. if b.slot == m then b.left else n) (begin_more log k v m x)
 
-take_more : {X : Type 0} (xs : List X) (k : ℕ) (d : X) → k < length xs → take (suc k) xs ≡ take k xs ++ get_or xs k d ∷ []
+pub take_more : {X : Type 0} (xs : List X) (k : ℕ) (d : X) → k < length xs → take (suc k) xs ≡ take k xs ++ get_or xs k d ∷ []
 take_more [] k d within = elim (none k within) [ ]
   where
     none : (n : ℕ) → n < 0 → ⊥
@@ -32,19 +32,19 @@ take_more (x ∷ xs) zero d within = refl
 take_more (x ∷ xs) (suc k) d within = ap (λ l. x ∷ l) (take_more xs k d (omega (arith, within)))
 
 -- one mark of an undoing
-pub undo_turn : (left : List ℕ) (log : List Mark) (i m w : ℕ) (d : Mark) → 0 < i → i ≤ length log → (get_or log (i - 1) d).memory < length left
+pub undo_turn : (left : List ℕ) (log : List Mark) (i m w : ℕ) (d : Mark) → 0 < i → i ≤ length log → (get_or log (i - 1) d).slot < length left
     → at_begin (take i log) m (slice_index left m) ≡ w
-    → at_begin (take (i - 1) log) m (slice_index (slice_set left (get_or log (i - 1) d).memory (get_or log (i - 1) d).left) m) ≡ w
+    → at_begin (take (i - 1) log) m (slice_index (slice_set left (get_or log (i - 1) d).slot (get_or log (i - 1) d).left) m) ≡ w
 undo_turn left log i m w d some within inside is =
     let last = get_or log (i - 1) d in
     let back : suc (i - 1) ≡ i = omega (arith, some) in
     let more : take i log ≡ take (i - 1) log ++ last ∷ [] = ap (λ n. take n log) (sym back) ∙ take_more log (i - 1) d (omega (arith, some, within)) in
-    ap (λ x. at_begin (take (i - 1) log) m x) (index_set left last.memory last.left m inside)
-    ∙ (sym (begin_more (take (i - 1) log) last.memory last.left m (slice_index left m)) ∙ (ap (λ l. at_begin l m (slice_index left m)) (sym more) ∙ is))
+    ap (λ x. at_begin (take (i - 1) log) m x) (index_set left last.slot last.left m inside)
+    ∙ (sym (begin_more (take (i - 1) log) last.slot last.left m (slice_index left m)) ∙ (ap (λ l. at_begin l m (slice_index left m)) (sym more) ∙ is))
 
 pub least_min : (lows : List Mark) (m a x : ℕ) → least lows m (min a x) ≡ min a (least lows m x)
 least_min [] m a x = refl
-least_min (b ∷ lows) m a x = by_test (b.memory == m) _ _ (least_min lows m a x)
+least_min (b ∷ lows) m a x = by_test (b.slot == m) _ _ (least_min lows m a x)
   where
     swap : (u n k : ℕ) → n ≡ min a k → min u n ≡ min a (min u k)
     swap u n k e = grind (arith, e)
@@ -55,7 +55,7 @@ least_min (b ∷ lows) m a x = by_test (b.memory == m) _ _ (least_min lows m a x
 
 pub least_low : (lows : List Mark) (m x : ℕ) → least lows m x ≤ x
 least_low [] m x = omega arith
-least_low (b ∷ lows) m x = by_test (b.memory == m) _ (least_low lows m x)
+least_low (b ∷ lows) m x = by_test (b.slot == m) _ (least_low lows m x)
   where
     smaller : (u n k : ℕ) → n ≤ k → min u n ≤ k
     smaller u n k e = grind (arith, e)
@@ -106,7 +106,7 @@ logged_turn left log k v m inside =
     by_test (inr e) = ap (λ t. if t then slice_index left k else (if t then v else slice_index left m)) e
 
 pub marks_more : (n : ℕ) (log : List Mark) (k v : ℕ) → AreMarks n log → k < n → AreMarks n (log ++ mark k v ∷ [])
-marks_more n [] k v are inside zero b is = let e : mark k v ≡ b = cc in subst (λ (x : Mark). x.memory < n) e inside
+marks_more n [] k v are inside zero b is = let e : mark k v ≡ b = cc in subst (λ (x : Mark). x.slot < n) e inside
 marks_more n [] k v are inside (suc i) b is = cc
 marks_more n (x ∷ log) k v are inside zero b is = are zero b is
 marks_more n (x ∷ log) k v are inside (suc i) b is = marks_more n log k v (λ j c at. are (suc j) c at) inside i b is
@@ -126,31 +126,31 @@ module _ (left0 : List ℕ) (log0 lows0 : List Mark) (left : List ℕ) (log lows
   so : IsLowering left0 log0 lows0 left log (low ∷ rest)
   so = subst (λ (l : List Mark). IsLowering left0 log0 lows0 left log l) at before
 
-  pub lowering_kept : (left1 : List ℕ) (log1 : List Mark) → left1 ≡ left → log1 ≡ log → slice_index left low.memory ≤ low.left → IsLowering left0 log0 lows0 left1 log1 rest
+  pub lowering_kept : (left1 : List ℕ) (log1 : List Mark) → left1 ≡ left → log1 ≡ log → slice_index left low.slot ≤ low.left → IsLowering left0 log0 lows0 left1 log1 rest
   lowering_kept left1 log1 e f more = subst (λ (l : List ℕ). IsLowering left0 log0 lows0 l log1 rest) (sym e) (subst (λ (l : List Mark). IsLowering left0 log0 lows0 left l rest) (sym f) (record {
     long = so.long;
-    lowered = λ m. keep_turn left low.memory low.left m rest more ∙ so.lowered m;
+    lowered = λ m. keep_turn left low.slot low.left m rest more ∙ so.lowered m;
     logged = so.logged;
     marks = so.marks;
   }))
 
-  pub lowering_turn : (left1 : List ℕ) (log1 : List Mark) → left1 ≡ slice_set left low.memory low.left → log1 ≡ log ++ mark low.memory (slice_index left low.memory) ∷ [] → low.memory < length left0 → low.left < slice_index left low.memory → IsLowering left0 log0 lows0 left1 log1 rest
+  pub lowering_turn : (left1 : List ℕ) (log1 : List Mark) → left1 ≡ slice_set left low.slot low.left → log1 ≡ log ++ mark low.slot (slice_index left low.slot) ∷ [] → low.slot < length left0 → low.left < slice_index left low.slot → IsLowering left0 log0 lows0 left1 log1 rest
   lowering_turn left1 log1 e f inside less =
-      let within = subst (λ (n : ℕ). low.memory < n) (sym so.long) inside in
-      subst (λ (l : List ℕ). IsLowering left0 log0 lows0 l log1 rest) (sym e) (subst (λ (l : List Mark). IsLowering left0 log0 lows0 (slice_set left low.memory low.left) l rest) (sym f) (record {
-        long = length-set left low.memory low.left ∙ so.long;
-        lowered = λ m. lower_turn left low.memory low.left m rest within less ∙ so.lowered m;
-        logged = λ m. logged_turn left log low.memory low.left m within ∙ so.logged m;
-        marks = λ are. marks_more (length left0) log low.memory _ (so.marks are) inside;
+      let within = subst (λ (n : ℕ). low.slot < n) (sym so.long) inside in
+      subst (λ (l : List ℕ). IsLowering left0 log0 lows0 l log1 rest) (sym e) (subst (λ (l : List Mark). IsLowering left0 log0 lows0 (slice_set left low.slot low.left) l rest) (sym f) (record {
+        long = length-set left low.slot low.left ∙ so.long;
+        lowered = λ m. lower_turn left low.slot low.left m rest within less ∙ so.lowered m;
+        logged = λ m. logged_turn left log low.slot low.left m within ∙ so.logged m;
+        marks = λ are. marks_more (length left0) log low.slot _ (so.marks are) inside;
       }))
 
 pub undoing_turn : (n : ℕ) (left : List ℕ) (log : List Mark) (i m w : ℕ) (d : Mark) → AreMarks n log → length left ≡ n → 0 < i → i ≤ length log
     → at_begin (take i log) m (slice_index left m) ≡ w
-    → at_begin (take (i - 1) log) m (slice_index (slice_set left (get_or log (i - 1) d).memory (get_or log (i - 1) d).left) m) ≡ w
+    → at_begin (take (i - 1) log) m (slice_index (slice_set left (get_or log (i - 1) d).slot (get_or log (i - 1) d).left) m) ≡ w
 undoing_turn n left log i m w d are long some within is =
     let last : i - 1 < length log = omega (arith, some, within) in
     let inside = are (i - 1) (get_or log (i - 1) d) (slice_get-get_or log (i - 1) d last) in
-    undo_turn left log i m w d some within (subst (λ (k : ℕ). (get_or log (i - 1) d).memory < k) (sym long) inside) is
+    undo_turn left log i m w d some within (subst (λ (k : ℕ). (get_or log (i - 1) d).slot < k) (sym long) inside) is
 
 pub any_default : {X : Type 0} (xs : List X) (i : ℕ) (d e : X) → i < length xs → get_or xs i d ≡ get_or xs i e
 any_default [] i d e within = elim (none i within) [ ]
@@ -160,7 +160,7 @@ any_default [] i d e within = elim (none i within) [ ]
 any_default (x ∷ xs) zero d e within = refl
 any_default (x ∷ xs) (suc i) d e within = any_default xs i d e (omega (arith, within))
 
--- one port less of a memory, with a mark of what was left
+-- one port less of a slot, with a mark of what was left
 module _ (left : List ℕ) (log log1 : List Mark) (k x v : ℕ) (inside : k < length left) (is : x ≡ get_or left k x) (more : log1 ≡ log ++ mark k x ∷ []) where
   pub spent_begun : (m : ℕ) → at_begin log1 m (slice_index (slice_set left k v) m) ≡ at_begin log m (slice_index left m)
   spent_begun m =
@@ -169,3 +169,53 @@ module _ (left : List ℕ) (log log1 : List Mark) (k x v : ℕ) (inside : k < le
 
   pub spent_marks : AreMarks (length left) log → AreMarks (length (slice_set left k v)) log1
   spent_marks are = subst (λ (n : ℕ). AreMarks n log1) (sym (length-set left k v)) (subst (λ (l : List Mark). AreMarks (length left) l) (sym more) (marks_more (length left) log k x are inside))
+
+-- the lows after a part
+least_append : (a b : List Mark) (m x : ℕ) → least (a ++ b) m x ≡ least a m (least b m x)
+least_append [] b m x = refl
+least_append (k ∷ a) b m x = ap (λ n. if k.slot == m then min k.left n else n) (least_append a b m x)
+
+abbrev Noted : List ℕ → List Mark → ℕ → ℕ → Type 0
+Noted left log m x = (least (marks_now left log) m x ≡ min (slice_index left m) x) ⊎ ((least (marks_now left log) m x ≡ x) × ((y : ℕ) → at_begin log m y ≡ y))
+
+noted : (left : List ℕ) (log : List Mark) (m x : ℕ) → Noted left log m x
+noted left [] m x = inr (refl, λ y. refl)
+noted left (k ∷ log) m x = by_test (cases_Bool (k.slot == m)) (noted left log m x)
+  where
+    twice : (e r x : ℕ) → r ≡ min e x → min e r ≡ min e x
+    twice e r x p = grind (arith, p)
+
+    here : (k.slot == m) ≡ true → (r : ℕ) → least (marks_now left (k ∷ log)) m x ≡ min (slice_index left m) (least (marks_now left log) m x)
+    here e r = ap (λ t. if t then min (slice_index left k.slot) (least (marks_now left log) m x) else least (marks_now left log) m x) e ∙ ap (λ j. min (slice_index left j) (least (marks_now left log) m x)) (eqb-true k.slot m e)
+
+    by_test : ((k.slot == m) ≡ true) ⊎ ((k.slot == m) ≡ false) → Noted left log m x → Noted left (k ∷ log) m x
+    by_test (inl e) (inl p) = inl (here e 0 ∙ twice _ _ _ p)
+    by_test (inl e) (inr p) = inl (here e 0 ∙ ap (λ n. min (slice_index left m) n) p.0)
+    by_test (inr e) (inl p) = inl (ap (λ t. if t then min (slice_index left k.slot) (least (marks_now left log) m x) else least (marks_now left log) m x) e ∙ p)
+    by_test (inr e) (inr p) = inr (ap (λ t. if t then min (slice_index left k.slot) (least (marks_now left log) m x) else least (marks_now left log) m x) e ∙ p.0, λ y. ap (λ t. if t then k.left else at_begin log m y) e ∙ p.1 y)
+
+least_swap : (lows : List Mark) (m a x : ℕ) → least lows m (min a x) ≡ min (least lows m x) a
+least_swap lows m a x = least_min lows m a x ∙ swap a _
+  where
+    swap : (u v : ℕ) → min u v ≡ min v u
+    swap u v = grind arith
+
+pub lows_after : (lows log : List Mark) (left : List ℕ) (m b : ℕ) → at_begin log m (slice_index left m) ≡ b → least (lows ++ marks_now left log) m b ≡ min (least lows m b) (slice_index left m)
+lows_after lows log left m b begun = least_append lows (marks_now left log) m b ∙ by_note (noted left log m b)
+  where
+    itself : (e x : ℕ) → e ≡ x → x ≡ min e x
+    itself e x p = grind (arith, p)
+
+    by_note : Noted left log m b → least lows m (least (marks_now left log) m b) ≡ min (least lows m b) (slice_index left m)
+    by_note (inl p) = ap (λ n. least lows m n) p ∙ least_swap lows m (slice_index left m) b
+    by_note (inr p) = ap (λ n. least lows m n) (p.0 ∙ itself (slice_index left m) b (sym (p.1 (slice_index left m)) ∙ begun)) ∙ least_swap lows m (slice_index left m) b
+
+pub marks_both : (n : ℕ) (a b : List Mark) → AreMarks n a → AreMarks n b → AreMarks n (a ++ b)
+marks_both n [] b x y i k at = y i k at
+marks_both n (c ∷ a) b x y zero k at = x zero k at
+marks_both n (c ∷ a) b x y (suc i) k at = marks_both n a b (λ j e f. x (suc j) e f) y i k at
+
+pub now_marks : (n : ℕ) (left : List ℕ) (log : List Mark) → AreMarks n log → AreMarks n (marks_now left log)
+now_marks n left [] x i k at = x i k at
+now_marks n left (c ∷ log) x zero k at = let e : (record { slot = c.slot; left = slice_index left c.slot }) ≡ k = cc in subst (λ (j : Mark). j.slot < n) e (x zero c refl)
+now_marks n left (c ∷ log) x (suc i) k at = now_marks n left log (λ j e f. x (suc j) e f) i k at

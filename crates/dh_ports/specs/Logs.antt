@@ -1,21 +1,21 @@
--- Logs of what was left of memories' ports, as functions of the memory.
+-- Logs of what was left of slots' ports, as functions of the slot.
 use Rattle.std.specs.Prelude.{◌≡◌, ℕ, ◌<◌, ◌==◌, List, [], ◌∷◌, map, min, slice_index, slice_get, Some, if◌then◌else◌}
 use Rattle.dh_ports.specs.declared.marks.Mark.{Mark}
 
--- what was left of a memory at a log's begin: what its first mark says, or what is left now
-abbrev pub at_begin : List Mark → (memory : ℕ) → (now : ℕ) → ℕ
-at_begin [] memory now = now
-at_begin (mark ∷ log) memory now = if mark.memory == memory then mark.left else at_begin log memory now
+-- what was left of a slot at a log's begin: what its first mark says, or what is left now
+abbrev pub at_begin : List Mark → (slot : ℕ) → (now : ℕ) → ℕ
+at_begin [] slot now = now
+at_begin (mark ∷ log) slot now = if mark.slot == slot then mark.left else at_begin log slot now
 
--- the least that marks say of a memory, or what is left now
-abbrev pub least : List Mark → (memory : ℕ) → (now : ℕ) → ℕ
-least [] memory now = now
-least (mark ∷ log) memory now = if mark.memory == memory then min mark.left (least log memory now) else least log memory now
+-- the least that marks say of a slot, or what is left now
+abbrev pub least : List Mark → (slot : ℕ) → (now : ℕ) → ℕ
+least [] slot now = now
+least (mark ∷ log) slot now = if mark.slot == slot then min mark.left (least log slot now) else least log slot now
 
--- each mark is of one of so many memories
+-- each mark is of one of so many slots
 abbrev pub AreMarks : ℕ → List Mark → Type 0
-AreMarks memories log = (i : ℕ) (mark : Mark) → slice_get log i ≡ Some mark → mark.memory < memories
+AreMarks slots log = (i : ℕ) (mark : Mark) → slice_get log i ≡ Some mark → mark.slot < slots
 
--- what is left now of the memories of a log
+-- what is left now of the slots of a log
 abbrev pub marks_now : List ℕ → List Mark → List Mark
-marks_now left log = map (λ mark. record { memory = mark.memory; left = slice_index left mark.memory }) log
+marks_now left log = map (λ mark. record { slot = mark.slot; left = slice_index left mark.slot }) log

@@ -1,61 +1,63 @@
--- What a walk through some accesses makes of the ports that are left, by the loads of their tree.
-use Rattle.std.specs.Prelude.{◌≡◌, ℕ, ◌+◌, ◌≤◌, ◌<◌, min, false, List, ◌++◌, length, slice_get, slice_index, Option, Some, option_map, Result, Ok, Err}
-use Rattle.dh_base.specs.declared.places.Place.{Place}
-use Rattle.dh_tree.specs.Meets.{Meets, In, Before, load, upto}
-use Rattle.dh_tree.specs.Accesses.{Access}
-use Rattle.dh_ports.specs.declared.elements.Element.{Element}
-use Rattle.dh_ports.specs.declared.elements.Literal.{Literal}
-use Rattle.dh_ports.specs.declared.recents.Recent.{Recent}
-use Rattle.dh_ports.specs.declared.walks.Stop.{Stop}
-use Rattle.dh_ports.specs.declared.walks.Stop.TheVariants as stop
-use Rattle.dh_ports.specs.SingleElements.{IsAt}
-use Rattle.dh_ports.specs.Tags.{Tagged, tag, shares_one, charges}
-use Rattle.dh_ports.specs.Recalled.{known}
+-- The ledgers of memories while spends are done, bank by bank: each memory is a slot of what is left of the bank.
+use Rattle.std.specs.Prelude.{◌≡◌, ℕ, ◌<◌, Bool, List, [], ◌∷◌, map, reverse, Some, slice_index, slice_get}
+use Rattle.std.specs.List.{AllByRecursion}
+use Rattle.dh_ledger.specs.Spending.{Spending, banks}
+use Rattle.dh_ports.specs.declared.marks.Mark.{Mark}
+use Rattle.dh_ports.specs.declared.purses.Part.{Part}
+use Rattle.dh_ports.specs.declared.purses.Purses.{Purses}
+use Rattle.dh_ports.specs.declared.purses.Spend.{Spend}
+use Rattle.dh_ports.specs.declared.purses.Spend.TheVariants as spend
+use Rattle.dh_ports.specs.Logs.{at_begin, least}
+use Rattle.dh_ports.specs.Levels.{Floor, Level, level, floor, advance}
+use Rattle.dh_ports.specs.Purses.{left_on, on_bank}
+use Rattle.dh_ports.specs.States.{Shape, lefts_on, marks_on, shapes, AreOf}
 
--- The accesses of a tree fit in what is left, each with what is before it; after them so much less
--- is left.
-pub record Fits (tagged : List Tagged) (old new : ℕ → ℕ) (t : Meets) : Type 0 where
-  pub each : (m a : ℕ) → In a t → upto (charges tagged m) a t ≤ old m
-  pub rest : (m : ℕ) → new m + load (charges tagged m) t ≡ old m
+-- a slot's level over marks, with the floors round it as a function of what was left at the part's begin
+abbrev pub level_by : List ℕ → List Mark → List Mark → (floors : ℕ → List Floor) → (slot : ℕ) → Level
+level_by left log lows floors slot =
+    level (slice_index left slot) (at_begin log slot (slice_index left slot)) (least lows slot (at_begin log slot (slice_index left slot))) (floors (at_begin log slot (slice_index left slot)))
 
--- The access at this place is the first of the tree that does not fit.
-pub record Beyond (tagged : List Tagged) (old : ℕ → ℕ) (t : Meets) (place : Place) : Type 0 where
-  pub number : ℕ
-  pub inside : In number t
-  pub stands : option_map (λ a. a.access.place) (slice_get tagged number) ≡ Some place
-  pub memory : ℕ
-  pub beyond : old memory < upto (charges tagged memory) number t
-  pub earlier : (m x : ℕ) → Before t x number → upto (charges tagged m) x t ≤ old m
+-- the floors that parts from the inside give
+abbrev pub floors_on : {M : Type 0} → (M → Spending) → (bank slot : ℕ) → List (Part M) → (now : ℕ) → List Floor
+floors_on marked bank slot [] now = []
+floors_on marked bank slot (p ∷ ps) now =
+    floor (at_begin (marks_on marked bank p.log.items) slot now) (least (marks_on marked bank p.lows.items) slot (at_begin (marks_on marked bank p.log.items) slot now))
+    ∷ floors_on marked bank slot ps (at_begin (marks_on marked bank p.log.items) slot now)
 
--- Each part of a tree starts from what is left before it; of the lows before and after, the latter is
--- the least of the former and of what a part leaves.
-pub record Lowers (tagged : List Tagged) (base low new : ℕ → ℕ) (t : Meets) : Type 0 where
-  pub each : (m a : ℕ) → In a t → upto (charges tagged m) a t ≤ base m
-  pub end : ℕ → ℕ
-  pub rest : (m : ℕ) → end m + load (charges tagged m) t ≡ base m
-  pub least_is : (m : ℕ) → new m ≡ min (low m) (end m)
+-- the level of a bank of a memory
+abbrev pub level_on : {L M : Type 0} → (L → Spending) → (M → Spending) → Purses L M → (bank slot : ℕ) → Level
+level_on state marked p bank slot =
+    level_by (lefts_on bank (map state p.ledgers.items)) (marks_on marked bank p.log.items) (marks_on marked bank p.lows.items) (floors_on marked bank slot (reverse p.outer.items)) slot
 
--- What is recalled of the reads so far: those of the phase that goes on; and phases from a number on
--- are new.
-pub record Remembers (earlier : List Tagged) (recents : List Recent) (going : Option ℕ) (next : ℕ) : Type 0 where
-  pub current : (phase : ℕ) (a : Access) (e : Element) → going ≡ Some phase → IsAt a e → a.writes ≡ false → e.memory < length recents
-      → shares_one earlier (tag phase a) ≡ known (slice_get recents e.memory) phase e.index
-  pub new_reads : (phase : ℕ) (a : Access) → next ≤ phase → shares_one earlier (tag phase a) ≡ false
-  pub new_known : (m phase : ℕ) (index : Literal) → next ≤ phase → known (slice_get recents m) phase index ≡ false
-  pub old : (phase : ℕ) → going ≡ Some phase → phase < next
+-- all levels change as they do at a spend
+abbrev pub Walks : {L M : Type 0} → (L → Spending) → (M → Spending) → Spend → Purses L M → Purses L M → Type 0
+Walks state marked s old new = (bank slot : ℕ) → level_on state marked new bank slot ≡ advance slot (on_bank bank s) (level_on state marked old bank slot)
 
--- where a walk stands, without its memory management
-pub record Standing : Type 0 where
-  pub left : List ℕ
-  pub recents : List Recent
-  pub going : Option ℕ
+-- the noted states are of the ledgers of their memories
+pub record PartOf {M : Type 0} (marked : M → Spending) (all : List Shape) (p : Part M) : Type 0 where
+  pub log : AreOf marked all p.log.items
+  pub lows : AreOf marked all p.lows.items
 
--- A walk is done with the accesses `now` of this tree, or stops at the first that does not fit.
-pub record Passes (earlier now after : List Tagged) (next : ℕ) (old new : Standing) (t : Meets) : Type 0 where
-  pub fits : Fits (earlier ++ (now ++ after)) (slice_index old.left) (slice_index new.left) t
-  pub remembers : Remembers (earlier ++ now) new.recents new.going next
+abbrev pub shapes_of : {L M : Type 0} → (L → Spending) → Purses L M → List Shape
+shapes_of state p = shapes (map state p.ledgers.items)
 
-abbrev pub Walked : (earlier now after : List Tagged) (next : ℕ) (old new : Standing) (t : Meets) → Result (Unit {0}) Stop → Type 0
-Walked earlier now after next old new t (Ok _) = Passes earlier now after next old new t
-Walked earlier now after next old new t (Err (stop.Spent place)) = Beyond (earlier ++ (now ++ after)) (slice_index old.left) t place
-Walked earlier now after next old new t (Err stop.NoMemory) = Unit {0}
+pub record AreKept {L M : Type 0} (state : L → Spending) (marked : M → Spending) (p : Purses L M) : Type 0 where
+  pub log : AreOf marked (shapes_of state p) p.log.items
+  pub lows : AreOf marked (shapes_of state p) p.lows.items
+  pub outer : AllByRecursion (PartOf marked (shapes_of state p)) p.outer.items
+
+-- a bank of a memory
+abbrev pub IsBankOf : List Spending → (memory bank : ℕ) → Type 0
+IsBankOf ledgers memory bank = (s : Spending) × ((slice_get ledgers memory ≡ Some s) × (bank < banks s))
+
+-- an access is of a bank of a memory
+abbrev pub IsOf : List Spending → Spend → Type 0
+IsOf ledgers s = (memory bank : ℕ) (takes : Bool) → s ≡ spend.Access memory bank takes → IsBankOf ledgers memory bank
+
+-- what is left before an access in its bank; 0 where it is none
+abbrev pub IsLeft : List Spending → Spend → ℕ → Type 0
+IsLeft ledgers (spend.Access memory bank takes) left = left ≡ left_on (slice_get ledgers memory) bank
+IsLeft ledgers spend.Other left = left ≡ 0
+IsLeft ledgers spend.Begin left = left ≡ 0
+IsLeft ledgers spend.Next left = left ≡ 0
+IsLeft ledgers spend.End left = left ≡ 0

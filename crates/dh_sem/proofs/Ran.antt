@@ -1,5 +1,5 @@
 -- Commands that were run.
-use Rattle.std.proofs.Common.{◌≡◌, ℕ, zero, suc, ◌<◌, ◌==◌, ◌&&◌, Bool, true, false, if◌then◌else◌, List, [], ◌∷◌, ◌++◌, length, Err, Option, Some, ℤ, ◌⊎◌, inl, inr, pos, refl, ap, sym, ◌∙◌, subst, append_assoc, append-nil}
+use Rattle.std.proofs.Common.{◌≡◌, ℕ, zero, suc, ◌<◌, ◌==◌, ◌&&◌, Bool, true, false, if◌then◌else◌, List, [], ◌∷◌, ◌++◌, length, Ok, Err, ℤ, ◌⊎◌, inl, inr, pos, refl, ap, sym, ◌∙◌, subst, append_assoc, append-nil}
 use Rattle.std.specs.Prelude.{Result, slice_set, slice_index_or}
 use Rattle.std.specs.List.{AllByRecursion}
 use Rattle.std.proofs.lemmas.Bool.{eqb-true, eq-eqb, cases_Bool}
@@ -9,23 +9,23 @@ use Rattle.dh_value.specs.declared.words.Word.{Word}
 use Rattle.dh_value.specs.Words.{word_of, value_of, IsWord}
 use Rattle.dh_tree.specs.declared.tables.MemEntry.{MemEntry}
 use Rattle.dh_tree.specs.Elements.{Spot, dims_at}
-use Rattle.dh_tree.specs.Tables.{IsEntry}
-use Rattle.dh_tree.specs.Effects.{Event, reads, writes, faults, Effect, with_events, access_made, kind_in, kept_bits, stop_after, set_variable, Variables, term_events, terms_events, values_of, is_inside, assigned_at, stored_at}
+use Rattle.dh_tree.specs.Effects.{Event, reads, writes, faults, Effect, with_events, access_made, kind_in, kept_bits, stop_after, set_variable, Variables, term_events, terms_events, values_of, is_inside, is_row, assigned_at, stored_at, stored_in_bank_at, bank_access_made}
 use Rattle.dh_tree.specs.Effects as effects
-use Rattle.dh_tree.specs.Tree.{Term, number, truth_value, variable, access, binary, convert, Terms, no_terms, term}
+use Rattle.dh_tree.specs.Tree.{Term, number, truth_value, variable, access, in_bank, binary, convert, Terms, no_terms, term}
 use Rattle.dh_base.specs.declared.outcomes.FaultKind.TheVariants.{OutOfRange}
 use Rattle.dh_sem.specs.declared.spending.Bank.{Bank}
 use Rattle.dh_sem.specs.declared.running.Write.{Write}
 use Rattle.dh_sem.specs.declared.running.State.{State}
 use Rattle.dh_sem.specs.declared.evaluating.Stop.{Stop}
 use Rattle.dh_sem.specs.declared.evaluating.Stop.TheVariants as stop
-use Rattle.dh_sem.specs.Rows.{sole_of, row_found}
+use Rattle.dh_sem.specs.Rows.{spot_seen}
+use Rattle.dh_sem.specs.Scenes.{Finds}
+use Rattle.dh_sem.specs.declared.spots.Element.{Element}
 use Rattle.dh_sem.specs.Spent.{HaveSpent}
 use Rattle.dh_sem.specs.Scenes.{Spends, variables_of, unset_word}
 use Rattle.dh_sem.specs.States.{writes_in, Keeps, Ends}
-use Rattle.dh_sem.proofs.Evaluated.{stops_first, stops_second}
-use Rattle.dh_sem.proofs.BanksSpent.{spot_at}
-use Rattle.dh_sem.proofs.RowAccesses.{kind_is, made_is}
+use Rattle.dh_sem.proofs.Evaluated.{stops_first, stops_second, fault_stops}
+use Rattle.dh_sem.proofs.Entries.{kind_is}
 
 -- a stop of the accesses is the end of the commands
 pub ends_early : (A B : Type 0) (table : List MemEntry) (e : Effect) (es : List Event) (now : ℕ) (banks : List Bank) (s : State) (x : Stop) (result : Result B Stop) → es ≡ e.events → result ≡ Err x
@@ -39,21 +39,20 @@ ends_early A B table e es now banks s x result same is h = subst (λ (r : Result
 abbrev pub a_write : (memory position bits : ℕ) → Write
 a_write memory position bits = record { memory = memory; position = position; bits = bits }
 
-writes_more : (es : List Event) (p : Place) (memory row value : ℕ) → writes_in (es ++ writes p (spot_at memory row) value ∷ []) ≡ writes_in es ++ a_write memory row value ∷ []
-writes_more [] p memory row value = refl
-writes_more (reads q s ∷ es) p memory row value = writes_more es p memory row value
-writes_more (writes q s v ∷ es) p memory row value = ap (λ l. record { memory = s.memory; position = s.position; bits = v } ∷ l) (writes_more es p memory row value)
-writes_more (faults kind q ∷ es) p memory row value = writes_more es p memory row value
+writes_more : (es : List Event) (p : Place) (s : Spot) (value : ℕ) → writes_in (es ++ writes p s value ∷ []) ≡ writes_in es ++ a_write s.memory s.position value ∷ []
+writes_more [] p s value = refl
+writes_more (reads q t ∷ es) p s value = writes_more es p s value
+writes_more (writes q t v ∷ es) p s value = ap (λ l. record { memory = t.memory; position = t.position; bits = v } ∷ l) (writes_more es p s value)
+writes_more (faults kind q ∷ es) p s value = writes_more es p s value
 
-pub put_writes : (table : List MemEntry) (memory : ℕ) (entries : AllByRecursion IsEntry table) (within : memory < length table) (d : MemEntry) (place : Place) (indices : List ℤ) (index : Option ℤ) (sole : index ≡ sole_of indices) (es : List Event) (row bits : ℕ) (value word : Word) (old new : List Write)
-    → row_found (dims_at table memory) index ≡ Some row → old ≡ writes_in es → new ≡ old ++ a_write memory row word.bits ∷ [] → word ≡ word_of (slice_index_or table memory d).shape.kind (value_of value)
-    → new ≡ writes_in (es ++ access_made table place memory indices (λ s. writes place s (kept_bits table memory value)) ∷ [])
-put_writes table memory entries within d place indices index sole es row bits value word old new e before added cast =
+pub put_writes : (table : List MemEntry) (d : MemEntry) (place : Place) (s : Spot) (es : List Event) (value word : Word) (old new : List Write) → s.memory < length table
+    → old ≡ writes_in es → new ≡ old ++ a_write s.memory s.position word.bits ∷ [] → word ≡ word_of (slice_index_or table s.memory d).shape.kind (value_of value)
+    → new ≡ writes_in (es ++ writes place s (kept_bits table s.memory value) ∷ [])
+put_writes table d place s es value word old new within before added cast =
     added
-    ∙ (ap (λ l. l ++ a_write memory row word.bits ∷ []) before
-    ∙ (ap (λ (w : Word). writes_in es ++ a_write memory row w.bits ∷ []) (cast ∙ ap (λ k. word_of k (value_of value)) (sym (kind_is table memory entries d within)))
-    ∙ (sym (writes_more es place memory row (kept_bits table memory value))
-    ∙ ap (λ x. writes_in (es ++ x ∷ [])) (sym (made_is table memory entries within d place indices index sole (λ s. writes place s (kept_bits table memory value)) row e)))))
+    ∙ (ap (λ l. l ++ a_write s.memory s.position word.bits ∷ []) before
+    ∙ (ap (λ (w : Word). writes_in es ++ a_write s.memory s.position w.bits ∷ []) (cast ∙ ap (λ k. word_of k (value_of value)) (sym (kind_is table s.memory d within)))
+    ∙ sym (writes_more es place s (kept_bits table s.memory value))))
 
 fun_same : {A B : Type 0} (f g : A → B) → ((x : A) → f x ≡ g x) → f ≡ g
 fun_same f g h = λ i x. h x i
@@ -100,6 +99,9 @@ module _ (table : List MemEntry) (memories : List (List ℕ)) (variables : Varia
   read_only place true s = refl
   read_only place false s = refl
 
+  abbrev effects_value : Term → ℤ
+  effects_value t = value_of (effects.value_of table memories variables path t)
+
   -- an expression makes no write
   mutual
     pub no_writes : (t : Term) → writes_in (term_events table memories variables path t) ≡ []
@@ -109,6 +111,9 @@ module _ (table : List MemEntry) (memories : List (List ℕ)) (variables : Varia
     no_writes (access place memory indices) =
         writes_then (terms_events table memories variables path indices) _
         ∙ none_twice _ _ (no_writes_in indices) (read_only place (is_inside (dims_at table memory) (values_of table memories variables path indices)) _)
+    no_writes (in_bank place memory bank row) =
+        writes_then (term_events table memories variables path row) _
+        ∙ none_twice _ _ (no_writes row) (read_only place (is_row (dims_at table memory) (effects_value row)) _)
     no_writes (binary o left right) = writes_then (term_events table memories variables path left) _ ∙ none_twice _ _ (no_writes left) (no_writes right)
     no_writes (convert to inner) = no_writes inner
 
@@ -136,37 +141,37 @@ assigned_keeps table memories now e entity n t words w s banks same named within
   writes = made ∙ sym (same_writes e.events _ (no_writes table memories e.variables [] t));
 }
 
--- the accesses of a store
-abbrev pub stored_events : List MemEntry → List (List ℕ) → Place → (memory : ℕ) → Terms → Term → Variables → List Event
-stored_events table memories place memory indices value v =
-    term_events table memories v [] value
-    ++ (terms_events table memories v [] indices
-    ++ access_made table place memory (values_of table memories v [] indices) (λ s. writes place s (kept_bits table memory (effects.value_of table memories v [] value))) ∷ [])
+abbrev made_effect : Variables → List Event → Effect
+made_effect v l = record { variables = v; events = l }
 
-module _ (table : List MemEntry) (memories : List (List ℕ)) (place : Place) (memory : ℕ) (indices : Terms) (value : Term) (now : ℕ) (e : Effect) (v : Variables) (same : v ≡ e.variables) where
+-- A store of a value that is evaluated first, by the accesses of what says where, and then the write.
+module _ (table : List MemEntry) (memories : List (List ℕ)) (place : Place) (value : Term) (now : ℕ) (e : Effect) (v : Variables) (same : v ≡ e.variables) (eis : List Event) (none : writes_in eis ≡ []) (event : (Spot → Event) → Event) (all : Effect)
+    (is : all ≡ with_events e (term_events table memories v [] value ++ (eis ++ event (λ s. writes place s (kept_bits table s.memory (effects.value_of table memories v [] value))) ∷ []))) where
   abbrev evs : List Event
   evs = term_events table memories v [] value
 
-  abbrev eis : List Event
-  eis = terms_events table memories v [] indices
-
   abbrev last_write : Word → Event
-  last_write w = access_made table place memory (values_of table memories v [] indices) (λ s. writes place s (kept_bits table memory w))
+  last_write w = event (λ s. writes place s (kept_bits table s.memory w))
 
-  pub store_stops_first : (A : Type 0) (banks : List Bank) (s : State) (x : Stop) (result : Result (Unit {0}) Stop) → result ≡ Err x → Spends {A = A} table (e.events ++ evs) now (Err x) banks
-      → Ends table (stored_at table memories place memory indices value [] e) now result s
-  store_stops_first A banks s x result is h =
-      ends_early A (Unit {0}) table (stored_at table memories place memory indices value [] e) (e.events ++ stored_events table memories place memory indices value v) now banks s x result
-      (ap (λ (u : Variables). e.events ++ stored_events table memories place memory indices value u) same) is
-      (stops_first A A table e.events evs _ (stored_events table memories place memory indices value v) now banks banks x (Err x) refl refl h)
+  abbrev whole : List Event
+  whole = evs ++ (eis ++ last_write (effects.value_of table memories v [] value) ∷ [])
 
-  pub store_stops_second : (A : Type 0) (banks : List Bank) (s : State) (x : Stop) (result : Result (Unit {0}) Stop) → result ≡ Err x → Spends {A = A} table ((e.events ++ evs) ++ eis) now (Err x) banks
-      → Ends table (stored_at table memories place memory indices value [] e) now result s
-  store_stops_second A banks s x result is h =
-      ends_early A (Unit {0}) table (stored_at table memories place memory indices value [] e) (e.events ++ stored_events table memories place memory indices value v) now banks s x result
-      (ap (λ (u : Variables). e.events ++ stored_events table memories place memory indices value u) same) is
-      (stops_first A A table e.events (evs ++ eis) (last_write (effects.value_of table memories v [] value) ∷ []) (stored_events table memories place memory indices value v) now banks banks x (Err x) (sym (append_assoc evs eis _)) refl
+  pub store_stops_first : (A : Type 0) (banks : List Bank) (s : State) (x : Stop) (result : Result (Unit {0}) Stop) → result ≡ Err x → Spends {A = A} table (e.events ++ evs) now (Err x) banks → Ends table all now result s
+  store_stops_first A banks s x result stopped h =
+      ends_early A (Unit {0}) table all (e.events ++ whole) now banks s x result (sym (ap (λ (k : Effect). k.events) is)) stopped
+      (stops_first A A table e.events evs _ whole now banks banks x (Err x) refl refl h)
+
+  pub store_stops_second : (A : Type 0) (banks : List Bank) (s : State) (x : Stop) (result : Result (Unit {0}) Stop) → result ≡ Err x → Spends {A = A} table ((e.events ++ evs) ++ eis) now (Err x) banks → Ends table all now result s
+  store_stops_second A banks s x result stopped h =
+      ends_early A (Unit {0}) table all (e.events ++ whole) now banks s x result (sym (ap (λ (k : Effect). k.events) is)) stopped
+      (stops_first A A table e.events (evs ++ eis) (last_write (effects.value_of table memories v [] value) ∷ []) whole now banks banks x (Err x) (sym (append_assoc evs eis _)) refl
       (stops_second A A table e.events evs eis (evs ++ eis) now banks banks x (Err x) refl refl h))
+
+  pub store_faults : (memory position : ℕ) (banks : List Bank) (s : State) (x : Stop) (result : Result (Unit {0}) Stop) → result ≡ Err x → Finds table place event memory position (Err x) → HaveSpent table ((e.events ++ evs) ++ eis) now banks → Ends table all now result s
+  store_faults memory position banks s x result stopped finds h =
+      ends_early (Unit {0}) (Unit {0}) table all (e.events ++ whole) now banks s x result (sym (ap (λ (k : Effect). k.events) is)) stopped
+      (fault_stops table e.events (evs ++ eis) whole now place event memory position (λ s. writes place s (kept_bits table s.memory (effects.value_of table memories v [] value))) (sym (append_assoc evs eis _)) (Unit {0}) banks banks x (Err x) refl finds
+      (subst (λ (l : List Event). HaveSpent table l now banks) (append_assoc e.events evs eis) h))
 
   abbrev pub evaluated : Effect
   evaluated = record { variables = e.variables; events = (e.events ++ evs) ++ eis }
@@ -175,14 +180,14 @@ module _ (table : List MemEntry) (memories : List (List ℕ)) (place : Place) (m
   store_ready s s2 h kept made spent = record {
     variables = ap variables_of kept ∙ h.variables;
     spent = spent;
-    writes = made ∙ (h.writes ∙ sym (same_writes (e.events ++ evs) eis (no_writes_in table memories v [] indices) ∙ same_writes e.events evs (no_writes table memories v [] value)));
+    writes = made ∙ (h.writes ∙ sym (same_writes (e.events ++ evs) eis none ∙ same_writes e.events evs (no_writes table memories v [] value)));
   }
 
-  pub store_ends : (w : Word) (result : Result (Unit {0}) Stop) (s : State) → w ≡ effects.value_of table memories v [] value → Ends table (with_events evaluated (last_write w ∷ [])) now result s
-      → Ends table (stored_at table memories place memory indices value [] e) now result s
-  store_ends w result s is h =
-      subst (λ (l : List Event). Ends table (record { variables = e.variables; events = l }) now result s)
-      (ap (λ x. ((e.events ++ evs) ++ eis) ++ last_write x ∷ []) is
-      ∙ (append_assoc (e.events ++ evs) eis _
-      ∙ (append_assoc e.events evs _
-      ∙ ap (λ (u : Variables). e.events ++ stored_events table memories place memory indices value u) same))) h
+  pub store_ends : (w : Word) (memory position : ℕ) (at : Element) (result : Result (Unit {0}) Stop) (s : State) → w ≡ effects.value_of table memories v [] value → Finds table place event memory position (Ok at)
+      → Ends table (with_events evaluated (writes place (spot_seen at) (kept_bits table at.memory w) ∷ [])) now result s → Ends table all now result s
+  store_ends w memory position at result s worth finds h =
+      subst (λ (k : Effect). Ends table k now result s)
+      (ap (λ x. with_events evaluated (x ∷ [])) (sym (finds.0 (λ s. writes place s (kept_bits table s.memory w))))
+      ∙ (ap (λ x. with_events evaluated (last_write x ∷ [])) worth
+      ∙ (ap (λ (l : List Event). made_effect e.variables l) (append_assoc (e.events ++ evs) eis _ ∙ append_assoc e.events evs _)
+      ∙ sym is))) h

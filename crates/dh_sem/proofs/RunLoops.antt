@@ -3,25 +3,26 @@ use Rattle.std.proofs.Common.{◌≡◌, ℕ, true, false, List, [], ◌∷◌, 
 use Rattle.std.specs.Prelude.{Result}
 use Rattle.dh_tree.specs.declared.tables.MemEntry.{MemEntry}
 use Rattle.dh_tree.specs.PlainTrees.{Action, action, ActionForm, lets, lets_memory, views, assigns, stores, reduces, calls, blocks, decides, repeats, counts, Actions, no_actions, action_then, Groups, no_groups, group_then}
-use Rattle.dh_tree.specs.Tree.{Command, store, assign, choose, Commands, no_commands, command}
+use Rattle.dh_tree.specs.Tree.{Command, store, store_in_bank, assign, choose, Commands, no_commands, command}
+use Rattle.dh_tree.specs.Memories.{Memory}
 use Rattle.dh_tree.specs.Meaning.{action_meant, action_form_meant, part_meant, groups_meant}
-use Rattle.dh_tree.specs.Effects.{Event, Effect, at_each, stored_at, assigned_at, tested_at, command_run, commands_run, outer_paths, paths_where, holds_at, stop_after}
+use Rattle.dh_tree.specs.Effects.{Event, Effect, at_each, stored_at, stored_in_bank_at, assigned_at, tested_at, command_run, commands_run, outer_paths, paths_where, holds_at, stop_after}
 use Rattle.dh_sem.specs.declared.running.State.{State}
 use Rattle.dh_sem.specs.declared.evaluating.Stop.{Stop}
 use Rattle.dh_sem.specs.declared.evaluating.Stop.TheVariants as stop
 use Rattle.dh_sem.specs.States.{Ends}
 use Rattle.dh_sem.proofs.BanksSpent.{stop_stays}
 
-module _ (table : List MemEntry) (memories : List (List ℕ)) (paths : List (List ℕ)) where
+module _ (ms : List Memory) (table : List MemEntry) (memories : List (List ℕ)) (paths : List (List ℕ)) where
   abbrev after : Commands → Effect → Effect
   after cs e = commands_run table memories paths cs e
 
   -- what a command does, and then what stands behind it
   mutual
-    pub run_then : (a : Action) (rest : Commands) (e : Effect) → after (action_meant a rest) e ≡ after rest (after (action_meant a no_commands) e)
+    pub run_then : (a : Action) (rest : Commands) (e : Effect) → after (action_meant ms a rest) e ≡ after rest (after (action_meant ms a no_commands) e)
     run_then (action id place form) rest e = form_then form rest e
 
-    form_then : (form : ActionForm) (rest : Commands) (e : Effect) → after (action_form_meant form rest) e ≡ after rest (after (action_form_meant form no_commands) e)
+    form_then : (form : ActionForm) (rest : Commands) (e : Effect) → after (action_form_meant ms form rest) e ≡ after rest (after (action_form_meant ms form no_commands) e)
     form_then (lets name declared value) rest e = refl
     form_then (lets_memory name shape shape_places value) rest e = refl
     form_then (views name parent form) rest e = refl
@@ -34,19 +35,19 @@ module _ (table : List MemEntry) (memories : List (List ℕ)) (paths : List (Lis
     form_then (repeats test body) rest e = refl
     form_then (counts iterator declared low high factor body combine combine_place) rest e = refl
 
-    pub part_then : (parts : Actions) (rest : Commands) (e : Effect) → after (part_meant parts rest) e ≡ after rest (after (part_meant parts no_commands) e)
+    pub part_then : (parts : Actions) (rest : Commands) (e : Effect) → after (part_meant ms parts rest) e ≡ after rest (after (part_meant ms parts no_commands) e)
     part_then no_actions rest e = refl
     part_then (action_then a behind) rest e =
-        run_then a (part_meant behind rest) e
-        ∙ (part_then behind rest (after (action_meant a no_commands) e)
-        ∙ ap (λ x. after rest x) (sym (run_then a (part_meant behind no_commands) e)))
+        run_then a (part_meant ms behind rest) e
+        ∙ (part_then behind rest (after (action_meant ms a no_commands) e)
+        ∙ ap (λ x. after rest x) (sym (run_then a (part_meant ms behind no_commands) e)))
 
-    groups_then : (gs : Groups) (rest : Commands) (e : Effect) → after (groups_meant gs rest) e ≡ after rest (after (groups_meant gs no_commands) e)
+    groups_then : (gs : Groups) (rest : Commands) (e : Effect) → after (groups_meant ms gs rest) e ≡ after rest (after (groups_meant ms gs no_commands) e)
     groups_then no_groups rest e = refl
     groups_then (group_then part behind) rest e =
-        part_then part (groups_meant behind rest) e
-        ∙ (groups_then behind rest (after (part_meant part no_commands) e)
-        ∙ ap (λ x. after rest x) (sym (part_then part (groups_meant behind no_commands) e)))
+        part_then part (groups_meant ms behind rest) e
+        ∙ (groups_then behind rest (after (part_meant ms part no_commands) e)
+        ∙ ap (λ x. after rest x) (sym (part_then part (groups_meant ms behind no_commands) e)))
 
 -- further events
 pub record Grows (old new : Effect) : Type 0 where
@@ -67,6 +68,7 @@ module _ (table : List MemEntry) (memories : List (List ℕ)) where
   mutual
     pub command_grows : (paths : List (List ℕ)) (c : Command) (e : Effect) → Grows e (command_run table memories paths c e)
     command_grows paths (store place memory indices value) e = each_grows (stored_at table memories place memory indices value) (λ path e. record { more = _; is = refl }) paths e
+    command_grows paths (store_in_bank place memory bank row value) e = each_grows (stored_in_bank_at table memories place memory bank row value) (λ path e. record { more = _; is = refl }) paths e
     command_grows paths (assign depth entity value) e = each_grows (assigned_at table memories depth entity value) (λ path e. record { more = _; is = refl }) paths e
     command_grows paths (choose test chosen other) e =
         let tested = at_each (tested_at table memories test) paths e in

@@ -11,8 +11,10 @@ use Rattle.dh_value.specs.Words.{width_of}
 use Rattle.dh_value.proofs.Residues.{residue-lt}
 use Rattle.dh_tree.specs.declared.tables.MemEntry.{MemEntry}
 use Rattle.dh_tree.specs.Elements.{Spot, dims_at}
-use Rattle.dh_tree.specs.Tree.{Term, Terms, Command, store, assign, choose, Commands, no_commands, command}
-use Rattle.dh_tree.specs.Effects.{Event, reads, writes, faults, Effect, kind_in, kept_bits, access_made, is_inside, term_events, terms_events, values_of, value_of, at_each, stored_at, assigned_at, tested_at, holds_at, paths_where, command_run, commands_run, written}
+use Rattle.dh_tree.specs.Tree.{Term, Terms, Command, store, store_in_bank, assign, choose, Commands, no_commands, command, Phase, straight, turns, repeated, decided, Phases, no_phases, phase}
+use Rattle.dh_tree.specs.Steps.{phase_run, first_run, turn_begun}
+use Rattle.dh_sem.specs.Advances.{rest_run}
+use Rattle.dh_tree.specs.Effects.{Event, reads, writes, faults, Effect, kind_in, kept_bits, access_made, is_inside, term_events, terms_events, values_of, value_of, at_each, bank_access_made, is_row, stored_at, stored_in_bank_at, outer_paths, assigned_at, tested_at, holds_at, paths_where, command_run, commands_run, written}
 use Rattle.dh_sem.specs.declared.running.Write.{Write}
 use Rattle.dh_sem.specs.Rows.{element_in}
 use Rattle.dh_sem.specs.Scenes.{AreSmall}
@@ -50,6 +52,13 @@ module _ (table : List MemEntry) where
       by true s same = (subst (λ (m : ℕ). kept_bits table memory value < 2 ^ width_of (kind_in table m)) (sym same) (residue-lt (2 ^ width_of (kind_in table memory)) (words.value_of value) (pow_pos (width_of (kind_in table memory)))), tt)
       by false s same = tt
 
+  small_bank_write : (place : Place) (memory bank : ℕ) (row : ℤ) (value : Word) → AreSmallWrites table (bank_access_made table place memory bank row (λ s. writes place s (kept_bits table memory value)) ∷ [])
+  small_bank_write place memory bank row value = by (is_row (dims_at table memory) row) _ refl
+    where
+      by : (t : Bool) (s : Spot) → s.memory ≡ memory → AreSmallWrites table ((if t then writes place s (kept_bits table memory value) else faults OutOfRange place) ∷ [])
+      by true s same = (subst (λ (m : ℕ). kept_bits table memory value < 2 ^ width_of (kind_in table m)) (sym same) (residue-lt (2 ^ width_of (kind_in table memory)) (words.value_of value) (pow_pos (width_of (kind_in table memory)))), tt)
+      by false s same = tt
+
   module _ (memories : List (List ℕ)) where
     small_each : (run : List ℕ → Effect → Effect) → ((path : List ℕ) (e : Effect) → AreSmallWrites table e.events → AreSmallWrites table (run path e).events)
         → (paths : List (List ℕ)) (e : Effect) → AreSmallWrites table e.events → AreSmallWrites table (at_each run paths e).events
@@ -63,12 +72,20 @@ module _ (table : List MemEntry) where
         (small_then (terms_events table memories e.variables path indices) _ (small_none (terms_events table memories e.variables path indices) (no_writes_in table memories e.variables path indices))
         (small_write place memory (values_of table memories e.variables path indices) (value_of table memories e.variables path value))))
 
+    small_stored_in_bank : (place : Place) (memory bank : ℕ) (row value : Term) (path : List ℕ) (e : Effect) → AreSmallWrites table e.events → AreSmallWrites table (stored_in_bank_at table memories place memory bank row value path e).events
+    small_stored_in_bank place memory bank row value path e h =
+        small_then e.events _ h
+        (small_then (term_events table memories e.variables path value) _ (small_none (term_events table memories e.variables path value) (no_writes table memories e.variables path value))
+        (small_then (term_events table memories e.variables path row) _ (small_none (term_events table memories e.variables path row) (no_writes table memories e.variables path row))
+        (small_bank_write place memory bank (words.value_of (value_of table memories e.variables path row)) (value_of table memories e.variables path value))))
+
     small_evaluated : (t : Term) (path : List ℕ) (e : Effect) → AreSmallWrites table e.events → AreSmallWrites table (e.events ++ term_events table memories e.variables path t)
     small_evaluated t path e h = small_then e.events (term_events table memories e.variables path t) h (small_none (term_events table memories e.variables path t) (no_writes table memories e.variables path t))
 
     mutual
       small_command : (paths : List (List ℕ)) (c : Command) (e : Effect) → AreSmallWrites table e.events → AreSmallWrites table (command_run table memories paths c e).events
       small_command paths (store place memory indices value) e h = small_each _ (small_stored place memory indices value) paths e h
+      small_command paths (store_in_bank place memory bank row value) e h = small_each _ (small_stored_in_bank place memory bank row value) paths e h
       small_command paths (assign depth entity value) e h = small_each (assigned_at table memories depth entity value) (λ path f k. small_evaluated value path f k) paths e h
       small_command paths (choose test chosen other) e h =
           small_commands (paths_where false (holds_at table memories e.variables test) paths) other _
@@ -78,6 +95,22 @@ module _ (table : List MemEntry) where
       pub small_commands : (paths : List (List ℕ)) (cs : Commands) (e : Effect) → AreSmallWrites table e.events → AreSmallWrites table (commands_run table memories paths cs e).events
       small_commands paths no_commands e h = h
       small_commands paths (command c cs) e h = small_commands paths cs _ (small_command paths c e h)
+
+    mutual
+      small_phase : (p : Phase) (e : Effect) → AreSmallWrites table e.events → AreSmallWrites table (phase_run table memories p e).events
+      small_phase (straight cs) e h = small_commands outer_paths cs e h
+      small_phase (turns iterator low count body) e h = small_first body (turn_begun iterator low e) h
+      small_phase (repeated test body) e h = small_each (tested_at table memories test) (λ path f k. small_evaluated test path f k) outer_paths e h
+      small_phase (decided test chosen other) e h = small_each (tested_at table memories test) (λ path f k. small_evaluated test path f k) outer_paths e h
+
+      small_first : (ps : Phases) (e : Effect) → AreSmallWrites table e.events → AreSmallWrites table (first_run table memories ps e).events
+      small_first no_phases e h = h
+      small_first (phase p ps) e h = small_phase p e h
+
+    -- the first step of what is to come
+    pub small_rest : (ps : List Phase) (e : Effect) → AreSmallWrites table e.events → AreSmallWrites table (rest_run table memories ps e).events
+    small_rest [] e h = h
+    small_rest (p ∷ ps) e h = small_phase p e h
 
 -- an element of a list in which one was set is as before, or that one
 as_set : {A : Type 0} (xs : List A) (i j : ℕ) (v d : A) → (get_or (slice_set xs i v) j d ≡ get_or xs j d) ⊎ ((i ≡ j) × (get_or (slice_set xs i v) j d ≡ v))

@@ -1,43 +1,49 @@
 -- Where a run stands after a step.
-use Rattle.std.proofs.Common.{◌≡◌, ℕ, zero, suc, ◌+◌, ◌<◌, ◌≤◌, ◌==◌, Bool, true, false, if◌then◌else◌, List, [], ◌∷◌, length, map, drop, get_or, Some, None, Vec, Bor, ◌⊎◌, inl, inr, refl, ap, sym, ◌∙◌, subst, arith}
+use Rattle.std.proofs.Common.{◌≡◌, ℕ, suc, ◌+◌, ◌-◌, ◌≤◌, List, [], ◌∷◌, ◌++◌, length, Some, None, Vec, refl, ap, sym, ◌∙◌, subst, arith}
 use Rattle.std.specs.List.{AllByRecursion}
 use Rattle.std.specs.Global.{Global}
-use Rattle.std.proofs.Math.Seq.{drop-cons}
-use Rattle.std.proofs.lemmas.Bool.{eqb-true, eq-eqb, cases_Bool}
-use Rattle.std.proofs.lemmas.Bool.Decides.{nat_tests}
 use Rattle.dh_base.specs.declared.outcomes.Outcome.{Outcome}
 use Rattle.dh_base.specs.declared.outcomes.Outcome.TheVariants.{Going, Ended, Faulted, Stuck}
 use Rattle.dh_value.specs.declared.words.Word.{Word}
 use Rattle.dh_value.specs.Words.{IsWord}
 use Rattle.dh_tree.specs.declared.tables.MemEntry.{MemEntry}
-use Rattle.dh_tree.specs.declared.trees.commands.Command.{Command}
+use Rattle.dh_tree.specs.declared.trees.programs.Tree.{Tree}
+use Rattle.dh_tree.specs.Memories.{Memory, memories_of, table_of}
 use Rattle.dh_tree.specs.PlainTrees.{Program}
-use Rattle.dh_tree.specs.Tree.{Commands}
-use Rattle.dh_tree.specs.Meaning.{meaning_of, table_of, commands_meant, action_meant}
-use Rattle.dh_tree.specs.Seen.{action_seen}
-use Rattle.dh_tree.specs.Effects.{Effect, Variables, commands_run, outer_paths, stop_after}
-use Rattle.dh_tree.specs.Steps.{Threads, Standing, standing, outcome_of, step_from, next_step, next_standing}
+use Rattle.dh_tree.specs.Tree.{Phase}
+use Rattle.dh_tree.specs.Meaning.{meaning_of}
+use Rattle.dh_tree.specs.Seen.{program_seen}
+use Rattle.dh_tree.specs.Effects.{Effect, Variables, stop_after}
+use Rattle.dh_tree.specs.Steps.{Threads, Standing, standing, outcome_of, step_from, step_begun, next_step, next_standing, threads_run, after_step}
 use Rattle.dh_sem.specs.declared.spending.Bank.{Bank}
-use Rattle.dh_sem.specs.Scenes.{AreSmall, IsSound, variables_of}
+use Rattle.dh_sem.specs.declared.courses.Node.{Node}
+use Rattle.dh_sem.specs.declared.courses.Frame.{Frame}
 use Rattle.dh_sem.specs.declared.running.State.{State}
+use Rattle.dh_sem.specs.Banks.{all_banks}
+use Rattle.dh_sem.specs.Courses.{IsCourse, IsFrame, to_come}
+use Rattle.dh_sem.specs.Scenes.{AreSmall, IsSound, variables_of}
+use Rattle.dh_sem.specs.Spent.{AreUsedBy}
 use Rattle.dh_sem.specs.Rows.{contents_of}
-use Rattle.dh_sem.specs.States.{AreRunnable, IsReady, writes_in, written_by}
-use Rattle.dh_sem.specs.Runs.{Run, meant_of, phases_of, standing_of, StandsAt, IsSteady}
-use Rattle.dh_sem.specs.Advances.{AreUnspent, HasDone, IsBack, effect_of}
-use Rattle.dh_sem.proofs.SmallWrites.{written_same, small_commands, small_written}
+use Rattle.dh_sem.specs.States.{IsRunnable, IsReady, writes_in, written_by}
+use Rattle.dh_sem.specs.Runs.{Run, standing_of, StandsAt, IsSteady}
+use Rattle.dh_sem.specs.Advances.{HasDone, IsBack, begun_from, rest_run, rest_after}
+use Rattle.dh_sem.proofs.Advanced.{used_later}
+use Rattle.dh_sem.proofs.NextRunnable.{rest_leaves}
+use Rattle.dh_sem.proofs.SmallWrites.{written_same, small_rest, small_written}
 
-abbrev pub run_of : List MemEntry → Outcome → ℕ → List (List ℕ) → List Word → List (List Command) → Run
-run_of table outcome steps memories words rest = record { table = table; outcome = outcome; steps = steps; memories = memories; variables = words; rest = rest }
+threads_rest : (table : List MemEntry) (memories : List (List ℕ)) (rest : List Phase) (e : Effect) → threads_run table memories (rest ∷ []) e ≡ rest_run table memories rest e
+threads_rest table memories [] e = refl
+threads_rest table memories (p ∷ ps) e = refl
 
--- what the first of the phases still to come does
-abbrev pub phase_effect : List MemEntry → List (List ℕ) → List Word → List Command → Effect
-phase_effect table memories words cs = commands_run table memories outer_paths (meant_of cs) (record { variables = variables_of words; events = [] })
+after_rest : (table : List MemEntry) (memories : List (List ℕ)) (rest : List Phase) (e : Effect) → after_step table memories (rest ∷ []) e ≡ rest_after table memories (rest_run table memories rest e).variables rest ∷ []
+after_rest table memories [] e = refl
+after_rest table memories (p ∷ ps) e = refl
 
 abbrev stood : Outcome → ℕ → List (List ℕ) → Variables → Threads → Standing
 stood o s m v t = record { outcome = o; steps = s; memories = m; variables = v; threads = t }
 
-same_standing : {o o' : Outcome} {s s' : ℕ} {m m' : List (List ℕ)} {v v' : Variables} (t : Threads) → o ≡ o' → s ≡ s' → m ≡ m' → v ≡ v' → stood o s m v t ≡ stood o' s' m' v' t
-same_standing t eo es em ev = λ i. stood (eo i) (es i) (em i) (ev i) t
+same_standing : {o o' : Outcome} {s s' : ℕ} {m m' : List (List ℕ)} {v v' : Variables} {t t' : Threads} → o ≡ o' → s ≡ s' → m ≡ m' → v ≡ v' → t ≡ t' → stood o s m v t ≡ stood o' s' m' v' t'
+same_standing eo es em ev et = λ i. stood (eo i) (es i) (em i) (ev i) (et i)
 
 next_number : (n : ℕ) → n + 1 ≡ suc n
 next_number n = omega arith
@@ -63,170 +69,149 @@ stands_next old new same next p memories n at = record {
       ∙ ap (λ k. standing (meaning_of p) memories k) (sym (next_number n))));
 }
 
-module _ (table : List MemEntry) (steps : ℕ) (memories : List (List ℕ)) (words : List Word) (rest : List (List Command)) (banks : List Bank)
-    (outcome : Outcome) (going : outcome ≡ Going) (steady : IsSteady (run_of table outcome steps memories words rest) banks)
-    (cs : List Command) (behind : List (List Command)) (first : rest ≡ cs ∷ behind) where
-  abbrev old : Run
-  old = run_of table outcome steps memories words rest
+module _ (program : Tree) (table : List MemEntry) (nodes : List Node) where
+  abbrev pub run_of : Outcome → ℕ → List (List ℕ) → List Word → List Frame → Run
+  run_of outcome steps memories words frames = record { program = program; table = table; outcome = outcome; steps = steps; memories = memories; variables = words; nodes = nodes; frames = frames }
 
-  abbrev effect : Effect
-  effect = phase_effect table memories words cs
+  abbrev ms : List Memory
+  ms = memories_of (program_seen program)
 
-  abbrev standing_with : List (List Command) → Standing
-  standing_with rs = standing_of (run_of table outcome steps memories words rs)
+  module _ (steps : ℕ) (memories : List (List ℕ)) (words : List Word) (frames : List Frame) (banks : List Bank) (firsts : List ℕ) (outcome : Outcome) (going : outcome ≡ Going)
+      (steady : IsSteady (run_of outcome steps memories words frames) banks firsts) where
+    abbrev old : Run
+    old = run_of outcome steps memories words frames
 
-  begins : next_step table (standing_of old) ≡ next_standing effect (standing_with (cs ∷ behind)) (stop_after table [] effect.events)
-  begins = ap (λ o. step_from table (standing_of old) o) going ∙ ap (λ rs. step_from table (standing_with rs) Going) first
+    abbrev rest : List Phase
+    rest = to_come ms nodes frames
 
-  runnable_first : AllByRecursion (λ c. AreRunnable table (length words) (meant_of c)) (cs ∷ behind)
-  runnable_first = subst (λ (l : List (List Command)). AllByRecursion (λ c. AreRunnable table (length words) (meant_of c)) l) first steady.runnable
+    abbrev effect : Effect
+    effect = rest_run table memories rest (record { variables = variables_of words; events = [] })
 
-  -- a step that is done
-  module _ (outcome' : Outcome) (steps' : ℕ) (memories' : List (List ℕ)) (words' : List Word) (rest' : List (List Command))
-      (left : rest' ≡ behind) (counted : steps' ≡ steps + 1) (made : memories' ≡ written_by (writes_in effect.events) memories) (set : variables_of words' ≡ effect.variables)
-      (ended : outcome' ≡ outcome_of (phases_of behind ∷ [])) (clear : stop_after table [] effect.events ≡ None) where
-    abbrev after : Run
-    after = run_of table outcome' steps' memories' words' rest'
+    begins : next_step table (standing_of old) ≡ next_standing table effect (standing_of old) (stop_after table [] effect.events)
+    begins =
+        ap (λ o. step_from table (standing_of old) o) going
+        ∙ ap (λ (e : Effect). next_standing table e (standing_of old) (stop_after table [] e.events)) (threads_rest table memories rest (step_begun (standing_of old)))
 
-    pub done_stands : standing_of after ≡ next_step table (standing_of old)
-    done_stands =
-        ap (λ rs. standing_of (run_of table outcome' steps' memories' words' rs)) left
-        ∙ (same_standing (phases_of behind ∷ []) ended (counted ∙ next_number steps) (made ∙ sym (written_same effect.events memories)) set
-        ∙ (sym (ap (λ s. next_standing effect (standing_with (cs ∷ behind)) s) clear) ∙ sym begins))
+    -- a step that is done
+    module _ (outcome' : Outcome) (steps' : ℕ) (memories' : List (List ℕ)) (words' : List Word) (frames' : List Frame)
+        (left : to_come ms nodes frames' ≡ rest_after table memories effect.variables rest) (counted : steps' ≡ steps + 1) (made : memories' ≡ written_by (writes_in effect.events) memories) (set : variables_of words' ≡ effect.variables)
+        (ended : outcome' ≡ outcome_of (to_come ms nodes frames' ∷ [])) (clear : stop_after table [] effect.events ≡ None) where
+      abbrev after : Run
+      after = run_of outcome' steps' memories' words' frames'
 
-    pub done_steady : (banks' : List Bank) → length words' ≡ length words → AllByRecursion IsWord words' → length banks' ≡ length table → AreUnspent table (steps + 1 + 1) banks' → IsSteady after banks'
-    done_steady banks' long sized wide unspent = record {
-      sound = record {
-        entries = steady.sound.entries;
-        small = subst (λ (ms : List (List ℕ)). AreSmall table ms) (sym made) (small_written table (writes_in effect.events) memories steady.sound.small (small_commands table memories outer_paths (meant_of cs) _ tt));
-        sized = sized;
-      };
-      long = wide;
-      free = λ m b at. record { ports = (unspent m b at).ports; used = subst (λ (n : ℕ). b.step ≤ n) (sym counted) (within b.step (unspent m b at).earlier) };
-      runnable =
-          subst (λ (l : List (List Command)). AllByRecursion (λ c. AreRunnable table (length words') (meant_of c)) l) (sym left)
-          (subst (λ (n : ℕ). AllByRecursion (λ c. AreRunnable table n (meant_of c)) behind) (sym long) runnable_first.1);
-      going = λ e. ap (λ rs. outcome_of (phases_of rs ∷ [])) left ∙ (sym ended ∙ e);
-    }
+      threads : to_come ms nodes frames' ∷ [] ≡ after_step table memories (rest ∷ []) (step_begun (standing_of old))
+      threads = ap (λ l. l ∷ []) left ∙ sym (after_rest table memories rest (step_begun (standing_of old)))
+
+      pub done_stands : standing_of after ≡ next_step table (standing_of old)
+      done_stands =
+          same_standing (ended ∙ ap outcome_of threads) (counted ∙ next_number steps) (made ∙ sym (written_same effect.events memories)) set threads
+          ∙ (sym (ap (λ s. next_standing table effect (standing_of old) s) clear) ∙ sym begins)
+
+      pub done_steady : (banks' : List Bank) → length words' ≡ length words → AllByRecursion IsWord words' → length banks' ≡ all_banks table → AreUsedBy (steps + 1) banks' → AllByRecursion (IsFrame (length nodes)) frames' → IsSteady after banks' firsts
+      done_steady banks' long sized wide used counted_frames = record {
+        none = steady.none;
+        numbered = steady.numbered;
+        course = steady.course;
+        sound = record {
+          entries = steady.sound.entries;
+          few = steady.sound.few;
+          small = subst (λ (ms : List (List ℕ)). AreSmall table ms) (sym made) (small_written table (writes_in effect.events) memories steady.sound.small (small_rest table memories rest _ tt));
+          sized = sized;
+        };
+        long = wide;
+        free = subst (λ (n : ℕ). AreUsedBy n banks') (sym counted) used;
+        counted = counted_frames;
+        runnable =
+            subst (λ (n : ℕ). AllByRecursion (IsRunnable table n) (to_come ms nodes frames')) (sym long)
+            (subst (λ (l : List Phase). AllByRecursion (IsRunnable table (length words)) l) (sym left) (rest_leaves table (length words) memories effect.variables rest steady.runnable));
+      }
+
+    -- a step that stops
+    module _ (words' : List Word) (back : words' ≡ words) where
+      pub stopped_stands : (o : Outcome) → stop_after table [] effect.events ≡ Some o → standing_of (run_of o steps memories words' frames) ≡ next_step table (standing_of old)
+      stopped_stands o stop =
+          ap (λ ws. standing_of (run_of o steps memories ws frames)) back
+          ∙ (sym (ap (λ s. next_standing table effect (standing_of old) s) stop) ∙ sym begins)
+
+      pub stopped_steady : (o : Outcome) (banks' : List Bank) → length banks' ≡ all_banks table → AreUsedBy 0 banks' → IsSteady (run_of o steps memories words' frames) banks' firsts
+      stopped_steady o banks' wide used = record {
+        none = steady.none;
+        numbered = steady.numbered;
+        course = steady.course;
+        sound = subst (λ (ws : List Word). IsSound table memories ws) (sym back) steady.sound;
+        long = wide;
+        free = used_later 0 steps banks' (omega arith) used;
+        counted = steady.counted;
+        runnable = subst (λ (ws : List Word). AllByRecursion (IsRunnable table (length ws)) rest) (sym back) steady.runnable;
+      }
+
+  -- a step as the code does it
+  module _ (steps : ℕ) (memories : List (List ℕ)) (frames : List Frame) (old : State) (firsts : List ℕ) (outcome : Outcome) (going : outcome ≡ Going)
+      (steady : IsSteady (run_of outcome steps memories old.variables.items frames) old.banks.items firsts)
+      (ns : List Node) (ns_is : ns ≡ nodes) (fs : List Frame) (fs_is : fs ≡ frames) (lists : List (Vec ℕ Global)) (listed : contents_of lists ≡ memories) where
+    rest_same : to_come ms ns fs ≡ to_come ms nodes frames
+    rest_same = ap (λ l. to_come ms l fs) ns_is ∙ ap (λ l. to_come ms nodes l) fs_is
+
+    abbrev seen_effect : Effect
+    seen_effect = rest_run table (contents_of lists) (to_come ms ns fs) (begun_from old)
+
+    abbrev known_effect : Effect
+    known_effect = rest_run table memories (to_come ms nodes frames) (begun_from old)
+
+    effect_same : seen_effect ≡ known_effect
+    effect_same = ap (λ l. rest_run table l (to_come ms ns fs) (begun_from old)) listed ∙ ap (λ l. rest_run table memories l (begun_from old)) rest_same
+
+    pub now_runnable : AllByRecursion (IsRunnable table (length old.variables.items)) (to_come ms ns fs)
+    now_runnable = subst (λ (l : List Phase). AllByRecursion (IsRunnable table (length old.variables.items)) l) (sym rest_same) steady.runnable
+
+    pub now_frames : AllByRecursion (IsFrame (length ns)) fs
+    now_frames = subst (λ (l : List Node). AllByRecursion (IsFrame (length l)) fs) (sym ns_is) (subst (λ (l : List Frame). AllByRecursion (IsFrame (length nodes)) l) (sym fs_is) steady.counted)
+
+    pub now_course : IsCourse ns
+    now_course = subst IsCourse (sym ns_is) steady.course
+
+    pub now_ready : IsReady table (contents_of lists) old
+    now_ready = record { sound = subst (λ (l : List (List ℕ)). IsSound table l old.variables.items) (sym listed) steady.sound; long = steady.long }
+
+    pub now_unspent : AreUsedBy (steps + 1 - 1) old.banks.items
+    now_unspent = used_later steps (steps + 1 - 1) old.banks.items (plain steps) steady.free
       where
-        within : (n : ℕ) → n < steps + 1 + 1 → n ≤ steps + 1
-        within n e = omega (arith, e)
+        plain : (n : ℕ) → n ≤ n + 1 - 1
+        plain n = omega arith
 
-  -- a step that stops
-  module _ (words' : List Word) (back : words' ≡ words) where
-    pub stopped_stands : (o : Outcome) → stop_after table [] effect.events ≡ Some o → standing_of (run_of table o steps memories words' rest) ≡ next_step table (standing_of old)
-    stopped_stands o stop =
-        ap (λ ws. standing_of (run_of table o steps memories ws rest)) back
-        ∙ (ap (λ rs. standing_of (run_of table o steps memories words rs)) first
-        ∙ (sym (ap (λ s. next_standing effect (standing_with (cs ∷ behind)) s) stop) ∙ sym begins))
+    -- the step is done
+    module _ (new : State) (memories' : List (List ℕ)) (outcome' : Outcome) (frames' : List Frame) (h : HasDone table seen_effect (steps + 1) new) (made : memories' ≡ written_by new.writes.items memories)
+        (left : to_come ms ns frames' ≡ rest_after table (contents_of lists) seen_effect.variables (to_come ms ns fs)) (ended : outcome' ≡ outcome_of (to_come ms nodes frames' ∷ [])) where
+      known : HasDone table known_effect (steps + 1) new
+      known = subst (λ (e : Effect). HasDone table e (steps + 1) new) effect_same h
 
-    pub stopped_steady : (o : Outcome) (banks' : List Bank) → length banks' ≡ length table → AreUnspent table 1 banks' → IsSteady (run_of table o steps memories words' rest) banks'
-    stopped_steady o banks' wide unspent = record {
-      sound = subst (λ (ws : List Word). IsSound table memories ws) (sym back) steady.sound;
-      long = wide;
-      free = λ m b at. record { ports = (unspent m b at).ports; used = within b.step (unspent m b at).earlier };
-      runnable = subst (λ (ws : List Word). AllByRecursion (λ c. AreRunnable table (length ws) (meant_of c)) rest) (sym back) steady.runnable;
-      going = λ e. steady.going going;
-    }
-      where
-        within : (n : ℕ) → n < 1 → n ≤ steps
-        within n e = omega (arith, e)
+      left_known : to_come ms nodes frames' ≡ rest_after table memories known_effect.variables (to_come ms nodes frames)
+      left_known =
+          sym (ap (λ l. to_come ms l frames') ns_is)
+          ∙ (left
+          ∙ (ap (λ l. rest_after table l seen_effect.variables (to_come ms ns fs)) listed
+          ∙ (ap (λ (e : Effect). rest_after table memories e.variables (to_come ms ns fs)) effect_same
+          ∙ ap (λ l. rest_after table memories known_effect.variables l) rest_same)))
 
--- a phase as a contract sees it
-abbrev pub phase_seen : Vec (Bor Command) Global → List Command
-phase_seen phase = map (λ c. c.now) phase.items
+      pub next_stands : standing_of (run_of outcome' (steps + 1) memories' new.variables.items frames') ≡ next_step table (standing_of (run_of outcome steps memories old.variables.items frames))
+      next_stands = done_stands steps memories old.variables.items frames old.banks.items firsts outcome going steady outcome' (steps + 1) memories' new.variables.items frames' left_known refl (made ∙ ap (λ ws. written_by ws memories) known.writes) known.variables ended known.clear
 
-abbrev pub phases_seen : List (Vec (Bor Command) Global) → List (List Command)
-phases_seen phases = map (λ phase. map (λ c. c.now) phase.items) phases
+      pub next_steady : length new.variables.items ≡ length old.variables.items → IsReady table (contents_of lists) new → AllByRecursion (IsFrame (length ns)) frames' → IsSteady (run_of outcome' (steps + 1) memories' new.variables.items frames') new.banks.items firsts
+      next_steady long ready counted = done_steady steps memories old.variables.items frames old.banks.items firsts outcome going steady outcome' (steps + 1) memories' new.variables.items frames' left_known refl (made ∙ ap (λ ws. written_by ws memories) known.writes) known.variables ended known.clear
+          new.banks.items long ready.sound.sized ready.long known.used (subst (λ (l : List Node). AllByRecursion (IsFrame (length l)) frames') ns_is counted)
 
-meant_same : (cs : List (Bor Command)) → commands_meant (map (λ c. action_seen c.now) cs) ≡ meant_of (map (λ c. c.now) cs)
-meant_same [] = refl
-meant_same (c ∷ cs) = ap (λ rest. action_meant (action_seen c.now) rest) (meant_same cs)
+    -- the step stops
+    module _ (new : State) (o : Outcome) (back : IsBack old new) (stop : stop_after table [] seen_effect.events ≡ Some o) where
+      pub stop_stands : standing_of (run_of o steps memories new.variables.items frames) ≡ next_step table (standing_of (run_of outcome steps memories old.variables.items frames))
+      stop_stands = stopped_stands steps memories old.variables.items frames old.banks.items firsts outcome going steady new.variables.items back.variables o (sym (ap (λ (e : Effect). stop_after table [] e.events) effect_same) ∙ stop)
 
-first_phase : (phases : List (Vec (Bor Command) Global)) (next : ℕ) (d : Vec (Bor Command) Global) → next < length phases → d ≡ get_or phases next d
-    → phases_seen (drop next phases) ≡ phase_seen d ∷ phases_seen (drop (next + 1) phases)
-first_phase phases next d within is =
-    ap phases_seen (drop-cons phases next d within)
-    ∙ (ap (λ (p : Vec (Bor Command) Global). phase_seen p ∷ phases_seen (drop (suc next) phases)) (sym is)
-    ∙ ap (λ k. phase_seen d ∷ phases_seen (drop k phases)) (sym (next_number next)))
+    -- all was taken back
+    pub back_steady : (new : State) (o : Outcome) → IsBack old new → IsReady table (contents_of lists) new → IsSteady (run_of o steps memories new.variables.items frames) new.banks.items firsts
+    back_steady new o back ready = stopped_steady steps memories old.variables.items frames old.banks.items firsts outcome going steady new.variables.items back.variables o new.banks.items ready.long back.used
 
-going_within : (phases : List (Vec (Bor Command) Global)) (next : ℕ) → outcome_of (phases_of (phases_seen (drop next phases)) ∷ []) ≡ Going → next < length phases
-going_within [] zero e = absurd cc
-going_within [] (suc next) e = absurd cc
-going_within (p ∷ phases) zero e = omega arith
-going_within (p ∷ phases) (suc next) e = more next _ (going_within phases next e)
-  where
-    more : (a b : ℕ) → a < b → suc a < suc b
-    more a b e = omega (arith, e)
+-- frames that are taken over from what was cleared
+pub frames_copied : (new cleared slice frames : List Frame) → new ≡ cleared ++ slice → cleared ≡ [] → slice ≡ frames → new ≡ frames
+frames_copied new cleared slice frames added none same = added ∙ (ap (λ l. l ++ slice) none ∙ same)
 
-ended_at : (phases : List (Vec (Bor Command) Global)) (k : ℕ) → k ≤ length phases → (if k == length phases then Ended else Going) ≡ outcome_of (phases_of (phases_seen (drop k phases)) ∷ [])
-ended_at [] zero e = ap (λ (t : Bool). if t then Ended else Going) (eq-eqb 0 0 refl)
-ended_at [] (suc k) e = absurd (none k e)
-  where
-    none : (k : ℕ) → suc k ≤ 0 → ⊥
-    none k e = omega (arith, e)
-ended_at (p ∷ phases) zero e = ap (λ (t : Bool). if t then Ended else Going) (zero_not (length phases))
-  where
-    zero_not : (n : ℕ) → (0 == suc n) ≡ false
-    zero_not n = grind (arith, nat_tests)
-ended_at (p ∷ phases) (suc k) e = ap (λ (t : Bool). if t then Ended else Going) (shift k (length phases) (cases_Bool (k == length phases))) ∙ ended_at phases k (less k _ e)
-  where
-    shift : (k n : ℕ) → ((k == n) ≡ true) ⊎ ((k == n) ≡ false) → (suc k == suc n) ≡ (k == n)
-    shift k n (inl e) = eq-eqb (suc k) (suc n) (ap suc (eqb-true k n e)) ∙ sym e
-    shift k n (inr e) = grind (arith, nat_tests)
-
-    less : (a b : ℕ) → suc a ≤ suc b → a ≤ b
-    less a b e = omega (arith, e)
-
-module _ (table : List MemEntry) (steps : ℕ) (memories : List (List ℕ)) (phases : List (Vec (Bor Command) Global)) (next : ℕ) (old : State) (outcome : Outcome) (going : outcome ≡ Going)
-    (steady : IsSteady (run_of table outcome steps memories old.variables.items (phases_seen (drop next phases))) old.banks.items)
-    (phase : Vec (Bor Command) Global) (is : phase ≡ get_or phases next phase) (slice : List (Bor Command)) (same : slice ≡ phase.items) (lists : List (Vec ℕ Global)) (listed : contents_of lists ≡ memories) where
-  within : next < length phases
-  within = going_within phases next (steady.going going)
-
-  first : phases_seen (drop next phases) ≡ phase_seen phase ∷ phases_seen (drop (next + 1) phases)
-  first = first_phase phases next phase within is
-
-  meant : commands_meant (map (λ c. action_seen c.now) slice) ≡ meant_of (phase_seen phase)
-  meant = meant_same slice ∙ ap (λ cs. meant_of (map (λ c. c.now) cs)) same
-
-  effect_same : effect_of table (contents_of lists) (commands_meant (map (λ c. action_seen c.now) slice)) old ≡ phase_effect table memories old.variables.items (phase_seen phase)
-  effect_same = ap (λ ms. effect_of table ms (commands_meant (map (λ c. action_seen c.now) slice)) old) listed ∙ ap (λ cs. effect_of table memories cs old) meant
-
-  pub now_runnable : AreRunnable table (length old.variables.items) (commands_meant (map (λ c. action_seen c.now) slice))
-  now_runnable = subst (λ (cs : Commands). AreRunnable table (length old.variables.items) cs) (sym meant)
-      (subst (λ (l : List (List Command)). AllByRecursion (λ c. AreRunnable table (length old.variables.items) (meant_of c)) l) first steady.runnable).0
-
-  -- the step is done
-  module _ (new : State) (memories' : List (List ℕ)) (outcome' : Outcome)
-      (h : HasDone table (effect_of table (contents_of lists) (commands_meant (map (λ c. action_seen c.now) slice)) old) (steps + 1) new)
-      (made : memories' ≡ written_by new.writes.items memories) (left : outcome' ≡ (if next + 1 == length phases then Ended else Going)) where
-    known : HasDone table (phase_effect table memories old.variables.items (phase_seen phase)) (steps + 1) new
-    known = subst (λ (e : Effect). HasDone table e (steps + 1) new) effect_same h
-
-    ended : outcome' ≡ outcome_of (phases_of (phases_seen (drop (next + 1) phases)) ∷ [])
-    ended = left ∙ ended_at phases (next + 1) (one_more next _ within)
-      where
-        one_more : (a b : ℕ) → a < b → a + 1 ≤ b
-        one_more a b e = omega (arith, e)
-
-    pub next_stands : standing_of (run_of table outcome' (steps + 1) memories' new.variables.items (phases_seen (drop (next + 1) phases))) ≡ next_step table (standing_of (run_of table outcome steps memories old.variables.items (phases_seen (drop next phases))))
-    next_stands = done_stands table steps memories old.variables.items (phases_seen (drop next phases)) old.banks.items outcome going steady (phase_seen phase) (phases_seen (drop (next + 1) phases)) first
-        outcome' (steps + 1) memories' new.variables.items (phases_seen (drop (next + 1) phases)) refl refl (made ∙ ap (λ ws. written_by ws memories) known.writes) known.variables ended known.clear
-
-    pub next_steady : length new.variables.items ≡ length old.variables.items → IsReady table (contents_of lists) new
-        → IsSteady (run_of table outcome' (steps + 1) memories' new.variables.items (phases_seen (drop (next + 1) phases))) new.banks.items
-    next_steady long ready = done_steady table steps memories old.variables.items (phases_seen (drop next phases)) old.banks.items outcome going steady (phase_seen phase) (phases_seen (drop (next + 1) phases)) first
-        outcome' (steps + 1) memories' new.variables.items (phases_seen (drop (next + 1) phases)) refl refl (made ∙ ap (λ ws. written_by ws memories) known.writes) known.variables ended known.clear
-        new.banks.items long ready.sound.sized ready.long known.unspent
-
-  -- the step stops
-  module _ (new : State) (o : Outcome) (back : IsBack table old new)
-      (stop : stop_after table [] (effect_of table (contents_of lists) (commands_meant (map (λ c. action_seen c.now) slice)) old).events ≡ Some o) where
-    pub stop_stands : standing_of (run_of table o steps memories new.variables.items (phases_seen (drop next phases))) ≡ next_step table (standing_of (run_of table outcome steps memories old.variables.items (phases_seen (drop next phases))))
-    stop_stands = stopped_stands table steps memories old.variables.items (phases_seen (drop next phases)) old.banks.items outcome going steady (phase_seen phase) (phases_seen (drop (next + 1) phases)) first
-        new.variables.items back.variables o (ap (λ (e : Effect). stop_after table [] e.events) (sym effect_same) ∙ stop)
-
-    pub stop_steady : IsReady table (contents_of lists) new → IsSteady (run_of table o steps memories new.variables.items (phases_seen (drop next phases))) new.banks.items
-    stop_steady ready = stopped_steady table steps memories old.variables.items (phases_seen (drop next phases)) old.banks.items outcome going steady (phase_seen phase) (phases_seen (drop (next + 1) phases)) first
-        new.variables.items back.variables o new.banks.items ready.long back.unspent
+pub outcome_moved : (ms : List Memory) (o : Outcome) (ns nodes : List Node) (fs frames : List Frame) → ns ≡ nodes → fs ≡ frames → o ≡ outcome_of (to_come ms ns fs ∷ []) → o ≡ outcome_of (to_come ms nodes frames ∷ [])
+outcome_moved ms o ns nodes fs frames e f h = h ∙ (ap (λ l. outcome_of (to_come ms l fs ∷ [])) e ∙ ap (λ l. outcome_of (to_come ms nodes l ∷ [])) f)

@@ -1,5 +1,5 @@
 -- Terms that a program means: their values, kinds, accesses and operands.
-use Rattle.std.proofs.Common.{◌≡◌, ℕ, ◌-◌, ◌%◌, ◌^◌, ◌<◌, Bool, true, false, List, ◌++◌, map, refl, ap, sym, ◌∙◌, subst}
+use Rattle.std.proofs.Common.{◌≡◌, ℕ, ◌-◌, ◌%◌, ◌^◌, ◌<◌, Bool, true, false, List, ◌++◌, length, map, refl, ap, sym, ◌∙◌, subst}
 use Rattle.std.specs.Prelude.{unsigned_abs}
 use Rattle.std.specs.List.{AllByRecursion}
 use Rattle.std.proofs.lemmas.Nat.{pow_pos}
@@ -9,20 +9,21 @@ use Rattle.dh_value.specs.declared.kinds.Kind.TheVariants as kind
 use Rattle.dh_value.specs.declared.operators.Op.{Op}
 use Rattle.dh_value.specs.declared.operators.Op.TheVariants as op
 use Rattle.dh_value.specs.declared.words.Word.{Word}
-use Rattle.dh_value.specs.Words.{IsWord, IsInteger, width_of}
+use Rattle.dh_value.specs.Words as words
+use Rattle.dh_value.specs.Words.{IsWord, IsKind, IsInteger, width_of}
 use Rattle.dh_value.specs.Operations.{Suits, result_of, binary_of}
 use Rattle.dh_value.proofs.Values.{integer_width}
 use Rattle.dh_value.proofs.WordLaws.{word_of_is_word, truth_is_word, binary_is_word, binary_kind}
 use Rattle.dh_tree.specs.declared.tables.MemEntry.{MemEntry}
-use Rattle.dh_tree.specs.Tables.{IsEntry}
-use Rattle.dh_tree.specs.Tree.{Term, number, truth_value, variable, access, binary, convert}
-use Rattle.dh_tree.specs.Elements.{dims_at, position_of}
-use Rattle.dh_tree.specs.Effects.{Event, Variables, value_of, values_of, term_events, bits_of}
+use Rattle.dh_tree.specs.Shapes.{IsMemory}
+use Rattle.dh_tree.specs.Tree.{Term, number, truth_value, variable, access, in_bank, binary, convert}
+use Rattle.dh_tree.specs.Elements.{dims_at, position_of, position_in_bank}
+use Rattle.dh_tree.specs.Effects.{Event, Variables, value_of, values_of, term_events, bits_of, kind_in}
 use Rattle.dh_tree.specs.Meaning.{wider, extended, extended_both, applied_meant}
 use Rattle.dh_tree.specs.Suited.{IsSuited, term_kind}
 use Rattle.dh_sem.specs.Applied.{extended_word, IsExtension, applied_of, SuitsApplied, SuitsExtended}
 use Rattle.dh_sem.specs.Scenes.{AreSmall}
-use Rattle.dh_sem.proofs.RowAccesses.{entry_at, kind_is, no_entry}
+use Rattle.dh_sem.proofs.Entries.{entry_at, kind_is, no_entry}
 
 module _ (table : List MemEntry) (memories : List (List ℕ)) (variables : Variables) (path : List ℕ) where
   abbrev value : Term → Word
@@ -93,6 +94,7 @@ module _ (table : List MemEntry) (memories : List (List ℕ)) (variables : Varia
   value_kind (truth_value b) = refl
   value_kind (variable kind depth entity) = refl
   value_kind (access place memory indices) = refl
+  value_kind (in_bank place memory bank row) = refl
   value_kind (binary o left right) = binary_kind o (value left) (value right) ∙ ap (λ k. result_of o k) (value_kind left)
   value_kind (convert to inner) = refl
 
@@ -146,15 +148,22 @@ module _ (table : List MemEntry) (memories : List (List ℕ)) (variables : Varia
   bits_fit k false n = mod-lt n (pow_pos (width_of k))
   bits_fit k true n = mod-lt (2 ^ width_of k - n % 2 ^ width_of k) (pow_pos (width_of k))
 
-  module _ (entries : AllByRecursion IsEntry table) (small : AreSmall table memories) where
+  module _ (entries : AllByRecursion IsMemory table) (small : AreSmall table memories) where
+    sized_at : (memory : ℕ) → memory < length table → IsKind (kind_in table memory)
+    sized_at memory there = integer_width _ (subst (λ (k : Kind). IsInteger k) (sym (kind_is table memory no_entry there)) (entry_at table memory no_entry there entries).shape.integer)
+
     -- a term that suits has a word for its value
     pub value_word : (t : Term) → IsSuited table t → IsWord (value t)
     value_word (number kind negative n) h = record { sized = h; fits = bits_fit kind negative n }
     value_word (truth_value b) h = truth_is_word b
     value_word (variable kind depth entity) h = word_of_is_word kind _ h
     value_word (access place memory indices) h = record {
-      sized = integer_width _ (subst (λ (k : Kind). IsInteger k) (sym (kind_is table memory entries no_entry h.0)) (entry_at table memory entries no_entry h.0).integer);
+      sized = sized_at memory h.0;
       fits = small memory (position_of (dims_at table memory) (map unsigned_abs (values_of table memories variables path indices)));
+    }
+    value_word (in_bank place memory bank row) h = record {
+      sized = sized_at memory h.0.0;
+      fits = small memory (position_in_bank (dims_at table memory) bank (unsigned_abs (words.value_of (value row))));
     }
     value_word (binary o left right) h =
         binary_is_word o (value left) (value right) (value_word left h.1.0) (value_word right h.1.1) (suits_at o (sym (value_kind left)) (sym (value_kind right)) h.0)

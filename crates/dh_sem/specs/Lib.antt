@@ -1,10 +1,10 @@
 pub mod Applied
 pub mod Rows
+pub mod Banks
 pub mod Spent
 pub mod Scenes
 pub mod Weights
 pub mod States
-pub mod Straight
-pub mod Runs
+pub mod Courses
 pub mod Advances
-pub mod Starting
+pub mod Runs

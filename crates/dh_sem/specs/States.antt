@@ -1,16 +1,22 @@
 -- What a step keeps of what its commands did so far.
-use Rattle.std.specs.Prelude.{◌≡◌, ℕ, ◌<◌, List, [], ◌∷◌, length, slice_set, slice_index_or, Some, Result, Ok, Err}
+use Rattle.std.specs.Prelude.{◌≡◌, ℕ, ◌<◌, List, [], ◌∷◌, length, slice_set, slice_index_or, false, Option, Some, None, Result, Ok, Err}
 use Rattle.dh_value.specs.declared.words.Word.{Word}
 use Rattle.dh_tree.specs.declared.tables.MemEntry.{MemEntry}
-use Rattle.dh_tree.specs.Tree.{Command, store, assign, choose, Commands, no_commands, command}
+use Rattle.dh_tree.specs.declared.trees.expressions.Expr.{Expr}
+use denote.Ref.{Bor}
+use Rattle.dh_tree.specs.Memories.{Memory}
+use Rattle.dh_tree.specs.Meaning.{term_meant}
+use Rattle.dh_tree.specs.Seen.{term_seen}
+use Rattle.dh_tree.specs.Tree.{Term, truth_value, Command, store, store_in_bank, assign, choose, Commands, no_commands, command, Phase, straight, turns, repeated, decided, Phases, no_phases, phase}
 use Rattle.dh_tree.specs.Effects.{Event, reads, writes, faults, Effect, stop_after}
-use Rattle.dh_tree.specs.Suited.{AreSuitedCommands}
+use Rattle.dh_tree.specs.Suited.{AreSuitedCommands, IsSuitedPhase}
 use Rattle.dh_sem.specs.declared.running.Write.{Write}
 use Rattle.dh_sem.specs.declared.running.Change.{Change}
 use Rattle.dh_sem.specs.declared.running.State.{State}
 use Rattle.dh_sem.specs.declared.evaluating.Stop.{Stop}
 use Rattle.dh_sem.specs.declared.evaluating.Stop.TheVariants as stop
 use Rattle.dh_sem.specs.Spent.{HaveSpent}
+use Rattle.dh_sem.specs.Banks.{all_banks}
 use Rattle.dh_sem.specs.Scenes.{IsSound, variables_of}
 
 -- the writes among events, in order
@@ -34,6 +40,7 @@ abbrev mutual
   -- every variable that is assigned to is one of so many
   pub AssignsBelow : ℕ → Command → Type 0
   AssignsBelow n (store place memory indices value) = Unit {0}
+  AssignsBelow n (store_in_bank place memory bank row value) = Unit {0}
   AssignsBelow n (assign depth entity value) = entity < n
   AssignsBelow n (choose test chosen other) = AllAssignBelow n chosen × AllAssignBelow n other
 
@@ -45,10 +52,27 @@ abbrev mutual
 abbrev pub AreRunnable : List MemEntry → ℕ → Commands → Type 0
 AreRunnable table n cs = AreSuitedCommands table cs × AllAssignBelow n cs
 
+abbrev mutual
+  -- every variable that a phase assigns to is one of so many
+  pub PhaseBelow : ℕ → Phase → Type 0
+  PhaseBelow n (straight cs) = AllAssignBelow n cs
+  PhaseBelow n (turns iterator low count body) = (iterator < n) × PhasesBelow n body
+  PhaseBelow n (repeated test body) = PhasesBelow n body
+  PhaseBelow n (decided test chosen other) = PhasesBelow n chosen × PhasesBelow n other
+
+  pub PhasesBelow : ℕ → Phases → Type 0
+  PhasesBelow n no_phases = Unit {0}
+  PhasesBelow n (phase p ps) = PhaseBelow n p × PhasesBelow n ps
+
+-- a phase of terms that suit, for so many variables
+pub record IsRunnable (table : List MemEntry) (n : ℕ) (p : Phase) : Type 0 where
+  pub suited : IsSuitedPhase table p
+  pub below : PhaseBelow n p
+
 -- a state of a step of these memories
 pub record IsReady (table : List MemEntry) (memories : List (List ℕ)) (s : State) : Type 0 where
   pub sound : IsSound table memories s.variables.items
-  pub long : length s.banks.items ≡ length table
+  pub long : length s.banks.items ≡ all_banks table
 
 -- so many variables as before, and their values before the step are the same
 pub record KeepsBack (old new : State) : Type 0 where
@@ -66,3 +90,8 @@ abbrev pub Ends : {A : Type 0} → List MemEntry → Effect → (now : ℕ) → 
 Ends table e now (Ok a) s = Keeps table e now s
 Ends table e now (Err (stop.At outcome)) s = stop_after table [] e.events ≡ Some outcome
 Ends table e now (Err stop.NoMemory) s = Unit {0}
+
+-- a test, which never holds where there is none
+abbrev pub test_or_none : List Memory → Option (Bor Expr) → Term
+test_or_none ms None = truth_value false
+test_or_none ms (Some t) = term_meant ms (term_seen t.now)

@@ -1,28 +1,32 @@
 //! The values of expressions, and the accesses that they make.
 
-ghost use Rattle.std.specs.Prelude.{◌≡◌, ◌<◌, ◌++◌, [], ◌∷◌, ℤ, List, IfOk, length, map};
+ghost use Rattle.std.specs.Prelude.{◌≡◌, ◌<◌, ◌≤◌, ◌+◌, ◌^◌, ◌++◌, [], ◌∷◌, List, IfOk, length, map, unsigned_abs};
 ghost use Rattle.dh_base.specs.declared.outcomes.FaultKind.TheVariants.{OutOfRange};
 ghost use Rattle.dh_base.specs.declared.outcomes.Outcome.TheVariants.{Faulted, Stuck};
 ghost use Rattle.dh_value.specs.Words.{with_bits};
 ghost use Rattle.std.specs.List.{AllByRecursion};
-ghost use Rattle.dh_tree.specs.Tables.{IsEntry};
-ghost use Rattle.dh_tree.specs.Effects.{Event, value_of, values_of, term_events, terms_events, access_made, reads, kind_in, element_at};
-ghost use Rattle.dh_tree.specs.Meaning.{term_meant, terms_meant, entity_number};
+ghost use Rattle.dh_tree.specs.Shapes.{IsMemory};
+ghost use Rattle.dh_tree.specs.Tables.{elements_in, most_elements};
+ghost use Rattle.dh_tree.specs.Elements.{dims_at, position_of, position_in_bank};
+ghost use Rattle.dh_tree.specs.Effects.{Event, value_of, values_of, term_events, terms_events, access_made, bank_access_made, reads, kind_in};
+ghost use Rattle.dh_tree.specs.Meaning.{term_meant, terms_meant, memory_of};
 ghost use Rattle.dh_tree.specs.Seen.{term_seen, terms};
-ghost use Rattle.dh_tree.specs.Suited.{IsSuited, AreSuited};
+ghost use Rattle.dh_tree.specs.Suited.{IsSuited, AreSuited, HasBank};
 ghost use Rattle.dh_sem.specs.declared.evaluating.Stop.TheVariants as stop;
-ghost use Rattle.dh_sem.specs.Rows.{sole_of, contents_of};
+ghost use Rattle.dh_sem.specs.Banks.{first_bank, all_banks};
+ghost use Rattle.dh_sem.specs.Rows.{contents_of, element_in, spot_seen};
 ghost use Rattle.dh_sem.specs.Spent.{HaveSpent};
-ghost use Rattle.dh_sem.specs.Scenes.{IsSound, Spends, FindsRow, variables_of};
+ghost use Rattle.dh_sem.specs.Scenes.{IsSound, IsSet, Spends, Finds, memories_in, variables_of};
 
 use crate::operands::{
-    UNSET, applied, converted, element_of, entity_of, kind_found, literal, row_at, truth,
+    UNSET, applied, converted, element_of, entity_of, kind_found, literal, truth,
 };
 use crate::spending::{Bank, read_row};
+use crate::spots::{Element, index_below, locate, measure, place_in_bank};
 use dh_base::{FaultKind, NoMemory, Outcome, Place};
-use dh_tree::{Expr, ExprForm, MemEntry};
+use dh_tree::{Expr, ExprForm, MemEntry, Ref, Typed};
 use dh_value::{Word, cast, number};
-use std::alloc::{AllocError, AllocFailed};
+use std::alloc::{AllocError, AllocFailed, Global};
 
 /// Why a step ends early.
 #[derive(Clone, Copy, Debug, PartialEq, Eq)]
@@ -60,68 +64,140 @@ impl<T: Drop> From<AllocFailed<T>> for Stop {
 /// What stays as it is during a step.
 #[derive(Clone, Copy)]
 pub struct Scene<'a> {
-    /// The memories of the program.
+    /// Where lists of indices are made.
+    pub alloc: Global,
+    /// The program.
+    pub program: &'a Typed,
+    /// Its memories.
     pub entries: &'a [MemEntry],
+    /// The number of the first bank of each.
+    pub firsts: &'a [usize],
     /// Their contents as the step began.
     pub memories: &'a [Vec<u64>],
     /// The number of the step, from 1.
     pub step: u64,
 }
 
-/// The row of an index of a memory in an access at this place.
-pub fn row_or_fault(
+/// The number of the memory that a name stands for; every access of a typed program has one.
+pub fn memory_of(scene: &Scene<'_>, of: &Ref) -> usize
+    requires set { IsSet scene.now }
+    ensures { result ≡ memory_of (memories_in scene.now) of.now }
+{
+    let Some(entity) = of.entity else {
+        return 0;
+    };
+    if entity as usize >= scene.program.tree().entities.len() {
+        return 0;
+    }
+    match scene.program.memory_number(entity) {
+        Some(number) => number,
+        None => 0,
+    }
+}
+
+/// The place of a bank among those of all memories.
+pub fn bank_at(scene: &Scene<'_>, element: Element) -> usize
+    requires set { IsSet scene.now }
+    requires table { AllByRecursion IsMemory scene.now.entries.now }
+    requires few { elements_in scene.now.entries.now ≤ most_elements }
+    requires there { HasBank scene.now.entries.now element.memory element.bank }
+    ensures place { result ≡ first_bank scene.now.entries.now element.memory + element.bank }
+    ensures within { result < all_banks scene.now.entries.now }
+{
+    scene.firsts[element.memory as usize] + element.bank as usize
+}
+
+/// A fault where an index is out of range.
+fn out_of_range(place: Place) -> Stop
+    ensures { result ≡ stop.At (Faulted OutOfRange place) }
+{
+    Stop::At(Outcome::Faulted {
+        kind: FaultKind::OutOfRange,
+        place,
+    })
+}
+
+/// The element of an access at this place, by its indices.
+pub fn find(
     scene: &Scene<'_>,
     place: Place,
-    memory: u32,
-    index: Option<i128>,
-) -> Result<u64, Stop>
+    memory: usize,
+    indices: &[i128],
+) -> Result<Element, Stop>
+    requires table { AllByRecursion IsMemory scene.now.entries.now }
+    requires few { elements_in scene.now.entries.now ≤ most_elements }
     requires memory { memory < length scene.now.entries.now }
-    ensures { FindsRow scene.now.entries.now place memory index result }
+    ensures { Finds scene.now.entries.now place (access_made scene.now.entries.now place memory indices.now) memory (position_of (dims_at scene.now.entries.now memory) (map unsigned_abs indices.now)) result }
 {
-    let dims = scene.entries[memory as usize].shape.dims.as_slice();
-    match row_at(dims, index) {
-        Some(row) => Ok(row),
-        None => Err(Stop::At(Outcome::Faulted {
-            kind: FaultKind::OutOfRange,
-            place,
-        })),
+    let dims = scene.entries[memory].shape.dims.as_slice();
+    match locate(dims, indices) {
+        Some(s) => Ok(Element {
+            memory: memory as u32,
+            bank: s.bank,
+            row: s.row,
+            position: s.position,
+        }),
+        None => Err(out_of_range(place)),
+    }
+}
+
+/// The element in a row of a bank, of an access at this place.
+pub fn find_in_bank(
+    scene: &Scene<'_>,
+    place: Place,
+    memory: usize,
+    bank: u64,
+    row: i128,
+) -> Result<Element, Stop>
+    requires table { AllByRecursion IsMemory scene.now.entries.now }
+    requires few { elements_in scene.now.entries.now ≤ most_elements }
+    requires there { HasBank scene.now.entries.now memory bank }
+    ensures { Finds scene.now.entries.now place (bank_access_made scene.now.entries.now place memory bank row) memory (position_in_bank (dims_at scene.now.entries.now memory) bank (unsigned_abs row)) result }
+{
+    let dims = scene.entries[memory].shape.dims.as_slice();
+    match index_below(row, measure(dims).rows) {
+        Some(row) => Ok(Element {
+            memory: memory as u32,
+            bank,
+            row,
+            position: place_in_bank(dims, bank, row),
+        }),
+        None => Err(out_of_range(place)),
     }
 }
 
 /// The outcome where an access at this place spends more than the ports of a memory's bank.
-pub fn stuck(place: Place, memory: u32) -> Stop
-    ensures { result ≡ stop.At (Stuck memory 0 place) }
+pub fn stuck(place: Place, element: Element) -> Stop
+    requires { element.bank < 2 ^ 32 }
+    ensures { result ≡ stop.At (Stuck element.memory element.bank place) }
 {
     Stop::At(Outcome::Stuck {
-        memory,
-        bank: 0,
+        memory: element.memory,
+        bank: element.bank as u32,
         place,
     })
 }
 
 /// Reads an element.
-fn read(
-    scene: &Scene<'_>,
-    banks: &mut [Bank],
-    place: Place,
-    memory: u32,
-    index: Option<i128>,
-) -> Result<Word, Stop>
-    requires memory { memory < length scene.now.entries.now }
-    requires table { AllByRecursion IsEntry scene.now.entries.now }
-    requires long { length banks.old ≡ length scene.now.entries.now }
+fn read(scene: &Scene<'_>, banks: &mut [Bank], place: Place, element: Element) -> Result<Word, Stop>
+    requires set { IsSet scene.now }
+    requires table { AllByRecursion IsMemory scene.now.entries.now }
+    requires few { elements_in scene.now.entries.now ≤ most_elements }
+    requires there { HasBank scene.now.entries.now element.memory element.bank }
+    requires long { length banks.old ≡ all_banks scene.now.entries.now }
     ensures long { length banks.new ≡ length banks.old }
-    ensures value { (indices : List ℤ) → index ≡ sole_of indices → IfOk result (λ w. w ≡ with_bits (kind_in scene.now.entries.now memory) (element_at scene.now.entries.now (contents_of scene.now.memories.now) memory indices)) }
-    ensures spends { (indices : List ℤ) (es : List Event) → index ≡ sole_of indices → HaveSpent scene.now.entries.now es scene.now.step banks.old
-        → Spends scene.now.entries.now (es ++ access_made scene.now.entries.now place memory indices (reads place) ∷ []) scene.now.step result banks.new }
+    ensures value { IfOk result (λ w. w ≡ with_bits (kind_in scene.now.entries.now element.memory) (element_in (contents_of scene.now.memories.now) element.memory element.position)) }
+    ensures spends { (es : List Event) → HaveSpent scene.now.entries.now es scene.now.step banks.old
+        → Spends scene.now.entries.now (es ++ reads place (spot_seen element) ∷ []) scene.now.step result banks.new }
 {
-    let row = row_or_fault(scene, place, memory, index)?;
-    if !read_row(&mut banks[memory as usize], scene.step, row)? {
-        return Err(stuck(place, memory));
+    let at = bank_at(scene, element);
+    let ports = scene.entries[element.memory as usize].shape.ports;
+    if !read_row(&mut banks[at], ports, scene.step, element.row)? {
+        return Err(stuck(place, element));
     }
     Ok(Word {
-        kind: scene.entries[memory as usize].shape.kind,
-        bits: element_of(scene.memories, memory, row),
+        kind: scene.entries[element.memory as usize].shape.kind,
+        bits: element_of(scene.memories, element.memory, element.position),
     })
 }
 
@@ -135,13 +211,14 @@ pub fn evaluate(
     banks: &mut [Bank],
     value: &Expr,
 ) -> Result<Word, Stop>
-    requires suited { IsSuited scene.now.entries.now (term_meant (term_seen value.now)) }
+    requires suited { IsSuited scene.now.entries.now (term_meant (memories_in scene.now) (term_seen value.now)) }
+    requires set { IsSet scene.now }
     requires sound { IsSound scene.now.entries.now (contents_of scene.now.memories.now) variables.now }
-    requires long { length banks.old ≡ length scene.now.entries.now }
+    requires long { length banks.old ≡ all_banks scene.now.entries.now }
     ensures long { length banks.new ≡ length banks.old }
-    ensures value { IfOk result (λ w. w ≡ value_of scene.now.entries.now (contents_of scene.now.memories.now) (variables_of variables.now) [] (term_meant (term_seen value.now))) }
+    ensures value { IfOk result (λ w. w ≡ value_of scene.now.entries.now (contents_of scene.now.memories.now) (variables_of variables.now) [] (term_meant (memories_in scene.now) (term_seen value.now))) }
     ensures spends { (es : List Event) → HaveSpent scene.now.entries.now es scene.now.step banks.old
-        → Spends scene.now.entries.now (es ++ term_events scene.now.entries.now (contents_of scene.now.memories.now) (variables_of variables.now) [] (term_meant (term_seen value.now))) scene.now.step result banks.new }
+        → Spends scene.now.entries.now (es ++ term_events scene.now.entries.now (contents_of scene.now.memories.now) (variables_of variables.now) [] (term_meant (memories_in scene.now) (term_seen value.now))) scene.now.step result banks.new }
 {
     let kind = kind_found(value.kind);
     match &value.form {
@@ -152,10 +229,17 @@ pub fn evaluate(
             Ok(converted(slot.unwrap_or(UNSET), kind))
         }
         ExprForm::Access { of, indices } => {
-            let index = sole_index(scene, variables, banks, indices.as_slice())?;
-            read(scene, banks, value.place, entity_of(of), index)
+            let indices = evaluate_all(scene, variables, banks, indices.as_slice())?;
+            let memory = memory_of(scene, of);
+            let element = find(scene, value.place, memory, indices.as_slice())?;
+            read(scene, banks, value.place, element)
         }
-        ExprForm::Physical { .. } => Ok(literal(kind, false, 0)),
+        ExprForm::Physical { of, bank, row, .. } => {
+            let row = number(evaluate(scene, variables, banks, row)?);
+            let memory = memory_of(scene, of);
+            let element = find_in_bank(scene, value.place, memory, *bank, row)?;
+            read(scene, banks, value.place, element)
+        }
         ExprForm::Binary { op, left, right } => {
             let a = evaluate(scene, variables, banks, left)?;
             let b = evaluate(scene, variables, banks, right)?;
@@ -169,31 +253,28 @@ pub fn evaluate(
     }
 }
 
-/// Evaluates all indices of an access. Their value where there is one index, None where there is
-/// another number of them.
+/// The values of all indices of an access, from the left.
 #[cycle(evaluate)]
 #[tactic(auto, using(dh_tree::proofs::SeenTerms::terms_are))]
-pub fn sole_index(
+pub fn evaluate_all(
     scene: &Scene<'_>,
     variables: &[Word],
     banks: &mut [Bank],
     indices: &[Expr],
-) -> Result<Option<i128>, Stop>
-    requires suited { AreSuited scene.now.entries.now (terms_meant (terms (map term_seen indices.now))) }
+) -> Result<Vec<i128>, Stop>
+    requires suited { AreSuited scene.now.entries.now (terms_meant (memories_in scene.now) (terms (map term_seen indices.now))) }
+    requires set { IsSet scene.now }
     requires sound { IsSound scene.now.entries.now (contents_of scene.now.memories.now) variables.now }
-    requires long { length banks.old ≡ length scene.now.entries.now }
+    requires long { length banks.old ≡ all_banks scene.now.entries.now }
     ensures long { length banks.new ≡ length banks.old }
-    ensures value { IfOk result (λ i. i ≡ sole_of (values_of scene.now.entries.now (contents_of scene.now.memories.now) (variables_of variables.now) [] (terms_meant (terms (map term_seen indices.now))))) }
+    ensures value { IfOk result (λ is. is.items ≡ values_of scene.now.entries.now (contents_of scene.now.memories.now) (variables_of variables.now) [] (terms_meant (memories_in scene.now) (terms (map term_seen indices.now)))) }
     ensures spends { (es : List Event) → HaveSpent scene.now.entries.now es scene.now.step banks.old
-        → Spends scene.now.entries.now (es ++ terms_events scene.now.entries.now (contents_of scene.now.memories.now) (variables_of variables.now) [] (terms_meant (terms (map term_seen indices.now)))) scene.now.step result banks.new }
+        → Spends scene.now.entries.now (es ++ terms_events scene.now.entries.now (contents_of scene.now.memories.now) (variables_of variables.now) [] (terms_meant (memories_in scene.now) (terms (map term_seen indices.now)))) scene.now.step result banks.new }
 {
-    let mut last = None;
+    let mut values = Vec::new(scene.alloc);
     for index in indices {
-        last = Some(number(evaluate(scene, variables, banks, index)?));
+        let value = number(evaluate(scene, variables, banks, index)?);
+        values.push(value)?;
     }
-    if indices.len() == 1 {
-        Ok(last)
-    } else {
-        Ok(None)
-    }
+    Ok(values)
 }

@@ -1,35 +1,48 @@
 //! A run of a typed program, step by step.
 
-ghost use Rattle.std.specs.Prelude.{◌≡◌, ◌+◌, ◌-◌, ◌<◌, ◌^◌, [], IfOk, length, map, replicate};
+ghost use Rattle.std.specs.Prelude.{◌≡◌, ◌+◌, ◌-◌, ◌<◌, ◌≤◌, ◌^◌, [], IfOk, length, replicate};
+ghost use Rattle.std.specs.List.{AllByRecursion};
+ghost use Rattle.dh_tree.specs.Memories.{table_of};
+ghost use Rattle.dh_tree.specs.Meaning.{meaning_of};
 ghost use Rattle.dh_tree.specs.Seen.{program_seen};
-ghost use Rattle.dh_tree.specs.Meaning.{table_of};
-ghost use Rattle.dh_tree.specs.Tables.{IsTable, Fits};
+ghost use Rattle.dh_tree.specs.Shapes.{IsProgramTable, IsMemory};
+ghost use Rattle.dh_tree.specs.Suited.{IsSuitedTree};
+ghost use Rattle.dh_tree.specs.Tables.{Fits, elements_in, most_elements};
 ghost use Rattle.dh_tree.specs.UncheckedForms.{unchecked_forms};
 ghost use Rattle.dh_tree.specs.Widths.{HasWidths};
+ghost use Rattle.dh_sem.specs.Banks.{AreFirsts, all_banks};
 ghost use Rattle.dh_sem.specs.Scenes.{unset_word};
 ghost use Rattle.dh_sem.specs.Runs.{StandsAt, StepsOn};
-ghost use Rattle.dh_sem.specs.Starting.{AreUnused};
 
+use crate::courses::{Frame, Node, outcome_at};
 use crate::evaluating::{Scene, Stop};
-use crate::gathering::phases_in;
+use crate::gathering::course;
 use crate::operands::UNSET;
 use crate::running::State;
-use crate::spending::Bank;
-use crate::stepping::{advance, make_writes, outcome_at};
+use crate::spending::unused;
+use crate::spots::measure;
+use crate::stepping::{advance, make_writes};
 use dh_base::{NoMemory, Outcome};
-use dh_tree::{Command, MemEntry, Memories, Typed};
+use dh_tree::{MemEntry, Memories, Typed};
 use dh_value::Word;
 use std::alloc::Global;
 use std::marker::Model;
+use std::mem;
 
 /// A program in a run, after a number of logical steps.
 #[derive(Drop)]
 pub struct Interp<'a> {
     alloc: Global,
+    program: &'a Typed,
     entries: &'a [MemEntry],
-    phases: Vec<Vec<&'a Command>>,
-    // the number of the next phase
-    next: usize,
+    // by memory the number of its first bank
+    firsts: Vec<usize>,
+    // the phases of the program
+    nodes: Vec<Node<'a>>,
+    // those that are still to come
+    frames: Vec<Frame>,
+    // where a step works out which are to come after it
+    spare: Vec<Frame>,
     state: State,
     memories: Memories,
     steps: u64,
@@ -37,7 +50,6 @@ pub struct Interp<'a> {
 }
 
 impl<'a> Model for Interp<'a> {
-    ghost use Rattle.std.specs.Prelude.{drop, map};
     ghost use Rattle.std.specs.Coded.{codes};
     ghost use Rattle.dh_tree.specs.contracts.trees.commands.Command as command;
     ghost use Rattle.dh_sem.specs.Runs.{Run, IsSteady};
@@ -46,25 +58,37 @@ impl<'a> Model for Interp<'a> {
 
     ghost coded = { Prim.hlevel (codes, command.the_row.coded) };
 
-    ghost view = { λ i. record { table = i.entries.now; outcome = i.outcome; steps = i.steps; memories = i.memories; variables = i.state.variables.items; rest = map (λ phase. map (λ c. c.now) phase.items) (drop i.next i.phases.items) } };
+    ghost view = { λ i. record { program = i.program.now; table = i.entries.now; outcome = i.outcome; steps = i.steps; memories = i.memories; variables = i.state.variables.items; nodes = i.nodes.items; frames = i.frames.items } };
 
-    ghost invariant = { λ i. IsSteady (record { table = i.entries.now; outcome = i.outcome; steps = i.steps; memories = i.memories; variables = i.state.variables.items; rest = map (λ phase. map (λ c. c.now) phase.items) (drop i.next i.phases.items) }) i.state.banks.items };
+    ghost invariant = { λ i. IsSteady (record { program = i.program.now; table = i.entries.now; outcome = i.outcome; steps = i.steps; memories = i.memories; variables = i.state.variables.items; nodes = i.nodes.items; frames = i.frames.items }) i.state.banks.items i.firsts.items };
 }
 
-/// Unused banks, one for each memory.
-fn unused_banks(alloc: Global, entries: &[MemEntry]) -> Result<Vec<Bank>, NoMemory>
-    ensures { IfOk result (λ banks. AreUnused entries.now banks.items) }
+/// The number of the first bank of each memory.
+fn first_banks(alloc: Global, entries: &[MemEntry]) -> Result<Vec<usize>, NoMemory>
+    requires table { AllByRecursion IsMemory entries.now }
+    requires few { elements_in entries.now ≤ most_elements }
+    ensures { IfOk result (λ firsts. AreFirsts entries.now firsts.items) }
 {
-    let mut banks = Vec::new(alloc);
+    let mut firsts = Vec::new(alloc);
+    let mut banks = 0;
     for entry in entries {
-        banks.push(Bank {
-            ports: entry.shape.ports,
-            step: 0,
-            rows: Vec::new(alloc),
-            left: 0,
-        })?;
+        firsts.push(banks)?;
+        banks += measure(entry.shape.dims.as_slice()).banks as usize;
     }
-    Ok(banks)
+    Ok(firsts)
+}
+
+/// How many banks all memories have.
+fn count_banks(entries: &[MemEntry]) -> usize
+    requires table { AllByRecursion IsMemory entries.now }
+    requires few { elements_in entries.now ≤ most_elements }
+    ensures { result ≡ all_banks entries.now }
+{
+    let mut banks = 0;
+    for entry in entries {
+        banks += measure(entry.shape.dims.as_slice()).banks as usize;
+    }
+    banks
 }
 
 /// So many variables that were not set yet.
@@ -91,29 +115,29 @@ impl<'a> Interp<'a> {
     ) -> Result<Interp<'a>, NoMemory>
         requires built { unchecked_forms (program_seen program.now) ≡ [] }
         requires widths { HasWidths (program_seen program.now) }
-        requires table { IsTable (table_of (program_seen program.now)) }
+        requires table { IsProgramTable (table_of (program_seen program.now)) }
+        requires suited { IsSuitedTree (meaning_of (program_seen program.now)) }
         requires fits { Fits (table_of (program_seen program.now)) memories }
         ensures { IfOk result (λ i. StandsAt (program_seen program.now) memories 0 i) }
     {
         let entries = program.memories().as_slice();
         let tree = program.tree();
-        let phases = phases_in(alloc, &tree.body)?;
+        let (nodes, frames) = course(alloc, &tree.body)?;
+        let outcome = outcome_at(nodes.as_slice(), frames.as_slice());
         let state = State {
             variables: unset(alloc, tree.entities.len())?,
-            banks: unused_banks(alloc, entries)?,
+            banks: unused(alloc, count_banks(entries))?,
             writes: Vec::new(alloc),
             changes: Vec::new(alloc),
         };
-        let outcome = if phases.is_empty() {
-            Outcome::Ended
-        } else {
-            Outcome::Going
-        };
         Ok(Interp {
             alloc,
+            program,
             entries,
-            phases,
-            next: 0,
+            firsts: first_banks(alloc, entries)?,
+            nodes,
+            frames,
+            spare: Vec::new(alloc),
             state,
             memories,
             steps: 0,
@@ -135,16 +159,26 @@ impl<'a> Interp<'a> {
             return Ok(self.outcome);
         }
         let scene = Scene {
+            alloc: self.alloc,
+            program: self.program,
             entries: self.entries,
+            firsts: self.firsts.as_slice(),
             memories: self.memories.lists(),
             step: self.steps + 1,
         };
-        match advance(&scene, &mut self.state, self.phases[self.next].as_slice()) {
+        self.spare.clear();
+        self.spare.extend_from_slice(self.frames.as_slice())?;
+        match advance(
+            &scene,
+            &mut self.state,
+            self.nodes.as_slice(),
+            &mut self.spare,
+        ) {
             Ok(()) => {
                 make_writes(self.alloc, &mut self.memories, self.state.writes.as_slice());
+                mem::swap(&mut self.frames, &mut self.spare);
                 self.steps += 1;
-                self.next += 1;
-                self.outcome = outcome_at(self.next, self.phases.len());
+                self.outcome = outcome_at(self.nodes.as_slice(), self.frames.as_slice());
                 Ok(self.outcome)
             }
             Err(Stop::At(outcome)) => {

@@ -6,9 +6,9 @@ ghost use Rattle.dh_value.specs.Operations.{binary_of, truth as truth_of};
 ghost use Rattle.dh_tree.specs.Effects.{bits_of};
 ghost use Rattle.dh_tree.specs.Meaning.{entity_number, kind_or_first, wider as wider_of};
 ghost use Rattle.dh_sem.specs.Applied.{extended_word, IsExtension, applied_of, SuitsApplied, SuitsExtended};
-ghost use Rattle.dh_sem.specs.Rows.{row_found, contents_of, element_in};
+ghost use Rattle.dh_sem.specs.Rows.{contents_of, element_in};
 
-use dh_tree::{Dim, Kind, Ref};
+use dh_tree::{Kind, Ref};
 use dh_value::{Op, Word, binary, cast};
 
 /// No variable was set yet: each has the value 0.
@@ -140,22 +140,6 @@ pub fn applied(op: Op, left_kind: Kind, right_kind: Kind, a: Word, b: Word) -> W
         Op::Shr => binary(op, a, b),
         Op::Both => binary(op, a, b),
         Op::Either => binary(op, a, b),
-    }
-}
-
-/// The row of an index, which in one dimension and one bank is the index; None where the index is not
-/// within the size, and where there is not one index for each dimension.
-pub fn row_at(dims: &[Dim], index: Option<i128>) -> Option<u64>
-    ensures { result ≡ row_found dims.now index }
-{
-    let [dim] = dims else {
-        return None;
-    };
-    let index = index?;
-    if 0 <= index && index < i128::from(dim.size) {
-        Some(index as u64)
-    } else {
-        None
     }
 }
 

@@ -1,28 +1,33 @@
 //! What commands do in a logical step.
 
-ghost use Rattle.std.specs.Prelude.{◌≡◌, ℕ, ◌<◌, ◌++◌, [], ◌∷◌, ℤ, false, List, Option, Some, None, IfOk, OnOk, length, map, slice_set};
+ghost use Rattle.std.specs.Prelude.{◌≡◌, ℕ, ◌<◌, ◌≤◌, ◌++◌, [], ◌∷◌, false, List, IfOk, length, map, slice_set};
 ghost use Rattle.std.specs.List.{AllByRecursion};
 ghost use Rattle.dh_value.specs.declared.kinds.Kind.{Kind};
-ghost use Rattle.dh_value.specs.Words.{IsWord, value_of as word_value};
-ghost use Rattle.dh_tree.specs.Effects.{Effect, value_of, with_events, access_made, writes, kept_bits, Event, set_variable, assigned_at, stored_at, commands_run, outer_paths, holds_at, tested_at};
-ghost use Rattle.dh_tree.specs.Meaning.{term_meant, terms_meant, store_meant, action_meant, part_meant, groups_meant, commands_meant, entity_number};
-ghost use Rattle.dh_tree.specs.PlainTrees as plain;
+ghost use Rattle.dh_value.specs.Words.{IsWord};
+ghost use Rattle.dh_tree.specs.Effects.{Event, Effect, with_events, writes, kept_bits, assigned_at, stored_at, stored_in_bank_at, commands_run, outer_paths, holds_at, tested_at};
+ghost use Rattle.dh_tree.specs.Meaning.{term_meant, terms_meant, store_meant, action_meant, part_meant, groups_meant, commands_meant, entity_number, test_meant, iterator_of};
 ghost use Rattle.dh_tree.specs.Seen.{term_seen, terms, action_seen, part_seen, groups, actions};
-ghost use Rattle.dh_tree.specs.Suited.{IsSuited, AreSuited};
+ghost use Rattle.dh_tree.specs.Shapes.{IsMemory};
+ghost use Rattle.dh_tree.specs.Steps.{turn_begun};
+ghost use Rattle.dh_tree.specs.Suited.{IsSuited, AreSuited, HasBank};
+ghost use Rattle.dh_tree.specs.Tables.{elements_in, most_elements};
 ghost use Rattle.dh_tree.specs.Tree.{number as number_term, no_commands, command as one_command};
-ghost use Rattle.dh_sem.specs.Rows.{sole_of, row_found, contents_of};
-ghost use Rattle.dh_sem.specs.Scenes.{Spends, unset_word};
-ghost use Rattle.dh_tree.specs.Elements.{dims_at};
-ghost use Rattle.dh_tree.specs.Tables.{IsEntry};
+ghost use Rattle.dh_sem.specs.Banks.{all_banks};
+ghost use Rattle.dh_sem.specs.Rows.{contents_of, spot_seen};
+ghost use Rattle.dh_tree.specs.Memories.{Memory};
+ghost use Rattle.dh_sem.specs.Scenes.{IsSet, Spends, memories_in};
 ghost use Rattle.dh_sem.specs.Spent.{HaveSpent};
-ghost use Rattle.dh_sem.specs.States.{AreRunnable, IsReady, KeepsBack, Keeps, Ends, undone, written_by};
+ghost use Rattle.dh_sem.specs.States.{AreRunnable, IsReady, KeepsBack, Keeps, Ends, test_or_none, undone, written_by};
 
-use crate::evaluating::{Scene, Stop, evaluate, row_or_fault, sole_index, stuck};
+use crate::evaluating::{
+    Scene, Stop, bank_at, evaluate, evaluate_all, find, find_in_bank, memory_of, stuck,
+};
 use crate::operands::{UNSET, entity_of};
 use crate::spending::{Bank, write_row};
+use crate::spots::Element;
 use dh_base::Place;
-use dh_tree::{Command, CommandForm, Expr, ExprForm, Ref};
-use dh_value::{Word, cast};
+use dh_tree::{Command, CommandForm, Expr, ExprForm, Kind, Ref};
+use dh_value::{Word, cast, number};
 use std::alloc::AllocFailed;
 
 /// A write that the step is to make at its end.
@@ -76,12 +81,13 @@ fn set(state: &mut State, entity: u32, value: Word) -> Result<(), AllocFailed<Ch
 
 /// Evaluates a right side and sets a variable to it.
 fn assign(scene: &Scene<'_>, state: &mut State, target: &Ref, value: &Expr) -> Result<(), Stop>
+    requires set { IsSet scene.now }
     requires ready { IsReady scene.now.entries.now (contents_of scene.now.memories.now) state.old }
-    requires suited { IsSuited scene.now.entries.now (term_meant (term_seen value.now)) }
+    requires suited { IsSuited scene.now.entries.now (term_meant (memories_in scene.now) (term_seen value.now)) }
     requires entity { entity_number target.now.entity < length state.old.variables.items }
     ensures ready { IsReady scene.now.entries.now (contents_of scene.now.memories.now) state.new }
     ensures back { KeepsBack state.old state.new }
-    ensures ran { (e : Effect) → Keeps scene.now.entries.now e scene.now.step state.old → Ends scene.now.entries.now (assigned_at scene.now.entries.now (contents_of scene.now.memories.now) 0 (entity_number target.now.entity) (term_meant (term_seen value.now)) [] e) scene.now.step result state.new }
+    ensures ran { (e : Effect) → Keeps scene.now.entries.now e scene.now.step state.old → Ends scene.now.entries.now (assigned_at scene.now.entries.now (contents_of scene.now.memories.now) 0 (entity_number target.now.entity) (term_meant (memories_in scene.now) (term_seen value.now)) [] e) scene.now.step result state.new }
 {
     let word = evaluate(
         scene,
@@ -93,27 +99,24 @@ fn assign(scene: &Scene<'_>, state: &mut State, target: &Ref, value: &Expr) -> R
     Ok(())
 }
 
-/// Takes the port that a write needs. Gives the place of the element.
-fn claim(
-    scene: &Scene<'_>,
-    banks: &mut [Bank],
-    place: Place,
-    memory: u32,
-    index: Option<i128>,
-) -> Result<u64, Stop>
-    requires memory { memory < length scene.now.entries.now }
-    requires table { AllByRecursion IsEntry scene.now.entries.now }
-    requires long { length banks.old ≡ length scene.now.entries.now }
+/// Takes the port that a write needs.
+fn claim(scene: &Scene<'_>, banks: &mut [Bank], place: Place, element: Element) -> Result<(), Stop>
+    requires set { IsSet scene.now }
+    requires table { AllByRecursion IsMemory scene.now.entries.now }
+    requires few { elements_in scene.now.entries.now ≤ most_elements }
+    requires there { HasBank scene.now.entries.now element.memory element.bank }
+    requires long { length banks.old ≡ all_banks scene.now.entries.now }
     ensures long { length banks.new ≡ length banks.old }
-    ensures row { IfOk result (λ row. row_found (dims_at scene.now.entries.now memory) index ≡ Some row) }
-    ensures spends { (indices : List ℤ) (es : List Event) (value : ℕ) → index ≡ sole_of indices → HaveSpent scene.now.entries.now es scene.now.step banks.old
-        → Spends scene.now.entries.now (es ++ access_made scene.now.entries.now place memory indices (λ s. writes place s value) ∷ []) scene.now.step result banks.new }
+    ensures spends { (es : List Event) (value : ℕ) → HaveSpent scene.now.entries.now es scene.now.step banks.old
+        → Spends scene.now.entries.now (es ++ writes place (spot_seen element) value ∷ []) scene.now.step result banks.new }
 {
-    let row = row_or_fault(scene, place, memory, index)?;
-    if !write_row(&mut banks[memory as usize], scene.step) {
-        return Err(stuck(place, memory));
+    let at = bank_at(scene, element);
+    let ports = scene.entries[element.memory as usize].shape.ports;
+    if write_row(&mut banks[at], ports, scene.step) {
+        Ok(())
+    } else {
+        Err(stuck(place, element))
     }
-    Ok(row)
 }
 
 /// Writes a value to an element at the end of the step.
@@ -121,24 +124,23 @@ fn put(
     scene: &Scene<'_>,
     state: &mut State,
     place: Place,
-    memory: u32,
-    index: Option<i128>,
+    element: Element,
     value: Word,
 ) -> Result<(), Stop>
+    requires set { IsSet scene.now }
     requires ready { IsReady scene.now.entries.now (contents_of scene.now.memories.now) state.old }
-    requires memory { memory < length scene.now.entries.now }
+    requires there { HasBank scene.now.entries.now element.memory element.bank }
     requires word { IsWord value }
     ensures ready { IsReady scene.now.entries.now (contents_of scene.now.memories.now) state.new }
     ensures back { KeepsBack state.old state.new }
-    ensures ran { (e : Effect) (indices : List ℤ) → index ≡ sole_of indices → Keeps scene.now.entries.now e scene.now.step state.old
-        → Ends scene.now.entries.now (with_events e (access_made scene.now.entries.now place memory indices (λ s. writes place s (kept_bits scene.now.entries.now memory value)) ∷ [])) scene.now.step result state.new }
+    ensures ran { (e : Effect) → Keeps scene.now.entries.now e scene.now.step state.old
+        → Ends scene.now.entries.now (with_events e (writes place (spot_seen element) (kept_bits scene.now.entries.now element.memory value) ∷ [])) scene.now.step result state.new }
 {
-    let banks = state.banks.as_mut_slice();
-    let position = claim(scene, banks, place, memory, index)?;
-    let bits = cast(value, scene.entries[memory as usize].shape.kind).bits;
+    claim(scene, state.banks.as_mut_slice(), place, element)?;
+    let bits = cast(value, scene.entries[element.memory as usize].shape.kind).bits;
     state.writes.push(Write {
-        memory,
-        position,
+        memory: element.memory,
+        position: element.position,
         bits,
     })?;
     Ok(())
@@ -149,36 +151,65 @@ fn store_element(
     scene: &Scene<'_>,
     state: &mut State,
     place: Place,
-    memory: u32,
+    memory: usize,
     indices: &[Expr],
     value: &Expr,
 ) -> Result<(), Stop>
+    requires set { IsSet scene.now }
     requires ready { IsReady scene.now.entries.now (contents_of scene.now.memories.now) state.old }
     requires memory { memory < length scene.now.entries.now }
-    requires indices { AreSuited scene.now.entries.now (terms_meant (terms (map term_seen indices.now))) }
-    requires value { IsSuited scene.now.entries.now (term_meant (term_seen value.now)) }
+    requires indices { AreSuited scene.now.entries.now (terms_meant (memories_in scene.now) (terms (map term_seen indices.now))) }
+    requires value { IsSuited scene.now.entries.now (term_meant (memories_in scene.now) (term_seen value.now)) }
     ensures ready { IsReady scene.now.entries.now (contents_of scene.now.memories.now) state.new }
     ensures back { KeepsBack state.old state.new }
-    ensures ran { (e : Effect) → Keeps scene.now.entries.now e scene.now.step state.old → Ends scene.now.entries.now (stored_at scene.now.entries.now (contents_of scene.now.memories.now) place memory (terms_meant (terms (map term_seen indices.now))) (term_meant (term_seen value.now)) [] e) scene.now.step result state.new }
+    ensures ran { (e : Effect) → Keeps scene.now.entries.now e scene.now.step state.old → Ends scene.now.entries.now (stored_at scene.now.entries.now (contents_of scene.now.memories.now) place memory (terms_meant (memories_in scene.now) (terms (map term_seen indices.now))) (term_meant (memories_in scene.now) (term_seen value.now)) [] e) scene.now.step result state.new }
 {
     let variables = state.variables.as_slice();
     let word = evaluate(scene, variables, state.banks.as_mut_slice(), value)?;
-    let index = sole_index(scene, variables, state.banks.as_mut_slice(), indices)?;
-    put(scene, state, place, memory, index, word)
+    let indices = evaluate_all(scene, variables, state.banks.as_mut_slice(), indices)?;
+    let element = find(scene, place, memory, indices.as_slice())?;
+    put(scene, state, place, element, word)
+}
+
+/// Evaluates a right side, then the row of a bank, and writes the one to the other.
+fn store_row(
+    scene: &Scene<'_>,
+    state: &mut State,
+    place: Place,
+    memory: usize,
+    bank: u64,
+    row: &Expr,
+    value: &Expr,
+) -> Result<(), Stop>
+    requires set { IsSet scene.now }
+    requires ready { IsReady scene.now.entries.now (contents_of scene.now.memories.now) state.old }
+    requires there { HasBank scene.now.entries.now memory bank }
+    requires row { IsSuited scene.now.entries.now (term_meant (memories_in scene.now) (term_seen row.now)) }
+    requires value { IsSuited scene.now.entries.now (term_meant (memories_in scene.now) (term_seen value.now)) }
+    ensures ready { IsReady scene.now.entries.now (contents_of scene.now.memories.now) state.new }
+    ensures back { KeepsBack state.old state.new }
+    ensures ran { (e : Effect) → Keeps scene.now.entries.now e scene.now.step state.old → Ends scene.now.entries.now (stored_in_bank_at scene.now.entries.now (contents_of scene.now.memories.now) place memory bank (term_meant (memories_in scene.now) (term_seen row.now)) (term_meant (memories_in scene.now) (term_seen value.now)) [] e) scene.now.step result state.new }
+{
+    let variables = state.variables.as_slice();
+    let word = evaluate(scene, variables, state.banks.as_mut_slice(), value)?;
+    let row = number(evaluate(scene, variables, state.banks.as_mut_slice(), row)?);
+    let element = find_in_bank(scene, place, memory, bank, row)?;
+    put(scene, state, place, element, word)
 }
 
 /// Stores a value at an access; another target stores nothing.
 #[tactic(auto, using(dh_tree::proofs::SeenTerms::terms_are))]
 fn store(scene: &Scene<'_>, state: &mut State, target: &Expr, value: &Expr) -> Result<(), Stop>
+    requires set { IsSet scene.now }
     requires ready { IsReady scene.now.entries.now (contents_of scene.now.memories.now) state.old }
-    requires runnable { AreRunnable scene.now.entries.now (length state.old.variables.items) (one_command (store_meant (term_seen target.now) (term_seen value.now)) no_commands) }
+    requires runnable { AreRunnable scene.now.entries.now (length state.old.variables.items) (one_command (store_meant (memories_in scene.now) (term_seen target.now) (term_seen value.now)) no_commands) }
     ensures ready { IsReady scene.now.entries.now (contents_of scene.now.memories.now) state.new }
     ensures back { KeepsBack state.old state.new }
-    ensures ran { (e : Effect) → Keeps scene.now.entries.now e scene.now.step state.old → Ends scene.now.entries.now (commands_run scene.now.entries.now (contents_of scene.now.memories.now) outer_paths (one_command (store_meant (term_seen target.now) (term_seen value.now)) no_commands) e) scene.now.step result state.new }
+    ensures ran { (e : Effect) → Keeps scene.now.entries.now e scene.now.step state.old → Ends scene.now.entries.now (commands_run scene.now.entries.now (contents_of scene.now.memories.now) outer_paths (one_command (store_meant (memories_in scene.now) (term_seen target.now) (term_seen value.now)) no_commands) e) scene.now.step result state.new }
 {
     match &target.form {
         ExprForm::Access { of, indices } => {
-            let memory = entity_of(of);
+            let memory = memory_of(scene, of);
             store_element(
                 scene,
                 state,
@@ -188,10 +219,13 @@ fn store(scene: &Scene<'_>, state: &mut State, target: &Expr, value: &Expr) -> R
                 value,
             )
         }
+        ExprForm::Physical { of, bank, row, .. } => {
+            let memory = memory_of(scene, of);
+            store_row(scene, state, target.place, memory, *bank, row, value)
+        }
         ExprForm::Number { .. }
         | ExprForm::Truth { .. }
         | ExprForm::Variable { .. }
-        | ExprForm::Physical { .. }
         | ExprForm::Binary { .. }
         | ExprForm::Cast { .. } => Ok(()),
     }
@@ -199,12 +233,13 @@ fn store(scene: &Scene<'_>, state: &mut State, target: &Expr, value: &Expr) -> R
 
 /// Evaluates the test of an `if`.
 fn decide(scene: &Scene<'_>, state: &mut State, test: &Expr) -> Result<bool, Stop>
+    requires set { IsSet scene.now }
     requires ready { IsReady scene.now.entries.now (contents_of scene.now.memories.now) state.old }
-    requires suited { IsSuited scene.now.entries.now (term_meant (term_seen test.now)) }
+    requires suited { IsSuited scene.now.entries.now (term_meant (memories_in scene.now) (term_seen test.now)) }
     ensures ready { IsReady scene.now.entries.now (contents_of scene.now.memories.now) state.new }
     ensures back { KeepsBack state.old state.new }
-    ensures holds { (e : Effect) → Keeps scene.now.entries.now e scene.now.step state.old → IfOk result (λ b. holds_at scene.now.entries.now (contents_of scene.now.memories.now) e.variables (term_meant (term_seen test.now)) [] ≡ b) }
-    ensures ran { (e : Effect) → Keeps scene.now.entries.now e scene.now.step state.old → Ends scene.now.entries.now (tested_at scene.now.entries.now (contents_of scene.now.memories.now) (term_meant (term_seen test.now)) [] e) scene.now.step result state.new }
+    ensures holds { (e : Effect) → Keeps scene.now.entries.now e scene.now.step state.old → IfOk result (λ b. holds_at scene.now.entries.now (contents_of scene.now.memories.now) e.variables (term_meant (memories_in scene.now) (term_seen test.now)) [] ≡ b) }
+    ensures ran { (e : Effect) → Keeps scene.now.entries.now e scene.now.step state.old → Ends scene.now.entries.now (tested_at scene.now.entries.now (contents_of scene.now.memories.now) (term_meant (memories_in scene.now) (term_seen test.now)) [] e) scene.now.step result state.new }
 {
     let word = evaluate(
         scene,
@@ -217,6 +252,7 @@ fn decide(scene: &Scene<'_>, state: &mut State, test: &Expr) -> Result<bool, Sto
 
 /// Sets a variable without a right side to 0 or false.
 fn start(scene: &Scene<'_>, state: &mut State, name: &Ref) -> Result<(), Stop>
+    requires set { IsSet scene.now }
     requires ready { IsReady scene.now.entries.now (contents_of scene.now.memories.now) state.old }
     requires entity { entity_number name.now.entity < length state.old.variables.items }
     ensures ready { IsReady scene.now.entries.now (contents_of scene.now.memories.now) state.new }
@@ -227,15 +263,94 @@ fn start(scene: &Scene<'_>, state: &mut State, name: &Ref) -> Result<(), Stop>
     Ok(())
 }
 
+/// The test of a `while` or an `if`.
+#[tactic(auto, using(dh_tree::proofs::SeenActions::actions_are))]
+fn test_of(command: &Command) -> Option<&Expr>
+    ensures { (ms : List Memory) → test_meant ms (action_seen command.now) ≡ test_or_none ms result }
+{
+    match &command.form {
+        CommandForm::If { test, .. } => Some(test),
+        CommandForm::While { test, .. } => Some(test),
+        CommandForm::Let { .. }
+        | CommandForm::LetMemory { .. }
+        | CommandForm::View { .. }
+        | CommandForm::Assign { .. }
+        | CommandForm::Store { .. }
+        | CommandForm::Reduce { .. }
+        | CommandForm::Call { .. }
+        | CommandForm::Block { .. }
+        | CommandForm::For { .. } => None,
+    }
+}
+
+/// Evaluates the test of a `while` or an `if`.
+pub fn test(scene: &Scene<'_>, state: &mut State, command: &Command) -> Result<bool, Stop>
+    requires set { IsSet scene.now }
+    requires ready { IsReady scene.now.entries.now (contents_of scene.now.memories.now) state.old }
+    requires suited { IsSuited scene.now.entries.now (test_meant (memories_in scene.now) (action_seen command.now)) }
+    ensures ready { IsReady scene.now.entries.now (contents_of scene.now.memories.now) state.new }
+    ensures back { KeepsBack state.old state.new }
+    ensures holds { (e : Effect) → Keeps scene.now.entries.now e scene.now.step state.old → IfOk result (λ b. holds_at scene.now.entries.now (contents_of scene.now.memories.now) e.variables (test_meant (memories_in scene.now) (action_seen command.now)) [] ≡ b) }
+    ensures ran { (e : Effect) → Keeps scene.now.entries.now e scene.now.step state.old → Ends scene.now.entries.now (tested_at scene.now.entries.now (contents_of scene.now.memories.now) (test_meant (memories_in scene.now) (action_seen command.now)) [] e) scene.now.step result state.new }
+{
+    match test_of(command) {
+        Some(test) => decide(scene, state, test),
+        None => Ok(false),
+    }
+}
+
+/// The number of the iterator of a `for`.
+#[tactic(auto, using(dh_tree::proofs::SeenActions::actions_are))]
+fn iterator_of(command: &Command) -> u32
+    ensures { result ≡ iterator_of (action_seen command.now) }
+{
+    match &command.form {
+        CommandForm::For { iterator, .. } => entity_of(iterator),
+        CommandForm::Let { .. }
+        | CommandForm::LetMemory { .. }
+        | CommandForm::View { .. }
+        | CommandForm::Assign { .. }
+        | CommandForm::Store { .. }
+        | CommandForm::Reduce { .. }
+        | CommandForm::Call { .. }
+        | CommandForm::Block { .. }
+        | CommandForm::If { .. }
+        | CommandForm::While { .. } => 0,
+    }
+}
+
+/// Begins a turn of a `for`: sets its iterator. The kind of the word that is kept plays no part: where the
+/// iterator is read, its value is taken into the kind that was found there.
+pub fn begin_turn(
+    scene: &Scene<'_>,
+    state: &mut State,
+    command: &Command,
+    value: u64,
+) -> Result<(), Stop>
+    requires ready { IsReady scene.now.entries.now (contents_of scene.now.memories.now) state.old }
+    requires entity { iterator_of (action_seen command.now) < length state.old.variables.items }
+    ensures ready { IsReady scene.now.entries.now (contents_of scene.now.memories.now) state.new }
+    ensures back { KeepsBack state.old state.new }
+    ensures ran { (e : Effect) → Keeps scene.now.entries.now e scene.now.step state.old → Ends scene.now.entries.now (turn_begun (iterator_of (action_seen command.now)) value e) scene.now.step result state.new }
+{
+    let word = Word {
+        kind: Kind::Unsigned(64),
+        bits: value,
+    };
+    set(state, iterator_of(command), word)?;
+    Ok(())
+}
+
 /// Runs a command.
 #[cycle(run)]
 #[tactic(auto, using(dh_tree::proofs::SeenActions::actions_are))]
 pub fn run(scene: &Scene<'_>, state: &mut State, command: &Command) -> Result<(), Stop>
+    requires set { IsSet scene.now }
     requires ready { IsReady scene.now.entries.now (contents_of scene.now.memories.now) state.old }
-    requires runnable { AreRunnable scene.now.entries.now (length state.old.variables.items) (action_meant (action_seen command.now) no_commands) }
+    requires runnable { AreRunnable scene.now.entries.now (length state.old.variables.items) (action_meant (memories_in scene.now) (action_seen command.now) no_commands) }
     ensures ready { IsReady scene.now.entries.now (contents_of scene.now.memories.now) state.new }
     ensures back { KeepsBack state.old state.new }
-    ensures ran { (e : Effect) → Keeps scene.now.entries.now e scene.now.step state.old → Ends scene.now.entries.now (commands_run scene.now.entries.now (contents_of scene.now.memories.now) outer_paths (action_meant (action_seen command.now) no_commands) e) scene.now.step result state.new }
+    ensures ran { (e : Effect) → Keeps scene.now.entries.now e scene.now.step state.old → Ends scene.now.entries.now (commands_run scene.now.entries.now (contents_of scene.now.memories.now) outer_paths (action_meant (memories_in scene.now) (action_seen command.now) no_commands) e) scene.now.step result state.new }
 {
     match &command.form {
         CommandForm::Let { name, value, .. } => match value {
@@ -268,11 +383,12 @@ pub fn run(scene: &Scene<'_>, state: &mut State, command: &Command) -> Result<()
 #[cycle(run)]
 #[tactic(auto, using(dh_tree::proofs::SeenActions::actions_are))]
 fn run_block(scene: &Scene<'_>, state: &mut State, body: &[Vec<Command>]) -> Result<(), Stop>
+    requires set { IsSet scene.now }
     requires ready { IsReady scene.now.entries.now (contents_of scene.now.memories.now) state.old }
-    requires runnable { AreRunnable scene.now.entries.now (length state.old.variables.items) (groups_meant (groups (map part_seen body.now)) no_commands) }
+    requires runnable { AreRunnable scene.now.entries.now (length state.old.variables.items) (groups_meant (memories_in scene.now) (groups (map part_seen body.now)) no_commands) }
     ensures ready { IsReady scene.now.entries.now (contents_of scene.now.memories.now) state.new }
     ensures back { KeepsBack state.old state.new }
-    ensures ran { (e : Effect) → Keeps scene.now.entries.now e scene.now.step state.old → Ends scene.now.entries.now (commands_run scene.now.entries.now (contents_of scene.now.memories.now) outer_paths (groups_meant (groups (map part_seen body.now)) no_commands) e) scene.now.step result state.new }
+    ensures ran { (e : Effect) → Keeps scene.now.entries.now e scene.now.step state.old → Ends scene.now.entries.now (commands_run scene.now.entries.now (contents_of scene.now.memories.now) outer_paths (groups_meant (memories_in scene.now) (groups (map part_seen body.now)) no_commands) e) scene.now.step result state.new }
 {
     for part in body {
         run_part(scene, state, part.as_slice())?;
@@ -284,11 +400,12 @@ fn run_block(scene: &Scene<'_>, state: &mut State, body: &[Vec<Command>]) -> Res
 #[cycle(run)]
 #[tactic(auto, using(dh_tree::proofs::SeenActions::actions_are))]
 fn run_part(scene: &Scene<'_>, state: &mut State, part: &[Command]) -> Result<(), Stop>
+    requires set { IsSet scene.now }
     requires ready { IsReady scene.now.entries.now (contents_of scene.now.memories.now) state.old }
-    requires runnable { AreRunnable scene.now.entries.now (length state.old.variables.items) (part_meant (actions (map action_seen part.now)) no_commands) }
+    requires runnable { AreRunnable scene.now.entries.now (length state.old.variables.items) (part_meant (memories_in scene.now) (actions (map action_seen part.now)) no_commands) }
     ensures ready { IsReady scene.now.entries.now (contents_of scene.now.memories.now) state.new }
     ensures back { KeepsBack state.old state.new }
-    ensures ran { (e : Effect) → Keeps scene.now.entries.now e scene.now.step state.old → Ends scene.now.entries.now (commands_run scene.now.entries.now (contents_of scene.now.memories.now) outer_paths (part_meant (actions (map action_seen part.now)) no_commands) e) scene.now.step result state.new }
+    ensures ran { (e : Effect) → Keeps scene.now.entries.now e scene.now.step state.old → Ends scene.now.entries.now (commands_run scene.now.entries.now (contents_of scene.now.memories.now) outer_paths (part_meant (memories_in scene.now) (actions (map action_seen part.now)) no_commands) e) scene.now.step result state.new }
 {
     for command in part {
         run(scene, state, command)?;
@@ -298,11 +415,12 @@ fn run_part(scene: &Scene<'_>, state: &mut State, part: &[Command]) -> Result<()
 
 /// Runs the commands of a phase, in order.
 pub fn run_phase(scene: &Scene<'_>, state: &mut State, commands: &[&Command]) -> Result<(), Stop>
+    requires set { IsSet scene.now }
     requires ready { IsReady scene.now.entries.now (contents_of scene.now.memories.now) state.old }
-    requires runnable { AreRunnable scene.now.entries.now (length state.old.variables.items) (commands_meant (map (λ c. action_seen c.now) commands.now)) }
+    requires runnable { AreRunnable scene.now.entries.now (length state.old.variables.items) (commands_meant (memories_in scene.now) (map (λ c. action_seen c.now) commands.now)) }
     ensures ready { IsReady scene.now.entries.now (contents_of scene.now.memories.now) state.new }
     ensures back { KeepsBack state.old state.new }
-    ensures ran { (e : Effect) → Keeps scene.now.entries.now e scene.now.step state.old → Ends scene.now.entries.now (commands_run scene.now.entries.now (contents_of scene.now.memories.now) outer_paths (commands_meant (map (λ c. action_seen c.now) commands.now)) e) scene.now.step result state.new }
+    ensures ran { (e : Effect) → Keeps scene.now.entries.now e scene.now.step state.old → Ends scene.now.entries.now (commands_run scene.now.entries.now (contents_of scene.now.memories.now) outer_paths (commands_meant (memories_in scene.now) (map (λ c. action_seen c.now) commands.now)) e) scene.now.step result state.new }
 {
     for command in commands {
         run(scene, state, command)?;

@@ -11,7 +11,7 @@ absurd : {A : Type 0} → ⊥ → A
 absurd e = elim e [ ]
 
 -- what stands apart, or before, stands in the tree
-apart_left : (t : Meets) (a b : ℕ) → Apart t a b → In a t
+pub apart_left : (t : Meets) (a b : ℕ) → Apart t a b → In a t
 apart_left nothing a b e = absurd e
 apart_left (access c) a b e = absurd e
 apart_left (all l r) a b (inl e) = inl (apart_left l a b e)
@@ -21,7 +21,7 @@ apart_left (one l r) a b (inl (inr e)) = inr e.0
 apart_left (one l r) a b (inr (inl e)) = inl (apart_left l a b e)
 apart_left (one l r) a b (inr (inr e)) = inr (apart_left r a b e)
 
-apart_right : (t : Meets) (a b : ℕ) → Apart t a b → In b t
+pub apart_right : (t : Meets) (a b : ℕ) → Apart t a b → In b t
 apart_right nothing a b e = absurd e
 apart_right (access c) a b e = absurd e
 apart_right (all l r) a b (inl e) = inl (apart_right l a b e)

@@ -15,6 +15,8 @@ use Rattle.dh_tree.specs.Resolved.{resolved_term, resolved_term_form, resolved_t
 use Rattle.dh_tree.specs.Scopes.{Binding, Scope, declare, leave, past, at_end, actions_at_end, formal_sort, body_start, after_function, first_scope, body_scope}
 use Rattle.dh_tree.specs.Widths.{HasWidths}
 use Rattle.dh_tree.specs.Written.{IsDeclared, IsOfText, IsWritten}
+use Rattle.dh_tree.proofs.NumbersKept.{resolved_numbered}
+use Rattle.dh_tree.proofs.LocalsKept.{resolved_named}
 
 -- expressions
 number_kept : (bs : List Binding) (f : TermForm) → plain_number (resolved_term_form bs f) ≡ plain_number f
@@ -361,6 +363,9 @@ of_text_kept tokens p widths h =
     let names = h.names in
     record {
       decls = decls_declared 0 p.decls h.decls;
+      locals = resolved_named (body_scope p) p.body h.locals;
+      first = h.first;
+      numbered = resolved_numbered (body_scope p) h.first p.body h.numbered;
       names = omega (arith, decls, functions, within, body, names);
       widths = widths;
     }

@@ -7,13 +7,13 @@ use Rattle.std.specs.List.{AllByRecursion}
 use Rattle.dh_base.specs.declared.places.Place.{Place}
 use Rattle.dh_value.specs.Words.{IsKind}
 use Rattle.dh_tree.specs.declared.trees.programs.Sort.TheVariants.{Iterator}
-use Rattle.dh_tree.specs.Forms.{unbuilt, holds_steps, form_holds, other_holds, unbuilt_functions}
+use Rattle.dh_tree.specs.Forms.{unbuilt, form_holds, unbuilt_functions}
 use Rattle.dh_tree.specs.PlainTrees.{Term, term, TermForm, number, truth_value, named, accessed, in_bank, applied, converted, Terms, no_terms, term_then, Suffixed, ViewPlan, shrinks, splits, suffixes, shifts, Action, action, ActionForm, lets, lets_memory, views, assigns, stores, reduces, calls, blocks, decides, repeats, counts, MaybeAction, no_action, one_action, Actions, no_actions, action_then, Groups, no_groups, group_then, Declared, Formal, Defined, Program}
 use Rattle.dh_tree.specs.Resolved.{resolved_term, resolved_term_form, resolved_terms, resolved_offset, resolved_plan, resolved_action, resolved_form, resolved_other, resolved_actions, resolved_groups, resolved_decls, resolved_formals, resolved_functions, resolved}
 use Rattle.dh_tree.specs.Scopes.{Binding, Scope, declare, leave, past, at_end, actions_at_end, formal_sort, body_start, after_function, first_scope, body_scope}
-use Rattle.dh_tree.specs.UncheckedForms.{unchecked_decl, unchecked_decls, unchecked_term, unchecked_term_form, unchecked_terms, unchecked_maybe, unchecked_action, unchecked_form, unchecked_other, unchecked_groups, unchecked_part, unchecked_forms}
+use Rattle.dh_tree.specs.UncheckedForms.{unchecked_factor, unchecked_combine, unchecked_action, unchecked_form, unchecked_other, unchecked_groups, unchecked_part, unchecked_forms}
 use Rattle.dh_tree.specs.Widths.{AreSized, AreSizedIn, AreAllSized, MaybeSized, PlanSized, ActionSized, FormSized, OtherSized, ActionsSized, GroupsSized, DefinedSized, HasWidths}
-use Rattle.dh_tree.proofs.ResolvedForms.{steps_kept, other_steps_kept, form_steps_kept, functions_kept}
+use Rattle.dh_tree.proofs.ResolvedForms.{form_steps_kept, functions_kept}
 
 mutual
   term_sized : (bs : List Binding) (t : Term) → AreSized t → AreSized (resolved_term bs t)
@@ -101,57 +101,33 @@ widths_kept p h = record {
   body = action_sized (body_scope p) p.body h.body;
 }
 
-mutual
-  unchecked_kept : (bs : List Binding) (t : Term) → unchecked_term (resolved_term bs t) ≡ unchecked_term t
-  unchecked_kept bs (term place kind form) = unchecked_form_kept bs place form
-
-  unchecked_form_kept : (bs : List Binding) (place : Place) (f : TermForm) → unchecked_term_form place (resolved_term_form bs f) ≡ unchecked_term_form place f
-  unchecked_form_kept bs place (number negative n) = refl
-  unchecked_form_kept bs place (truth_value value) = refl
-  unchecked_form_kept bs place (named r) = refl
-  unchecked_form_kept bs place (accessed r indices) = unchecked_terms_kept bs indices
-  unchecked_form_kept bs place (in_bank r bank bank_place row) = refl
-  unchecked_form_kept bs place (applied o left right) =
-      ap (λ l. l ++ unchecked_term (resolved_term bs right)) (unchecked_kept bs left) ∙ ap (λ l. unchecked_term left ++ l) (unchecked_kept bs right)
-  unchecked_form_kept bs place (converted inner to) = unchecked_kept bs inner
-
-  unchecked_terms_kept : (bs : List Binding) (ts : Terms) → unchecked_terms (resolved_terms bs ts) ≡ unchecked_terms ts
-  unchecked_terms_kept bs no_terms = refl
-  unchecked_terms_kept bs (term_then t rest) =
-      ap (λ l. l ++ unchecked_terms (resolved_terms bs rest)) (unchecked_kept bs t) ∙ ap (λ l. unchecked_term t ++ l) (unchecked_terms_kept bs rest)
-
-unchecked_maybe_kept : (bs : List Binding) (t : Option Term) → unchecked_maybe (option_map (resolved_term bs) t) ≡ unchecked_maybe t
-unchecked_maybe_kept bs None = refl
-unchecked_maybe_kept bs (Some t) = unchecked_kept bs t
+combine_kept : (s : Scope) (word : Place) (m : MaybeAction) → unchecked_combine word (resolved_other s m) ≡ unchecked_combine word m
+combine_kept s word no_action = refl
+combine_kept s word (one_action a) = refl
 
 mutual
   action_kept : (s : Scope) (a : Action) → unchecked_action (resolved_action s a) ≡ unchecked_action a
   action_kept s (action id place form) = action_form_kept s place form
 
   action_form_kept : (s : Scope) (place : Place) (f : ActionForm) → unchecked_form place (resolved_form s f) ≡ unchecked_form place f
-  action_form_kept s place (lets name declared value) = unchecked_maybe_kept s.visible value
+  action_form_kept s place (lets name declared value) = refl
   action_form_kept s place (lets_memory name shape shape_places value) = refl
   action_form_kept s place (views name parent form) = refl
-  action_form_kept s place (assigns target value) = unchecked_kept s.visible value
-  action_form_kept s place (stores target value) =
-      ap (λ l. l ++ unchecked_term (resolved_term s.visible value)) (unchecked_kept s.visible target) ∙ ap (λ l. unchecked_term target ++ l) (unchecked_kept s.visible value)
+  action_form_kept s place (assigns target value) = refl
+  action_form_kept s place (stores target value) = refl
   action_form_kept s place (reduces target o value) = refl
   action_form_kept s place (calls function arguments) = refl
   action_form_kept s place (blocks body) = groups_kept s body
   action_form_kept s place (decides test chosen other) =
       let inner : Scope = leave s (at_end s chosen) in
-      let steps = steps_kept s chosen in
-      let more = other_steps_kept inner other in
-      let tests = unchecked_kept s.visible test in
-      let first = action_kept s chosen in
-      let second = other_kept inner other in
-      ap (λ b. (if b || other_holds (resolved_other inner other) then unbuilt place else []) ++ (unchecked_term (resolved_term s.visible test) ++ (unchecked_action (resolved_action s chosen) ++ unchecked_other (resolved_other inner other)))) steps
-      ∙ (ap (λ b. (if holds_steps chosen || b then unbuilt place else []) ++ (unchecked_term (resolved_term s.visible test) ++ (unchecked_action (resolved_action s chosen) ++ unchecked_other (resolved_other inner other)))) more
-      ∙ (ap (λ l. (if holds_steps chosen || other_holds other then unbuilt place else []) ++ (l ++ (unchecked_action (resolved_action s chosen) ++ unchecked_other (resolved_other inner other)))) tests
-      ∙ (ap (λ l. (if holds_steps chosen || other_holds other then unbuilt place else []) ++ (unchecked_term test ++ (l ++ unchecked_other (resolved_other inner other)))) first
-      ∙ ap (λ l. (if holds_steps chosen || other_holds other then unbuilt place else []) ++ (unchecked_term test ++ (unchecked_action chosen ++ l))) second)))
-  action_form_kept s place (repeats test body) = refl
-  action_form_kept s place (counts iterator declared low high factor body combine combine_place) = refl
+      ap (λ l. l ++ unchecked_other (resolved_other inner other)) (action_kept s chosen) ∙ ap (λ l. unchecked_action chosen ++ l) (other_kept inner other)
+  action_form_kept s place (repeats test body) = action_kept s body
+  action_form_kept s place (counts iterator declared low high factor body combine combine_place) =
+      let d : Scope = declare s iterator Iterator in
+      let first = action_kept d body in
+      let second = combine_kept (at_end d body) combine_place combine in
+      ap (λ l. unchecked_factor factor ++ (l ++ unchecked_combine combine_place (resolved_other (at_end d body) combine))) first
+      ∙ ap (λ l. unchecked_factor factor ++ (unchecked_action body ++ l)) second
 
   other_kept : (s : Scope) (m : MaybeAction) → unchecked_other (resolved_other s m) ≡ unchecked_other m
   other_kept s no_action = refl
@@ -171,12 +147,7 @@ mutual
       ∙ (ap (λ b. unchecked_form place form ++ ((if stepped && b then unbuilt place else []) ++ unchecked_part (stepped || b) (resolved_actions after rest))) (form_steps_kept s form)
       ∙ ap (λ l. unchecked_form place form ++ ((if stepped && form_holds form then unbuilt place else []) ++ l)) (part_kept (stepped || form_holds form) after rest))
 
-decls_kept : (n : ℕ) (ds : List Declared) → unchecked_decls (resolved_decls n ds) ≡ unchecked_decls ds
-decls_kept n [] = refl
-decls_kept n (d ∷ ds) = ap (λ l. unchecked_decl d ++ l) (decls_kept (n + 1) ds)
-
 pub unchecked_forms_kept : (p : Program) → unchecked_forms (resolved p) ≡ unchecked_forms p
 unchecked_forms_kept p =
-    ap (λ l. l ++ (unbuilt_functions (resolved_functions (length p.decls) (first_scope p) p.functions) ++ unchecked_action (resolved_action (body_scope p) p.body))) (decls_kept 0 p.decls)
-    ∙ (ap (λ l. unchecked_decls p.decls ++ (l ++ unchecked_action (resolved_action (body_scope p) p.body))) (functions_kept (length p.decls) (first_scope p) p.functions)
-    ∙ ap (λ l. unchecked_decls p.decls ++ (unbuilt_functions p.functions ++ l)) (action_kept (body_scope p) p.body))
+    ap (λ l. l ++ unchecked_action (resolved_action (body_scope p) p.body)) (functions_kept (length p.decls) (first_scope p) p.functions)
+    ∙ ap (λ l. unbuilt_functions p.functions ++ l) (action_kept (body_scope p) p.body)

@@ -14,7 +14,7 @@ use Rattle.dh_tree.specs.declared.trees.commands.CommandForm.TheVariants.{Let, L
 use Rattle.dh_tree.specs.declared.trees.commands.CommandForm.TheBlock as block
 use Rattle.dh_tree.specs.declared.trees.commands.ViewForm.{ViewForm}
 use Rattle.dh_tree.specs.PlainTrees.{action, lets, lets_memory, views, assigns, stores, reduces, calls, blocks, decides, repeats, counts, action_then, group_then}
-use Rattle.dh_tree.specs.Seen.{term_seen, plan_seen, placed, action_form_seen, rows_seen, commands_seen, action_seen, actions, part_seen, groups, maybe_seen}
+use Rattle.dh_tree.specs.Seen.{term_seen, plan_seen, placed, unrolled, action_form_seen, rows_seen, commands_seen, action_seen, actions, part_seen, groups, maybe_seen}
 use mathlib.Core.Former.{Count}
 
 pub let_is : (name : Ref) (declared : Option Kind) (value : Option Expr) → action_form_seen (Let name declared value) ≡ lets name declared (option_map term_seen value)
@@ -72,9 +72,9 @@ unfolding action_form_seen
 if_is test body None = refl
 if_is test body (Some b) = refl
 
-pub for_is : (iterator : Ref) (declared : Option Kind) (low : ℕ) (low_place : Place) (high : ℕ) (high_place : Place) (factor : ℕ) (factor_place : Place) (body combine : _) (combine_place : Place) → action_form_seen (For iterator declared low low_place high high_place factor factor_place body combine combine_place) ≡ counts iterator declared (placed low low_place) (placed high high_place) (placed factor factor_place) (action_seen body.value) (maybe_seen (option_map (λ b. action_seen b.value) combine)) combine_place
+pub for_is : (iterator : Ref) (declared : Option Kind) (low : ℕ) (low_place : Place) (high : ℕ) (high_place : Place) (factor : ℕ) (factor_place unroll_place : Place) (body combine : _) (combine_place : Place) → action_form_seen (For iterator declared low low_place high high_place factor factor_place unroll_place body combine combine_place) ≡ counts iterator declared (placed low low_place) (placed high high_place) (unrolled factor factor_place unroll_place) (action_seen body.value) (maybe_seen (option_map (λ b. action_seen b.value) combine)) combine_place
 unfolding action_form_seen
-for_is iterator declared low low_place high high_place factor factor_place body None combine_place = refl
-for_is iterator declared low low_place high high_place factor factor_place body (Some b) combine_place = refl
+for_is iterator declared low low_place high high_place factor factor_place unroll_place body None combine_place = refl
+for_is iterator declared low low_place high high_place factor factor_place unroll_place body (Some b) combine_place = refl
 
 pub ruleset actions_are = (let_is, let_memory_is, view_is, assign_is, store_is, reduce_is, call_is, while_is, block_is, if_is, for_is)

@@ -11,7 +11,7 @@ use Rattle.dh_tree.specs.declared.trees.programs.Entity.{Entity}
 use Rattle.dh_tree.specs.declared.trees.programs.ShapePlaces.{ShapePlaces}
 use Rattle.dh_tree.specs.declared.trees.programs.Sort.TheVariants.{Iterator}
 use Rattle.dh_tree.specs.Kinds.{Facts, fact_of, of_iterator, for_numbers, found, form_found, iterator_kind, target_kind, parameters_of, is_bare, left_want, right_want, typed_term, typed_form, typed_terms, typed_maybe, typed_offset, typed_plan, typed_arguments, facts_after, facts_after_actions, facts_after_function, formal_facts, first_facts, typed_action, typed_action_form, typed_other, typed_actions, typed_groups, typed_function, typed_functions, typed}
-use Rattle.dh_tree.specs.PlainTrees.{Term, term, TermForm, number, truth_value, named, accessed, in_bank, applied, converted, Terms, no_terms, term_then, Suffixed, ViewPlan, shrinks, splits, suffixes, shifts, Placed, Action, action, ActionForm, lets, lets_memory, views, assigns, stores, reduces, calls, blocks, decides, repeats, counts, MaybeAction, no_action, one_action, Actions, no_actions, action_then, Groups, no_groups, group_then, Declared, Defined, Program}
+use Rattle.dh_tree.specs.PlainTrees.{Term, term, TermForm, number, truth_value, named, accessed, in_bank, applied, converted, Terms, no_terms, term_then, Suffixed, ViewPlan, shrinks, splits, suffixes, shifts, Placed, Unrolled, Action, action, ActionForm, lets, lets_memory, views, assigns, stores, reduces, calls, blocks, decides, repeats, counts, MaybeAction, no_action, one_action, Actions, no_actions, action_then, Groups, no_groups, group_then, Declared, Defined, Program}
 use Rattle.dh_tree.specs.Resolved.{used, declares, resolved_term, resolved_term_form, resolved_terms, resolved_offset, resolved_plan, resolved_action, resolved_form, resolved_other, resolved_actions, resolved_groups, resolved_formals, resolved_function, resolved_functions, resolved, HasEntities}
 use Rattle.dh_tree.specs.Scopes.{Binding, Scope, declare, leave, past, at_end, actions_at_end, body_start, after_function, first_scope, body_scope, last_scope}
 use Rattle.dh_tree.proofs.TypedForms.{start_of}
@@ -81,7 +81,7 @@ arms a b c d m n h = (cc, (cc, cc))
 while_parts : (a b : Term) (c d : Action) → repeats a c ≡ repeats b d → (a ≡ b) × (c ≡ d)
 while_parts a b c d h = (cc, cc)
 
-for_parts : (r q : Ref) (declared : Option Kind) (low high factor : Placed) (c d : Action) (m n : MaybeAction) (place : Place)
+for_parts : (r q : Ref) (declared : Option Kind) (low high : Placed) (factor : Unrolled) (c d : Action) (m n : MaybeAction) (place : Place)
     → counts r declared low high factor c m place ≡ counts q declared low high factor d n place
     → (r ≡ q) × ((c ≡ d) × (m ≡ n))
 for_parts r q declared low high factor c d m n place h = (cc, (cc, cc))

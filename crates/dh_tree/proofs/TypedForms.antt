@@ -13,6 +13,8 @@ use Rattle.dh_tree.specs.NameCounts.{declared_in, declared_in_form, declared_in_
 use Rattle.dh_tree.specs.PlainTrees.{Term, term, TermForm, number, truth_value, named, accessed, in_bank, applied, converted, Terms, no_terms, term_then, Action, action, ActionForm, lets, lets_memory, views, assigns, stores, reduces, calls, blocks, decides, repeats, counts, MaybeAction, no_action, one_action, Actions, no_actions, action_then, Groups, no_groups, group_then, Defined, Program}
 use Rattle.dh_tree.specs.Widths.{HasWidths}
 use Rattle.dh_tree.specs.Written.{IsOfText, IsWritten}
+use Rattle.dh_tree.proofs.NumbersKept.{typed_numbered}
+use Rattle.dh_tree.proofs.LocalsKept.{typed_named}
 
 -- expressions
 number_kept : (facts : Facts) (want : Option Kind) (f : TermForm) → plain_number (typed_form facts want f) ≡ plain_number f
@@ -344,6 +346,9 @@ of_text_kept tokens p widths h =
     let names = h.names in
     record {
       decls = h.decls;
+      locals = typed_named (start_of p) p.body h.locals;
+      first = h.first;
+      numbered = typed_numbered (start_of p) h.first p.body h.numbered;
       names = omega (arith, functions, within, body, names);
       widths = widths;
     }

@@ -5,12 +5,12 @@ use Rattle.std.proofs.Common.{◌≡◌, ◌&&◌, ◌||◌, Bool, false, if◌t
 use Rattle.std.specs.List.{AllByRecursion}
 use Rattle.dh_base.specs.declared.places.Place.{Place}
 use Rattle.dh_value.specs.declared.kinds.Kind.{Kind}
-use Rattle.dh_tree.specs.Forms.{unbuilt, holds_steps, form_holds, other_holds, unbuilt_functions}
+use Rattle.dh_tree.specs.Forms.{unbuilt, form_holds, unbuilt_functions}
 use Rattle.dh_tree.specs.Kinds.{Facts, fact_of, of_iterator, for_numbers, found, iterator_kind, target_kind, parameters_of, is_bare, left_want, right_want, typed_term, typed_form, typed_terms, typed_maybe, typed_offset, typed_plan, typed_arguments, facts_after, facts_after_actions, facts_after_function, formal_facts, first_facts, typed_action, typed_action_form, typed_other, typed_actions, typed_groups, typed_function, typed_functions, typed}
 use Rattle.dh_tree.specs.PlainTrees.{Term, term, TermForm, number, truth_value, named, accessed, in_bank, applied, converted, Terms, no_terms, term_then, Suffixed, ViewPlan, shrinks, splits, suffixes, shifts, Action, action, ActionForm, lets, lets_memory, views, assigns, stores, reduces, calls, blocks, decides, repeats, counts, MaybeAction, no_action, one_action, Actions, no_actions, action_then, Groups, no_groups, group_then, Defined, Program}
-use Rattle.dh_tree.specs.UncheckedForms.{unchecked_decls, unchecked_term, unchecked_term_form, unchecked_terms, unchecked_maybe, unchecked_action, unchecked_form, unchecked_other, unchecked_groups, unchecked_part, unchecked_forms}
+use Rattle.dh_tree.specs.UncheckedForms.{unchecked_factor, unchecked_combine, unchecked_action, unchecked_form, unchecked_other, unchecked_groups, unchecked_part, unchecked_forms}
 use Rattle.dh_tree.specs.Widths.{AreSized, AreSizedIn, AreAllSized, MaybeSized, PlanSized, ActionSized, FormSized, OtherSized, ActionsSized, GroupsSized, DefinedSized, HasWidths}
-use Rattle.dh_tree.proofs.TypedForms.{steps_kept, other_steps_kept, form_steps_kept, functions_kept, start_of}
+use Rattle.dh_tree.proofs.TypedForms.{form_steps_kept, functions_kept, start_of}
 
 mutual
   term_sized : (facts : Facts) (want : Option Kind) (t : Term) → AreSized t → AreSized (typed_term facts want t)
@@ -101,60 +101,32 @@ widths_kept p h = record {
   body = action_sized (start_of p) p.body h.body;
 }
 
-mutual
-  unchecked_kept : (facts : Facts) (want : Option Kind) (t : Term) → unchecked_term (typed_term facts want t) ≡ unchecked_term t
-  unchecked_kept facts want (term place kind form) = unchecked_form_kept facts want place form
-
-  unchecked_form_kept : (facts : Facts) (want : Option Kind) (place : Place) (f : TermForm) → unchecked_term_form place (typed_form facts want f) ≡ unchecked_term_form place f
-  unchecked_form_kept facts want place (number negative n) = refl
-  unchecked_form_kept facts want place (truth_value value) = refl
-  unchecked_form_kept facts want place (named r) = refl
-  unchecked_form_kept facts want place (accessed r indices) = unchecked_terms_kept facts indices
-  unchecked_form_kept facts want place (in_bank r bank bank_place row) = refl
-  unchecked_form_kept facts want place (applied o left right) =
-      let l : Option Kind = left_want o want (is_bare left) (is_bare right) (found (typed_term facts None right)) in
-      let r : Option Kind = right_want o want (is_bare left) (is_bare right) (found (typed_term facts None left)) in
-      ap (λ x. x ++ unchecked_term (typed_term facts r right)) (unchecked_kept facts l left) ∙ ap (λ x. unchecked_term left ++ x) (unchecked_kept facts r right)
-  unchecked_form_kept facts want place (converted inner to) = unchecked_kept facts (for_numbers (Some to)) inner
-
-  unchecked_terms_kept : (facts : Facts) (ts : Terms) → unchecked_terms (typed_terms facts ts) ≡ unchecked_terms ts
-  unchecked_terms_kept facts no_terms = refl
-  unchecked_terms_kept facts (term_then t rest) =
-      ap (λ l. l ++ unchecked_terms (typed_terms facts rest)) (unchecked_kept facts None t) ∙ ap (λ l. unchecked_term t ++ l) (unchecked_terms_kept facts rest)
-
-unchecked_maybe_kept : (facts : Facts) (want : Option Kind) (t : Option Term) → unchecked_maybe (typed_maybe facts want t) ≡ unchecked_maybe t
-unchecked_maybe_kept facts want None = refl
-unchecked_maybe_kept facts want (Some t) = unchecked_kept facts (for_numbers want) t
+combine_kept : (facts : Facts) (word : Place) (m : MaybeAction) → unchecked_combine word (typed_other facts m) ≡ unchecked_combine word m
+combine_kept facts word no_action = refl
+combine_kept facts word (one_action a) = refl
 
 mutual
   action_kept : (facts : Facts) (a : Action) → unchecked_action (typed_action facts a) ≡ unchecked_action a
   action_kept facts (action id place form) = action_form_kept facts place form
 
   action_form_kept : (facts : Facts) (place : Place) (f : ActionForm) → unchecked_form place (typed_action_form facts f) ≡ unchecked_form place f
-  action_form_kept facts place (lets name declared value) = unchecked_maybe_kept facts declared value
+  action_form_kept facts place (lets name declared value) = refl
   action_form_kept facts place (lets_memory name shape shape_places value) = refl
   action_form_kept facts place (views name parent form) = refl
-  action_form_kept facts place (assigns target value) = unchecked_kept facts (for_numbers (target_kind (fact_of facts target))) value
-  action_form_kept facts place (stores target value) =
-      let want : Option Kind = for_numbers (found (typed_term facts None target)) in
-      ap (λ l. l ++ unchecked_term (typed_term facts want value)) (unchecked_kept facts None target) ∙ ap (λ l. unchecked_term target ++ l) (unchecked_kept facts want value)
+  action_form_kept facts place (assigns target value) = refl
+  action_form_kept facts place (stores target value) = refl
   action_form_kept facts place (reduces target o value) = refl
   action_form_kept facts place (calls function arguments) = refl
   action_form_kept facts place (blocks body) = groups_kept facts body
   action_form_kept facts place (decides test chosen other) =
       let inner : Facts = facts_after facts (typed_action facts chosen) in
-      let steps = steps_kept facts chosen in
-      let more = other_steps_kept inner other in
-      let tests = unchecked_kept facts None test in
-      let first = action_kept facts chosen in
-      let second = other_kept inner other in
-      ap (λ b. (if b || other_holds (typed_other inner other) then unbuilt place else []) ++ (unchecked_term (typed_term facts None test) ++ (unchecked_action (typed_action facts chosen) ++ unchecked_other (typed_other inner other)))) steps
-      ∙ (ap (λ b. (if holds_steps chosen || b then unbuilt place else []) ++ (unchecked_term (typed_term facts None test) ++ (unchecked_action (typed_action facts chosen) ++ unchecked_other (typed_other inner other)))) more
-      ∙ (ap (λ l. (if holds_steps chosen || other_holds other then unbuilt place else []) ++ (l ++ (unchecked_action (typed_action facts chosen) ++ unchecked_other (typed_other inner other)))) tests
-      ∙ (ap (λ l. (if holds_steps chosen || other_holds other then unbuilt place else []) ++ (unchecked_term test ++ (l ++ unchecked_other (typed_other inner other)))) first
-      ∙ ap (λ l. (if holds_steps chosen || other_holds other then unbuilt place else []) ++ (unchecked_term test ++ (unchecked_action chosen ++ l))) second)))
-  action_form_kept facts place (repeats test body) = refl
-  action_form_kept facts place (counts iterator declared low high factor body combine combine_place) = refl
+      ap (λ l. l ++ unchecked_other (typed_other inner other)) (action_kept facts chosen) ∙ ap (λ l. unchecked_action chosen ++ l) (other_kept inner other)
+  action_form_kept facts place (repeats test body) = action_kept facts body
+  action_form_kept facts place (counts iterator declared low high factor body combine combine_place) =
+      let inside : Facts = facts ++ of_iterator (iterator_kind declared) ∷ [] in
+      let behind : Facts = facts_after inside (typed_action inside body) in
+      ap (λ l. unchecked_factor factor ++ (l ++ unchecked_combine combine_place (typed_other behind combine))) (action_kept inside body)
+      ∙ ap (λ l. unchecked_factor factor ++ (unchecked_action body ++ l)) (combine_kept behind combine_place combine)
 
   other_kept : (facts : Facts) (m : MaybeAction) → unchecked_other (typed_other facts m) ≡ unchecked_other m
   other_kept facts no_action = refl
@@ -176,5 +148,5 @@ mutual
 
 pub unchecked_forms_kept : (p : Program) → unchecked_forms (typed p) ≡ unchecked_forms p
 unchecked_forms_kept p =
-    ap (λ l. unchecked_decls p.decls ++ (l ++ unchecked_action (typed p).body)) (functions_kept (first_facts p) p.functions)
-    ∙ ap (λ l. unchecked_decls p.decls ++ (unbuilt_functions p.functions ++ l)) (action_kept (start_of p) p.body)
+    ap (λ l. l ++ unchecked_action (typed p).body) (functions_kept (first_facts p) p.functions)
+    ∙ ap (λ l. unbuilt_functions p.functions ++ l) (action_kept (start_of p) p.body)

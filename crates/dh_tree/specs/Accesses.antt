@@ -7,6 +7,7 @@ use Rattle.std.specs.Prelude.{◌≡◌, ℕ, ◌+◌, ◌≤◌, ◌<◌, ◌==
 use Rattle.std.specs.List.{list_any}
 use Rattle.dh_base.specs.declared.places.Place.{Place}
 use Rattle.dh_tree.specs.PlainTrees.{Term, term, TermForm, number, accessed, applied, converted, Terms, no_terms, term_then, Action, action, ActionForm, stores, blocks, Actions, no_actions, action_then, Groups, no_groups, group_then, Declared, Program}
+use Rattle.dh_tree.specs.Memories.{same_entity}
 use Rattle.dh_tree.specs.Phases.{Phase, phases, in_one_straight}
 use Rattle.dh_tree.specs.Meets.{Meets, nothing, access, all, one, Before, Together, Completes, total}
 
@@ -82,11 +83,6 @@ abbrev mutual
   pub part_meets : ℕ → Actions → Meets
   part_meets n no_actions = nothing
   part_meets n (action_then a rest) = all (meets n a) (part_meets (n + length (accesses a)) rest)
-
--- both stand for one entity
-abbrev pub same_entity : Option ℕ → Option ℕ → Bool
-same_entity (Some m) (Some n) = m == n
-same_entity _ _ = false
 
 abbrev pub same_sign : Bool → Bool → Bool
 same_sign true b = b

@@ -20,8 +20,8 @@ use Rattle.dh_value.specs.Operations as operations
 use Rattle.dh_value.specs.Operations.{binary_of}
 use Rattle.dh_tree.specs.declared.tables.Dim.{Dim}
 use Rattle.dh_tree.specs.declared.tables.MemEntry.{MemEntry}
-use Rattle.dh_tree.specs.Tree.{Term, number, truth_value, variable, access, binary, convert, Terms, no_terms, term, Command, store, assign, choose, Commands, no_commands, command}
-use Rattle.dh_tree.specs.Elements.{Spot, spot_of, dims_at, ports_at, position_of}
+use Rattle.dh_tree.specs.Tree.{Term, number, truth_value, variable, access, in_bank, binary, convert, Terms, no_terms, term, Command, store, store_in_bank, assign, choose, Commands, no_commands, command}
+use Rattle.dh_tree.specs.Elements.{Spot, spot_of, spot_in_bank, dims_at, ports_at, position_of, position_in_bank, rows_of}
 
 -- an access that was made, or a fault, at its place in the source
 pub data Event : Type 0 where
@@ -70,6 +70,14 @@ is_inside _ _ = false
 abbrev pub element_at : List MemEntry → List (List ℕ) → (memory : ℕ) → List ℤ → ℕ
 element_at table memories memory indices = slice_index (slice_index_or memories memory []) (position_of (dims_at table memory) (map unsigned_abs indices))
 
+-- the element in a row of a bank
+abbrev pub element_in_bank : List MemEntry → List (List ℕ) → (memory bank : ℕ) → (row : ℤ) → ℕ
+element_in_bank table memories memory bank row = slice_index (slice_index_or memories memory []) (position_in_bank (dims_at table memory) bank (unsigned_abs row))
+
+-- it is a row of a bank of these dimensions
+abbrev pub is_row : List Dim → ℤ → Bool
+is_row dims row = int_le (pos 0) row && int_lt row (pos (rows_of dims))
+
 -- the value of an expression at a path
 abbrev mutual
   pub value_of : List MemEntry → List (List ℕ) → Variables → (path : List ℕ) → Term → Word
@@ -78,6 +86,8 @@ abbrev mutual
   value_of table memories variables path (variable kind depth entity) = word_of kind (variables entity (take depth path))
   value_of table memories variables path (access place memory indices) =
       with_bits (kind_in table memory) (element_at table memories memory (values_of table memories variables path indices))
+  value_of table memories variables path (in_bank place memory bank row) =
+      with_bits (kind_in table memory) (element_in_bank table memories memory bank (words.value_of (value_of table memories variables path row)))
   value_of table memories variables path (binary op left right) =
       binary_of op (value_of table memories variables path left) (value_of table memories variables path right)
   value_of table memories variables path (convert to inner) = word_of to (words.value_of (value_of table memories variables path inner))
@@ -93,6 +103,10 @@ abbrev pub access_made : List MemEntry → Place → (memory : ℕ) → List ℤ
 access_made table place memory indices made =
     if is_inside (dims_at table memory) indices then made (spot_of table memory (map unsigned_abs indices)) else faults OutOfRange place
 
+abbrev pub bank_access_made : List MemEntry → Place → (memory bank : ℕ) → (row : ℤ) → (Spot → Event) → Event
+bank_access_made table place memory bank row made =
+    if is_row (dims_at table memory) row then made (spot_in_bank table memory bank (unsigned_abs row)) else faults OutOfRange place
+
 -- the accesses and faults of an expression: the left operand first, an access after its indices; every
 -- operand is evaluated
 abbrev mutual
@@ -102,6 +116,9 @@ abbrev mutual
   term_events table memories variables path (variable kind depth entity) = []
   term_events table memories variables path (access place memory indices) =
       terms_events table memories variables path indices ++ access_made table place memory (values_of table memories variables path indices) (reads place) ∷ []
+  term_events table memories variables path (in_bank place memory bank row) =
+      term_events table memories variables path row
+      ++ bank_access_made table place memory bank (words.value_of (value_of table memories variables path row)) (reads place) ∷ []
   term_events table memories variables path (binary op left right) =
       term_events table memories variables path left ++ term_events table memories variables path right
   term_events table memories variables path (convert to inner) = term_events table memories variables path inner
@@ -130,6 +147,13 @@ stored_at table memories place memory indices value path e =
     (term_events table memories e.variables path value
     ++ (terms_events table memories e.variables path indices
     ++ access_made table place memory (values_of table memories e.variables path indices) (λ s. writes place s (kept_bits table memory (value_of table memories e.variables path value))) ∷ []))
+
+abbrev pub stored_in_bank_at : List MemEntry → List (List ℕ) → Place → (memory bank : ℕ) → (row value : Term) → (path : List ℕ) → Effect → Effect
+stored_in_bank_at table memories place memory bank row value path e =
+    with_events e
+    (term_events table memories e.variables path value
+    ++ (term_events table memories e.variables path row
+    ++ bank_access_made table place memory bank (words.value_of (value_of table memories e.variables path row)) (λ s. writes place s (kept_bits table memory (value_of table memories e.variables path value))) ∷ []))
 
 -- an assignment at a path evaluates its right side, then sets the variable
 abbrev pub assigned_at : List MemEntry → List (List ℕ) → (depth entity : ℕ) → Term → (path : List ℕ) → Effect → Effect
@@ -161,6 +185,7 @@ abbrev mutual
   -- one arm where it is true, then the other where it is not.
   pub command_run : List MemEntry → List (List ℕ) → (paths : List (List ℕ)) → Command → Effect → Effect
   command_run table memories paths (store place memory indices value) e = at_each (stored_at table memories place memory indices value) paths e
+  command_run table memories paths (store_in_bank place memory bank row value) e = at_each (stored_in_bank_at table memories place memory bank row value) paths e
   command_run table memories paths (assign depth entity value) e = at_each (assigned_at table memories depth entity value) paths e
   command_run table memories paths (choose test chosen other) e =
       commands_run table memories (paths_where false (holds_at table memories e.variables test) paths) other

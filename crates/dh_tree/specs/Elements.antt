@@ -30,6 +30,13 @@ abbrev pub position_of : List Dim → List ℕ → ℕ
 position_of (d ∷ ds) (i ∷ is) = i * elements_of ds + position_of ds is
 position_of _ _ = 0
 
+-- the place among all elements of the one in this row of this bank: both numbers are taken apart into
+-- those of the dimensions
+abbrev pub position_in_bank : List Dim → (bank row : ℕ) → ℕ
+position_in_bank [] bank row = 0
+position_in_bank (d ∷ ds) bank row =
+    ((row / rows_of ds) * d.banks + bank / banks_of ds) * elements_of ds + position_in_bank ds (bank % banks_of ds) (row % rows_of ds)
+
 -- as many indices as dimensions, each below its size
 abbrev pub is_within : List Dim → List ℕ → Bool
 is_within [] [] = true
@@ -63,3 +70,7 @@ pub record Spot : Type 0 where
 abbrev pub spot_of : List MemEntry → (memory : ℕ) → List ℕ → Spot
 spot_of table memory indices =
     record { memory = memory; bank = bank_of (dims_at table memory) indices; row = row_of (dims_at table memory) indices; position = position_of (dims_at table memory) indices }
+
+-- where the element in a row of a bank lies
+abbrev pub spot_in_bank : List MemEntry → (memory bank row : ℕ) → Spot
+spot_in_bank table memory bank row = record { memory = memory; bank = bank; row = row; position = position_in_bank (dims_at table memory) bank row }

@@ -1,31 +1,28 @@
 -- What a program means whose names are resolved and whose expressions have their kinds: its memories,
--- and the phases of its body, with memories by their number in the table and operands extended. For now
--- there are memories from outside alone, whose entities are their numbers in the table, and no loops.
-use Rattle.std.specs.Prelude.{ℕ, max, false, true, List, [], ◌∷◌, map, Option, Some, None}
+-- and the phases of its body, with memories by their number in the table and operands extended. Views,
+-- functions and unrolled loops are not built.
+use Rattle.std.specs.Prelude.{ℕ, max, false, List, [], ◌∷◌, map, Option, Some, None}
 use Rattle.dh_base.specs.declared.places.Place.{Place}
 use Rattle.dh_value.specs.declared.kinds.Kind.{Kind}
 use Rattle.dh_value.specs.declared.kinds.Kind.TheVariants.{Bool, Unsigned, Signed}
 use Rattle.dh_value.specs.declared.operators.Op.{Op}
 use Rattle.dh_value.specs.declared.operators.Op.TheVariants as op
-use Rattle.dh_tree.specs.declared.tables.MemEntry.{MemEntry}
 use Rattle.dh_tree.specs.declared.trees.expressions.Ref.{Ref}
 use Rattle.dh_tree.specs.PlainTrees as plain
-use Rattle.dh_tree.specs.PlainTrees.{Action, action, ActionForm, lets, assigns, stores, blocks, decides, MaybeAction, no_action, one_action, Actions, no_actions, action_then, Groups, no_groups, group_then, Declared, Program}
+use Rattle.dh_tree.specs.PlainTrees.{Action, action, ActionForm, lets, assigns, stores, blocks, decides, repeats, counts, MaybeAction, no_action, one_action, Actions, no_actions, action_then, Groups, no_groups, group_then, Program}
+use Rattle.dh_tree.specs.Memories.{Memory, memories_of, number_in, table_of}
 use Rattle.dh_tree.specs.Phases as source
 use Rattle.dh_tree.specs.Phases.{phases}
-use Rattle.dh_tree.specs.Tree.{Term, number, truth_value, variable, access, binary, convert, Terms, no_terms, term, Command, store, assign, choose, Commands, no_commands, command, Phase, straight, Tree}
-
--- the memory that a declaration declares
-abbrev pub entry_of : Declared → MemEntry
-entry_of d = record { name = d.name.name; shape = d.shape; outside = true }
+use Rattle.dh_tree.specs.Tree.{Term, number, truth_value, variable, access, in_bank, binary, convert, Terms, no_terms, term, Command, store, store_in_bank, assign, choose, Commands, no_commands, command, Phase, straight, turns, repeated, decided, Phases, no_phases, phase, Tree}
 
 -- the number of what a name stands for; every name of a resolved program stands for something
 abbrev pub entity_number : Option ℕ → ℕ
 entity_number None = 0
 entity_number (Some n) = n
 
-abbrev pub memory_of : Ref → ℕ
-memory_of r = entity_number r.entity
+-- the number of the memory that a name stands for
+abbrev pub memory_of : List Memory → Ref → ℕ
+memory_of ms r = entity_number (number_in ms r.entity)
 
 -- a kind that was found; every expression of a typed program has one
 abbrev pub kind_or_first : Option Kind → Kind
@@ -60,71 +57,92 @@ applied_meant op.Either j k left right = binary op.Either left right
 applied_meant o j k left right = extended_both o j k left right
 
 abbrev mutual
-  -- an expression; forms that are not built stand for 0
-  pub term_meant : plain.Term → Term
-  term_meant (plain.term place kind form) = form_meant place (kind_or_first kind) form
+  -- an expression, where these are the memories
+  pub term_meant : List Memory → plain.Term → Term
+  term_meant ms (plain.term place kind form) = form_meant ms place (kind_or_first kind) form
 
-  pub form_meant : Place → Kind → plain.TermForm → Term
-  form_meant place k (plain.number negative value) = number k negative value
-  form_meant place k (plain.truth_value value) = truth_value value
-  form_meant place k (plain.named r) = variable k 0 (entity_number r.entity)
-  form_meant place k (plain.accessed r indices) = access place (memory_of r) (terms_meant indices)
-  form_meant place k (plain.in_bank r bank bank_place row) = number k false 0
-  form_meant place k (plain.applied o left right) = applied_meant o (kind_of left) (kind_of right) (term_meant left) (term_meant right)
-  form_meant place k (plain.converted inner to) = convert to (term_meant inner)
+  pub form_meant : List Memory → Place → Kind → plain.TermForm → Term
+  form_meant ms place k (plain.number negative value) = number k negative value
+  form_meant ms place k (plain.truth_value value) = truth_value value
+  form_meant ms place k (plain.named r) = variable k 0 (entity_number r.entity)
+  form_meant ms place k (plain.accessed r indices) = access place (memory_of ms r) (terms_meant ms indices)
+  form_meant ms place k (plain.in_bank r bank bank_place row) = in_bank place (memory_of ms r) bank (term_meant ms row)
+  form_meant ms place k (plain.applied o left right) = applied_meant o (kind_of left) (kind_of right) (term_meant ms left) (term_meant ms right)
+  form_meant ms place k (plain.converted inner to) = convert to (term_meant ms inner)
 
   -- indices
-  pub terms_meant : plain.Terms → Terms
-  terms_meant plain.no_terms = no_terms
-  terms_meant (plain.term_then t rest) = term (term_meant t) (terms_meant rest)
+  pub terms_meant : List Memory → plain.Terms → Terms
+  terms_meant ms plain.no_terms = no_terms
+  terms_meant ms (plain.term_then t rest) = term (term_meant ms t) (terms_meant ms rest)
 
 -- what a variable is set to; a `let` without a right side sets 0 or false
-abbrev pub first_value : Option Kind → Option plain.Term → Term
-first_value declared None = number (kind_or_first declared) false 0
-first_value declared (Some value) = term_meant value
+abbrev pub first_value : List Memory → Option Kind → Option plain.Term → Term
+first_value ms declared None = number (kind_or_first declared) false 0
+first_value ms declared (Some value) = term_meant ms value
 
 -- a store, of which the target is an access; no text has another target, which would store nothing
-abbrev pub store_meant : plain.Term → plain.Term → Command
-store_meant (plain.term at kind (plain.accessed r indices)) value = store at (memory_of r) (terms_meant indices) (term_meant value)
-store_meant (plain.term at kind form) value = choose (truth_value false) no_commands no_commands
+abbrev pub store_meant : List Memory → plain.Term → plain.Term → Command
+store_meant ms (plain.term at kind (plain.accessed r indices)) value = store at (memory_of ms r) (terms_meant ms indices) (term_meant ms value)
+store_meant ms (plain.term at kind (plain.in_bank r bank bank_place row)) value = store_in_bank at (memory_of ms r) bank (term_meant ms row) (term_meant ms value)
+store_meant ms (plain.term at kind form) value = choose (truth_value false) no_commands no_commands
 
 abbrev mutual
-  -- the straight commands of a command, in front of those that follow: a block has those of its content
-  pub action_meant : Action → Commands → Commands
-  action_meant (action id place form) rest = action_form_meant form rest
+  -- the straight commands of a command, in front of those that follow: a block has those of its content,
+  -- and a declaration of a memory has none
+  pub action_meant : List Memory → Action → Commands → Commands
+  action_meant ms (action id place form) rest = action_form_meant ms form rest
 
-  pub action_form_meant : ActionForm → Commands → Commands
-  action_form_meant (lets name declared value) rest = command (assign 0 (entity_number name.entity) (first_value declared value)) rest
-  action_form_meant (assigns target value) rest = command (assign 0 (entity_number target.entity) (term_meant value)) rest
-  action_form_meant (stores target value) rest = command (store_meant target value) rest
-  action_form_meant (decides test chosen other) rest = command (choose (term_meant test) (action_meant chosen no_commands) (other_meant other)) rest
-  action_form_meant (blocks body) rest = groups_meant body rest
-  action_form_meant form rest = rest
+  pub action_form_meant : List Memory → ActionForm → Commands → Commands
+  action_form_meant ms (lets name declared value) rest = command (assign 0 (entity_number name.entity) (first_value ms declared value)) rest
+  action_form_meant ms (assigns target value) rest = command (assign 0 (entity_number target.entity) (term_meant ms value)) rest
+  action_form_meant ms (stores target value) rest = command (store_meant ms target value) rest
+  action_form_meant ms (decides test chosen other) rest = command (choose (term_meant ms test) (action_meant ms chosen no_commands) (other_meant ms other)) rest
+  action_form_meant ms (blocks body) rest = groups_meant ms body rest
+  action_form_meant ms form rest = rest
 
-  pub other_meant : MaybeAction → Commands
-  other_meant no_action = no_commands
-  other_meant (one_action a) = action_meant a no_commands
+  pub other_meant : List Memory → MaybeAction → Commands
+  other_meant ms no_action = no_commands
+  other_meant ms (one_action a) = action_meant ms a no_commands
 
-  pub part_meant : Actions → Commands → Commands
-  part_meant no_actions rest = rest
-  part_meant (action_then a behind) rest = action_meant a (part_meant behind rest)
+  pub part_meant : List Memory → Actions → Commands → Commands
+  part_meant ms no_actions rest = rest
+  part_meant ms (action_then a behind) rest = action_meant ms a (part_meant ms behind rest)
 
-  pub groups_meant : Groups → Commands → Commands
-  groups_meant no_groups rest = rest
-  groups_meant (group_then part behind) rest = part_meant part (groups_meant behind rest)
+  pub groups_meant : List Memory → Groups → Commands → Commands
+  groups_meant ms no_groups rest = rest
+  groups_meant ms (group_then part behind) rest = part_meant ms part (groups_meant ms behind rest)
 
 -- straight commands, one after the other
-abbrev pub commands_meant : List Action → Commands
-commands_meant [] = no_commands
-commands_meant (a ∷ rest) = action_meant a (commands_meant rest)
+abbrev pub commands_meant : List Memory → List Action → Commands
+commands_meant ms [] = no_commands
+commands_meant ms (a ∷ rest) = action_meant ms a (commands_meant ms rest)
 
-abbrev pub phase_meant : source.Phase → Phase
-phase_meant (source.straight cs) = straight (commands_meant cs)
+-- the test of a `while` or an `if`
+abbrev pub test_meant : List Memory → Action → Term
+test_meant ms (action id place (decides test chosen other)) = term_meant ms test
+test_meant ms (action id place (repeats test body)) = term_meant ms test
+test_meant ms (action id place form) = truth_value false
 
--- the memories of a program
-abbrev pub table_of : Program → List MemEntry
-table_of p = map entry_of p.decls
+-- the iterator of a `for`, and its first value
+abbrev pub iterator_of : Action → ℕ
+iterator_of (action id place (counts iterator declared low high factor body combine combine_place)) = entity_number iterator.entity
+iterator_of (action id place form) = 0
+
+abbrev pub low_of : Action → ℕ
+low_of (action id place (counts iterator declared low high factor body combine combine_place)) = low.value
+low_of (action id place form) = 0
+
+abbrev mutual
+  pub phase_meant : List Memory → source.Phase → Phase
+  phase_meant ms (source.straight cs) = straight (commands_meant ms cs)
+  phase_meant ms (source.turns loop count body) = turns (iterator_of loop) (low_of loop) count (phases_meant ms body)
+  phase_meant ms (source.repeated loop body) = repeated (test_meant ms loop) (phases_meant ms body)
+  phase_meant ms (source.decided choice chosen other) = decided (test_meant ms choice) (phases_meant ms chosen) (phases_meant ms other)
+
+  pub phases_meant : List Memory → source.Phases → Phases
+  phases_meant ms source.no_phases = no_phases
+  phases_meant ms (source.phase p ps) = phase (phase_meant ms p) (phases_meant ms ps)
 
 -- the program as the checked semantics runs it
 abbrev pub meaning_of : Program → Tree
-meaning_of p = record { table = table_of p; phases = map phase_meant (phases p.body) }
+meaning_of p = record { table = table_of p; phases = map (phase_meant (memories_of p)) (phases p.body) }

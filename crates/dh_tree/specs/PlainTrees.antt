@@ -44,6 +44,12 @@ pub record Placed : Type 0 where
   pub value : ℕ
   pub place : Place
 
+-- the copies of a loop's body, where their number stands, and where the word `unroll` does
+pub record Unrolled : Type 0 where
+  pub value : ℕ
+  pub place : Place
+  pub word : Place
+
 mutual
   -- a command with its number
   pub data Action : Type 0 where
@@ -60,7 +66,7 @@ mutual
     blocks : (body : Groups) → ActionForm
     decides : (test : Term) → (yes : Action) → (other : MaybeAction) → ActionForm
     repeats : (test : Term) → (body : Action) → ActionForm
-    counts : (iterator : Ref) → (declared : Option Kind) → (low high factor : Placed) → (body : Action) → (combine : MaybeAction) → (combine_place : Place) → ActionForm
+    counts : (iterator : Ref) → (declared : Option Kind) → (low high : Placed) → (factor : Unrolled) → (body : Action) → (combine : MaybeAction) → (combine_place : Place) → ActionForm
 
   pub data MaybeAction : Type 0 where
     no_action : MaybeAction

@@ -16,7 +16,7 @@ use Rattle.dh_tree.specs.declared.trees.programs.Decl.{Decl}
 use Rattle.dh_tree.specs.declared.trees.programs.Parameter.{Parameter}
 use Rattle.dh_tree.specs.declared.trees.programs.Function.{Function}
 use Rattle.dh_tree.specs.declared.trees.programs.Tree.{Tree}
-use Rattle.dh_tree.specs.PlainTrees.{Term, term, TermForm, number, truth_value, named, accessed, in_bank, applied, converted, Terms, no_terms, term_then, Suffixed, ViewPlan, shrinks, splits, suffixes, shifts, Placed, Action, action, ActionForm, lets, lets_memory, views, assigns, stores, reduces, calls, blocks, decides, repeats, counts, MaybeAction, no_action, one_action, Actions, no_actions, action_then, Groups, no_groups, group_then, Declared, Formal, Defined, Program}
+use Rattle.dh_tree.specs.PlainTrees.{Term, term, TermForm, number, truth_value, named, accessed, in_bank, applied, converted, Terms, no_terms, term_then, Suffixed, ViewPlan, shrinks, splits, suffixes, shifts, Placed, Unrolled, Action, action, ActionForm, lets, lets_memory, views, assigns, stores, reduces, calls, blocks, decides, repeats, counts, MaybeAction, no_action, one_action, Actions, no_actions, action_then, Groups, no_groups, group_then, Declared, Formal, Defined, Program}
 
 unfoldable mutual
   pub form_seen : ExprForm → TermForm
@@ -53,6 +53,9 @@ plan_seen (Shift by) = shifts (map term_seen by.items)
 abbrev pub placed : ℕ → Place → Placed
 placed value place = record { value = value; place = place }
 
+abbrev pub unrolled : ℕ → Place → Place → Unrolled
+unrolled value place word = record { value = value; place = place; word = word }
+
 unfoldable mutual
   pub action_form_seen : CommandForm → ActionForm
   action_form_seen (Let name declared value) = lets name declared (option_map term_seen value)
@@ -65,8 +68,8 @@ unfoldable mutual
   action_form_seen (Block' shape rows) = blocks (rows_seen rows)
   action_form_seen (If' test p id place form other) = decides (term_seen test) (action id place (action_form_seen form)) (other_seen other)
   action_form_seen (While' test p id place form) = repeats (term_seen test) (action id place (action_form_seen form))
-  action_form_seen (For' iterator declared low low_place high high_place factor factor_place p id place form combine combine_place) =
-      counts iterator declared (placed low low_place) (placed high high_place) (placed factor factor_place) (action id place (action_form_seen form)) (other_seen combine) combine_place
+  action_form_seen (For' iterator declared low low_place high high_place factor factor_place unroll_place p id place form combine combine_place) =
+      counts iterator declared (placed low low_place) (placed high high_place) (unrolled factor factor_place unroll_place) (action id place (action_form_seen form)) (other_seen combine) combine_place
 
   pub other_seen : block.Held-CommandForm-If-2 → MaybeAction
   other_seen block.None' = no_action

@@ -1,50 +1,19 @@
 -- Which forms of a program are not built yet for a run without the check of ports, by the rule
--- `Unsupported` (K3), each at its place. Built are declarations of number kinds with one dimension and no
--- word `bank`; `let`, `:=`, stores and all expressions but physical accesses; `if` whose arms hold no
--- `---`, `for` or `while`; blocks, `;` and `---`, with at most one part of a list that holds a `---`.
-use Rattle.std.specs.Prelude.{◌&&◌, ◌||◌, Bool, false, true, List, [], ◌∷◌, ◌++◌, Option, Some, None, if◌then◌else◌}
+-- `Unsupported` (K3), each at its place: functions and calls, views, reducers, the word `unroll` with
+-- another number than 1, and the word `combine`; and of one unordered list every part behind another that
+-- holds a `---`, a `for` or a `while`, where it holds one too.
+use Rattle.std.specs.Prelude.{◌==◌, ◌&&◌, ◌||◌, Bool, false, List, [], ◌++◌, if◌then◌else◌}
 use Rattle.dh_base.specs.declared.places.Place.{Place}
-use Rattle.dh_value.specs.declared.kinds.Kind.{Kind}
-use Rattle.dh_value.specs.declared.kinds.Kind.TheVariants as kind
 use Rattle.dh_tree.specs.declared.breaches.Breach.{Breach}
-use Rattle.dh_tree.specs.PlainTrees.{Term, term, TermForm, number, truth_value, named, accessed, in_bank, applied, converted, Terms, no_terms, term_then, Action, action, ActionForm, lets, assigns, stores, blocks, decides, MaybeAction, no_action, one_action, Actions, no_actions, action_then, Groups, no_groups, group_then, Declared, Program}
-use Rattle.dh_tree.specs.Forms.{unbuilt, unbuilt_where, unbuilt_dims, unbuilt_functions, form_holds, holds_steps, other_holds}
+use Rattle.dh_tree.specs.PlainTrees.{Unrolled, Action, action, ActionForm, lets, lets_memory, views, assigns, stores, reduces, calls, blocks, decides, repeats, counts, MaybeAction, no_action, one_action, Actions, no_actions, action_then, Groups, no_groups, group_then, Program}
+use Rattle.dh_tree.specs.Forms.{unbuilt, unbuilt_functions, form_holds}
 
-abbrev pub is_number_kind : Kind → Bool
-is_number_kind kind.Bool = false
-is_number_kind (kind.Unsigned w) = true
-is_number_kind (kind.Signed w) = true
+abbrev pub unchecked_factor : Unrolled → List Breach
+unchecked_factor factor = if factor.value == 1 then [] else unbuilt factor.word
 
-abbrev pub unchecked_decl : Declared → List Breach
-unchecked_decl d =
-    (if is_number_kind d.shape.kind then [] else unbuilt d.shape_places.kind_place)
-    ++ (unbuilt_where d.shape_places.braces_place ++ unbuilt_dims d.shape_places.kind_place d.shape_places.dims)
-
-abbrev pub unchecked_decls : List Declared → List Breach
-unchecked_decls [] = []
-unchecked_decls (d ∷ ds) = unchecked_decl d ++ unchecked_decls ds
-
-abbrev mutual
-  -- physical accesses in an expression, each at its name
-  pub unchecked_term : Term → List Breach
-  unchecked_term (term place kind form) = unchecked_term_form place form
-
-  pub unchecked_term_form : Place → TermForm → List Breach
-  unchecked_term_form place (number negative n) = []
-  unchecked_term_form place (truth_value value) = []
-  unchecked_term_form place (named r) = []
-  unchecked_term_form place (accessed r indices) = unchecked_terms indices
-  unchecked_term_form place (in_bank r bank bank_place row) = unbuilt place
-  unchecked_term_form place (applied o left right) = unchecked_term left ++ unchecked_term right
-  unchecked_term_form place (converted inner to) = unchecked_term inner
-
-  pub unchecked_terms : Terms → List Breach
-  unchecked_terms no_terms = []
-  unchecked_terms (term_then t rest) = unchecked_term t ++ unchecked_terms rest
-
-abbrev pub unchecked_maybe : Option Term → List Breach
-unchecked_maybe None = []
-unchecked_maybe (Some t) = unchecked_term t
+abbrev pub unchecked_combine : Place → MaybeAction → List Breach
+unchecked_combine word no_action = []
+unchecked_combine word (one_action a) = unbuilt word
 
 abbrev mutual
   -- the forms that are not built in a command: its own, or those in what it holds
@@ -52,14 +21,18 @@ abbrev mutual
   unchecked_action (action id place form) = unchecked_form place form
 
   pub unchecked_form : Place → ActionForm → List Breach
-  unchecked_form place (lets name declared value) = unchecked_maybe value
-  unchecked_form place (assigns target value) = unchecked_term value
-  unchecked_form place (stores target value) = unchecked_term target ++ unchecked_term value
-  unchecked_form place (decides test chosen other) =
-      (if holds_steps chosen || other_holds other then unbuilt place else [])
-      ++ (unchecked_term test ++ (unchecked_action chosen ++ unchecked_other other))
+  unchecked_form place (lets name declared value) = []
+  unchecked_form place (lets_memory name shape shape_places value) = []
+  unchecked_form place (assigns target value) = []
+  unchecked_form place (stores target value) = []
+  unchecked_form place (decides test chosen other) = unchecked_action chosen ++ unchecked_other other
+  unchecked_form place (repeats test body) = unchecked_action body
+  unchecked_form place (counts iterator declared low high factor body combine combine_place) =
+      unchecked_factor factor ++ (unchecked_action body ++ unchecked_combine combine_place combine)
   unchecked_form place (blocks body) = unchecked_groups body
-  unchecked_form place form = unbuilt place
+  unchecked_form place (views name parent form) = unbuilt place
+  unchecked_form place (reduces target o value) = unbuilt place
+  unchecked_form place (calls function arguments) = unbuilt place
 
   pub unchecked_other : MaybeAction → List Breach
   unchecked_other no_action = []
@@ -78,4 +51,4 @@ abbrev mutual
 
 -- the forms of a program that are not built for a run without the check of ports
 abbrev pub unchecked_forms : Program → List Breach
-unchecked_forms p = unchecked_decls p.decls ++ (unbuilt_functions p.functions ++ unchecked_action p.body)
+unchecked_forms p = unbuilt_functions p.functions ++ unchecked_action p.body

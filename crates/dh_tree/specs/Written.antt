@@ -1,5 +1,6 @@
--- What holds of the tree of a text, whatever rules it breaks: names are names, what a type does not write
--- is 1, kinds have their widths, and there are no more names than the text has tokens. Of a text of the
+-- What holds of the tree of a text, whatever rules it breaks: names of memories are names, what a type
+-- does not write is 1, kinds have their widths, commands are numbered in text order, and
+-- there are no more names than the text has tokens. Of a text of the
 -- built forms also that commands are numbered in text order, and that there are no more accesses than
 -- tokens.
 use Rattle.std.specs.Prelude.{◌≡◌, ℕ, ◌≤◌, List, [], ◌∷◌, length, Option, Some, None}
@@ -10,6 +11,8 @@ use Rattle.dh_tree.specs.declared.trees.programs.DimPlaces.{DimPlaces}
 use Rattle.dh_tree.specs.Names.{IsName}
 use Rattle.dh_tree.specs.PlainTrees.{Declared, Program}
 use Rattle.dh_tree.specs.FirstForms.{IsCounted}
+use Rattle.dh_tree.specs.Memories.{locals}
+use Rattle.dh_tree.specs.Numbers.{IsNumbered}
 use Rattle.dh_tree.specs.NameCounts.{names_declared}
 use Rattle.dh_tree.specs.Accesses.{accesses}
 use Rattle.dh_tree.specs.Widths.{HasWidths}
@@ -33,6 +36,9 @@ pub record IsDeclared (d : Declared) : Type 0 where
 -- what holds of the tree of any text of at most so many tokens
 pub record IsOfText (tokens : ℕ) (p : Program) : Type 0 where
   pub decls : AllByRecursion IsDeclared p.decls
+  pub locals : AllByRecursion (λ m. IsName m.name.name) (locals p.body)
+  pub first : ℕ
+  pub numbered : IsNumbered first p.body
   pub names : names_declared p ≤ tokens
   pub widths : HasWidths p
 

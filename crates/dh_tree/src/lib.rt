@@ -15,12 +15,12 @@ pub use breaches::{Breach, is_before, keep_least};
 pub use contents::Memories;
 pub use dh_value::Kind;
 pub use laws::{
-    kept_is_least, lists_are_seen_in_order, resolving_keeps_forms, typed_programs_suit,
-    typing_keeps_programs,
+    elements_lie_in_banks, kept_is_least, kept_ports_are_never_spent, kept_programs_have_tables,
+    lists_are_seen_in_order, resolving_keeps_forms, typed_programs_suit, typing_keeps_programs,
 };
 pub use loads::{loads_are_largest_sums, ports_are_spent_once};
 pub use tables::{Dim, MemEntry, MemTable, Name, Shape, copy_table, element_count, is_table};
 pub use trees::{
-    Command, CommandForm, Decl, DimPlaces, Entity, Expr, ExprForm, Function, Named, Parameter, Ref,
-    ShapePlaces, Sort, Tree, Typed, ViewForm,
+    Command, CommandForm, Counter, Decl, DimPlaces, Entity, Expr, ExprForm, Function, Named,
+    Parameter, Phase, Ref, ShapePlaces, Sort, Tree, Typed, ViewForm, phases,
 };

@@ -5,13 +5,18 @@
 //! equal whatever their places are.
 
 mod commands;
+mod counters;
 mod expressions;
+mod memories;
 mod named;
+mod phasing;
 mod programs;
 mod typed;
 
 pub use commands::{Command, CommandForm, ViewForm};
+pub use counters::Counter;
 pub use expressions::{Expr, ExprForm, Ref};
 pub use named::Named;
+pub use phasing::{Phase, phases};
 pub use programs::{Decl, DimPlaces, Entity, Function, Parameter, ShapePlaces, Sort, Tree};
 pub use typed::Typed;

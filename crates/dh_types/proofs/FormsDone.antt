@@ -10,7 +10,7 @@ use Rattle.dh_tree.specs.declared.trees.expressions.Ref.{Ref}
 use Rattle.dh_tree.specs.declared.trees.programs.ShapePlaces.{ShapePlaces}
 use Rattle.dh_tree.specs.declared.trees.commands.Command.{Command}
 use Rattle.dh_tree.specs.Seen.{action_seen}
-use Rattle.dh_tree.specs.PlainTrees.{Term, ViewPlan, Placed, Action, ActionForm, lets, lets_memory, views, assigns, stores, reduces, calls, blocks, decides, repeats, counts, MaybeAction, Groups}
+use Rattle.dh_tree.specs.PlainTrees.{Term, ViewPlan, Placed, Unrolled, Action, ActionForm, lets, lets_memory, views, assigns, stores, reduces, calls, blocks, decides, repeats, counts, MaybeAction, Groups}
 use Rattle.dh_tree.specs.Kinds.{Fact, of_iterator, Facts, fact_of, found, for_numbers, parameters_of, target_kind, variable_fact, parameter_fact, view_fact, iterator_kind, facts_after, facts_after_other, typed_term, typed_maybe, typed_plan, typed_arguments, typed_action, typed_other}
 use Rattle.dh_tree.specs.KindBreaches.{term_kind_breaches, right_side_breaches, maybe_breaches, condition_breaches, plan_breaches, target_breaches, parent_breaches, reducer_breaches, arguments_breaches, iterator_breaches, low_breaches, high_breaches, action_kind_breaches, other_kind_breaches}
 use Rattle.dh_types.specs.Walks.{State, walked, noted, learned, Types, TypesForm, TypesOther, TypesGroups}
@@ -113,7 +113,7 @@ decides_done s0 s1 s2 s3 t t' a a' o o' test one chosen other =
       state = next_step s0 s1 s3 (condition_breaches s0.facts t') s0.facts (λ fs. action_kind_breaches fs a' ++ other_kind_breaches (facts_after fs a') o') (λ fs. facts_after_other (facts_after fs a') o') one rest;
     }
 
-pub counts_done : (s0 s1 s2 s3 s4 : State) (i : Ref) (k : Option Kind) (kind : Kind) (low high factor : Placed) (a a' : Action) (o o' : MaybeAction) (place : Place) (fact : Fact)
+pub counts_done : (s0 s1 s2 s3 s4 : State) (i : Ref) (k : Option Kind) (kind : Kind) (low high : Placed) (factor : Unrolled) (a a' : Action) (o o' : MaybeAction) (place : Place) (fact : Fact)
     → kind ≡ iterator_kind k → s1 ≡ noted s0 (iterator_breaches i kind ++ (low_breaches kind low ++ high_breaches kind low high))
     → fact ≡ of_iterator kind → s2 ≡ learned s1 fact → Types s2 s3 a a' → TypesOther s3 s4 o o'
     → TypesForm s0 s4 (counts i k low high factor a o place) (counts i k low high factor a' o' place)

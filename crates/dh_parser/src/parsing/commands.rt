@@ -2,7 +2,7 @@
 
 ghost use Rattle.std.specs.Prelude.{◌≡◌, ◌<◌, ◌≤◌, ◌+◌, ◌^◌, length, map, option_map, IfOk};
 ghost use Rattle.dh_base.specs.declared.places.Place.{Place};
-ghost use Rattle.dh_tree.specs.Seen.{action_seen, maybe_seen, placed};
+ghost use Rattle.dh_tree.specs.Seen.{action_seen, maybe_seen, placed, unrolled};
 ghost use Rattle.dh_tree.specs.PlainTrees.{action, counts, blocks, group_then, no_groups, action_then, no_actions};
 ghost use Rattle.dh_parser.specs.Answers.{Answers, Made, SameBlock, SameCompound, SameIf, SameElseIf, SameElse, SameCombine, SamePart, SameParts, begins_as};
 ghost use Rattle.dh_parser.specs.Reading.{the_parts, the_part, the_compound, the_block, whole_if, whole_else, the_while, the_for, the_combine, beginning, steps};
@@ -247,7 +247,7 @@ fn counted_loop(
     combine_place: Place,
 ) -> Command
     ensures { action_seen result ≡ action id head.place
-        (counts head.iterator head.declared (placed head.low.value head.low.place) (placed head.high.value head.high.place) (placed head.factor.value head.factor.place)
+        (counts head.iterator head.declared (placed head.low.value head.low.place) (placed head.high.value head.high.place) (unrolled head.factor.value head.factor.place head.unroll)
         (action_seen body.value) (maybe_seen (option_map (λ b. action_seen b.value) combine)) combine_place) }
 {
     let LoopHead {
@@ -257,6 +257,7 @@ fn counted_loop(
         low,
         high,
         factor,
+        unroll,
     } = head;
     let form = CommandForm::For {
         iterator,
@@ -267,6 +268,7 @@ fn counted_loop(
         high_place: high.place,
         factor: factor.value,
         factor_place: factor.place,
+        unroll_place: unroll,
         body,
         combine,
         combine_place,

@@ -1,7 +1,7 @@
 //! The head of a `for`.
 
 ghost use Rattle.std.specs.Prelude.{◌≡◌, ◌<◌, ◌≤◌, length, IfOk};
-ghost use Rattle.dh_parser.specs.Answers.{Answers, SameHead, SameNumber};
+ghost use Rattle.dh_parser.specs.Answers.{Answers, SameHead, SameUnrolled};
 ghost use Rattle.dh_parser.specs.Reading.{the_declared, the_head, the_unroll};
 ghost use Rattle.dh_parser.specs.TreesOfTexts.{declared_of, factor_of};
 
@@ -23,8 +23,10 @@ pub(crate) struct LoopHead {
     pub low: Numeral,
     /// The number after its last value.
     pub high: Numeral,
-    /// The copies of the body; 1 at the place of the word where none are written.
+    /// The copies of the body; 1 at the place of the word `for` where none are written.
     pub factor: Numeral,
+    /// The place of the word `unroll`; that of `for` where it is not written.
+    pub unroll: Place,
 }
 
 /// `for (let iterator: declared = low..high) unroll factor`
@@ -44,7 +46,7 @@ pub(crate) fn read_loop_head(reader: &mut Reader<'_>) -> Result<LoopHead, Stop>
     reader.skip(Mark::Range)?;
     let high = reader.number()?;
     reader.skip(Mark::CloseParen)?;
-    let factor = read_factor(reader, place)?;
+    let (factor, unroll) = read_factor(reader, place)?;
     Ok(LoopHead {
         place,
         iterator,
@@ -52,6 +54,7 @@ pub(crate) fn read_loop_head(reader: &mut Reader<'_>) -> Result<LoopHead, Stop>
         low,
         high,
         factor,
+        unroll,
     })
 }
 
@@ -67,15 +70,16 @@ fn read_declared(reader: &mut Reader<'_>) -> Result<Option<Kind>, Stop>
     Ok(Some(read_kind(reader)?))
 }
 
-/// The number after `unroll`, if the word comes next; else 1, at the place of the loop.
-fn read_factor(reader: &mut Reader<'_>, place: Place) -> Result<Numeral, Stop>
-    ensures answer { Answers (λ factor t. SameNumber factor (factor_of place t)) result reader.new.rest.now (the_unroll reader.old.rest.now) }
+/// The number after `unroll` with the place of the word, if that comes next; else 1, at the place of the
+/// loop.
+fn read_factor(reader: &mut Reader<'_>, place: Place) -> Result<(Numeral, Place), Stop>
+    ensures answer { Answers (λ v t. SameUnrolled v.0 v.1 (factor_of place t)) result reader.new.rest.now (the_unroll reader.old.rest.now) }
     ensures commands { reader.new.commands ≡ reader.old.commands }
     ensures shorter { length reader.new.rest.now ≤ length reader.old.rest.now }
 {
-    if reader.take(Mark::Unroll) {
-        reader.number()
-    } else {
-        Ok(Numeral { value: 1, place })
+    if !reader.is_next(Mark::Unroll) {
+        return Ok((Numeral { value: 1, place }, place));
     }
+    let word = reader.skip(Mark::Unroll)?;
+    Ok((reader.number()?, word))
 }

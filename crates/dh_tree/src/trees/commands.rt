@@ -119,6 +119,8 @@ pub enum CommandForm {
         factor: u64,
         /// Where that number stands; the place of the command where it is not written.
         factor_place: Place,
+        /// Where the word `unroll` stands; the place of the command where it does not.
+        unroll_place: Place,
         /// The block of each turn.
         body: Box<Command>,
         /// The block that joins the copies, where it is written.

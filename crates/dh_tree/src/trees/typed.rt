@@ -1,16 +1,19 @@
 //! Trees whose expressions have their kinds.
 
-ghost use Rattle.std.specs.Prelude.{◌≡◌, map, IfOk};
-ghost use Rattle.dh_tree.specs.Seen.{declared_seen, program_seen};
+ghost use Rattle.std.specs.Prelude.{◌≡◌, ◌<◌, Some, length, IfOk};
+ghost use Rattle.dh_tree.specs.Seen.{program_seen};
+ghost use Rattle.dh_tree.specs.Counters.{counters_of, counter_in};
 ghost use Rattle.dh_tree.specs.Breaches.{KeepsNames};
 ghost use Rattle.dh_tree.specs.Resolved.{HasEntities};
 ghost use Rattle.dh_tree.specs.Kinds.{HasKinds};
 ghost use Rattle.dh_tree.specs.KindBreaches.{KeepsKinds};
-ghost use Rattle.dh_tree.specs.Meaning.{entry_of, table_of};
+ghost use Rattle.dh_tree.specs.Memories.{memories_of, number_in, table_of};
 
-use crate::tables::{MemEntry, MemTable};
-use crate::trees::{Decl, Tree};
-use dh_base::{Items, NoMemory};
+use crate::tables::MemTable;
+use crate::trees::counters::loops_of;
+use crate::trees::memories::{Collected, collect};
+use crate::trees::{Counter, Tree};
+use dh_base::NoMemory;
 use std::alloc::Global;
 use std::marker::Model;
 
@@ -19,11 +22,13 @@ use std::marker::Model;
 #[derive(Debug, Drop)]
 pub struct Typed {
     tree: Tree,
-    memories: MemTable,
+    memories: Collected,
+    // the loop of which it is the iterator, of each entity that is one
+    loops: Vec<Option<Counter>>,
 }
 
 impl Model for Typed {
-    ghost use Rattle.std.specs.Prelude.{◌≡◌};
+    ghost use Rattle.std.specs.Prelude.{◌≡◌, length};
     ghost use Rattle.std.specs.Coded.{codes};
     ghost use Rattle.dh_tree.specs.contracts.trees.commands.Command as command;
     ghost use Rattle.dh_tree.specs.declared.trees.programs.Tree.{Tree};
@@ -32,7 +37,9 @@ impl Model for Typed {
     ghost use Rattle.dh_tree.specs.Resolved.{HasEntities};
     ghost use Rattle.dh_tree.specs.Kinds.{HasKinds};
     ghost use Rattle.dh_tree.specs.KindBreaches.{KeepsKinds};
-    ghost use Rattle.dh_tree.specs.Meaning.{table_of};
+    ghost use Rattle.dh_tree.specs.Memories.{memories_of};
+    ghost use Rattle.dh_tree.specs.Counters.{counters_of};
+    ghost use Rattle.dh_tree.specs.Collected.{HasTable, AreCounted};
 
     ghost Value = { Tree };
 
@@ -40,29 +47,7 @@ impl Model for Typed {
 
     ghost view = { λ t. t.tree };
 
-    ghost invariant = { λ t. (KeepsNames (program_seen t.tree) × HasEntities (program_seen t.tree)) × ((HasKinds (program_seen t.tree) × KeepsKinds (program_seen t.tree)) × (t.memories ≡ table_of (program_seen t.tree))) };
-}
-
-/// The memory that a declaration declares.
-fn entry(alloc: Global, decl: &Decl) -> Result<MemEntry, NoMemory>
-    ensures { IfOk result (λ e. e ≡ entry_of (declared_seen decl.now)) }
-{
-    Ok(MemEntry {
-        name: decl.name.name.try_clone(alloc)?,
-        shape: decl.shape.try_clone(alloc)?,
-        outside: true,
-    })
-}
-
-/// The memories that declarations declare, in order.
-fn entries(alloc: Global, decls: &[Decl]) -> Result<MemTable, NoMemory>
-    ensures { IfOk result (λ t. t ≡ map entry_of (map declared_seen decls.now)) }
-{
-    let mut table = Items::new(alloc);
-    for decl in decls {
-        table.push(entry(alloc, decl)?)?;
-    }
-    Ok(table)
+    ghost invariant = { λ t. (KeepsNames (program_seen t.tree) × HasEntities (program_seen t.tree)) × ((HasKinds (program_seen t.tree) × KeepsKinds (program_seen t.tree)) × (HasTable (memories_of (program_seen t.tree)) (length t.tree.entities.items) t.memories.table t.memories.numbers.items × ((length t.loops.items ≡ length t.tree.entities.items) × AreCounted (counters_of (program_seen t.tree)) t.loops.items))) };
 }
 
 impl Typed {
@@ -78,8 +63,13 @@ impl Typed {
         requires suits { KeepsKinds (program_seen tree) }
         ensures { IfOk result (λ t. t ≡ tree) }
     {
-        let memories = entries(alloc, tree.decls.as_slice())?;
-        Ok(Typed { tree, memories })
+        let memories = collect(alloc, &tree)?;
+        let loops = loops_of(alloc, &tree.body, tree.entities.len())?;
+        Ok(Typed {
+            tree,
+            memories,
+            loops,
+        })
     }
 
     /// The tree.
@@ -93,10 +83,34 @@ impl Typed {
         &self.tree
     }
 
-    /// Its memories: those of `decl` in text order.
+    /// The number in the table of the memory that an entity is, if it is one.
+    pub fn memory_number(&self, entity: u32) -> Option<usize>
+        ensures { result ≡ number_in (memories_of (program_seen self.now)) (Some entity) }
+    {
+        let entity = entity as usize;
+        if entity < self.memories.numbers.len() {
+            self.memories.numbers[entity]
+        } else {
+            None
+        }
+    }
+
+    /// The loop of which an entity is the iterator, if it is one.
+    pub fn counter(&self, entity: u32) -> Option<Counter>
+        ensures { result ≡ counter_in (counters_of (program_seen self.now)) (Some entity) }
+    {
+        let entity = entity as usize;
+        if entity < self.loops.len() {
+            self.loops[entity]
+        } else {
+            None
+        }
+    }
+
+    /// Its memories: those of `decl` in text order, then the local ones.
     pub fn memories(&self) -> &MemTable
         ensures { result.now ≡ table_of (program_seen self.now) }
     {
-        &self.memories
+        &self.memories.table
     }
 }

@@ -2,7 +2,7 @@
 use Rattle.std.proofs.Common.{List, Ok, Err, sym, subst}
 use Rattle.dh_tree.specs.declared.tables.MemEntry.{MemEntry}
 use Rattle.dh_tree.specs.Seen.{program_seen}
-use Rattle.dh_tree.specs.Tables.{IsTable}
+use Rattle.dh_tree.specs.Shapes.{IsProgramTable}
 use Rattle.dh_app.specs.Asking.{interpreted}
 use Rattle.dh_app.specs.Replies.{DataRead}
 use Rattle.dh_app.proofs.OneJob.{over_interpret}
@@ -11,8 +11,8 @@ use Rattle.dh_app.proofs.interpreting.interpret_typed.Goals as goal
 
 pub read_memories-requires : goal.read_memories-requires
 read_memories-requires g c =
-    let T : List MemEntry → Type 0 = IsTable in
-    subst T (sym c.memories.ensures) (c.ready_programs_have_tables.ensures (program_seen c.args.typed.now) c.requires.ready)
+    let T : List MemEntry → Type 0 = IsProgramTable in
+    subst T (sym c.memories.ensures) (c.ready_programs_have_tables.ensures.tables (program_seen c.args.typed.now) c.requires.ready)
 
 pub returns-in-Ok-clause-replies : goal.returns-in-Ok-clause-replies
 returns-in-Ok-clause-replies g c =

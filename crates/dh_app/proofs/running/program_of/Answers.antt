@@ -4,5 +4,5 @@ use Rattle.dh_check.specs.Verdicts.{asked_of}
 use Rattle.dh_app.proofs.Replying.{fault_refuses}
 use Rattle.dh_app.proofs.running.program_of.Goals as goal
 
-pub returns-in-Err : goal.returns-in-Err
-returns-in-Err c = fault_refuses (asked_of c.args.forms true) c.args.text.now c.in-Err.fault c.fault_line.result c.in-Err.ensures c.fault_line.ensures
+pub returns-in-Err-clause-program : goal.returns-in-Err-clause-program
+returns-in-Err-clause-program c = fault_refuses (asked_of c.args.forms true) c.args.text.now c.in-Err.fault c.fault_line.result c.in-Err.ensures.verdict c.fault_line.ensures

@@ -1,4 +1,5 @@
 -- The engine is asked once, and its one answer is reported.
+use Rattle.dh_tree.proofs.NetTables.{program_table}
 use Rattle.dh_app.proofs.Replying.{one_report, only_answer}
 use Rattle.dh_app.proofs.running.report_run.Goals as goal
 
@@ -6,7 +7,7 @@ pub report_first-requires : goal.report_first-requires
 report_first-requires g c =
     record {
       answers = rw c.answers.ensures (only_answer c.args.net.now c.args.memories (g.E.Engine.given c.finish.new.self) (rw c.in-Ok.ensures at c.in-Ok-finish.ensures.answers));
-      table = c.requires.valid.table;
+      table = program_table _ c.requires.valid.table;
     }
 
 pub returns-clause-replies : goal.returns-clause-replies

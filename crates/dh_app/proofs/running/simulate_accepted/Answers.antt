@@ -5,12 +5,13 @@ use Rattle.dh_tree.specs.declared.tables.MemEntry.{MemEntry}
 use Rattle.dh_tree.specs.Seen.{program_seen}
 use Rattle.dh_app.specs.Replies.{DataRead}
 use Rattle.dh_app.specs.Asking.{compiled}
+use Rattle.dh_tree.proofs.NetTables.{program_table}
 use Rattle.dh_app.proofs.OneJob.{over_simulate}
 use Rattle.dh_app.proofs.Replying.{no_memories, run_replied}
 use Rattle.dh_app.proofs.running.simulate_accepted.Goals as goal
 
 pub read_memories-requires : goal.read_memories-requires
-read_memories-requires g c = c.in-Ok.ensures.valid.table
+read_memories-requires g c = program_table _ c.in-Ok.ensures.valid.table
 
 pub report_run-requires : goal.report_run-requires
 report_run-requires g c = record { valid = c.in-Ok.ensures.valid; fits = c.in-Ok-read_memories.ensures.read.1 }

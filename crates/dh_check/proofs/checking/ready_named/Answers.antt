@@ -1,13 +1,7 @@
-use Rattle.std.proofs.Common.{ap, ◌∙◌}
+use Rattle.std.proofs.Common.{refl}
 use Rattle.dh_tree.specs.Seen.{program_seen}
-use Rattle.dh_check.specs.Acceptance.{most_tokens}
-use Rattle.dh_check.proofs.FirstPrograms.{has_one_dims}
 use Rattle.dh_check.proofs.Passing.{kinds_stop, named_stops, named_ready}
 use Rattle.dh_check.proofs.checking.ready_named.Goals as goal
-
-pub size_fault-requires : goal.size_fault-requires
-size_fault-requires c =
-    has_one_dims most_tokens (program_seen c.args.named) (program_seen c.tree.result.now) (ap program_seen c.tree.ensures.tree ∙ c.in-Ok.ensures) c.requires.of_text c.requires.built
 
 pub returns-in-Err-Refused : goal.returns-in-Err-Refused
 returns-in-Err-Refused c =
@@ -15,9 +9,9 @@ returns-in-Err-Refused c =
 
 pub returns-in-Some : goal.returns-in-Some
 returns-in-Some c =
-    named_stops (program_seen c.args.named) (program_seen c.in-Ok.typed) (program_seen c.tree.result.now) c.in-Some.fault c.in-Ok.ensures (ap program_seen c.tree.ensures.tree) c.tree.ensures.suits c.in-Some.ensures
+    named_stops (program_seen c.args.named) (program_seen c.in-Ok.typed) (program_seen c.in-Ok.typed) c.in-Some.fault c.in-Ok.ensures refl c.tree.ensures.suits c.in-Some.ensures
 
 pub returns-in-None : goal.returns-in-None
 returns-in-None c =
-    named_ready (program_seen c.args.named) (program_seen c.in-Ok.typed) (program_seen c.tree.result.now) c.in-Ok.ensures (ap program_seen c.tree.ensures.tree) c.requires.of_text c.requires.built
+    named_ready (program_seen c.args.named) (program_seen c.in-Ok.typed) (program_seen c.in-Ok.typed) c.in-Ok.ensures refl c.requires.of_text c.requires.built
     c.tree.ensures.names c.tree.ensures.entities c.tree.ensures.kinds c.tree.ensures.suits c.in-None.ensures

@@ -1,5 +1,8 @@
 -- What is built for the groups of an accepted program plays the program.
-use Rattle.std.proofs.Common.{ap, ◌∙◌}
+use Rattle.std.proofs.Common.{ap, sym, subst, ◌∙◌}
+use Rattle.dh_tree.specs.PlainTrees as plain
+use Rattle.dh_compile.specs.Taken.{IsTaken}
+use Rattle.dh_compile.proofs.Taking.{taken}
 use Rattle.dh_tree.specs.Seen.{program_seen}
 use Rattle.dh_tree.specs.Meaning.{meaning_of}
 use Rattle.dh_compile.proofs.AcceptedRuns.{built_plays_program}
@@ -10,3 +13,9 @@ returns c =
     built_plays_program (program_seen c.args.accepted.now) c.in_ok-program.program c.build.result
     (c.in_ok-program.ensures.meaning ∙ ap (λ t. meaning_of (program_seen t)) c.typed.ensures.typed)
     c.in_ok-program.ensures.grouped c.build.ensures.built c.build.ensures.valid
+
+pub groups_of-requires : goal.groups_of-requires
+groups_of-requires c =
+    subst (λ (p : plain.Program). IsTaken p) (ap program_seen (sym c.typed.ensures.typed))
+    (taken c.first_forms_keep_ports.ensures (program_seen c.args.accepted.now)
+    (record { ready = c.typed.ensures.ready; keeps = c.typed.ensures.kept; compilable = c.requires.compilable }))

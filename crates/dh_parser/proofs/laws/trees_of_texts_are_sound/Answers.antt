@@ -1,4 +1,4 @@
-use Rattle.dh_parser.proofs.TextNames.{texts_are_sound}
+use Rattle.dh_parser.proofs.TextsSound.{texts_are_sound}
 use Rattle.dh_parser.proofs.WrittenTexts.{written}
 use Rattle.dh_parser.proofs.laws.trees_of_texts_are_sound.Goals as goal
 

@@ -1,25 +1,18 @@
-use Rattle.std.proofs.Common.{ap, sym, subst, ◌∙◌, Err, ℕ, [], ◌∷◌, ◌++◌}
-use Rattle.std.specs.Prelude.{slice_set}
-use Rattle.std.proofs.lemmas.Result.{err_from_is_err_and}
-use Rattle.dh_tree.specs.Effects.{writes, access_made}
-use Rattle.dh_sem.specs.declared.evaluating.Stop.{Stop}
-use Rattle.dh_sem.specs.Scenes.{Spends}
-use Rattle.dh_sem.proofs.RowAccesses.{fault_stops, write_on, write_full, no_entry}
+use Rattle.std.proofs.Common.{true, false, refl}
+use Rattle.std.specs.Prelude.{slice_index_or}
+use Rattle.dh_sem.specs.Rows.{spot_seen}
+use Rattle.dh_sem.proofs.Entries.{write_on, write_full, few_banks}
 use Rattle.dh_sem.proofs.running.claim.Goals as goal
 
-pub returns-in_err-row-clause-spends : goal.returns-in_err-row-clause-spends
-returns-in_err-row-clause-spends c indices es value sole h =
-    let u = err_from_is_err_and c.from_residual.result c.from_residual.ensures.1 in
-    fault_stops c.args.scene.now.entries.now c.args.memory c.requires.table c.requires.memory no_entry c.args.place indices c.args.index sole (λ s. writes c.args.place s value) es c.args.scene.now.step c.args.banks.now c.args.banks.now
-    c.in_err-row.field-0.0 c.from_residual.result (u.1 ∙ ap (λ e. Err e) u.2) c.in_err-row.ensures h
+pub stuck-requires : goal.stuck-requires
+stuck-requires c = few_banks c.args.scene.now.entries.now c.args.element.memory c.args.element.bank c.requires.table c.requires.there
 
-pub returns-then-not-write_row-clause-spends : goal.returns-then-not-write_row-clause-spends
-returns-then-not-write_row-clause-spends c indices es value sole h =
-    let full = write_full c.args.scene.now.entries.now c.args.memory c.requires.table c.requires.memory no_entry c.args.place indices c.args.index sole es c.args.scene.now.step c.in_ok-row.row value c.args.banks.now c.index-banks-memory.result c.write_row.new.bank
-    c.in_ok-row.ensures h c.requires.long c.if-not-write_row.ensures.ports c.if-not-write_row.ensures.step c.if-not-write_row.ensures.writes in
-    subst (λ (e : Stop). Spends {A = ℕ} c.args.scene.now.entries.now (es ++ access_made c.args.scene.now.entries.now c.args.place c.args.memory indices (λ s. writes c.args.place s value) ∷ []) c.args.scene.now.step (Err e) (slice_set c.args.banks.now c.args.memory c.write_row.new.bank)) (sym c.stuck.ensures) full
+pub returns-then-write_row-clause-spends : goal.returns-then-write_row-clause-spends
+returns-then-write_row-clause-spends c es value h =
+    write_on c.args.scene.now.entries.now es c.args.scene.now.step (spot_seen c.args.element) c.args.banks.now c.index-banks-at.result c.write_row.new.bank c.requires.there c.requires.long h c.if-write_row.ensures.step
+    c.bank_at-at.result (slice_index_or c.args.scene.now.entries.now c.args.element.memory c.index-scene-element.result).shape.ports c.bank_at-at.ensures.place c.index-scene-element.result refl c.args.place (Unit {0}) value true tt refl c.if-write_row.ensures.writes
 
-pub returns-clause-spends : goal.returns-clause-spends
-returns-clause-spends c indices es value sole h =
-    write_on c.args.scene.now.entries.now c.args.memory c.requires.table c.requires.memory no_entry c.args.place indices c.args.index sole es c.args.scene.now.step c.in_ok-row.row value c.args.banks.now c.index-banks-memory.result c.write_row.new.bank
-    c.in_ok-row.ensures h c.requires.long c.if-not-write_row.ensures.ports c.if-not-write_row.ensures.step c.if-not-write_row.ensures.writes
+pub returns-else-write_row-clause-spends : goal.returns-else-write_row-clause-spends
+returns-else-write_row-clause-spends c es value h =
+    write_full c.args.scene.now.entries.now es c.args.scene.now.step (spot_seen c.args.element) c.args.banks.now c.index-banks-at.result c.write_row.new.bank c.requires.there c.requires.long h c.if-write_row.ensures.step
+    c.bank_at-at.result (slice_index_or c.args.scene.now.entries.now c.args.element.memory c.index-scene-element.result).shape.ports c.bank_at-at.ensures.place c.index-scene-element.result refl c.args.place (Unit {0}) value false c.stuck.result _ refl c.stuck.ensures c.if-write_row.ensures.writes

@@ -2,7 +2,7 @@ use Rattle.std.proofs.Common.{◌∙◌, ap, sym, map, option_map, arith, ◌^�
 use Rattle.std.proofs.lemmas.Result.{on_ok_weaker}
 use Rattle.std.specs.Box.{with_value}
 use Rattle.std.specs.Vec.{with_items}
-use Rattle.dh_tree.specs.Seen.{term_seen, plan_seen, action_seen, action_form_seen, part_seen, groups, maybe_seen, placed}
+use Rattle.dh_tree.specs.Seen.{term_seen, plan_seen, action_seen, action_form_seen, part_seen, groups, maybe_seen, placed, unrolled}
 use Rattle.dh_tree.proofs.SeenActions.{let_is, let_memory_is, view_is, assign_is, store_is, reduce_is, call_is, block_is, if_is, while_is, for_is}
 use Rattle.dh_names.specs.Walks.{state_of}
 use Rattle.dh_tree.specs.NameCounts.{declared_in, declared_in_actions}
@@ -81,10 +81,10 @@ form-returns-in_ok-inner-in-While t c =
 pub form-returns-in_ok-combine-in-For : goal.form-returns-in_ok-combine-in-For
 form-returns-in_ok-combine-in-For t c =
     form_done _ _ _ _ _ _
-    (ap action_form_seen c.in-For.is ∙ for_is c.in-For.iterator c.in-For.declared c.in-For.low c.in-For.low_place c.in-For.high c.in-For.high_place c.in-For.factor c.in-For.factor_place c.in-For.body c.in-For.combine c.in-For.combine_place)
-    (for_is c.declare-in-For.new.name c.in-For.declared c.in-For.low c.in-For.low_place c.in-For.high c.in-For.high_place c.in-For.factor c.in-For.factor_place (with_value c.in-For.body c.command.new.command) c.in_ok-combine-in-For.combine c.in-For.combine_place)
+    (ap action_form_seen c.in-For.is ∙ for_is c.in-For.iterator c.in-For.declared c.in-For.low c.in-For.low_place c.in-For.high c.in-For.high_place c.in-For.factor c.in-For.factor_place c.in-For.unroll_place c.in-For.body c.in-For.combine c.in-For.combine_place)
+    (for_is c.declare-in-For.new.name c.in-For.declared c.in-For.low c.in-For.low_place c.in-For.high c.in-For.high_place c.in-For.factor c.in-For.factor_place c.in-For.unroll_place (with_value c.in-For.body c.command.new.command) c.in_ok-combine-in-For.combine c.in-For.combine_place)
     (counts_done (state_of c.args.self.now) (state_of c.declare-in-For.new.self) (state_of c.command.new.self) (state_of c.optional-in-For.new.self) (state_of c.leave-in-For.new.self) c.own_names-start-in-For.result
-    c.in-For.iterator c.declare-in-For.new.name c.in-For.declared (placed c.in-For.low c.in-For.low_place) (placed c.in-For.high c.in-For.high_place) (placed c.in-For.factor c.in-For.factor_place)
+    c.in-For.iterator c.declare-in-For.new.name c.in-For.declared (placed c.in-For.low c.in-For.low_place) (placed c.in-For.high c.in-For.high_place) (unrolled c.in-For.factor c.in-For.factor_place c.in-For.unroll_place)
     (action_seen c.in-For.body.value) (action_seen c.command.new.command)
     (maybe_seen (option_map (λ b. action_seen b.value) c.in-For.combine)) (maybe_seen (option_map (λ b. action_seen b.value) c.in_ok-combine-in-For.combine)) c.in-For.combine_place
     c.own_names-start-in-For.ensures c.in_ok-declare-in-For.ensures.tree c.in_ok-declare-in-For.ensures.state

@@ -3,6 +3,23 @@ use Rattle.dh_parser.proofs.Going.{ok_then, err_then, given}
 use Rattle.dh_parser.proofs.FirstTokens.{same_head}
 use Rattle.dh_parser.proofs.parsing.loops.read_loop_head.Goals as goal
 
+pub returns-in_err-iterator-clause-answer : goal.returns-in_err-iterator-clause-answer
+returns-in_err-iterator-clause-answer c =
+    rw (given c.from_residual-in_err-iterator.ensures)
+    (ok_then _ c.in_ok-place.ensures.answer λ a0 s0.
+    ok_then _ c.in_ok-skip.ensures.answer λ a1 s1.
+    ok_then _ c.in_ok-skip-2.ensures.answer λ a2 s2.
+    err_then _ c.in_err-iterator.ensures.answer)
+
+pub returns-in_err-declared-clause-answer : goal.returns-in_err-declared-clause-answer
+returns-in_err-declared-clause-answer c =
+    rw (given c.from_residual-in_err-declared.ensures)
+    (ok_then _ c.in_ok-place.ensures.answer λ a0 s0.
+    ok_then _ c.in_ok-skip.ensures.answer λ a1 s1.
+    ok_then _ c.in_ok-skip-2.ensures.answer λ a2 s2.
+    ok_then _ c.in_ok-iterator.ensures.answer λ a3 s3.
+    err_then _ c.in_err-declared.ensures.answer)
+
 pub returns-in_err-skip-3-clause-answer : goal.returns-in_err-skip-3-clause-answer
 returns-in_err-skip-3-clause-answer c =
     rw (given c.from_residual-in_err-skip-3.ensures)

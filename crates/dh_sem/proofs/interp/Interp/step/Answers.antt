@@ -1,57 +1,53 @@
-use Rattle.std.proofs.Common.{◌+◌, ◌==◌, if◌then◌else◌, refl, ap, sym, ◌∙◌, subst, map, rules}
-use Rattle.dh_base.specs.declared.outcomes.Outcome.TheVariants.{Going, Ended}
-use Rattle.dh_tree.specs.Meaning.{commands_meant}
-use Rattle.dh_tree.specs.Seen.{action_seen}
+-- What a step leads to is steady, and stands as the checked semantics says.
+use Rattle.std.proofs.Common.{Vec, length, refl, ap, sym, ◌∙◌, ◌+◌, subst, rules}
+use Rattle.std.specs.Global.{Global}
+use Rattle.std.specs.List.{AllByRecursion}
+use Rattle.dh_tree.specs.Memories.{memories_of}
+use Rattle.dh_tree.specs.Seen.{program_seen}
+use Rattle.dh_sem.specs.declared.courses.Frame.{Frame}
 use Rattle.dh_sem.specs.Rows.{contents_of}
 use Rattle.dh_sem.specs.States.{written_by}
-use Rattle.dh_sem.specs.Advances.{effect_of}
+use Rattle.dh_sem.specs.Courses.{IsFrame, to_come}
+use Rattle.dh_sem.specs.Advances.{rest_run, begun_from}
 use Rattle.dh_sem.specs.Runs.{Run, StandsAt}
-use Rattle.dh_sem.proofs.Advanced.{stopped_at}
-use Rattle.dh_sem.proofs.StandsOn.{now_runnable, next_stands, next_steady, stop_stands, stop_steady, stands_next}
+use Rattle.dh_sem.proofs.Advanced.{stopped_at, stopped_none}
+use Rattle.dh_sem.proofs.StandsOn.{next_stands, next_steady, back_steady, stands_next, frames_copied, outcome_moved}
 use Rattle.dh_sem.proofs.interp.Interp.step.Goals as goal
 
-pub advance-requires-clause-runnable : goal.advance-requires-clause-runnable
-advance-requires-clause-runnable c =
-    now_runnable c.self.inside.entries.now c.self.inside.steps c.self.inside.memories c.self.inside.phases.items c.self.inside.next c.self.inside.state c.self.inside.outcome (search rules) c.self.invariant
-    c.index.result.now c.index.ensures c.as_slice.result.now c.as_slice.ensures.value c.lists.result.now c.lists.ensures
-
-pub invariant_of-self : goal.invariant_of-self
-invariant_of-self c =
-    next_steady c.self.inside.entries.now c.self.inside.steps c.self.inside.memories c.self.inside.phases.items c.self.inside.next c.self.inside.state c.self.inside.outcome (search rules) c.self.invariant
-    c.index.result.now c.index.ensures c.as_slice.result.now c.as_slice.ensures.value c.lists.result.now c.lists.ensures
-    c.advance.new.state c.make_writes.new.memories c.outcome_at-self-inside.result c.in-Ok.ensures.advances
+pub invariant_of-self-in-Ok : goal.invariant_of-self-in-Ok
+invariant_of-self-in-Ok c =
+    next_steady c.self.inside.program.now c.self.inside.entries.now c.self.inside.nodes.items c.self.inside.steps c.self.inside.memories c.self.inside.frames.items c.self.inside.state c.self.inside.firsts.items c.self.inside.outcome (search rules) c.self.invariant
+    c.as_slice-3.result.now c.as_slice-3.ensures.value c.extend_from_slice.new.self.items (frames_copied c.extend_from_slice.new.self.items c.clear.new.self.items c.as_slice-2.result.now c.self.inside.frames.items c.in_ok-extend_from_slice.ensures.items c.clear.ensures.items c.as_slice-2.ensures.value) c.lists.result.now c.lists.ensures
+    c.advance.new.state c.make_writes.new.memories c.outcome_at-self-inside.result c.swap.new.x.items c.in-Ok.ensures.advances
     (c.make_writes.ensures ∙ ap (λ ws. written_by ws c.self.inside.memories) c.as_slice-in-Ok.ensures.value)
-    (c.outcome_at-self-inside.ensures ∙ ap (λ n. if c.self.inside.next + 1 == n then Ended else Going) (c.len.ensures ∙ c.self.inside.phases.ok.0))
+    (ap (λ (v : Vec Frame Global). to_come (memories_of (program_seen c.self.inside.program.now)) c.as_slice-3.result.now v.items) c.swap.ensures.x_after ∙ c.in-Ok.ensures.left)
+    (outcome_moved (memories_of (program_seen c.self.inside.program.now)) c.outcome_at-self-inside.result c.as_slice-in-Ok-2.result.now c.self.inside.nodes.items c.as_slice-in-Ok-3.result.now c.swap.new.x.items c.as_slice-in-Ok-2.ensures.value c.as_slice-in-Ok-3.ensures.value (c.outcome_at-self-inside.ensures (memories_of (program_seen c.self.inside.program.now))))
     c.in-Ok.ensures.long c.in-Ok.ensures.ready
+    (subst (λ (v : Vec Frame Global). AllByRecursion (IsFrame (length c.as_slice-3.result.now)) v.items) (sym c.swap.ensures.x_after) c.in-Ok.ensures.frames)
 
 pub invariant_of-self-in-Err-At : goal.invariant_of-self-in-Err-At
 invariant_of-self-in-Err-At c =
-    let stop = stopped_at (Unit {0}) c.self.inside.entries.now (effect_of c.self.inside.entries.now (contents_of c.lists.result.now) (commands_meant (map (λ x. action_seen x.now) c.as_slice.result.now)) c.self.inside.state)
-    (c.self.inside.steps + 1) c.in-Err-At.field-0 c.in-Err-At.outcome c.self.inside.state c.advance.new.state c.in-Err-At.field-0-is c.in-Err-At.ensures.advances in
-    stop_steady c.self.inside.entries.now c.self.inside.steps c.self.inside.memories c.self.inside.phases.items c.self.inside.next c.self.inside.state c.self.inside.outcome (search rules) c.self.invariant
-    c.index.result.now c.index.ensures c.as_slice.result.now c.as_slice.ensures.value c.lists.result.now c.lists.ensures
-    c.advance.new.state c.in-Err-At.outcome stop.0 stop.1 c.in-Err-At.ensures.ready
+    let stop = stopped_at (Unit {0}) c.self.inside.entries.now (rest_run c.self.inside.entries.now (contents_of c.lists.result.now) (to_come (memories_of (program_seen c.self.inside.program.now)) c.as_slice-3.result.now c.extend_from_slice.new.self.items) (begun_from c.self.inside.state)) (c.self.inside.steps + 1) c.in-Err-At.field-0 c.in-Err-At.outcome c.self.inside.state c.advance.new.state c.in-Err-At.field-0-is c.in-Err-At.ensures.advances in
+    back_steady c.self.inside.program.now c.self.inside.entries.now c.self.inside.nodes.items c.self.inside.steps c.self.inside.memories c.self.inside.frames.items c.self.inside.state c.self.inside.firsts.items c.self.inside.outcome (search rules) c.self.invariant
+    c.as_slice-3.result.now c.as_slice-3.ensures.value c.extend_from_slice.new.self.items (frames_copied c.extend_from_slice.new.self.items c.clear.new.self.items c.as_slice-2.result.now c.self.inside.frames.items c.in_ok-extend_from_slice.ensures.items c.clear.ensures.items c.as_slice-2.ensures.value) c.lists.result.now c.lists.ensures
+    c.advance.new.state c.in-Err-At.outcome stop.0 c.in-Err-At.ensures.ready
+
+pub invariant_of-self-in-Err-NoMemory : goal.invariant_of-self-in-Err-NoMemory
+invariant_of-self-in-Err-NoMemory c =
+    let back = stopped_none (Unit {0}) c.self.inside.entries.now (rest_run c.self.inside.entries.now (contents_of c.lists.result.now) (to_come (memories_of (program_seen c.self.inside.program.now)) c.as_slice-3.result.now c.extend_from_slice.new.self.items) (begun_from c.self.inside.state)) (c.self.inside.steps + 1) c.in-Err-NoMemory.field-0 c.self.inside.state c.advance.new.state c.in-Err-NoMemory.field-0-is c.in-Err-NoMemory.ensures.advances in
+    back_steady c.self.inside.program.now c.self.inside.entries.now c.self.inside.nodes.items c.self.inside.steps c.self.inside.memories c.self.inside.frames.items c.self.inside.state c.self.inside.firsts.items c.self.inside.outcome (search rules) c.self.invariant
+    c.as_slice-3.result.now c.as_slice-3.ensures.value c.extend_from_slice.new.self.items (frames_copied c.extend_from_slice.new.self.items c.clear.new.self.items c.as_slice-2.result.now c.self.inside.frames.items c.in_ok-extend_from_slice.ensures.items c.clear.ensures.items c.as_slice-2.ensures.value) c.lists.result.now c.lists.ensures
+    c.advance.new.state c.self.inside.outcome back c.in-Err-NoMemory.ensures.ready
 
 pub returns-in-Ok : goal.returns-in-Ok
 returns-in-Ok c = (
   refl,
   λ p memories n at. stands_next _ _ refl
-      (next_stands c.self.inside.entries.now c.self.inside.steps c.self.inside.memories c.self.inside.phases.items c.self.inside.next c.self.inside.state c.self.inside.outcome (search rules) c.self.invariant
-      c.index.result.now c.index.ensures c.as_slice.result.now c.as_slice.ensures.value c.lists.result.now c.lists.ensures
-      c.advance.new.state c.make_writes.new.memories c.outcome_at-self-inside.result c.in-Ok.ensures.advances
+      (next_stands c.self.inside.program.now c.self.inside.entries.now c.self.inside.nodes.items c.self.inside.steps c.self.inside.memories c.self.inside.frames.items c.self.inside.state c.self.inside.firsts.items c.self.inside.outcome (search rules) c.self.invariant
+      c.as_slice-3.result.now c.as_slice-3.ensures.value c.extend_from_slice.new.self.items (frames_copied c.extend_from_slice.new.self.items c.clear.new.self.items c.as_slice-2.result.now c.self.inside.frames.items c.in_ok-extend_from_slice.ensures.items c.clear.ensures.items c.as_slice-2.ensures.value) c.lists.result.now c.lists.ensures
+      c.advance.new.state c.make_writes.new.memories c.outcome_at-self-inside.result c.swap.new.x.items c.in-Ok.ensures.advances
       (c.make_writes.ensures ∙ ap (λ ws. written_by ws c.self.inside.memories) c.as_slice-in-Ok.ensures.value)
-      (c.outcome_at-self-inside.ensures ∙ ap (λ n. if c.self.inside.next + 1 == n then Ended else Going) (c.len.ensures ∙ c.self.inside.phases.ok.0)))
+      (ap (λ (v : Vec Frame Global). to_come (memories_of (program_seen c.self.inside.program.now)) c.as_slice-3.result.now v.items) c.swap.ensures.x_after ∙ c.in-Ok.ensures.left)
+      (outcome_moved (memories_of (program_seen c.self.inside.program.now)) c.outcome_at-self-inside.result c.as_slice-in-Ok-2.result.now c.self.inside.nodes.items c.as_slice-in-Ok-3.result.now c.swap.new.x.items c.as_slice-in-Ok-2.ensures.value c.as_slice-in-Ok-3.ensures.value (c.outcome_at-self-inside.ensures (memories_of (program_seen c.self.inside.program.now)))))
       p memories n (subst (λ (r : Run). StandsAt p memories n r) (sym c.self.view_is) at),
 )
-
-pub returns-in-Err-At : goal.returns-in-Err-At
-returns-in-Err-At c =
-    let stop = stopped_at (Unit {0}) c.self.inside.entries.now (effect_of c.self.inside.entries.now (contents_of c.lists.result.now) (commands_meant (map (λ x. action_seen x.now) c.as_slice.result.now)) c.self.inside.state)
-    (c.self.inside.steps + 1) c.in-Err-At.field-0 c.in-Err-At.outcome c.self.inside.state c.advance.new.state c.in-Err-At.field-0-is c.in-Err-At.ensures.advances in (
-      refl,
-      λ p memories n at. stands_next _ _ refl
-          (stop_stands c.self.inside.entries.now c.self.inside.steps c.self.inside.memories c.self.inside.phases.items c.self.inside.next c.self.inside.state c.self.inside.outcome (search rules) c.self.invariant
-          c.index.result.now c.index.ensures c.as_slice.result.now c.as_slice.ensures.value c.lists.result.now c.lists.ensures
-          c.advance.new.state c.in-Err-At.outcome stop.0 stop.1)
-          p memories n (subst (λ (r : Run). StandsAt p memories n r) (sym c.self.view_is) at),
-    )

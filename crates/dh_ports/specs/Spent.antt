@@ -1,0 +1,12 @@
+-- Where ports are spent, access by access.
+use Rattle.std.specs.Prelude.{ℕ, ◌<◌, ◌≤◌}
+use Rattle.dh_tree.specs.PlainTrees.{Program}
+use Rattle.dh_tree.specs.Meets.{upto}
+use Rattle.dh_tree.specs.Ports.{charge, ports_of, meets_in}
+
+-- a charged access with which a bank has too few ports
+pub record Spends (p : Program) (k : ℕ) : Type 0 where
+  pub memory : ℕ
+  pub bank : ℕ
+  pub charged : 1 ≤ charge p memory bank k
+  pub beyond : ports_of p memory < upto (charge p memory bank) k (meets_in p)

@@ -1,0 +1,55 @@
+-- What an index is, as the code answers it.
+use Rattle.std.specs.Prelude.{◌≡◌, ℕ, not, List, Option, Some, None}
+use Rattle.dh_value.specs.declared.kinds.Kind.{Kind}
+use Rattle.dh_tree.specs.declared.trees.counters.Counter.{Counter}
+use Rattle.dh_tree.specs.Counters.{counter_in}
+use Rattle.dh_tree.specs.Indices as indices
+use Rattle.dh_tree.specs.Indices.{constant, iterator, dynamic, counted}
+use Rattle.dh_tree.specs.Kinds.{signed_number}
+use Rattle.dh_tree.specs.PlainTrees.{TermForm, number, truth_value, named, accessed, in_bank, applied, converted}
+use Rattle.dh_shape.specs.declared.indices.IndexKind.{IndexKind}
+use Rattle.dh_shape.specs.declared.indices.IndexKind.TheVariants as kinds
+use Rattle.dh_shape.specs.declared.indices.Offset.{Offset}
+
+-- the code's answer is what an index is; an iterator is told by its entity
+abbrev pub Classifies : List Counter → indices.IndexKind → IndexKind → Type 0
+Classifies cs (constant z) (kinds.Constant v) = v ≡ z
+Classifies cs (constant z) (kinds.Iterator entity o) = ⊥
+Classifies cs (constant z) kinds.Dynamic = ⊥
+Classifies cs (iterator c offset) (kinds.Constant v) = ⊥
+Classifies cs (iterator c offset) (kinds.Iterator entity o) = (counter_in cs (Some entity) ≡ Some c) × (o ≡ offset)
+Classifies cs (iterator c offset) kinds.Dynamic = ⊥
+Classifies cs dynamic (kinds.Constant v) = ⊥
+Classifies cs dynamic (kinds.Iterator entity o) = ⊥
+Classifies cs dynamic kinds.Dynamic = Unit {0}
+
+-- the literal that a form is
+abbrev pub literal_of : TermForm → Option Offset
+literal_of (number negative n) = Some (record { negative = negative; value = n })
+literal_of (truth_value value) = None
+literal_of (named r) = None
+literal_of (accessed r indices) = None
+literal_of (in_bank r bank bank_place row) = None
+literal_of (applied o left right) = None
+literal_of (converted inner to) = None
+
+-- the entity of the name that a form is
+abbrev pub name_of : TermForm → Option (Option ℕ)
+name_of (number negative n) = None
+name_of (truth_value value) = None
+name_of (named r) = Some r.entity
+name_of (accessed r indices) = None
+name_of (in_bank r bank bank_place row) = None
+name_of (applied o left right) = None
+name_of (converted inner to) = None
+
+-- a name with a literal added
+abbrev pub moved_kind : List Counter → Option Kind → Option (Option ℕ) → Option Offset → indices.IndexKind
+moved_kind cs kind name None = dynamic
+moved_kind cs kind None (Some l) = dynamic
+moved_kind cs kind (Some entity) (Some l) = counted kind (counter_in cs entity) (signed_number l.negative l.value)
+
+-- a literal with the other sign
+abbrev pub opposite : Option Offset → Option Offset
+opposite None = None
+opposite (Some l) = Some (record { negative = not l.negative; value = l.value })

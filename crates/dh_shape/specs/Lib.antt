@@ -1,0 +1,2 @@
+pub mod Classified
+pub mod Above

@@ -1,0 +1,14 @@
+//! Shapes of memories: what an index of an access is, where an element lies, and which limits the
+//! memories of a program exceed.
+//! Stands on `dh_tree`, `dh_value` and `dh_base`. docs/LANGUAGE.md tells the rules.
+#![tactic(auto)]
+
+mod indices;
+mod limits;
+mod places;
+#[cfg(test)]
+mod tests;
+
+pub use indices::{IndexKind, classify};
+pub use limits::within;
+pub use places::bank_row;

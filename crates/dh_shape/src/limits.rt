@@ -1,0 +1,153 @@
+//! Which limits the memories of a program exceed.
+
+ghost use Rattle.std.specs.Prelude.{◌≡◌, ◌+◌, ◌*◌, min};
+ghost use Rattle.dh_tree.specs.Elements.{banks_of};
+ghost use Rattle.dh_tree.specs.Excesses.{most_counted, excess_at, first_excess};
+ghost use Rattle.dh_tree.specs.Seen.{program_seen};
+ghost use Rattle.dh_tree.specs.Tables.{elements_of, elements_in};
+ghost use Rattle.dh_shape.specs.Above.{excess_in, first_in, excess_of, TellsExcess};
+
+use dh_base::{Excess, Limit};
+use dh_tree::{Dim, MemEntry, Shape, Typed};
+
+/// Counts that are reported stop here.
+const MOST_COUNTED: u64 = 1_000_000_000;
+
+/// What is counted of a memory by itself.
+#[derive(Clone, Copy)]
+enum Measure {
+    Dimensions,
+    Banks,
+    Ports,
+}
+
+/// A count, where it is above its limit.
+fn excess(limit: Limit, count: u64) -> Option<Excess>
+    ensures { result ≡ excess_at limit count }
+{
+    if limit.greatest() < count {
+        Some(Excess {
+            limit,
+            count: count.min(MOST_COUNTED),
+        })
+    } else {
+        None
+    }
+}
+
+/// The product, as far as counts go.
+fn product(left: u64, right: u64) -> u64
+    ensures { result ≡ min (left * right) most_counted }
+{
+    left.saturating_mul(right).min(MOST_COUNTED)
+}
+
+/// The sum, as far as counts go.
+fn total(left: u64, right: u64) -> u64
+    ensures { result ≡ min (left + right) most_counted }
+{
+    left.saturating_add(right).min(MOST_COUNTED)
+}
+
+/// A count times the banks of a dimension, as far as counts go.
+fn times_banks(count: u64, dim: &Dim) -> u64
+    ensures { result ≡ min (count * dim.now.banks) most_counted }
+{
+    product(count, dim.banks)
+}
+
+/// A count times the size of a dimension, as far as counts go.
+fn times_size(count: u64, dim: &Dim) -> u64
+    ensures { result ≡ min (count * dim.now.size) most_counted }
+{
+    product(count, dim.size)
+}
+
+/// The banks of all dimensions together, as far as counts go.
+fn banks(dims: &[Dim]) -> u64
+    ensures { result ≡ min (banks_of dims.now) most_counted }
+{
+    let mut count = 1;
+    for dim in dims {
+        count = times_banks(count, dim);
+    }
+    count
+}
+
+/// The elements of a memory, as far as counts go.
+fn elements(dims: &[Dim]) -> u64
+    ensures { result ≡ min (elements_of dims.now) most_counted }
+{
+    let mut count = 1;
+    for dim in dims {
+        count = times_size(count, dim);
+    }
+    count
+}
+
+/// The elements of all memories together, as far as counts go.
+fn all_elements(entries: &[MemEntry]) -> u64
+    ensures { result ≡ min (elements_in entries.now) most_counted }
+{
+    let mut count = 0;
+    for entry in entries {
+        count = total(count, elements(entry.shape.dims.as_slice()));
+    }
+    count
+}
+
+/// What is counted of a memory, where it is above its limit.
+fn measured(measure: Measure, shape: &Shape) -> Option<Excess>
+    ensures { result ≡ excess_in measure shape.now }
+{
+    match measure {
+        Measure::Dimensions => excess(Limit::Dimensions, shape.dims.len() as u64),
+        Measure::Banks => excess(Limit::Banks, banks(shape.dims.as_slice())),
+        Measure::Ports => excess(Limit::Ports, shape.ports),
+    }
+}
+
+/// The first memory of which that is above its limit.
+fn first_above(measure: Measure, entries: &[MemEntry]) -> Option<Excess>
+    ensures { result ≡ first_in measure entries.now }
+{
+    for entry in entries {
+        let excess = measured(measure, &entry.shape);
+        if excess.is_some() {
+            return excess;
+        }
+    }
+    None
+}
+
+/// The first excess of a table.
+fn table_excess(entries: &[MemEntry]) -> Option<Excess>
+    ensures { result ≡ excess_of entries.now }
+{
+    if let Some(excess) = first_above(Measure::Dimensions, entries) {
+        return Some(excess);
+    }
+    if let Some(excess) = first_above(Measure::Banks, entries) {
+        return Some(excess);
+    }
+    if let Some(excess) = first_above(Measure::Ports, entries) {
+        return Some(excess);
+    }
+    excess(Limit::Elements, all_elements(entries))
+}
+
+/// Tells whether the memories of a program keep the limits. Takes no memory.
+///
+/// # Errors
+///
+/// The first excess: of the dimensions of a memory, then of its banks over all dimensions, then of the
+/// ports of a bank, each of the first memory that has too many; then of the elements of all memories
+/// together. Counts stop at 1,000,000,000.
+pub fn within(typed: &Typed) -> Result<(), Excess>
+    ensures { TellsExcess (first_excess (program_seen typed.now)) result }
+{
+    match table_excess(typed.memories().as_slice()) {
+        Some(excess) => Err(excess),
+        None => Ok(()),
+    }
+}

@@ -1,0 +1,6 @@
+-- So many were made.
+use Rattle.std.proofs.Common.{◌≡◌, replicate, None}
+use Rattle.dh_tree.proofs.trees.memories.no_numbers.Given as goal
+
+abbrev pub invariant-loop : goal.invariant-loop
+invariant-loop l = l.numbers.items ≡ replicate l.counter None

@@ -1,0 +1,197 @@
+//! The walk over a program.
+
+ghost use Rattle.std.specs.Prelude.{◌≡◌, map, option_map, None};
+ghost use Rattle.dh_tree.specs.Indices.{known_of, term_index_breaches, terms_index_breaches, maybe_index_breaches, action_index_breaches, other_index_breaches, groups_index_breaches, index_breaches_of};
+ghost use Rattle.dh_tree.specs.LeastBreach.{least_of};
+ghost use Rattle.dh_tree.specs.Seen.{term_seen, terms, action_seen, action_form_seen, groups, part_seen, maybe_seen, program_seen};
+ghost use Rattle.dh_tree.specs.Told.{TellsLeast};
+ghost use Rattle.dh_views.specs.Kept.{loop_breaches};
+
+use crate::accesses::{keep_access, keep_physical};
+use crate::declared::{keep_decls, keep_shape};
+use crate::keeping::{divides, keep_if};
+use dh_base::{PassFault, Rule};
+use dh_tree::{Breach, Command, CommandForm, Expr, ExprForm, Typed};
+
+/// The breaches in an expression.
+#[cycle(terms)]
+#[tactic(auto, using(dh_tree::proofs::SeenTerms::terms_are, dh_tree::proofs::Leasts::least_append))]
+fn keep_term(typed: &Typed, kept: &mut Option<Breach>, term: &Expr)
+    ensures { kept.new ≡ least_of kept.old (term_index_breaches (known_of (program_seen typed.now)) (term_seen term.now)) }
+{
+    match &term.form {
+        ExprForm::Number { .. } => {}
+        ExprForm::Truth { .. } => {}
+        ExprForm::Variable { .. } => {}
+        ExprForm::Access { of, indices } => {
+            keep_access(typed, kept, of.entity, indices.as_slice());
+            keep_terms(typed, kept, indices.as_slice());
+        }
+        ExprForm::Physical {
+            of,
+            bank,
+            bank_place,
+            row,
+        } => {
+            keep_physical(typed, kept, of.entity, *bank, *bank_place, row);
+            keep_term(typed, kept, row);
+        }
+        ExprForm::Binary { left, right, .. } => {
+            keep_term(typed, kept, left);
+            keep_term(typed, kept, right);
+        }
+        ExprForm::Cast { inner, .. } => keep_term(typed, kept, inner),
+    }
+}
+
+/// Those in expressions.
+#[cycle(terms)]
+#[tactic(auto, using(dh_tree::proofs::SeenTerms::terms_are, dh_tree::proofs::Leasts::least_append))]
+fn keep_terms(typed: &Typed, kept: &mut Option<Breach>, indices: &[Expr])
+    ensures { kept.new ≡ least_of kept.old (terms_index_breaches (known_of (program_seen typed.now)) (terms (map term_seen indices.now))) }
+{
+    for index in indices {
+        keep_term(typed, kept, index);
+    }
+}
+
+/// Those in an expression that may lack.
+fn keep_maybe(typed: &Typed, kept: &mut Option<Breach>, value: &Option<Expr>)
+    ensures { kept.new ≡ least_of kept.old (maybe_index_breaches (known_of (program_seen typed.now)) (option_map term_seen value.now)) }
+{
+    match value {
+        Some(value) => keep_term(typed, kept, value),
+        None => {}
+    }
+}
+
+/// Of a loop an upper bound below the lower one, and a number of copies that does not divide that of the
+/// turns.
+#[tactic(auto, using(dh_tree::proofs::SeenActions::actions_are, dh_tree::proofs::Leasts::least_append))]
+fn keep_turns(kept: &mut Option<Breach>, form: &CommandForm)
+    ensures { kept.new ≡ least_of kept.old (loop_breaches (action_form_seen form.now)) }
+{
+    match form {
+        CommandForm::For {
+            low,
+            high,
+            high_place,
+            factor,
+            factor_place,
+            ..
+        } => {
+            keep_if(kept, *high < *low, Rule::ConstantRange, *high_place);
+            let is_dealt = divides(*factor, high.saturating_sub(*low));
+            keep_if(kept, !is_dealt, Rule::UnrollDivides, *factor_place);
+        }
+        CommandForm::Let { .. } => {}
+        CommandForm::LetMemory { .. } => {}
+        CommandForm::View { .. } => {}
+        CommandForm::Assign { .. } => {}
+        CommandForm::Store { .. } => {}
+        CommandForm::Reduce { .. } => {}
+        CommandForm::Call { .. } => {}
+        CommandForm::Block { .. } => {}
+        CommandForm::If { .. } => {}
+        CommandForm::While { .. } => {}
+    }
+}
+
+/// The breaches in a command.
+#[cycle(commands)]
+#[tactic(auto, using(dh_tree::proofs::SeenActions::actions_are, dh_tree::proofs::Leasts::least_append))]
+fn keep_command(typed: &Typed, kept: &mut Option<Breach>, command: &Command)
+    ensures { kept.new ≡ least_of kept.old (action_index_breaches (known_of (program_seen typed.now)) (action_seen command.now)) }
+{
+    match &command.form {
+        CommandForm::Let { value, .. } => keep_maybe(typed, kept, value),
+        CommandForm::LetMemory {
+            shape,
+            shape_places,
+            value,
+            ..
+        } => {
+            keep_shape(kept, shape, shape_places);
+            keep_maybe(typed, kept, value);
+        }
+        CommandForm::Assign { value, .. } => keep_term(typed, kept, value),
+        CommandForm::Store { target, value } => {
+            keep_term(typed, kept, target);
+            keep_term(typed, kept, value);
+        }
+        CommandForm::If { test, then, other } => {
+            keep_term(typed, kept, test);
+            keep_command(typed, kept, then);
+            keep_other(typed, kept, other);
+        }
+        CommandForm::While { test, body } => {
+            keep_term(typed, kept, test);
+            keep_command(typed, kept, body);
+        }
+        CommandForm::For { body, combine, .. } => {
+            keep_turns(kept, &command.form);
+            keep_command(typed, kept, body);
+            keep_other(typed, kept, combine);
+        }
+        CommandForm::Block { body } => keep_groups(typed, kept, body.as_slice()),
+        CommandForm::View { .. } => {}
+        CommandForm::Reduce { .. } => {}
+        CommandForm::Call { .. } => {}
+    }
+}
+
+/// Those in a block that may lack.
+#[cycle(commands)]
+fn keep_other(typed: &Typed, kept: &mut Option<Breach>, other: &Option<Box<Command>>)
+    ensures { kept.new ≡ least_of kept.old (other_index_breaches (known_of (program_seen typed.now)) (maybe_seen (option_map (λ b. action_seen b.value) other.now))) }
+{
+    match other {
+        Some(block) => keep_command(typed, kept, block),
+        None => {}
+    }
+}
+
+/// Those in the parts between `---`.
+#[cycle(commands)]
+#[tactic(auto, using(dh_tree::proofs::SeenActions::actions_are, dh_tree::proofs::Leasts::least_append))]
+fn keep_groups(typed: &Typed, kept: &mut Option<Breach>, parts: &[Vec<Command>])
+    ensures { kept.new ≡ least_of kept.old (groups_index_breaches (known_of (program_seen typed.now)) (groups (map part_seen parts.now))) }
+{
+    for part in parts {
+        for command in part {
+            keep_command(typed, kept, command);
+        }
+    }
+}
+
+/// The first breach of a program, if there is one.
+#[tactic(auto, using(dh_tree::proofs::Leasts::least_append))]
+fn first_breach(typed: &Typed) -> Option<Breach>
+    ensures { result ≡ least_of None (index_breaches_of (program_seen typed.now)) }
+{
+    let tree = typed.tree();
+    let mut kept = None;
+    keep_decls(&mut kept, tree.decls.as_slice());
+    keep_command(typed, &mut kept, &tree.body);
+    kept
+}
+
+/// Tells whether the sizes, banks, indices and bounds of a program keep the rules on shapes. Takes no
+/// memory. Its time is linear in the source, but for accesses to a bank, each of which costs as much as
+/// its memory has dimensions.
+///
+/// # Errors
+///
+/// `Refused` with the breach of `BankDivides`, `UnrollDivides`, `BankUnroll`, `DynamicBank` or
+/// `ConstantRange` that stands first.
+pub fn shapes(typed: &Typed) -> Result<(), PassFault>
+    ensures { TellsLeast (index_breaches_of (program_seen typed.now)) result }
+{
+    match first_breach(typed) {
+        Some(breach) => Err(PassFault::Refused {
+            rule: breach.rule,
+            place: breach.place,
+        }),
+        None => Ok(()),
+    }
+}
