@@ -4,14 +4,15 @@ use Rattle.dh_base.specs.Outside.{Told, Untold, Holds, FilesSeen, Rose}
 use Rattle.dh_base.specs.declared.outside.FileFault.{FileFault}
 use Rattle.dh_base.specs.declared.outside.FileFault.TheVariants as file
 
--- how many faults were met, and how many bytes were taken
+-- how many reads were asked for, how many faults were met, and how many bytes were taken
 pub record Counts : Type 0 where
+  pub reads : ℕ
   pub faults : ℕ
   pub taken : ℕ
 
 -- files of which this is told, with these counts
 abbrev pub files_with : Told → Counts → FilesSeen
-files_with told counts = record { told = λ _. told; faults = counts.faults; taken = counts.taken }
+files_with told counts = record { told = λ _. told; reads = counts.reads; faults = counts.faults; taken = counts.taken }
 
 -- what a reader's last bytes tell of the file that it reads: its contents, where they are known
 abbrev pub told_of : Option (List ℕ) → Told

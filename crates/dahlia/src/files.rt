@@ -11,12 +11,13 @@ use std::io::{ErrorKind, Read};
 use std::marker::Model;
 use std::{fs, io};
 
-/// The files of the system, each named by its path. Clauses see two counts, of the faults met and of
-/// the bytes taken, and nothing of the files' bytes, which other programs may change at any time. A
-/// count that stands at its last value, 2^64 - 1, stays there.
+/// The files of the system, each named by its path. Clauses see three counts, of the reads, of the faults
+/// met and of the bytes taken, and nothing of the files' bytes, which other programs may change at any
+/// time. A count that stands at its last value, 2^64 - 1, stays there.
 #[derive(Drop)]
 pub struct RealFiles<'a, R: std::rt::Files> {
     rt: &'a R,
+    reads: u64,
     faults: u64,
     taken: u64,
 }
@@ -26,16 +27,17 @@ impl<'a, R: std::rt::Files> Model for RealFiles<'a, R> {
 
     ghost Value = { Counts };
 
-    ghost view = { λ f. record { faults = f.faults; taken = f.taken } };
+    ghost view = { λ f. record { reads = f.reads; faults = f.faults; taken = f.taken } };
 }
 
 impl<'a, R: std::rt::Files> RealFiles<'a, R> {
-    /// The files of this runtime, with both counts at 0.
+    /// The files of this runtime, with all counts at 0.
     pub fn new(rt: &'a R) -> RealFiles<'a, R>
-        ensures { result ≡ record { faults = 0; taken = 0 } }
+        ensures { result ≡ record { reads = 0; faults = 0; taken = 0 } }
     {
         RealFiles {
             rt,
+            reads: 0,
             faults: 0,
             taken: 0,
         }

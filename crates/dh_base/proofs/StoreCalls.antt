@@ -1,15 +1,15 @@
 -- Each way that a call of a store ends, from the facts of its body. The body computes on the fields
 -- of the state before the call, which clauses see as `old`; the new fields are equal, one by one, to
 -- those that the relation names, so putting equals for equals shows the two states equal.
-use Rattle.std.proofs.Common.{ℕ, ◌≤◌, ◌≡◌, Bool, true, false, List, ◌++◌, take, length, refl, sym, ◌∙◌, ap, subst, nat_eq, Result, Ok, Err, Vec, MatchResult, arith, Some}
+use Rattle.std.proofs.Common.{ℕ, ◌≤◌, ◌≡◌, Bool, true, false, List, ◌++◌, take, length, refl, sym, ◌∙◌, ap, subst, nat_eq, Result, Ok, Err, Vec, MatchResult}
 use Rattle.std.specs.List.{list_any}
 use Rattle.std.specs.declared.alloc.Global.{Global}
 use Rattle.dh_base.specs.declared.outside.FileFault.{FileFault}
 use Rattle.dh_base.specs.declared.outside.FileFault.TheVariants as file
 use Rattle.dh_base.specs.declared.outside.SinkFault.{SinkFault}
 use Rattle.dh_base.specs.declared.outside.SinkFault.TheVariants as sink
-use Rattle.dh_base.specs.Outside.{Absent, Holds, Rose, Writes}
-use Rattle.dh_base.specs.Stores.{FileStore, SinkStore, risen, sink_seen, told_of, is_listed, FailsByNumber, FindsNone, TakesAll, StoreReads, WritesAll, StoreWrites}
+use Rattle.dh_base.specs.Outside.{Absent, Holds, risen}
+use Rattle.dh_base.specs.Stores.{FileStore, SinkStore, told_of, is_listed, FailsByNumber, FindsNone, TakesAll, StoreReads, Appends, WritesAll, StoreWrites}
 
 -- whether the body found the call's number in the list is whether the call is listed
 listed_is : (failing list : List ℕ) (calls number : ℕ) (found answer : Bool) → number ≡ risen calls 1 → list ≡ failing
@@ -45,27 +45,14 @@ pub read_ends : (old new : FileStore) (name : List ℕ) (limit : ℕ) (bytes : L
 read_ends old new name limit bytes (Ok copy) takes same = subst (λ b. TakesAll old new name limit b) (sym same) takes
 read_ends old new name limit bytes (Err e) takes same = subst (λ f. StoreReads old new name limit (Err f)) (sym same) (bytes, takes)
 
--- a count that rises by one rises, or stops at its last value
-rose : (before after : ℕ) → after ≡ risen before 1 → Rose before after
-rose before after e = grind arith
-
--- a listed write, as clauses on any output see it
-pub part_written : (old : SinkStore) (bytes : List ℕ) (part : ℕ) (piece : List ℕ) (from : SinkStore) → from ≡ old
-    → (written : List ℕ) (faults : ℕ) → bytes ≡ from.bytes ++ written → written ≡ take part piece → faults ≡ risen from.faults 1
-    → Writes (sink_seen old) (record { bytes = Some bytes; faults = faults }) piece (Err sink.Failed)
-part_written old bytes part piece from same written faults b w f =
-    subst (λ s. Writes (sink_seen s) (record { bytes = Some bytes; faults = faults }) piece (Err sink.Failed)) same
-    ((part, ap Some (b ∙ ap (λ l. from.bytes ++ l) w)), rose from.faults faults f)
-
 -- a write that is not listed, from the answer of the growth that it ends with
-pub write_ends : (from old : SinkStore) → from ≡ old → (calls : ℕ) → calls ≡ risen from.calls 1
+pub write_ends : (old from new : SinkStore) → from ≡ old → (calls : ℕ) → calls ≡ risen from.calls 1
     → (list : List ℕ) (found : Bool) → list ≡ from.failing → found ≡ list_any (λ n. nat_eq n calls) list → found ≡ false
-    → (bytes piece : List ℕ) (result : Result (Unit {0}) SinkFault)
-    → MatchResult result (λ _. bytes ≡ from.bytes ++ piece) (λ e. (e ≡ sink.NoMemory) × (bytes ≡ from.bytes))
-    → StoreWrites old (record from { bytes = bytes; calls = calls }) piece result
-write_ends from old same calls n list found l a t bytes piece (Ok _) grew =
-    subst (λ s. WritesAll s (record from { bytes = bytes; calls = calls }) piece) same
-    (record { unlisted = listed_is _ _ _ _ _ _ n l a t; after = rw (n, grew) refl })
-write_ends from old same calls n list found l a t bytes piece (Err e) grew =
-    subst (λ f. StoreWrites old (record from { bytes = bytes; calls = calls }) piece (Err f)) (sym grew.0)
-    (subst (λ s. record from { bytes = bytes; calls = calls } ≡ record s { calls = risen s.calls 1 }) same (rw (n, grew.1) refl))
+    → (piece : List ℕ) (result : Result (Unit {0}) SinkFault) → Appends (record from { calls = calls }) new piece result
+    → StoreWrites old new piece result
+write_ends old from new same calls n list found l a t piece (Ok _) grew =
+    subst (λ s. WritesAll s new piece) same
+    (record { unlisted = listed_is _ _ _ _ _ _ n l a t; after = rw (grew, n) refl })
+write_ends old from new same calls n list found l a t piece (Err sink.Failed) grew = elim grew [ ]
+write_ends old from new same calls n list found l a t piece (Err sink.NoMemory) grew =
+    subst (λ s. new ≡ record s { calls = risen s.calls 1; refusals = risen s.refusals 1 }) same (rw (grew, n) refl)

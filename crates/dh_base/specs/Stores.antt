@@ -6,7 +6,7 @@ use Rattle.dh_base.specs.declared.outside.FileFault.{FileFault}
 use Rattle.dh_base.specs.declared.outside.FileFault.TheVariants as file
 use Rattle.dh_base.specs.declared.outside.SinkFault.{SinkFault}
 use Rattle.dh_base.specs.declared.outside.SinkFault.TheVariants as sink
-use Rattle.dh_base.specs.Outside.{Told, Absent, Holds, FilesSeen, SinkSeen}
+use Rattle.dh_base.specs.Outside.{Told, Absent, Holds, FilesSeen, SinkSeen, risen}
 
 -- files in memory: names with their contents, the numbers of the calls that fail,
 -- and how many calls, faults and bytes taken there were
@@ -18,13 +18,14 @@ pub record FileStore : Type 0 where
   pub taken : ℕ
 
 -- an output in memory: its bytes, the numbers of the calls that fail, how many bytes of its piece
--- a failing call still writes, and how many calls and faults there were
+-- a failing call still writes, and how many calls, faults and refusals of memory there were
 pub record SinkStore : Type 0 where
   pub bytes : List ℕ
   pub failing : List ℕ
   pub part : ℕ
   pub calls : ℕ
   pub faults : ℕ
+  pub refusals : ℕ
 
 -- an entry of the program as one of a store: its name's bytes and its contents
 abbrev pub stored : String Global × Vec ℕ Global → List ℕ × List ℕ
@@ -37,15 +38,11 @@ told_of (entry ∷ rest) name = (if bytes_eq entry.0 name then Holds entry.1 els
 
 -- what clauses on files see of the store
 abbrev pub files_seen : FileStore → FilesSeen
-files_seen store = record { told = told_of store.entries; faults = store.faults; taken = store.taken }
+files_seen store = record { told = told_of store.entries; reads = store.calls; faults = store.faults; taken = store.taken }
 
 -- what clauses on an output see of the store
 abbrev pub sink_seen : SinkStore → SinkSeen
-sink_seen store = record { bytes = Some store.bytes; faults = store.faults }
-
--- a count after a rise; it stops at its last value
-abbrev pub risen : ℕ → ℕ → ℕ
-risen count by = min (count + by) (2 ^ 64 - 1)
+sink_seen store = record { bytes = Some store.bytes; faults = store.faults; refusals = store.refusals }
 
 -- whether the call after this many, numbered from 1, is listed as failing
 abbrev pub is_listed : List ℕ → ℕ → Bool
@@ -88,6 +85,12 @@ StoreReads old new name limit (Err file.Failed) = FailsByNumber old new ⊎ Find
 StoreReads old new name limit (Err file.TooLong) = (bytes : List ℕ) × StopsPast old new name limit bytes
 StoreReads old new name limit (Err file.NoMemory) = (bytes : List ℕ) × TakesAll old new name limit bytes
 
+-- a piece is added at the end, or memory for it is refused, which counts as one refusal
+abbrev pub Appends : SinkStore → SinkStore → List ℕ → Result (Unit {0}) SinkFault → Type 0
+Appends old new piece (Ok _) = new ≡ record old { bytes = old.bytes ++ piece }
+Appends old new piece (Err sink.Failed) = ⊥
+Appends old new piece (Err sink.NoMemory) = new ≡ record old { refusals = risen old.refusals 1 }
+
 -- the store after one more call, which wrote these bytes
 abbrev pub after_write : SinkStore → List ℕ → SinkStore
 after_write store written = record store { bytes = store.bytes ++ written; calls = risen store.calls 1 }
@@ -107,4 +110,4 @@ pub record WritesPart (old new : SinkStore) (piece : List ℕ) : Type 0 where
 abbrev pub StoreWrites : SinkStore → SinkStore → List ℕ → Result (Unit {0}) SinkFault → Type 0
 StoreWrites old new piece (Ok _) = WritesAll old new piece
 StoreWrites old new piece (Err sink.Failed) = WritesPart old new piece
-StoreWrites old new piece (Err sink.NoMemory) = new ≡ record old { calls = risen old.calls 1 }
+StoreWrites old new piece (Err sink.NoMemory) = new ≡ record old { calls = risen old.calls 1; refusals = risen old.refusals 1 }

@@ -2,7 +2,7 @@
 //! does when the outside is known.
 
 ghost use Rattle.std.specs.Prelude.{◌≡◌, [], map, MatchOption, MatchResult};
-ghost use Rattle.dh_base.specs.Outside.{Absent, Holds, KeepsFiles, Reads};
+ghost use Rattle.dh_base.specs.Outside.{Absent, Holds, KeepsFiles, CountsRead, Reads};
 ghost use Rattle.dh_base.specs.Stores.{FileStore, stored, told_of, files_seen, StoreReads};
 
 use crate::outside::{FileFault, Files};
@@ -54,6 +54,7 @@ impl Files for MemFiles {
     /// contents are longer. A count that stands at its last value stays there.
     fn read(&mut self, alloc: Global, name: &str, limit: u64) -> Result<Vec<u8>, FileFault>
         ensures keeps { KeepsFiles (files_seen self.old) (files_seen self.new) }
+        ensures counts { CountsRead (files_seen self.old) (files_seen self.new) result }
         ensures answer { Reads (files_seen self.old) (files_seen self.new) name.now limit result }
         ensures exact { StoreReads self.old self.new name.now limit result }
     {
@@ -95,39 +96,4 @@ fn contents<'a>(entries: &'a [(String, Vec<u8>)], name: &str) -> Option<&'a [u8]
         }
     }
     None
-}
-
-#[cfg(test)]
-mod tests {
-    use super::*;
-    use std::test::Fail;
-
-    #[test]
-    fn answers_in_order_of_calls(rt: HostRuntime) -> Result<(), Fail> {
-        let mut entries = Vec::new(rt.alloc());
-        for (name, text) in [("twice", "first"), ("twice", "second"), ("none", "")] {
-            let bytes = Vec::from_slice(rt.alloc(), text.as_bytes())?;
-            entries.push((String::from_str(rt.alloc(), name)?, bytes))?;
-        }
-        let failing = Vec::from_slice(rt.alloc(), &[2, 6])?;
-        let mut files = MemFiles::new(entries, failing);
-        let calls = [
-            ("twice", 5, Ok("first".as_bytes()), 0, 5),
-            ("twice", 5, Err(FileFault::Failed), 1, 5),
-            ("absent", 5, Err(FileFault::Failed), 1, 5),
-            ("twice", 3, Err(FileFault::TooLong), 1, 9),
-            ("none", 0, Ok("".as_bytes()), 1, 9),
-            ("absent", 5, Err(FileFault::Failed), 2, 9),
-        ];
-        for (name, limit, want, faults, taken) in calls {
-            match (files.read(rt.alloc(), name, limit), want) {
-                (Ok(bytes), Ok(held)) => assert_eq!(rt; bytes.as_slice(), held, "{name}"),
-                (Err(fault), Err(told)) => assert_eq!(rt; fault, told, "{name}"),
-                _ => panic!(rt; "{name} at {limit}"),
-            }
-            assert_eq!(rt; files.faults, faults, "faults at {name}");
-            assert_eq!(rt; files.taken, taken, "taken at {name}");
-        }
-        Ok(())
-    }
 }

@@ -2,7 +2,7 @@
 //! can fail. Clauses see of each what they could know of a real one: its counts, and its bytes only
 //! where they are told.
 
-ghost use Rattle.dh_base.specs.Outside.{FilesSeen, SinkSeen, KeepsFiles, Reads, KeepsSink, Writes};
+ghost use Rattle.dh_base.specs.Outside.{FilesSeen, SinkSeen, KeepsFiles, CountsRead, Reads, KeepsSink, CountsWrite, Writes};
 
 use std::alloc::Global;
 use thiserror::Error;
@@ -37,11 +37,13 @@ pub trait Files {
     /// What a clause sees of them.
     ghost seen: { Self → FilesSeen };
 
-    /// The whole contents of a file, in bytes, if they are no longer than `limit` bytes.
+    /// The whole contents of a file, in bytes, if they are no longer than `limit` bytes. Each call
+    /// counts as one read.
     /// Fails as `Failed` where the file is absent or a fault was met, which counts as one; as
     /// `TooLong` where more than `limit` bytes were taken; as `NoMemory` where memory was refused.
     fn read(&mut self, alloc: Global, name: &str, limit: u64) -> Result<Vec<u8>, FileFault>
         ensures keeps { KeepsFiles (seen self.old) (seen self.new) }
+        ensures counts { CountsRead (seen self.old) (seen self.new) result }
         ensures answer { Reads (seen self.old) (seen self.new) name.now limit result };
 }
 
@@ -52,8 +54,9 @@ pub trait Sink {
 
     /// Writes a piece after what was written before. After an error a prefix of the piece was
     /// written. Fails as `Failed` where a fault was met, which counts as one; as `NoMemory` where
-    /// memory was refused.
+    /// memory was refused, which counts as one refusal.
     fn write(&mut self, piece: &[u8]) -> Result<(), SinkFault>
         ensures keeps { KeepsSink (seen self.old) (seen self.new) }
+        ensures counts { CountsWrite (seen self.old) (seen self.new) result }
         ensures answer { Writes (seen self.old) (seen self.new) piece.now result };
 }

@@ -4,7 +4,6 @@
 #![tactic(auto)]
 
 mod breaches;
-mod contents;
 mod laws;
 mod loads;
 mod names;
@@ -12,8 +11,7 @@ mod tables;
 mod trees;
 
 pub use breaches::{Breach, is_before, keep_least};
-pub use contents::Memories;
-pub use dh_value::Kind;
+pub use dh_value::{Kind, Memories};
 pub use laws::{
     elements_lie_in_banks, kept_is_least, kept_ports_are_never_spent, kept_programs_have_tables,
     lists_are_seen_in_order, resolving_keeps_forms, typed_programs_suit, typing_keeps_programs,

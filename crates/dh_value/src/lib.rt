@@ -1,9 +1,11 @@
 //! Arithmetic on words of 1 to 64 bits. Every operation is told by the whole numbers that its
-//! operands stand for, in `specs/Words.antt` and `specs/Operations.antt`.
+//! operands stand for, in `specs/Words.antt` and `specs/Operations.antt`. Beside them the contents of
+//! memories, as bits of words.
 //! Stands on nothing.
 #![tactic(auto)]
 
 mod bits;
+mod contents;
 mod kinds;
 mod laws;
 mod operations;
@@ -12,6 +14,7 @@ mod operators;
 mod tests;
 mod words;
 
+pub use contents::Memories;
 pub use kinds::{Kind, width};
 pub use laws::{operations_give_words, values_stay_in_words};
 pub use operations::binary;
