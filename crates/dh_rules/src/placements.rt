@@ -120,7 +120,8 @@ fn keep_groups(entities: &[Entity], within: bool, kept: &mut Option<Breach>, par
 
 /// Those of the memories from outside.
 fn keep_decls(kept: &mut Option<Breach>, decls: &[Decl])
-    ensures { kept.new ≡ least_of kept.old (decls_placement_breaches (map declared_seen decls.now)) }
+    ensures { kept.new ≡ least_of kept.old (decls_placement_breaches
+        (map declared_seen decls.now)) }
 {
     for decl in decls {
         keep_if(

@@ -221,7 +221,8 @@ pub(crate) fn keep_physical(
     bank_place: Place,
     row: &Expr,
 )
-    ensures { kept.new ≡ least_of kept.old (bank_broken (dims_in typed.now of) bank bank_place row.now) }
+    ensures { kept.new ≡ least_of kept.old (bank_broken
+        (dims_in typed.now of) bank bank_place row.now) }
 {
     match kept_dims(typed, of) {
         Some(dims) => keep_in_bank(kept, dims, bank, bank_place, row),
