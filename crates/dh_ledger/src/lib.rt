@@ -4,8 +4,6 @@
 
 mod count_ledger;
 mod ledgers;
-#[cfg(test)]
-mod tests;
 mod tokens;
 
 pub use count_ledger::CountLedger;

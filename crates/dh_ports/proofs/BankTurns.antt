@@ -1,5 +1,5 @@
 -- Banks, while dimensions are gone through from the last one.
-use Rattle.std.proofs.Common.{◌≡◌, ℕ, zero, suc, ◌+◌, ◌-◌, ◌*◌, ◌%◌, ◌<◌, ◌≤◌, List, [], ◌∷◌, length, map, drop, get_or, refl, ap, sym, ◌∙◌, subst, arith}
+use Rattle.std.proofs.Common.{◌≡◌, ℕ, zero, suc, ◌+◌, ◌-◌, ◌*◌, ◌%◌, ◌<◌, ◌≤◌, List, [], ◌∷◌, length, map, drop, get_or, ap, sym, ◌∙◌, subst, arith}
 use Rattle.std.specs.List.{AllByRecursion}
 use Rattle.std.proofs.Math.Nat.{mod-lt, mul_comm, le_refl}
 use Rattle.std.proofs.lemmas.Nat.{mul-add-lt}
@@ -10,7 +10,7 @@ use Rattle.dh_tree.specs.Elements.{banks_of, bank_of}
 use Rattle.dh_tree.specs.Ports.{literal, literals}
 use Rattle.dh_tree.specs.Seen.{term_seen, terms}
 use Rattle.dh_tree.specs.Shapes.{IsDim}
-use Rattle.dh_ports.proofs.ReachFacts.{no_bank, banks_positive, told_below}
+use Rattle.dh_ports.proofs.ReachFacts.{no_bank, told_below}
 use Rattle.dh_ports.proofs.Turns.{at_item, at_place}
 
 abbrev bank_at : List Dim → List Expr → ℕ

@@ -1,21 +1,20 @@
 -- The first breach of the rules on ports, from the accesses that are flagged.
-use Rattle.std.proofs.Common.{◌≡◌, ℕ, zero, suc, ◌+◌, ◌<◌, ◌≤◌, Bool, true, false, if◌then◌else◌, List, [], ◌∷◌, ◌++◌, length, map, Contains, refl, ap, sym, ◌∙◌, subst, arith, ◌⊎◌, inl, inr}
+use Rattle.std.proofs.Common.{◌≡◌, ℕ, zero, suc, ◌<◌, ◌≤◌, Bool, true, false, List, [], ◌∷◌, map, Contains, refl, ap, sym, ◌∙◌, subst, arith, inl, inr}
 use Rattle.std.specs.Prelude.{Option, Some, None, option_map, slice_get}
 use Rattle.std.proofs.lemmas.Option.{slice_get_within, slice_get-map, slice_get-get_or, get_or_from_slice_get}
 use Rattle.dh_base.specs.declared.places.Place.{Place}
 use Rattle.dh_base.specs.declared.rules.Rule.TheVariants as rule
 use Rattle.dh_tree.specs.declared.breaches.Breach.{Breach}
-use Rattle.dh_tree.specs.Happenings.{Access, accesses_in, count_in}
-use Rattle.dh_tree.specs.LeastBreach.{breach, IsLeast, least_of}
+use Rattle.dh_tree.specs.Happenings.{Access, accesses_in}
+use Rattle.dh_tree.specs.LeastBreach.{breach, least_of}
 use Rattle.dh_tree.specs.Meets.{In}
 use Rattle.dh_tree.specs.PlainTrees.{Program}
-use Rattle.dh_tree.specs.Ports.{trace, meets_in, place_in, KeepsPorts, PortsSpent, ReadsAfterWrite, IsPortBreach, KeepsPortRules, IsFirstPortBreach}
+use Rattle.dh_tree.specs.Ports.{trace, meets_in, place_in, KeepsPorts, PortsSpent, ReadsAfterWrite, IsPortBreach}
 use Rattle.dh_tree.proofs.FirstBreaches.{none_is_kept, least_is_kept}
-use Rattle.dh_ports.specs.Flags.{IsLate, FlagsTell, TellsSpent, TellsLate, TellsFirst}
+use Rattle.dh_ports.specs.Flags.{IsLate, TellsSpent, TellsLate, TellsFirst}
 use Rattle.dh_ports.specs.Incidents.{Incident, touches, assigned, arm_begins, arm_ends, begins, next, ends, incidents}
-use Rattle.dh_ports.specs.Scanned.{flag_place, flagged, first_spent, late_at}
+use Rattle.dh_ports.specs.Scanned.{flagged, first_spent, late_at}
 use Rattle.dh_ports.specs.Spending.{at_touches}
-use Rattle.dh_ports.specs.Spent.{Spends}
 use Rattle.dh_ports.specs.Touched.{Touched, touched, of_access}
 use Rattle.dh_ports.specs.WritesFound.{FindsWrite}
 use Rattle.dh_ports.proofs.FirstSpent.{none_spends, first_spends}

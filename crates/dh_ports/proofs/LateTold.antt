@@ -1,21 +1,20 @@
 -- Reads of a slot of which nothing is left are those that come behind a write.
-use Rattle.std.proofs.Common.{◌≡◌, ℕ, zero, suc, ◌+◌, ◌-◌, ◌<◌, ◌≤◌, ◌==◌, ◌&&◌, not, Bool, true, false, if◌then◌else◌, List, [], ◌∷◌, length, map, replicate, is_some, bytes_eq, refl, ap, sym, ◌∙◌, subst, arith, inl, inr}
+use Rattle.std.proofs.Common.{◌≡◌, ℕ, zero, suc, ◌+◌, ◌-◌, ◌<◌, ◌≤◌, ◌==◌, ◌&&◌, not, Bool, true, false, if◌then◌else◌, List, [], ◌∷◌, length, map, replicate, bytes_eq, refl, ap, sym, ◌∙◌, subst, arith, inl, inr}
 use Rattle.std.specs.Prelude.{Option, Some, None, option_map, slice_get, slice_index}
 use Rattle.std.proofs.lemmas.Bool.{cases_Bool, eqb-true, eq-eqb}
 use Rattle.std.proofs.lemmas.List.{length-map, get_or-replicate}
 use Rattle.std.proofs.lemmas.Option.{slice_get_within, slice_get-map}
 use Rattle.std.proofs.lemmas.Slice.Eq.{bytes_eq-Decides}
 use Rattle.dh_tree.specs.Happenings.{Access, accesses_in}
-use Rattle.dh_tree.specs.Meets.{In, upto}
-use Rattle.dh_tree.specs.Memories.{memories_of, number_in}
+use Rattle.dh_tree.specs.Meets.{upto}
 use Rattle.dh_tree.specs.PlainTrees.{Program}
 use Rattle.dh_tree.specs.Ports.{trace, meets_in, reaches}
 use Rattle.dh_tree.specs.Sharing.{in_one_phase}
 use Rattle.dh_tree.proofs.SpentAlike.{both_are}
 use Rattle.dh_ports.specs.Classes.{first_place}
-use Rattle.dh_ports.specs.Courses.{count, before_at}
-use Rattle.dh_ports.specs.Flags.{IsLate, FlagsTell, TellsLate}
-use Rattle.dh_ports.specs.Incidents.{Incident, touches, incidents}
+use Rattle.dh_ports.specs.Courses.{before_at}
+use Rattle.dh_ports.specs.Flags.{IsLate, TellsLate}
+use Rattle.dh_ports.specs.Incidents.{Incident, touches}
 use Rattle.dh_ports.specs.Levels.{start, lefts_of}
 use Rattle.dh_ports.specs.Phased.{TellsPhases}
 use Rattle.dh_ports.specs.Reached.{reach, reach_of}
@@ -29,7 +28,7 @@ use Rattle.dh_ports.proofs.ClassFacts.{same_key}
 use Rattle.dh_ports.proofs.IncidentTies.{action_ties}
 use Rattle.dh_ports.proofs.KeyTurns.{lefts_long}
 use Rattle.dh_ports.proofs.PlacesOnce.{access_in}
-use Rattle.dh_ports.proofs.ReachFacts.{Reached, reach_seen, reached_is, then_reaches, IsWithin, Reaching, reaching_is, not_reached, reached_test}
+use Rattle.dh_ports.proofs.ReachFacts.{Reached, reach_seen, reached_is, then_reaches, IsWithin, reaching_is, not_reached, reached_test}
 use Rattle.dh_ports.proofs.ScanFacts.{event_of, at_event, at_within, there_is, events, Noted, noted_is, noted_at, counted}
 use Rattle.dh_ports.proofs.SpendingFacts.{lefts_found}
 

@@ -45,3 +45,5 @@ pub mod WalkFacts
 pub mod TellFacts
 pub mod BankTurns
 pub mod ScanDone
+pub mod Judged
+pub mod LeftTurns

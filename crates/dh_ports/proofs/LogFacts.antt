@@ -1,5 +1,5 @@
 -- Logs as functions of the slot: a mark more, undoing from the end, lowering from the front.
-use Rattle.std.proofs.Common.{◌≡◌, ℕ, zero, suc, ◌-◌, ◌≤◌, ◌<◌, ◌==◌, Bool, true, false, List, [], ◌∷◌, ◌++◌, length, take, get_or, slice_index, slice_set, min, if◌then◌else◌, refl, ap, sym, ◌∙◌, subst, arith, ◌⊎◌, inl, inr}
+use Rattle.std.proofs.Common.{◌≡◌, ℕ, zero, suc, ◌+◌, ◌-◌, ◌≤◌, ◌<◌, ◌==◌, Bool, true, false, List, [], ◌∷◌, ◌++◌, length, take, get_or, slice_index, slice_set, min, if◌then◌else◌, length-append, refl, ap, sym, ◌∙◌, subst, arith, ◌⊎◌, inl, inr}
 use Rattle.std.proofs.lemmas.Bool.{eqb-true, eq-eqb, cases_Bool}
 use Rattle.std.proofs.lemmas.Option.{slice_get-get_or}
 use Rattle.std.proofs.lemmas.List.{get_or-set_same, get_or-set_other, length-set}
@@ -120,6 +120,13 @@ pub record IsLowering (left0 : List ℕ) (log0 lows0 : List Mark) (left : List �
   pub lowered : (m : ℕ) → least lows m (slice_index left m) ≡ least lows0 m (slice_index left0 m)
   pub logged : (m : ℕ) → at_begin log m (slice_index left m) ≡ at_begin log0 m (slice_index left0 m)
   pub marks : AreMarks (length left0) log0 → AreMarks (length left0) log
+  pub few : length log + length lows ≤ length log0 + length lows0
+
+few_kept : (a r n : ℕ) → a + suc r ≤ n → a + r ≤ n
+few_kept a r n h = omega (arith, h)
+
+few_turn : (log : List Mark) (m : Mark) (r n : ℕ) → length log + suc r ≤ n → length (log ++ m ∷ []) + r ≤ n
+few_turn log m r n h = let e : length (log ++ m ∷ []) ≡ length log + 1 = length-append log (m ∷ []) in omega (arith, h, e)
 
 -- one low more, for a part of the loop's list
 module _ (left0 : List ℕ) (log0 lows0 : List Mark) (left : List ℕ) (log lows : List Mark) (low : Mark) (rest : List Mark) (at : lows ≡ low ∷ rest) (before : IsLowering left0 log0 lows0 left log lows) where
@@ -132,6 +139,7 @@ module _ (left0 : List ℕ) (log0 lows0 : List Mark) (left : List ℕ) (log lows
     lowered = λ m. keep_turn left low.slot low.left m rest more ∙ so.lowered m;
     logged = so.logged;
     marks = so.marks;
+    few = few_kept (length log) (length rest) (length log0 + length lows0) so.few;
   }))
 
   pub lowering_turn : (left1 : List ℕ) (log1 : List Mark) → left1 ≡ slice_set left low.slot low.left → log1 ≡ log ++ mark low.slot (slice_index left low.slot) ∷ [] → low.slot < length left0 → low.left < slice_index left low.slot → IsLowering left0 log0 lows0 left1 log1 rest
@@ -142,6 +150,7 @@ module _ (left0 : List ℕ) (log0 lows0 : List Mark) (left : List ℕ) (log lows
         lowered = λ m. lower_turn left low.slot low.left m rest within less ∙ so.lowered m;
         logged = λ m. logged_turn left log low.slot low.left m within ∙ so.logged m;
         marks = λ are. marks_more (length left0) log low.slot _ (so.marks are) inside;
+        few = few_turn log (mark low.slot (slice_index left low.slot)) (length rest) (length log0 + length lows0) so.few;
       }))
 
 pub undoing_turn : (n : ℕ) (left : List ℕ) (log : List Mark) (i m w : ℕ) (d : Mark) → AreMarks n log → length left ≡ n → 0 < i → i ≤ length log

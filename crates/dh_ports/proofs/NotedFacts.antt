@@ -44,12 +44,12 @@ module _ (g : Option ℕ) (id : ℕ) (form : ActionForm) where
     g2_so : g2 ≡ released (choice_stepped chosen other) (going_after (tested (choice_stepped chosen other) g id) chosen)
     g2_so = g2_is ∙ (ap (λ s. released s behind) stepped_is ∙ ap (λ b. released (choice_stepped chosen other) b) (behind_is ∙ ap (λ h. going_after h chosen) g1_so))
 
-    pub choice_noted : (old x1 x2 x3 x4 x5 x6 x7 new : List Incident) → x1 ≡ old ++ term_incidents phase test → x2 ≡ x1 ++ begins ∷ [] → x3 ≡ x2 ++ arm_begins ∷ [] → x4 ≡ x3 ++ incidents g1 chosen
-        → x5 ≡ x4 ++ arm_ends ∷ [] → x6 ≡ x5 ++ next ∷ [] → x7 ≡ x6 ++ other_incidents g2 other → new ≡ x7 ++ ends ∷ [] → new ≡ old ++ command_incidents g id form
-    choice_noted old x1 x2 x3 x4 x5 x6 x7 new f1 f2 f3 f4 f5 f6 f7 f8 =
+    pub choice_noted : (old x1 x2 x3 x4 x5 new : List Incident) → x1 ≡ old ++ term_incidents phase test → x2 ≡ x1 ++ (begins ∷ arm_begins ∷ []) → x3 ≡ x2 ++ incidents g1 chosen
+        → x4 ≡ x3 ++ (arm_ends ∷ next ∷ []) → x5 ≡ x4 ++ other_incidents g2 other → new ≡ x5 ++ ends ∷ [] → new ≡ old ++ command_incidents g id form
+    choice_noted old x1 x2 x3 x4 x5 new f1 f2 f3 f4 f5 f6 =
         found_both new x1 old _ _ (f1 ∙ ap (λ q. old ++ term_incidents q test) phase_so)
-        (found_both new x2 x1 _ _ f2 (found_both new x3 x2 _ _ f3 (found_both new x4 x3 _ _ (f4 ∙ ap (λ h. x3 ++ incidents h chosen) g1_so)
-        (found_both new x5 x4 _ _ f5 (found_both new x6 x5 _ _ f6 (found_both new x7 x6 _ _ (f7 ∙ ap (λ h. x6 ++ other_incidents h other) g2_so) f8))))))
+        (found_both new x2 x1 (begins ∷ arm_begins ∷ []) _ f2 (found_both new x3 x2 _ _ (f3 ∙ ap (λ h. x2 ++ incidents h chosen) g1_so)
+        (found_both new x4 x3 (arm_ends ∷ next ∷ []) _ f4 (found_both new x5 x4 _ _ (f5 ∙ ap (λ h. x4 ++ other_incidents h other) g2_so) f6))))
         ∙ ap (λ t. old ++ command_incidents g id t) (sym is)
 
     pub choice_goes : (last after : Option ℕ) → last ≡ other_going g2 other → after ≡ released stepped last → after ≡ form_going g id form

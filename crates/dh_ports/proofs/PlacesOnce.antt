@@ -1,16 +1,16 @@
 -- Ports are spent at one place, and nowhere where they are kept; and the first breach of the rules on ports
 -- is one.
-use Rattle.std.proofs.Common.{◌≡◌, ℕ, ◌+◌, ◌<◌, ◌≤◌, ◌⊎◌, inl, inr, List, [], ◌∷◌, length, Option, Some, None, option_map, ap, sym, ◌∙◌, subst, arith, Contains, zero, suc}
+use Rattle.std.proofs.Common.{◌≡◌, ℕ, ◌+◌, ◌<◌, ◌≤◌, inl, inr, [], ◌∷◌, Option, Some, None, option_map, ap, sym, ◌∙◌, subst, arith, Contains, zero, suc}
 use Rattle.std.specs.Prelude.{slice_get}
 use Rattle.std.proofs.lemmas.Bool.{cases_lt}
 use Rattle.std.proofs.lemmas.Option.{slice_get_within}
 use Rattle.dh_base.specs.declared.places.Place.{Place}
 use Rattle.dh_tree.specs.declared.breaches.Breach.{Breach}
 use Rattle.dh_tree.specs.Happenings.{Access, accesses_in, count_in}
-use Rattle.dh_tree.specs.LeastBreach.{Precedes, IsLeast}
-use Rattle.dh_tree.specs.Meets.{In, Before}
+use Rattle.dh_tree.specs.LeastBreach.{IsLeast}
+use Rattle.dh_tree.specs.Meets.{In}
 use Rattle.dh_tree.specs.PlainTrees.{Program}
-use Rattle.dh_tree.specs.Ports.{trace, meets_in, place_in, KeepsPorts, PortsSpent, ReadsAfterWrite, IsPortBreach, IsFirstPortBreach, KeepsPortRules}
+use Rattle.dh_tree.specs.Ports.{trace, meets_in, place_in, KeepsPorts, PortsSpent, IsPortBreach, IsFirstPortBreach, KeepsPortRules}
 use Rattle.dh_tree.proofs.FirstBreaches.{least_is_one}
 use Rattle.dh_ports.proofs.MeetsNumbered.{Numbered, numbered}
 

@@ -1,5 +1,5 @@
 -- Banks that accesses reach, and what it is to reach one.
-use Rattle.std.proofs.Common.{◌≡◌, ℕ, zero, suc, ◌+◌, ◌*◌, ◌<◌, ◌≤◌, ◌==◌, ◌%◌, ◌&&◌, not, nat_lt, Bool, true, false, if◌then◌else◌, List, [], ◌∷◌, length, map, drop, get_or, ◌⊎◌, inl, inr, refl, ap, sym, ◌∙◌, subst, arith}
+use Rattle.std.proofs.Common.{◌≡◌, ℕ, suc, ◌+◌, ◌*◌, ◌<◌, ◌≤◌, ◌==◌, ◌%◌, ◌&&◌, nat_lt, Bool, true, false, if◌then◌else◌, List, [], ◌∷◌, map, inl, inr, refl, ap, sym, ◌∙◌, subst, arith}
 use Rattle.std.specs.Prelude.{Option, Some, None, option_map, slice_get}
 use Rattle.std.specs.List.{AllByRecursion}
 use Rattle.std.proofs.lemmas.Bool.{cases_Bool, eqb-true, eq-eqb}
@@ -7,12 +7,11 @@ use Rattle.std.proofs.lemmas.Bool.Decides.{nat_tests}
 use Rattle.std.proofs.lemmas.Nat.{mul-add-lt}
 use Rattle.std.proofs.Math.Nat.{mod-lt, mul_comm}
 use Rattle.dh_tree.specs.declared.tables.Dim.{Dim}
-use Rattle.dh_tree.specs.declared.tables.MemEntry.{MemEntry}
 use Rattle.dh_tree.specs.Elements.{banks_of, bank_of}
-use Rattle.dh_tree.specs.Happenings.{Target, by_indices, by_row, Access}
+use Rattle.dh_tree.specs.Happenings.{Access}
 use Rattle.dh_tree.specs.Memories.{Memory, memories_of, memory_in, number_in, same_entity, entry_of, table_of}
 use Rattle.dh_tree.specs.PlainTrees.{Program}
-use Rattle.dh_tree.specs.Ports.{reached, reached_in, reaches, literals}
+use Rattle.dh_tree.specs.Ports.{reached, reached_in, reaches}
 use Rattle.dh_tree.specs.Shapes.{IsDim}
 use Rattle.dh_tree.proofs.SpentAlike.{both_are, equal_entities, is_itself}
 use Rattle.dh_tree.proofs.SpentSound.{one_number}

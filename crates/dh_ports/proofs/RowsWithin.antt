@@ -1,19 +1,18 @@
 -- Each access of a program that breaks no rule on shapes or indices names a bank of its memory.
-use Rattle.std.proofs.Common.{◌≡◌, ℕ, zero, suc, ◌<◌, ◌≤◌, ◌==◌, ◌%◌, ◌&&◌, not, nat_le, Bool, true, false, if◌then◌else◌, List, [], ◌∷◌, ◌++◌, map, refl, ap, sym, ◌∙◌, subst, arith}
+use Rattle.std.proofs.Common.{◌≡◌, ℕ, zero, suc, ◌<◌, ◌≤◌, ◌==◌, ◌%◌, ◌&&◌, not, nat_le, Bool, true, false, if◌then◌else◌, List, [], ◌∷◌, ◌++◌, refl, ap, sym, ◌∙◌, subst, arith}
 use Rattle.std.specs.Prelude.{Option, Some, None, slice_get}
 use Rattle.std.specs.List.{AllByRecursion}
 use Rattle.std.proofs.lemmas.Bool.Decides.{nat_tests}
 use Rattle.dh_base.specs.declared.places.Place.{Place}
 use Rattle.dh_tree.specs.declared.breaches.Breach.{Breach}
 use Rattle.dh_tree.specs.declared.tables.Dim.{Dim}
-use Rattle.dh_tree.specs.declared.tables.MemEntry.{MemEntry}
 use Rattle.dh_tree.specs.declared.tables.Shape.{Shape}
 use Rattle.dh_tree.specs.Elements.{banks_of}
 use Rattle.dh_tree.specs.Happenings.{Target, by_indices, by_row, Spot, Arm, Access, Happening, accesses, sets, accesses_in, at_command, with_arm, term_happenings, terms_happenings, maybe_happenings, target_happenings, happenings, command_happenings, other_happenings, groups_happenings, part_happenings}
-use Rattle.dh_tree.specs.Indices.{Known, known_of, divides, dim_keeps, dims_keep, shape_keeps, kept_dims, access_breaches, bank_breaches, physical_breaches, shape_breaches, turns_breaches, term_index_breaches, terms_index_breaches, maybe_index_breaches, action_index_breaches, action_form_index_breaches, other_index_breaches, actions_index_breaches, groups_index_breaches, decls_shape_breaches, index_breaches_of}
+use Rattle.dh_tree.specs.Indices.{Known, known_of, divides, dim_keeps, dims_keep, shape_keeps, kept_dims, access_breaches, bank_breaches, physical_breaches, turns_breaches, term_index_breaches, terms_index_breaches, maybe_index_breaches, action_index_breaches, action_form_index_breaches, other_index_breaches, actions_index_breaches, groups_index_breaches, decls_shape_breaches}
 use Rattle.dh_tree.specs.Kinds.{when}
 use Rattle.dh_tree.specs.Memories.{Memory, memories_of, memory_in, entry_of, table_of}
-use Rattle.dh_tree.specs.PlainTrees.{Term, term, TermForm, number, truth_value, named, accessed, in_bank, applied, converted, Terms, no_terms, term_then, Action, action, ActionForm, lets, lets_memory, views, assigns, stores, reduces, calls, blocks, decides, repeats, counts, MaybeAction, no_action, one_action, Actions, no_actions, action_then, Groups, no_groups, group_then, Program}
+use Rattle.dh_tree.specs.PlainTrees.{Term, term, number, truth_value, named, accessed, in_bank, applied, converted, Terms, no_terms, term_then, Action, action, ActionForm, lets, lets_memory, views, assigns, stores, reduces, calls, blocks, decides, repeats, counts, MaybeAction, no_action, one_action, Actions, no_actions, action_then, Groups, no_groups, group_then, Program}
 use Rattle.dh_tree.specs.Ports.{trace, literals, reached}
 use Rattle.dh_tree.specs.Ready.{IsReady}
 use Rattle.dh_tree.specs.Shapes.{IsDim, IsShape, IsMemory, IsProgramTable}

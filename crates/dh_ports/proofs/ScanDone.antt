@@ -3,9 +3,9 @@ use Rattle.std.proofs.Common.{◌≡◌, ℕ, zero, suc, ◌<◌, nat_lt, Bool, 
 use Rattle.std.specs.Prelude.{Option, Some, None, option_map, slice_get, slice_index}
 use Rattle.std.specs.List.{AllByRecursion}
 use Rattle.std.proofs.lemmas.Bool.Decides.{nat_tests}
-use Rattle.std.proofs.lemmas.List.{length-map, length-replicate}
+use Rattle.std.proofs.lemmas.List.{length-replicate}
 use Rattle.std.proofs.lemmas.Option.{slice_get-map}
-use Rattle.dh_ledger.specs.Spending.{Spending, banks, zeros}
+use Rattle.dh_ledger.specs.Spending.{Spending}
 use Rattle.dh_tree.specs.declared.tables.MemEntry.{MemEntry}
 use Rattle.dh_tree.specs.Elements.{banks_of}
 use Rattle.dh_tree.specs.Happenings.{Target}
@@ -20,7 +20,7 @@ use Rattle.dh_ports.specs.Incidents.{Incident, touches, assigned, arm_begins, ar
 use Rattle.dh_ports.specs.Levels.{start, lefts_of}
 use Rattle.dh_ports.specs.Phased.{TellsPhases}
 use Rattle.dh_ports.specs.Purses.{AreOfBanks, TellsLeft}
-use Rattle.dh_ports.specs.Reached.{reach, reach_at, reach_entry, reach_in, reach_of}
+use Rattle.dh_ports.specs.Reached.{reach, reach_entry, reach_in, reach_of}
 use Rattle.dh_ports.specs.Scanned.{ledger_of, spends_of, spent_flags, order_keys, order_charges, late_flags}
 use Rattle.dh_ports.specs.Shared.{shared_in, classes_of}
 use Rattle.dh_ports.specs.SharedTold.{TellsShared}

@@ -1,10 +1,9 @@
 -- Lists that note something of each incident, at the incident of an access.
-use Rattle.std.proofs.Common.{◌≡◌, ℕ, zero, suc, ◌+◌, ◌<◌, Bool, true, false, List, [], ◌∷◌, length, map, refl, ap, sym, ◌∙◌, arith}
-use Rattle.std.specs.Prelude.{Option, Some, None, option_map, slice_get}
+use Rattle.std.proofs.Common.{◌≡◌, ℕ, zero, suc, ◌<◌, List, [], ◌∷◌, length, map, refl, ap, sym, ◌∙◌, arith}
+use Rattle.std.specs.Prelude.{Some, None, option_map, slice_get}
 use Rattle.std.proofs.lemmas.Option.{slice_get_within, slice_get-map}
 use Rattle.std.proofs.lemmas.List.{length-map}
-use Rattle.dh_base.specs.declared.places.Place.{Place}
-use Rattle.dh_tree.specs.Happenings.{Target, Access, Happening, accesses, sets, accesses_in}
+use Rattle.dh_tree.specs.Happenings.{Access, Happening, accesses, sets, accesses_in}
 use Rattle.dh_tree.specs.PlainTrees.{Program}
 use Rattle.dh_tree.specs.Ports.{trace, occurs_in}
 use Rattle.dh_ports.specs.Courses.{count}
@@ -13,7 +12,6 @@ use Rattle.dh_ports.specs.Phased.{phases_in}
 use Rattle.dh_ports.specs.Spending.{at_touches}
 use Rattle.dh_ports.specs.Touched.{Touched, touched, of_access}
 use Rattle.dh_ports.proofs.TouchedSame.{action_touched}
-use Rattle.std.proofs.lemmas.Bool.{cases_lt}
 
 less : (m n : ℕ) → suc m ≡ suc n → m ≡ n
 less m n e = omega (arith, e)

@@ -1,41 +1,39 @@
 -- Accesses that take a port where none is left are those with which ports are spent.
 use Rattle.std.proofs.Common.{◌≡◌, ℕ, zero, suc, ◌+◌, ◌-◌, ◌<◌, ◌≤◌, ◌==◌, ◌&&◌, not, Bool, true, false, if◌then◌else◌, List, [], ◌∷◌, length, map, replicate, refl, ap, sym, ◌∙◌, subst, arith}
 use Rattle.std.specs.Prelude.{Option, Some, None, option_map, slice_get, slice_index}
-use Rattle.std.proofs.lemmas.Bool.{cases_Bool, eqb-true, eq-eqb}
-use Rattle.std.proofs.lemmas.Bool.Decides.{nat_tests}
+use Rattle.std.proofs.lemmas.Bool.{eqb-true, eq-eqb}
 use Rattle.std.proofs.lemmas.List.{length-map}
 use Rattle.std.proofs.lemmas.Option.{slice_get_within, slice_get-map}
-use Rattle.dh_ledger.specs.Spending.{Spending, zeros, spent_on}
+use Rattle.dh_ledger.specs.Spending.{Spending, zeros}
 use Rattle.dh_tree.specs.declared.tables.MemEntry.{MemEntry}
-use Rattle.dh_tree.specs.Happenings.{Access, Happening, accesses_in, happenings}
-use Rattle.dh_tree.specs.Meets.{In, upto}
+use Rattle.dh_tree.specs.Happenings.{Access, Happening, accesses_in}
+use Rattle.dh_tree.specs.Meets.{upto}
 use Rattle.dh_tree.specs.Memories.{Memory, memories_of, memory_in, number_in, table_of, entry_of}
 use Rattle.dh_tree.specs.PlainTrees.{Program}
 use Rattle.dh_tree.specs.Ports.{trace, meets_in, occurs_in, charge, charge_of, reaches, memory_ports, ports_of}
 use Rattle.dh_tree.specs.Sharing.{shares}
 use Rattle.dh_tree.specs.Shapes.{IsProgramTable}
 use Rattle.dh_tree.proofs.SpentAlike.{both_are}
-use Rattle.dh_ports.specs.Courses.{count, before_at}
-use Rattle.dh_ports.specs.Flags.{FlagsTell, TellsSpent}
-use Rattle.dh_ports.specs.Incidents.{Incident, touches, assigned, arm_begins, arm_ends, begins, next, ends, incidents}
+use Rattle.dh_ports.specs.Courses.{before_at}
+use Rattle.dh_ports.specs.Flags.{TellsSpent}
+use Rattle.dh_ports.specs.Incidents.{Incident, touches, assigned, arm_begins, arm_ends, begins, next, ends}
 use Rattle.dh_ports.specs.Levels.{Level, start, advance, begun, kept_back, settled, lefts_of}
 use Rattle.dh_ports.specs.Purses.{left_on, on_bank, TellsLeft}
 use Rattle.dh_ports.specs.Reached.{reach, reach_of}
 use Rattle.dh_ports.specs.Scanned.{ledger_of, spend_of, spend_at, spends_of, is_spent, spent_flags}
 use Rattle.dh_ports.specs.Shared.{shared_in, which_are, shared_lefts, shared_steps, classes_of, keys_from}
 use Rattle.dh_ports.specs.SharedTold.{TellsShared}
-use Rattle.dh_ports.specs.Spending.{spending_step, spending_steps, at_touches, amount, Matches}
+use Rattle.dh_ports.specs.Spending.{spending_steps, at_touches, amount, Matches}
 use Rattle.dh_ports.specs.Spent.{Spends}
 use Rattle.dh_ports.specs.declared.levels.Step.TheVariants as step
 use Rattle.dh_ports.specs.declared.purses.Spend.{Spend}
 use Rattle.dh_ports.specs.declared.purses.Spend.TheVariants as spend
 use Rattle.dh_ports.specs.declared.reaching.Reach.{Reach}
 use Rattle.dh_ports.specs.declared.spending.Charge.{Charge}
-use Rattle.dh_ports.proofs.CourseTies.{own_upto}
 use Rattle.dh_ports.proofs.IncidentTies.{action_ties}
 use Rattle.dh_ports.proofs.KeyTurns.{keys_long, steps_long, lefts_long}
 use Rattle.dh_ports.proofs.PlacesOnce.{access_in}
-use Rattle.dh_ports.proofs.ReachFacts.{Reached, reach_seen, reached_is, then_reaches, IsWithin, Reaching, reaching_is, not_reached, reached_test}
+use Rattle.dh_ports.proofs.ReachFacts.{Reached, reach_seen, reached_is, then_reaches, IsWithin, reaching_is, not_reached, reached_test}
 use Rattle.dh_ports.proofs.RowsWithin.{memory_shape}
 use Rattle.dh_ports.proofs.ScanFacts.{event_of, at_event, at_within, there_is, events, Noted, noted_is, noted_at, counted, occurs_is}
 use Rattle.dh_ports.proofs.SpendingFacts.{lefts_found}

@@ -1,5 +1,5 @@
 -- Ledgers of memories and noted states of them, seen at one bank as what is left and marks of it.
-use Rattle.std.proofs.Common.{◌≡◌, ℕ, zero, suc, ◌+◌, ◌-◌, ◌≤◌, ◌<◌, ◌==◌, true, false, List, [], ◌∷◌, ◌++◌, length, map, take, drop, get_or, slice_get, slice_index, slice_set, min, max, Some, option_map, if◌then◌else◌, refl, ap, sym, ◌∙◌, subst, arith, ◌⊎◌, inl, inr}
+use Rattle.std.proofs.Common.{◌≡◌, ℕ, zero, suc, ◌+◌, ◌-◌, ◌≤◌, ◌<◌, ◌==◌, true, false, List, [], ◌∷◌, ◌++◌, length, map, take, drop, get_or, slice_get, slice_index, slice_set, min, max, Some, option_map, if◌then◌else◌, length-append, length-drop, refl, ap, sym, ◌∙◌, subst, arith, ◌⊎◌, inl, inr}
 use Rattle.std.proofs.lemmas.Bool.{eqb-true, cases_Bool}
 use Rattle.std.proofs.lemmas.Option.{slice_get-map, slice_get-get_or, slice_get_within}
 use Rattle.std.proofs.lemmas.List.{length-map, map-set, map-append, append_assoc}
@@ -161,6 +161,14 @@ pub record IsJoining {L M : Type 0} (state : L → Spending) (marked : M → Spe
   pub lowered : (bank m : ℕ) → least (marks_on marked bank lows) m (slice_index (lefts_on bank (map state ls)) m) ≡ least (marks_on marked bank lows0) m (slice_index (lefts_on bank (map state ls0)) m)
   pub logged : (bank m : ℕ) → at_begin (marks_on marked bank log) m (slice_index (lefts_on bank (map state ls)) m) ≡ at_begin (marks_on marked bank log0) m (slice_index (lefts_on bank (map state ls0)) m)
   pub inside : AreOf marked (shapes (map state ls0)) log0 → AreOf marked (shapes (map state ls0)) log
+  pub few : length log + length lows ≤ length log0 + length lows0
+
+few_joined : {X : Type 0} (log log1 lows : List X) (x : X) (i n : ℕ) → log1 ≡ log ++ x ∷ [] → i < length lows → length log + length (drop i lows) ≤ n → length log1 + length (drop (i + 1) lows) ≤ n
+few_joined log log1 lows x i n more within h =
+    let e : length log1 ≡ length log + 1 = ap length more ∙ length-append log (x ∷ []) in
+    let a : length (drop i lows) ≡ length lows - i = length-drop i lows in
+    let b : length (drop (i + 1) lows) ≡ length lows - (i + 1) = length-drop (i + 1) lows in
+    omega (arith, e, a, b, within, h)
 
 module _ {L M : Type 0} (state : L → Spending) (marked : M → Spending) (ls0 : List L) (log0 lows : List (Held M)) (ls : List L) (log log1 : List (Held M)) (i : ℕ) (h : Held M) (l x d : L) (m : M)
     (before : IsJoining state marked ls0 log0 lows ls log (drop i lows)) (are : AreOf marked (shapes (map state ls0)) lows) (within : i < length lows) (is : h ≡ get_or lows i h) (there : l ≡ get_or ls h.memory l)
@@ -228,4 +236,5 @@ module _ {L M : Type 0} (state : L → Spending) (marked : M → Spending) (ls0 
     lowered = λ bank k. lowered_now bank k ∙ before.lowered bank k;
     logged = λ bank k. logged_now bank k ∙ before.logged bank k;
     inside = λ e. subst (λ (y : List (Held M)). AreOf marked (shapes (map state ls0)) y) (sym more) (are_more marked (shapes (map state ls0)) log old (before.inside e) old_of);
+    few = few_joined log log1 lows old i (length log0 + length lows) more within before.few;
   }

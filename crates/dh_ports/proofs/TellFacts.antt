@@ -4,8 +4,6 @@ use Rattle.std.specs.List.{AllByRecursion}
 use Rattle.std.proofs.lemmas.Option.{slice_get-map, slice_get-get_or}
 use Rattle.std.proofs.lemmas.List.{append_assoc, append-nil}
 use Rattle.dh_ledger.specs.Spending.{Spending, banks}
-use Rattle.dh_ports.specs.declared.levels.Step.{Step}
-use Rattle.dh_ports.specs.declared.levels.Step.TheVariants as step
 use Rattle.dh_ports.specs.declared.purses.Purses.{Purses}
 use Rattle.dh_ports.specs.declared.purses.Part.{Part}
 use Rattle.dh_ports.specs.declared.held.Held.{Held}
@@ -15,23 +13,9 @@ use Rattle.dh_ports.specs.Levels.{Level, level, start, advance, left_before, lef
 use Rattle.dh_ports.specs.Purses.{left_on, on_bank, AreOfBanks, TellsLeft}
 use Rattle.dh_ports.specs.States.{lefts_on, marks_on, shape, shapes, AreOf}
 use Rattle.dh_ports.specs.Walked.{level_by, floors_on, level_on, shapes_of, AreKept, IsBankOf, PartOf, IsOf, IsLeft, Walks}
+use Rattle.dh_ports.proofs.LeftTurns.{lefts_same}
 use Rattle.dh_ports.proofs.StateFacts.{none_are}
 use Rattle.dh_ports.proofs.Turns.{at_place}
-
--- equal levels leave the same
-before_same : (l l1 : ℕ → Level) → ((m : ℕ) → l m ≡ l1 m) → (s : Step) → left_before s l ≡ left_before s l1
-before_same l l1 e step.Other = refl
-before_same l l1 e (step.Access slot takes) = ap (λ v. v.now) (e slot)
-before_same l l1 e step.Begin = refl
-before_same l l1 e step.Next = refl
-before_same l l1 e step.End = refl
-before_same l l1 e step.Back = refl
-
-lefts_same : (l l1 : ℕ → Level) → ((m : ℕ) → l m ≡ l1 m) → (steps : List Step) → lefts_of l steps ≡ lefts_of l1 steps
-lefts_same l l1 e [] = refl
-lefts_same l l1 e (s ∷ rest) =
-    ap (λ n. n ∷ lefts_of (λ m. advance m s (l m)) rest) (before_same l l1 e s)
-    ∙ ap (λ r. left_before s l1 ∷ r) (lefts_same (λ m. advance m s (l m)) (λ m. advance m s (l1 m)) (λ m. ap (λ v. advance m s v) (e m)) rest)
 
 -- at each access stands what is left before it in its bank
 pub record Tells (levels : ℕ → ℕ → Level) (spends : List Spend) (lefts : List ℕ) : Type 0 where

@@ -99,3 +99,15 @@ pub record IsKept (l : Levels) : Type 0 where
   pub log : AreMarks (length l.left.items) l.log.items
   pub lows : AreMarks (length l.left.items) l.lows.items
   pub outer : AllByRecursion (FrameKept (length l.left.items)) l.outer.items
+
+-- the same from these numbers of the slots
+abbrev pub lefts_from : (starts : List ℕ) → List Step → List ℕ
+lefts_from starts steps = lefts_of (λ s. start (slice_index starts s)) steps
+
+-- each slot's level is this function of the one before
+abbrev pub Turns : (old new : Levels) → (ℕ → Level → Level) → Type 0
+Turns old new change = (s : ℕ) → level_at new s ≡ change s (level_at old s)
+
+-- where nothing of a part is taken, each slot's level is that after its end
+abbrev pub Settles : (old new : Levels) → Type 0
+Settles old new = (s : ℕ) → at_rest (level_at old s) → level_at new s ≡ settled (level_at old s)

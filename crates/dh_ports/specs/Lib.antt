@@ -19,3 +19,5 @@ pub mod Scanned
 pub mod Flags
 pub mod States
 pub mod Walked
+pub mod InTrees
+pub mod InCommands

@@ -19,3 +19,19 @@ AreMarks slots log = (i : ℕ) (mark : Mark) → slice_get log i ≡ Some mark �
 -- what is left now of the slots of a log
 abbrev pub marks_now : List ℕ → List Mark → List Mark
 marks_now left log = map (λ mark. record { slot = mark.slot; left = slice_index left mark.slot }) log
+
+-- each slot has the least that marks say of it
+abbrev pub AreLowered : (lows : List Mark) → (old new : List ℕ) → Type 0
+AreLowered lows old new = (m : ℕ) → slice_index new m ≡ least lows m (slice_index old m)
+
+-- a log goes back from what is left now to where it went back before
+abbrev pub GoesBack : (log : List Mark) → (now : List ℕ) → (old_log : List Mark) → (old : List ℕ) → Type 0
+GoesBack log now old_log old = (m : ℕ) → at_begin log m (slice_index now m) ≡ at_begin old_log m (slice_index old m)
+
+-- each slot has what a log says was left at its begin
+abbrev pub AreBegun : (log : List Mark) → (old new : List ℕ) → Type 0
+AreBegun log old new = (m : ℕ) → slice_index new m ≡ at_begin log m (slice_index old m)
+
+-- where a log's marks were of these slots, they are
+abbrev pub StaysOfSlots : (slots : ℕ) → (old new : List Mark) → Type 0
+StaysOfSlots slots old new = AreMarks slots old → AreMarks slots new

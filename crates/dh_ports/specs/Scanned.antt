@@ -1,6 +1,6 @@
 -- What the walks over what happens note at each incident: spends and charges, and which accesses break a
 -- rule.
-use Rattle.std.specs.Prelude.{ℕ, ◌==◌, ◌&&◌, not, if◌then◌else◌, Bool, true, false, List, [], ◌∷◌, ◌++◌, Option, Some, None, is_some}
+use Rattle.std.specs.Prelude.{ℕ, ◌==◌, ◌&&◌, not, if◌then◌else◌, Bool, false, List, [], ◌∷◌, ◌++◌, Option, Some, None, is_some}
 use Rattle.dh_base.specs.declared.places.Place.{Place}
 use Rattle.dh_base.specs.declared.rules.Rule.TheVariants as rule
 use Rattle.dh_ledger.specs.Spending.{Spending, zeros}

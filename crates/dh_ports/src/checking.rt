@@ -1,17 +1,14 @@
 //! The check of the rules on ports.
 
-ghost use Rattle.std.specs.Prelude.{◌≡◌, ℕ, ◌++◌, None, List, map, IfOk, OnOk, length};
+ghost use Rattle.std.specs.Prelude.{◌≡◌, map, IfOk, OnOk, length};
 ghost use Rattle.dh_tree.specs.LeastBreach.{least_of};
-ghost use Rattle.dh_tree.specs.Memories.{table_of};
 ghost use Rattle.dh_tree.specs.Ready.{IsReady};
 ghost use Rattle.dh_tree.specs.Seen.{program_seen};
-ghost use Rattle.dh_tree.specs.Spending.{AllCovered, IsNeverStuck};
-ghost use Rattle.dh_tree.specs.Tables.{Fits};
 ghost use Rattle.dh_ports.specs.Flags.{TellsFirst};
-ghost use Rattle.dh_ports.specs.Noted.{event_seen};
+ghost use Rattle.dh_ports.specs.InTrees.{all_seen};
 ghost use Rattle.dh_ports.specs.Scanned as scanned;
-ghost use Rattle.dh_ports.specs.Scanned.{flag_place, late_at};
-ghost use Rattle.dh_ports.specs.Told.{TellsPorts};
+ghost use Rattle.dh_ports.specs.Scanned.{late_at};
+ghost use Rattle.dh_ports.specs.Told.{IsCoveredAlways, JudgesPorts, NeverSticks, NotesPlace, TellsPorts};
 
 use crate::accepted::Accepted;
 use crate::events::{Event, note_command};
@@ -24,7 +21,7 @@ use std::alloc::Global;
 
 /// Notes the place of an access that is flagged.
 fn note_place(places: &mut Vec<Place>, flag: bool, event: Event<'_>) -> Result<(), NoMemory>
-    ensures { OnOk result (places.new.items ≡ places.old.items ++ flag_place (event_seen event.entry) flag) }
+    ensures { OnOk result (NotesPlace places.old places.new event.entry flag) }
 {
     match event {
         Event::Touch { access, .. } => {
@@ -45,7 +42,8 @@ fn note_place(places: &mut Vec<Place>, flag: bool, event: Event<'_>) -> Result<(
 /// The places of the accesses that are flagged, in order of evaluation.
 fn flagged(alloc: Global, events: &[Event<'_>], flags: &[bool]) -> Result<Vec<Place>, NoMemory>
     requires long { length flags.now ≡ length events.now }
-    ensures { IfOk result (λ places. places.items ≡ scanned.flagged (map event_seen events.now) flags.now) }
+    ensures { IfOk result (λ places. places.items
+        ≡ scanned.flagged (all_seen events.now) flags.now) }
 {
     let mut places = Vec::new(alloc);
     for i in 0..events.len() {
@@ -100,11 +98,34 @@ fn first_breach(alloc: Global, typed: &Typed) -> Result<Option<Breach>, NoMemory
     Ok(kept)
 }
 
+/// The answer for a program, by the first breach of the rules on ports, if there is one. `NoMemory` only
+/// where that was not found for want of memory.
+fn judged(typed: Typed, first: Result<Option<Breach>, NoMemory>) -> Result<Accepted, PassFault>
+    requires ready { IsReady (program_seen typed) }
+    requires first { IfOk first (λ first. TellsFirst (program_seen typed) first) }
+    ensures { JudgesPorts (program_seen typed) first result }
+{
+    // one fault for all, so that the program is dropped at one place
+    let fault = match first {
+        Ok(None) => return Ok(Accepted::of(typed)),
+        Ok(Some(breach)) => PassFault::Refused {
+            rule: breach.rule,
+            place: breach.place,
+        },
+        Err(NoMemory) => PassFault::NoMemory,
+    };
+    Err(fault)
+}
+
 /// Tells whether a program that is ready keeps the rules on ports.
 ///
 /// In no logical step do accesses that may meet take more ports of a bank than it has, where a read that
-/// shares an earlier one takes none; and no read comes behind a write of its bank in its phase. The check
-/// takes time in proportion to the accesses of the program but for a factor of their logarithm.
+/// shares an earlier one takes none; and no read comes behind a write of its bank in its phase.
+///
+/// Its time is that of three things. For the phases of a command its body is gone through, and again for
+/// each block, arm and loop round it: a command costs as many steps as it stands deep. Keys of reads are as
+/// long as the reads' texts, and are compared as often as the logarithm of their number. Apart from these
+/// the time is in proportion to the number of commands and accesses together.
 ///
 /// # Errors
 ///
@@ -113,16 +134,10 @@ fn first_breach(alloc: Global, typed: &Typed) -> Result<Option<Breach>, NoMemory
 pub fn check_ports(alloc: Global, typed: Typed) -> Result<Accepted, PassFault>
     requires ready { IsReady (program_seen typed) }
     ensures told { TellsPorts (program_seen typed) result }
-    ensures covered { IfOk result (λ a. (memories : List (List ℕ)) → Fits (table_of (program_seen typed)) memories → AllCovered (program_seen typed) memories) }
-    ensures never_stuck { IfOk result (λ a. (memories : List (List ℕ)) → Fits (table_of (program_seen typed)) memories → IsNeverStuck (program_seen typed) memories) }
+    ensures covered { IfOk result (λ a. IsCoveredAlways (program_seen typed)) }
+    ensures never_stuck { IfOk result (λ a. NeverSticks (program_seen typed)) }
 {
     kept_ports_are_never_spent();
-    let first = first_breach(alloc, &typed)?;
-    match first {
-        Some(breach) => Err(PassFault::Refused {
-            rule: breach.rule,
-            place: breach.place,
-        }),
-        None => Ok(Accepted::of(typed)),
-    }
+    let first = first_breach(alloc, &typed);
+    judged(typed, first)
 }

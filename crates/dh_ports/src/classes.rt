@@ -9,7 +9,8 @@ use std::collections::BTreeMap;
 
 /// For each key the place of the first key that is equal to it.
 pub fn classes(alloc: Global, keys: &[Vec<u64>]) -> Result<Vec<usize>, NoMemory>
-    ensures { IfOk result (λ firsts. firsts.items ≡ map (λ k. first_place k (keys_seen keys.now)) (keys_seen keys.now)) }
+    ensures { IfOk result (λ firsts. firsts.items
+        ≡ map (λ k. first_place k (keys_seen keys.now)) (keys_seen keys.now)) }
 {
     let mut known: BTreeMap<&[u64], usize> = BTreeMap::new(alloc);
     let mut firsts = Vec::new(alloc);

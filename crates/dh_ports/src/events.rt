@@ -1,12 +1,14 @@
 //! What happens in a program in order of evaluation.
 
-ghost use Rattle.std.specs.Prelude.{◌≡◌, ◌-◌, ◌==◌, ◌||◌, not, ◌++◌, [], ◌∷◌, map, Some, None, option_map, IfOk, OnOk};
-ghost use Rattle.dh_tree.specs.Seen.{term_seen, action_seen, terms, part_seen, groups, actions, maybe_seen};
-ghost use Rattle.dh_ports.specs.Incidents.{kind, groups_kind, other_kind, term_incidents, terms_incidents, target_incidents, maybe_incidents, incidents, going_after, other_incidents, other_going, command_incidents, form_going, choice_stepped, loop_stepped, groups_incidents, groups_going, part_incidents, part_going, released, tested, phase_at, is_stepped};
+ghost use Rattle.std.specs.Prelude.{◌≡◌, ◌-◌, ◌==◌, ◌||◌, not, [], ◌∷◌, map, option_map, IfOk, OnOk};
+ghost use Rattle.dh_tree.specs.Seen.{action_seen, part_seen, groups, maybe_seen};
+ghost use Rattle.dh_ports.specs.Incidents.{kind, groups_kind, other_kind, released, phase_at, is_stepped};
+ghost use Rattle.dh_ports.specs.InTrees.{Notes, read_by, all_read_by, maybe_read_by, written_by, done_by, open_after, other_done_by, open_after_other, parts_done_by, open_after_parts, is_stepped_choice};
+ghost use Rattle.dh_ports.specs.InCommands.{both_seen, let_by, assigned_by, stored_by};
 ghost use Rattle.dh_ports.specs.Noted.{event_seen};
 
 use dh_base::NoMemory;
-use dh_tree::{Command, CommandForm, Expr, ExprForm};
+use dh_tree::{Command, CommandForm, Expr, ExprForm, Ref};
 
 /// What happens at a moment.
 #[derive(Clone, Copy)]
@@ -99,16 +101,29 @@ fn block_phases(body: &[Vec<Command>]) -> u32
 
 /// Notes one more.
 fn note<'a>(events: &mut Vec<Event<'a>>, event: Event<'a>) -> Result<(), NoMemory>
-    ensures { OnOk result (map event_seen events.new.items ≡ map event_seen events.old.items ++ event_seen event.entry ∷ []) }
+    ensures { OnOk result (Notes events.old events.new (event_seen event.entry ∷ [])) }
 {
     Ok(events.push(event)?)
+}
+
+/// Notes two more.
+#[tactic(auto, using(dh_tree::proofs::Collecting::found_both))]
+fn note_two<'a>(
+    events: &mut Vec<Event<'a>>,
+    first: Event<'a>,
+    second: Event<'a>,
+) -> Result<(), NoMemory>
+    ensures { OnOk result (Notes events.old events.new (both_seen first.entry second.entry)) }
+{
+    note(events, first)?;
+    note(events, second)
 }
 
 /// Notes what an expression reads in a phase.
 #[cycle(reading)]
 #[tactic(auto, using(dh_tree::proofs::SeenTerms::terms_are, dh_tree::proofs::Collecting::found_none, dh_tree::proofs::Collecting::found_both))]
 fn note_reads<'a>(events: &mut Vec<Event<'a>>, phase: u32, expr: &'a Expr) -> Result<(), NoMemory>
-    ensures { OnOk result (map event_seen events.new.items ≡ map event_seen events.old.items ++ term_incidents phase (term_seen expr.now)) }
+    ensures { OnOk result (Notes events.old events.new (read_by phase expr.now)) }
 {
     match &expr.form {
         ExprForm::Number { .. } | ExprForm::Truth { .. } | ExprForm::Variable { .. } => Ok(()),
@@ -149,7 +164,7 @@ fn note_all_reads<'a>(
     phase: u32,
     exprs: &'a [Expr],
 ) -> Result<(), NoMemory>
-    ensures { OnOk result (map event_seen events.new.items ≡ map event_seen events.old.items ++ terms_incidents phase (terms (map term_seen exprs.now))) }
+    ensures { OnOk result (Notes events.old events.new (all_read_by phase exprs.now)) }
 {
     for expr in exprs {
         note_reads(events, phase, expr)?;
@@ -160,7 +175,7 @@ fn note_all_reads<'a>(
 /// Notes what a store's target reads, and the write.
 #[tactic(auto, using(dh_tree::proofs::SeenTerms::terms_are, dh_tree::proofs::Collecting::found_none, dh_tree::proofs::Collecting::found_both))]
 fn note_write<'a>(events: &mut Vec<Event<'a>>, phase: u32, target: &'a Expr) -> Result<(), NoMemory>
-    ensures { OnOk result (map event_seen events.new.items ≡ map event_seen events.old.items ++ target_incidents phase (term_seen target.now)) }
+    ensures { OnOk result (Notes events.old events.new (written_by phase target.now)) }
 {
     match &target.form {
         ExprForm::Access { indices, .. } => {
@@ -199,7 +214,7 @@ fn note_maybe<'a>(
     phase: u32,
     value: &'a Option<Expr>,
 ) -> Result<(), NoMemory>
-    ensures { OnOk result (map event_seen events.new.items ≡ map event_seen events.old.items ++ maybe_incidents phase (option_map term_seen value.now)) }
+    ensures { OnOk result (Notes events.old events.new (maybe_read_by phase value.now)) }
 {
     match value {
         Some(value) => note_reads(events, phase, value),
@@ -207,9 +222,61 @@ fn note_maybe<'a>(
     }
 }
 
+/// Notes what a `let` reads, and its assignment.
+#[tactic(auto, using(dh_tree::proofs::Collecting::found_both))]
+fn note_let<'a>(
+    events: &mut Vec<Event<'a>>,
+    phase: u32,
+    name: &Ref,
+    value: &'a Option<Expr>,
+) -> Result<(), NoMemory>
+    ensures { OnOk result (Notes events.old events.new (let_by phase name.now value.now)) }
+{
+    note_maybe(events, phase, value)?;
+    note(
+        events,
+        Event::Assigned {
+            entity: name.entity,
+        },
+    )
+}
+
+/// Notes what an assignment reads, and itself.
+#[tactic(auto, using(dh_tree::proofs::Collecting::found_both))]
+fn note_assign<'a>(
+    events: &mut Vec<Event<'a>>,
+    phase: u32,
+    target: &Ref,
+    value: &'a Expr,
+) -> Result<(), NoMemory>
+    ensures { OnOk result (Notes events.old events.new (assigned_by phase target.now value.now)) }
+{
+    note_reads(events, phase, value)?;
+    note(
+        events,
+        Event::Assigned {
+            entity: target.entity,
+        },
+    )
+}
+
+/// Notes what a store reads, and its write.
+#[tactic(auto, using(dh_tree::proofs::Collecting::found_both))]
+fn note_store<'a>(
+    events: &mut Vec<Event<'a>>,
+    phase: u32,
+    target: &'a Expr,
+    value: &'a Expr,
+) -> Result<(), NoMemory>
+    ensures { OnOk result (Notes events.old events.new (stored_by phase target.now value.now)) }
+{
+    note_reads(events, phase, value)?;
+    note_write(events, phase, target)
+}
+
 /// Whether an `if` of these arms has more than one phase.
 fn is_choice_stepped(then: &Command, other: &Option<Box<Command>>) -> bool
-    ensures { result ≡ choice_stepped (action_seen then.now) (maybe_seen (option_map (λ b. action_seen b.value) other.now)) }
+    ensures { result ≡ is_stepped_choice then.now other.now }
 {
     phases_of(then).max(other_phases(other)) >= 2
 }
@@ -251,47 +318,32 @@ pub fn note_command<'a>(
     going: Option<u32>,
     command: &'a Command,
 ) -> Result<Option<u32>, NoMemory>
-    ensures events { OnOk result (map event_seen events.new.items ≡ map event_seen events.old.items ++ incidents going (action_seen command.now)) }
-    ensures going { IfOk result (λ after. after ≡ going_after going (action_seen command.now)) }
+    ensures events { OnOk result (Notes events.old events.new (done_by going command.now)) }
+    ensures going { IfOk result (λ after. after ≡ open_after going command.now) }
 {
     match &command.form {
         CommandForm::Let { name, value, .. } => {
             let phase = phase_of(going, command.id);
-            note_maybe(events, phase, value)?;
-            note(
-                events,
-                Event::Assigned {
-                    entity: name.entity,
-                },
-            )?;
+            note_let(events, phase, name, value)?;
             Ok(Some(phase))
         }
         CommandForm::Assign { target, value } => {
             let phase = phase_of(going, command.id);
-            note_reads(events, phase, value)?;
-            note(
-                events,
-                Event::Assigned {
-                    entity: target.entity,
-                },
-            )?;
+            note_assign(events, phase, target, value)?;
             Ok(Some(phase))
         }
         CommandForm::Store { target, value } => {
             let phase = phase_of(going, command.id);
-            note_reads(events, phase, value)?;
-            note_write(events, phase, target)?;
+            note_store(events, phase, target, value)?;
             Ok(Some(phase))
         }
         CommandForm::If { test, then, other } => {
             let stepped = is_choice_stepped(then, other);
             let phase = phase_of(going_into(stepped, going), command.id);
             note_reads(events, phase, test)?;
-            note(events, Event::Begins)?;
-            note(events, Event::ArmBegins)?;
+            note_two(events, Event::Begins, Event::ArmBegins)?;
             let behind = note_command(events, going_into(stepped, Some(phase)), then)?;
-            note(events, Event::ArmEnds)?;
-            note(events, Event::Next)?;
+            note_two(events, Event::ArmEnds, Event::Next)?;
             let last = note_other(events, going_into(stepped, behind), other)?;
             note(events, Event::Ends)?;
             Ok(going_into(stepped, last))
@@ -342,8 +394,8 @@ fn note_other<'a>(
     going: Option<u32>,
     other: &'a Option<Box<Command>>,
 ) -> Result<Option<u32>, NoMemory>
-    ensures events { OnOk result (map event_seen events.new.items ≡ map event_seen events.old.items ++ other_incidents going (maybe_seen (option_map (λ b. action_seen b.value) other.now))) }
-    ensures going { IfOk result (λ after. after ≡ other_going going (maybe_seen (option_map (λ b. action_seen b.value) other.now))) }
+    ensures events { OnOk result (Notes events.old events.new (other_done_by going other.now)) }
+    ensures going { IfOk result (λ after. after ≡ open_after_other going other.now) }
 {
     match other {
         Some(block) => {
@@ -364,8 +416,9 @@ fn note_parts<'a>(
     going: Option<u32>,
     parts: &'a [Vec<Command>],
 ) -> Result<Option<u32>, NoMemory>
-    ensures events { OnOk result (map event_seen events.new.items ≡ map event_seen events.old.items ++ groups_incidents stepped going (groups (map part_seen parts.now))) }
-    ensures going { IfOk result (λ after. after ≡ groups_going stepped going (groups (map part_seen parts.now))) }
+    ensures events { OnOk result (Notes events.old events.new
+        (parts_done_by stepped going parts.now)) }
+    ensures going { IfOk result (λ after. after ≡ open_after_parts stepped going parts.now) }
 {
     let mut going = going;
     for part in parts {

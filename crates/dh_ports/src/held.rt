@@ -1,8 +1,7 @@
 //! States of the ledgers of memories, noted to come back to or to join.
 
-ghost use Rattle.std.specs.Prelude.{◌≡◌, ℕ, ◌++◌, IfOk, map, slice_index};
-ghost use Rattle.dh_ports.specs.Logs.{at_begin, least, marks_now};
-ghost use Rattle.dh_ports.specs.States.{lefts_on, marks_on, shapes, AreOf};
+ghost use Rattle.std.specs.Prelude.{◌≡◌, ◌≤◌, ◌+◌, IfOk, length, map};
+ghost use Rattle.dh_ports.specs.States.{shapes, AreBegunAgain, AreJoined, AreOf, LogGoesBack, NotesStates, StaysOf};
 
 use dh_ledger::Ledger;
 use std::alloc::AllocFailed;
@@ -23,8 +22,10 @@ pub fn note_states<L: Ledger>(
     lows: &mut Vec<Held<L::Mark>>,
 ) -> Result<(), AllocFailed<Held<L::Mark>>>
     requires inside { AreOf L.marked (shapes (map L.state ledgers.now)) log.now }
-    ensures noted { IfOk result (λ _. (bank : ℕ) → marks_on L.marked bank lows.new.items ≡ marks_on L.marked bank lows.old.items ++ marks_now (lefts_on bank (map L.state ledgers.now)) (marks_on L.marked bank log.now)) }
-    ensures inside { IfOk result (λ _. AreOf L.marked (shapes (map L.state ledgers.now)) lows.old.items → AreOf L.marked (shapes (map L.state ledgers.now)) lows.new.items) }
+    ensures noted { IfOk result (λ _. NotesStates L.marked
+        (map L.state ledgers.now) log.now lows.old.items lows.new.items) }
+    ensures inside { IfOk result (λ _. StaysOf L.marked
+        (map L.state ledgers.now) lows.old.items lows.new.items) }
 {
     for held in log {
         lows.push(Held {
@@ -39,7 +40,8 @@ pub fn note_states<L: Ledger>(
 fn undo_slice<L: Ledger>(ledgers: &mut [L], log: &[Held<L::Mark>])
     requires inside { AreOf L.marked (shapes (map L.state ledgers.old)) log.now }
     ensures shapes { shapes (map L.state ledgers.new) ≡ shapes (map L.state ledgers.old) }
-    ensures begun { (bank m : ℕ) → slice_index (lefts_on bank (map L.state ledgers.new)) m ≡ at_begin (marks_on L.marked bank log.now) m (slice_index (lefts_on bank (map L.state ledgers.old)) m) }
+    ensures begun { AreBegunAgain L.marked log.now (map L.state ledgers.old)
+        (map L.state ledgers.new) }
 {
     for i in (0..log.len()).rev() {
         let held = log[i];
@@ -55,9 +57,13 @@ fn join_slice<L: Ledger>(
 ) -> Result<(), AllocFailed<Held<L::Mark>>>
     requires inside { AreOf L.marked (shapes (map L.state ledgers.old)) lows.now }
     ensures shapes { shapes (map L.state ledgers.new) ≡ shapes (map L.state ledgers.old) }
-    ensures lowered { IfOk result (λ _. (bank m : ℕ) → slice_index (lefts_on bank (map L.state ledgers.new)) m ≡ least (marks_on L.marked bank lows.now) m (slice_index (lefts_on bank (map L.state ledgers.old)) m)) }
-    ensures logged { IfOk result (λ _. (bank m : ℕ) → at_begin (marks_on L.marked bank log.new.items) m (slice_index (lefts_on bank (map L.state ledgers.new)) m) ≡ at_begin (marks_on L.marked bank log.old.items) m (slice_index (lefts_on bank (map L.state ledgers.old)) m)) }
-    ensures inside { IfOk result (λ _. AreOf L.marked (shapes (map L.state ledgers.old)) log.old.items → AreOf L.marked (shapes (map L.state ledgers.old)) log.new.items) }
+    ensures lowered { IfOk result (λ _. AreJoined L.marked lows.now (map L.state ledgers.old)
+        (map L.state ledgers.new)) }
+    ensures logged { IfOk result
+        (λ _. LogGoesBack L.state L.marked log.new ledgers.new log.old ledgers.old) }
+    ensures inside { IfOk result (λ _. StaysOf L.marked
+        (map L.state ledgers.old) log.old.items log.new.items) }
+    ensures few { IfOk result (λ _. length log.new.items ≤ length log.old.items + length lows.now) }
 {
     for low in lows {
         log.push(Held {
@@ -72,8 +78,10 @@ fn join_slice<L: Ledger>(
 /// `undo_slice` of a vector.
 pub fn undo<L: Ledger>(ledgers: &mut Vec<L>, log: &[Held<L::Mark>])
     requires inside { AreOf L.marked (shapes (map L.state ledgers.old.items)) log.now }
-    ensures shapes { shapes (map L.state ledgers.new.items) ≡ shapes (map L.state ledgers.old.items) }
-    ensures begun { (bank m : ℕ) → slice_index (lefts_on bank (map L.state ledgers.new.items)) m ≡ at_begin (marks_on L.marked bank log.now) m (slice_index (lefts_on bank (map L.state ledgers.old.items)) m) }
+    ensures shapes { shapes (map L.state ledgers.new.items)
+        ≡ shapes (map L.state ledgers.old.items) }
+    ensures begun { AreBegunAgain L.marked log.now (map L.state ledgers.old.items)
+        (map L.state ledgers.new.items) }
 {
     undo_slice(ledgers.as_mut_slice(), log);
 }
@@ -85,10 +93,15 @@ pub fn join<L: Ledger>(
     log: &mut Vec<Held<L::Mark>>,
 ) -> Result<(), AllocFailed<Held<L::Mark>>>
     requires inside { AreOf L.marked (shapes (map L.state ledgers.old.items)) lows.now }
-    ensures shapes { shapes (map L.state ledgers.new.items) ≡ shapes (map L.state ledgers.old.items) }
-    ensures lowered { IfOk result (λ _. (bank m : ℕ) → slice_index (lefts_on bank (map L.state ledgers.new.items)) m ≡ least (marks_on L.marked bank lows.now) m (slice_index (lefts_on bank (map L.state ledgers.old.items)) m)) }
-    ensures logged { IfOk result (λ _. (bank m : ℕ) → at_begin (marks_on L.marked bank log.new.items) m (slice_index (lefts_on bank (map L.state ledgers.new.items)) m) ≡ at_begin (marks_on L.marked bank log.old.items) m (slice_index (lefts_on bank (map L.state ledgers.old.items)) m)) }
-    ensures inside { IfOk result (λ _. AreOf L.marked (shapes (map L.state ledgers.old.items)) log.old.items → AreOf L.marked (shapes (map L.state ledgers.old.items)) log.new.items) }
+    ensures shapes { shapes (map L.state ledgers.new.items)
+        ≡ shapes (map L.state ledgers.old.items) }
+    ensures lowered { IfOk result (λ _. AreJoined L.marked lows.now
+        (map L.state ledgers.old.items) (map L.state ledgers.new.items)) }
+    ensures logged { IfOk result
+        (λ _. LogGoesBack L.state L.marked log.new ledgers.new.items log.old ledgers.old.items) }
+    ensures inside { IfOk result (λ _. StaysOf L.marked
+        (map L.state ledgers.old.items) log.old.items log.new.items) }
+    ensures few { IfOk result (λ _. length log.new.items ≤ length log.old.items + length lows.now) }
 {
     join_slice(ledgers.as_mut_slice(), lows, log)
 }

@@ -1,10 +1,9 @@
 //! Keys of reads: equal keys are of reads of one phase that share a port.
 
-ghost use Rattle.std.specs.Prelude.{◌≡◌, ℕ, ◌++◌, ◌∷◌, [], List, map, IfOk, OnOk, slice_index};
-ghost use Rattle.dh_tree.specs.Seen.{term_seen, terms};
+ghost use Rattle.std.specs.Prelude.{◌≡◌, ◌∷◌, [], IfOk, OnOk, slice_index};
 ghost use Rattle.dh_tree.specs.Sharing.{number_of_op};
-ghost use Rattle.dh_ports.specs.Keys.{spell_entity as spells_entity, spell_kind as spells_kind, spell, spell_all, version_of};
-ghost use Rattle.dh_ports.specs.Noted.{access_spelled};
+ghost use Rattle.dh_ports.specs.Keys.{spell_entity as spells_entity, spell_kind as spells_kind, version_of};
+ghost use Rattle.dh_ports.specs.InTrees.{Spells, expr_spelled, exprs_spelled, read_spelled};
 
 use dh_base::NoMemory;
 use dh_tree::{Expr, ExprForm};
@@ -37,14 +36,14 @@ fn op_number(op: Op) -> u64
 
 /// Spells a number.
 fn spell_number(key: &mut Vec<u64>, number: u64) -> Result<(), NoMemory>
-    ensures { OnOk result ((after : List ℕ) → key.new.items ++ after ≡ key.old.items ++ (number ∷ after)) }
+    ensures { OnOk result (Spells key.old key.new (λ after. number ∷ after)) }
 {
     Ok(key.push(number)?)
 }
 
 /// Spells two numbers.
 fn spell_two(key: &mut Vec<u64>, first: u64, second: u64) -> Result<(), NoMemory>
-    ensures { OnOk result ((after : List ℕ) → key.new.items ++ after ≡ key.old.items ++ (first ∷ second ∷ after)) }
+    ensures { OnOk result (Spells key.old key.new (λ after. first ∷ second ∷ after)) }
 {
     spell_number(key, first)?;
     spell_number(key, second)
@@ -52,7 +51,7 @@ fn spell_two(key: &mut Vec<u64>, first: u64, second: u64) -> Result<(), NoMemory
 
 /// Spells what a name stands for; where it stands for nothing, the moment.
 fn spell_entity(key: &mut Vec<u64>, at: u64, entity: Option<u32>) -> Result<(), NoMemory>
-    ensures { OnOk result ((after : List ℕ) → key.new.items ++ after ≡ key.old.items ++ spells_entity at entity after) }
+    ensures { OnOk result (Spells key.old key.new (spells_entity at entity)) }
 {
     match entity {
         Some(entity) => spell_two(key, 0, entity as u64),
@@ -62,7 +61,7 @@ fn spell_entity(key: &mut Vec<u64>, at: u64, entity: Option<u32>) -> Result<(), 
 
 /// Spells a kind.
 fn spell_kind(key: &mut Vec<u64>, kind: Kind) -> Result<(), NoMemory>
-    ensures { OnOk result ((after : List ℕ) → key.new.items ++ after ≡ key.old.items ++ spells_kind kind after) }
+    ensures { OnOk result (Spells key.old key.new (spells_kind kind)) }
 {
     match kind {
         Kind::Bool => spell_two(key, 0, 0),
@@ -92,7 +91,7 @@ fn version(versions: &[u64], entity: Option<u32>) -> u64
 #[cycle(spelling)]
 #[tactic(auto, using(dh_tree::proofs::SeenTerms::terms_are))]
 fn spell_expr(key: &mut Vec<u64>, versions: &[u64], at: u64, expr: &Expr) -> Result<(), NoMemory>
-    ensures { OnOk result ((after : List ℕ) → key.new.items ++ after ≡ key.old.items ++ spell (λ e. slice_index versions.now e) at (term_seen expr.now) after) }
+    ensures { OnOk result (Spells key.old key.new (expr_spelled versions.now at expr.now)) }
 {
     match &expr.form {
         ExprForm::Number { negative, value } => {
@@ -137,7 +136,7 @@ fn spell_exprs(
     at: u64,
     exprs: &[Expr],
 ) -> Result<(), NoMemory>
-    ensures { OnOk result ((after : List ℕ) → key.new.items ++ after ≡ key.old.items ++ spell_all (λ e. slice_index versions.now e) at (terms (map term_seen exprs.now)) after) }
+    ensures { OnOk result (Spells key.old key.new (exprs_spelled versions.now at exprs.now)) }
 {
     for expr in exprs {
         spell_number(key, 1)?;
@@ -156,7 +155,7 @@ fn spell_access(
     at: u64,
     access: &Expr,
 ) -> Result<(), NoMemory>
-    ensures { OnOk result ((after : List ℕ) → key.new.items ++ after ≡ key.old.items ++ access_spelled phase (λ e. slice_index versions.now e) at (term_seen access.now) after) }
+    ensures { OnOk result (Spells key.old key.new (read_spelled phase versions.now at access.now)) }
 {
     match &access.form {
         ExprForm::Access { of, indices } => {
@@ -191,7 +190,7 @@ pub fn read_key(
     at: u64,
     access: &Expr,
 ) -> Result<Vec<u64>, NoMemory>
-    ensures { IfOk result (λ key. key.items ≡ access_spelled phase (λ e. slice_index versions.now e) at (term_seen access.now) []) }
+    ensures { IfOk result (λ key. key.items ≡ read_spelled phase versions.now at access.now []) }
 {
     let mut key = Vec::new(alloc);
     spell_access(&mut key, phase, versions, at, access)?;

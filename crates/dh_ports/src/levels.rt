@@ -1,7 +1,7 @@
 //! What is left of some slots before each step of a list of steps.
 
-ghost use Rattle.std.specs.Prelude.{◌≡◌, ℕ, ◌++◌, ◌∷◌, [], IfOk, length, slice_index};
-ghost use Rattle.dh_ports.specs.Levels.{level_at, taken, begun, kept_back, at_rest, settled, gone_back, advance, left_before, lefts_of, start, IsKept};
+ghost use Rattle.std.specs.Prelude.{◌≡◌, ◌≤◌, ◌+◌, IfOk, length};
+ghost use Rattle.dh_ports.specs.Levels.{level_at, taken, begun, kept_back, gone_back, advance, left_before, lefts_from, IsKept, Settles, Turns};
 
 use crate::marks::{Mark, lower, note_lows, undo};
 use dh_base::NoMemory;
@@ -56,7 +56,8 @@ impl Levels {
     fn take(&mut self, slot: usize) -> Result<(), NoMemory>
         requires kept { IsKept self.old }
         ensures kept { IfOk result (λ _. IsKept self.new) }
-        ensures taken { IfOk result (λ _. (s : ℕ) → level_at self.new s ≡ taken s slot (level_at self.old s)) }
+        ensures taken { IfOk result (λ _. Turns self.old self.new (λ s l. taken s slot l)) }
+        ensures few { IfOk result (λ _. length self.new.log.items ≤ length self.old.log.items + 1) }
     {
         if slot < self.left.len() {
             let left = self.left[slot];
@@ -72,7 +73,7 @@ impl Levels {
     fn begin(self, alloc: Global) -> Result<Levels, NoMemory>
         requires kept { IsKept self }
         ensures kept { IfOk result (λ l. IsKept l) }
-        ensures begun { IfOk result (λ l. (s : ℕ) → level_at l s ≡ begun (level_at self s)) }
+        ensures begun { IfOk result (λ l. Turns self l (λ s l. begun l)) }
     {
         let Levels {
             left,
@@ -93,7 +94,7 @@ impl Levels {
     fn give_back(&mut self) -> Result<(), NoMemory>
         requires kept { IsKept self.old }
         ensures kept { IfOk result (λ _. IsKept self.new) }
-        ensures back { IfOk result (λ _. (s : ℕ) → level_at self.new s ≡ kept_back (level_at self.old s)) }
+        ensures back { IfOk result (λ _. Turns self.old self.new (λ s l. kept_back l)) }
     {
         note_lows(self.left.as_slice(), self.log.as_slice(), &mut self.lows)?;
         undo(&mut self.left, self.log.as_slice());
@@ -105,7 +106,7 @@ impl Levels {
     fn settle(self) -> Result<Levels, NoMemory>
         requires kept { IsKept self }
         ensures kept { IfOk result (λ l. IsKept l) }
-        ensures settled { IfOk result (λ l. (s : ℕ) → at_rest (level_at self s) → level_at l s ≡ settled (level_at self s)) }
+        ensures settled { IfOk result (λ l. Settles self l) }
     {
         let Levels {
             mut left,
@@ -140,7 +141,7 @@ impl Levels {
     fn back(self) -> Levels
         requires kept { IsKept self }
         ensures kept { IsKept result }
-        ensures gone { (s : ℕ) → level_at result s ≡ gone_back (level_at self s) }
+        ensures gone { Turns self result (λ s l. gone_back l) }
     {
         let Levels {
             mut left,
@@ -179,7 +180,7 @@ impl Levels {
     fn step(self, alloc: Global, step: Step) -> Result<Levels, NoMemory>
         requires kept { IsKept self }
         ensures kept { IfOk result (λ l. IsKept l) }
-        ensures stepped { IfOk result (λ l. (s : ℕ) → level_at l s ≡ advance s step (level_at self s)) }
+        ensures stepped { IfOk result (λ l. Turns self l (λ s l. advance s step l)) }
     {
         let mut levels = self;
         match step {
@@ -220,7 +221,7 @@ impl Levels {
 
 /// What is left before each step, in the slot that it accesses; 0 where it accesses none.
 pub fn lefts(alloc: Global, starts: Vec<u64>, steps: &[Step]) -> Result<Vec<u64>, NoMemory>
-    ensures { IfOk result (λ lefts. lefts.items ≡ lefts_of (λ s. start (slice_index starts.items s)) steps.now) }
+    ensures { IfOk result (λ lefts. lefts.items ≡ lefts_from starts.items steps.now) }
 {
     let mut levels = Levels {
         left: starts,

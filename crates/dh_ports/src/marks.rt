@@ -1,7 +1,7 @@
 //! What is left of each of some slots, and marks to come back to.
 
-ghost use Rattle.std.specs.Prelude.{◌≡◌, ℕ, ◌++◌, IfOk, length, slice_index};
-ghost use Rattle.dh_ports.specs.Logs.{AreMarks, at_begin, least, marks_now};
+ghost use Rattle.std.specs.Prelude.{◌≡◌, ◌≤◌, ◌+◌, ◌++◌, IfOk, length};
+ghost use Rattle.dh_ports.specs.Logs.{AreBegun, AreLowered, AreMarks, GoesBack, StaysOfSlots, marks_now};
 
 use std::alloc::AllocFailed;
 
@@ -32,7 +32,7 @@ pub fn note_lows(left: &[u64], log: &[Mark], lows: &mut Vec<Mark>) -> Result<(),
 fn undo_slice(left: &mut [u64], log: &[Mark])
     requires inside { AreMarks (length left.old) log.now }
     ensures long { length left.new ≡ length left.old }
-    ensures begun { (m : ℕ) → slice_index left.new m ≡ at_begin log.now m (slice_index left.old m) }
+    ensures begun { AreBegun log.now left.old left.new }
 {
     for i in (0..log.len()).rev() {
         left[log[i].slot] = log[i].left;
@@ -47,9 +47,10 @@ fn lower_slice(
 ) -> Result<(), AllocFailed<Mark>>
     requires inside { AreMarks (length left.old) lows.now }
     ensures long { length left.new ≡ length left.old }
-    ensures lowered { IfOk result (λ _. (m : ℕ) → slice_index left.new m ≡ least lows.now m (slice_index left.old m)) }
-    ensures logged { IfOk result (λ _. (m : ℕ) → at_begin log.new.items m (slice_index left.new m) ≡ at_begin log.old.items m (slice_index left.old m)) }
-    ensures marks { IfOk result (λ _. AreMarks (length left.old) log.old.items → AreMarks (length left.old) log.new.items) }
+    ensures lowered { IfOk result (λ _. AreLowered lows.now left.old left.new) }
+    ensures logged { IfOk result (λ _. GoesBack log.new.items left.new log.old.items left.old) }
+    ensures marks { IfOk result (λ _. StaysOfSlots (length left.old) log.old.items log.new.items) }
+    ensures few { IfOk result (λ _. length log.new.items ≤ length log.old.items + length lows.now) }
 {
     for low in lows {
         let now = left[low.slot];
@@ -68,7 +69,7 @@ fn lower_slice(
 pub fn undo(left: &mut Vec<u64>, log: &[Mark])
     requires inside { AreMarks (length left.old.items) log.now }
     ensures long { length left.new.items ≡ length left.old.items }
-    ensures begun { (m : ℕ) → slice_index left.new.items m ≡ at_begin log.now m (slice_index left.old.items m) }
+    ensures begun { AreBegun log.now left.old.items left.new.items }
 {
     undo_slice(left.as_mut_slice(), log);
 }
@@ -81,9 +82,12 @@ pub fn lower(
 ) -> Result<(), AllocFailed<Mark>>
     requires inside { AreMarks (length left.old.items) lows.now }
     ensures long { length left.new.items ≡ length left.old.items }
-    ensures lowered { IfOk result (λ _. (m : ℕ) → slice_index left.new.items m ≡ least lows.now m (slice_index left.old.items m)) }
-    ensures logged { IfOk result (λ _. (m : ℕ) → at_begin log.new.items m (slice_index left.new.items m) ≡ at_begin log.old.items m (slice_index left.old.items m)) }
-    ensures marks { IfOk result (λ _. AreMarks (length left.old.items) log.old.items → AreMarks (length left.old.items) log.new.items) }
+    ensures lowered { IfOk result (λ _. AreLowered lows.now left.old.items left.new.items) }
+    ensures logged { IfOk result
+        (λ _. GoesBack log.new.items left.new.items log.old.items left.old.items) }
+    ensures marks { IfOk result (λ _. StaysOfSlots
+        (length left.old.items) log.old.items log.new.items) }
+    ensures few { IfOk result (λ _. length log.new.items ≤ length log.old.items + length lows.now) }
 {
     lower_slice(left.as_mut_slice(), lows, log)
 }

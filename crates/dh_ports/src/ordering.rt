@@ -1,13 +1,13 @@
 //! Which reads come behind a write of their bank in their phase.
 
-ghost use Rattle.std.specs.Prelude.{◌≡◌, None, map, IfOk, length};
+ghost use Rattle.std.specs.Prelude.{◌≡◌, None, IfOk, length};
 ghost use Rattle.dh_tree.specs.Ready.{IsReady};
 ghost use Rattle.dh_tree.specs.Seen.{program_seen};
 ghost use Rattle.dh_ports.specs.Classes.{keys_seen};
 ghost use Rattle.dh_ports.specs.Flags.{TellsLate};
+ghost use Rattle.dh_ports.specs.InTrees.{all_reached_by, all_seen};
 ghost use Rattle.dh_ports.specs.Incidents.{incidents};
 ghost use Rattle.dh_ports.specs.Noted.{event_seen};
-ghost use Rattle.dh_ports.specs.Reached.{reach_of};
 ghost use Rattle.dh_ports.specs.Scanned as scanned;
 
 use crate::classes::classes;
@@ -42,7 +42,8 @@ fn order_keys(
     events: &[Event<'_>],
 ) -> Result<Vec<Vec<u64>>, NoMemory>
     requires long { length reached.now ≡ length events.now }
-    ensures { IfOk result (λ keys. keys_seen keys.items ≡ scanned.order_keys reached.now (map event_seen events.now)) }
+    ensures { IfOk result (λ keys. keys_seen keys.items
+        ≡ scanned.order_keys reached.now (all_seen events.now)) }
 {
     let mut keys = Vec::new(alloc);
     for i in 0..events.len() {
@@ -90,7 +91,8 @@ fn order_charges(
 ) -> Result<Vec<Charge>, NoMemory>
     requires reached { length reached.now ≡ length events.now }
     requires slots { length slots.now ≡ length events.now }
-    ensures { IfOk result (λ charges. charges.items ≡ scanned.order_charges reached.now slots.now (map event_seen events.now)) }
+    ensures { IfOk result (λ charges. charges.items
+        ≡ scanned.order_charges reached.now slots.now (all_seen events.now)) }
 {
     let mut charges = Vec::new(alloc);
     for i in 0..events.len() {
@@ -111,7 +113,8 @@ fn late_flags(
 ) -> Result<Vec<bool>, NoMemory>
     requires reached { length reached.now ≡ length events.now }
     requires lefts { length lefts.now ≡ length events.now }
-    ensures { IfOk result (λ flags. flags.items ≡ scanned.late_flags reached.now lefts.now (map event_seen events.now)) }
+    ensures { IfOk result (λ flags. flags.items
+        ≡ scanned.late_flags reached.now lefts.now (all_seen events.now)) }
 {
     let mut flags = Vec::new(alloc);
     for i in 0..events.len() {
@@ -129,8 +132,8 @@ pub fn find_late(
     reached: &[Option<Reach>],
 ) -> Result<Vec<bool>, NoMemory>
     requires ready { IsReady (program_seen typed.now) }
-    requires events { map event_seen events.now ≡ incidents None (program_seen typed.now).body }
-    requires reached { reached.now ≡ map (reach_of (program_seen typed.now)) (map event_seen events.now) }
+    requires events { all_seen events.now ≡ incidents None (program_seen typed.now).body }
+    requires reached { reached.now ≡ all_reached_by typed.now events.now }
     ensures { IfOk result (λ flags. TellsLate (program_seen typed.now) flags.items) }
 {
     let keys = order_keys(alloc, reached, events)?;

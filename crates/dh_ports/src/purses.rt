@@ -1,10 +1,9 @@
 //! What is left of the ports of banks before each access, by one ledger for each memory.
 
-ghost use Rattle.std.specs.Prelude.{◌≡◌, ℕ, true, map, IfOk};
-ghost use Rattle.dh_ports.specs.declared.purses.Spend.TheVariants as spend;
-ghost use Rattle.dh_ports.specs.Levels.{begun, kept_back, at_rest, settled};
+ghost use Rattle.std.specs.Prelude.{◌≡◌, map, IfOk};
+ghost use Rattle.dh_ports.specs.Levels.{begun, kept_back};
 ghost use Rattle.dh_ports.specs.Purses.{AreOfBanks, TellsLeft};
-ghost use Rattle.dh_ports.specs.Walked.{level_on, shapes_of, AreKept, IsBankOf, IsOf, IsLeft, Walks};
+ghost use Rattle.dh_ports.specs.Walked.{AreKept, Changes, ChangesAtRest, IsBankOf, IsLeft, IsOf, KeepShapes, Takes, Walks};
 
 use crate::held::{Held, join, note_states, undo};
 use dh_base::NoMemory;
@@ -64,8 +63,8 @@ fn take<L: Ledger + Drop>(
     requires kept { AreKept L.state L.marked purses.old }
     requires bank { IsBankOf (map L.state purses.old.ledgers.items) memory bank }
     ensures kept { IfOk result (λ _. AreKept L.state L.marked purses.new) }
-    ensures shapes { IfOk result (λ _. shapes_of L.state purses.new ≡ shapes_of L.state purses.old) }
-    ensures taken { IfOk result (λ _. Walks L.state L.marked (spend.Access memory bank true) purses.old purses.new) }
+    ensures shapes { IfOk result (λ _. KeepShapes L.state purses.old purses.new) }
+    ensures taken { IfOk result (λ _. Takes L.state L.marked memory bank purses.old purses.new) }
 {
     let mark = purses.ledgers[memory].mark();
     purses.log.push(Held { memory, mark })?;
@@ -81,8 +80,8 @@ fn begin<L: Ledger + Drop>(
 ) -> Result<Purses<L, L::Mark>, NoMemory>
     requires kept { AreKept L.state L.marked purses }
     ensures kept { IfOk result (λ p. AreKept L.state L.marked p) }
-    ensures shapes { IfOk result (λ p. shapes_of L.state p ≡ shapes_of L.state purses) }
-    ensures begun { IfOk result (λ p. (bank slot : ℕ) → level_on L.state L.marked p bank slot ≡ begun (level_on L.state L.marked purses bank slot)) }
+    ensures shapes { IfOk result (λ p. KeepShapes L.state purses p) }
+    ensures begun { IfOk result (λ p. Changes L.state L.marked purses p begun) }
 {
     let Purses {
         ledgers,
@@ -103,8 +102,8 @@ fn begin<L: Ledger + Drop>(
 fn give_back<L: Ledger + Drop>(purses: Purses<L, L::Mark>) -> Result<Purses<L, L::Mark>, NoMemory>
     requires kept { AreKept L.state L.marked purses }
     ensures kept { IfOk result (λ p. AreKept L.state L.marked p) }
-    ensures shapes { IfOk result (λ p. shapes_of L.state p ≡ shapes_of L.state purses) }
-    ensures back { IfOk result (λ p. (bank slot : ℕ) → level_on L.state L.marked p bank slot ≡ kept_back (level_on L.state L.marked purses bank slot)) }
+    ensures shapes { IfOk result (λ p. KeepShapes L.state purses p) }
+    ensures back { IfOk result (λ p. Changes L.state L.marked purses p kept_back) }
 {
     let mut purses = purses;
     note_states(
@@ -121,8 +120,8 @@ fn give_back<L: Ledger + Drop>(purses: Purses<L, L::Mark>) -> Result<Purses<L, L
 fn settle<L: Ledger + Drop>(purses: Purses<L, L::Mark>) -> Result<Purses<L, L::Mark>, NoMemory>
     requires kept { AreKept L.state L.marked purses }
     ensures kept { IfOk result (λ p. AreKept L.state L.marked p) }
-    ensures shapes { IfOk result (λ p. shapes_of L.state p ≡ shapes_of L.state purses) }
-    ensures settled { IfOk result (λ p. (bank slot : ℕ) → at_rest (level_on L.state L.marked purses bank slot) → level_on L.state L.marked p bank slot ≡ settled (level_on L.state L.marked purses bank slot)) }
+    ensures shapes { IfOk result (λ p. KeepShapes L.state purses p) }
+    ensures settled { IfOk result (λ p. ChangesAtRest L.state L.marked purses p) }
 {
     let Purses {
         mut ledgers,
@@ -162,7 +161,7 @@ fn walk<L: Ledger + Drop>(
     requires kept { AreKept L.state L.marked purses }
     requires bank { IsOf (map L.state purses.ledgers.items) spend }
     ensures kept { IfOk result (λ p. AreKept L.state L.marked p) }
-    ensures shapes { IfOk result (λ p. shapes_of L.state p ≡ shapes_of L.state purses) }
+    ensures shapes { IfOk result (λ p. KeepShapes L.state purses p) }
     ensures walked { IfOk result (λ p. Walks L.state L.marked spend purses p) }
 {
     let mut purses = purses;
@@ -219,60 +218,4 @@ pub fn spends_left<L: Ledger + Drop>(
         purses = walk(purses, alloc, *spend)?;
     }
     Ok(lefts)
-}
-
-#[cfg(test)]
-mod tests {
-    use super::*;
-    use dh_ledger::CountLedger;
-
-    fn access(memory: usize, bank: u32, takes: bool) -> Spend
-        ensures { result ≡ spend.Access memory bank takes }
-    {
-        Spend::Access {
-            memory,
-            bank,
-            takes,
-        }
-    }
-
-    #[test]
-    fn parts_start_alike_and_join_by_the_greater(rt: HostRuntime) -> Result<(), NoMemory> {
-        let alloc = rt.alloc();
-        // of four banks with two ports and of two with one
-        let spends = [
-            access(0, 0, true),
-            access(0, 0, false),
-            access(1, 1, true),
-            Spend::Begin,
-            access(0, 0, true),
-            access(0, 0, true),
-            access(0, 2, true),
-            access(0, 2, true),
-            Spend::Next,
-            access(0, 0, true),
-            access(0, 3, true),
-            access(1, 0, true),
-            Spend::End,
-            access(0, 0, false),
-            access(0, 2, false),
-            access(0, 3, true),
-            access(0, 1, true),
-            access(1, 0, false),
-            access(1, 1, false),
-            // nothing is begun here, so that all is given back
-            Spend::End,
-            access(0, 1, false),
-            access(1, 1, false),
-        ];
-        let wanted = [
-            2, 1, 1, 0, 1, 0, 2, 1, 0, 1, 2, 1, 0, 0, 0, 1, 2, 0, 0, 0, 2, 1,
-        ];
-        let mut ledgers = Vec::new(alloc);
-        ledgers.push(CountLedger::new(4, 2))?;
-        ledgers.push(CountLedger::new(2, 1))?;
-        let lefts = spends_left(alloc, ledgers, &[2, 1], &spends)?;
-        assert_eq!(rt; lefts.as_slice(), wanted.as_slice());
-        Ok(())
-    }
 }

@@ -9,7 +9,8 @@ ghost use Rattle.dh_tree.specs.Seen.{term_seen, form_seen, terms, program_seen};
 ghost use Rattle.dh_tree.specs.Shapes.{IsDim, IsProgramTable, most_banks};
 ghost use Rattle.dh_ports.specs.Noted.{event_seen};
 ghost use Rattle.dh_ports.specs.Reached as reaches;
-ghost use Rattle.dh_ports.specs.Reached.{reach_in, reach_of, target_of};
+ghost use Rattle.dh_ports.specs.Reached.{reach_of, target_of};
+ghost use Rattle.dh_ports.specs.InTrees.{all_reached_by, reached_by};
 
 use crate::events::Event;
 use dh_base::NoMemory;
@@ -133,7 +134,7 @@ fn reach_at(memory: usize, bank: u64, banks: u64) -> Option<Reach>
 /// What an access reaches.
 fn access_reach(typed: &Typed, access: &Expr) -> Option<Reach>
     requires table { IsProgramTable (table_of (program_seen typed.now)) }
-    ensures { result ≡ reach_in (table_of (program_seen typed.now)) (number_in (memories_of (program_seen typed.now)) (reaches.entity_of (form_seen access.now.form))) (target_of (form_seen access.now.form)) }
+    ensures { result ≡ reached_by typed.now access.now }
 {
     let number = memory_number(typed, entity_of(access));
     match number {
@@ -171,7 +172,7 @@ pub fn all_reached(
     events: &[Event<'_>],
 ) -> Result<Vec<Option<Reach>>, NoMemory>
     requires table { IsProgramTable (table_of (program_seen typed.now)) }
-    ensures { IfOk result (λ reached. reached.items ≡ map (reach_of (program_seen typed.now)) (map event_seen events.now)) }
+    ensures { IfOk result (λ reached. reached.items ≡ all_reached_by typed.now events.now) }
 {
     let mut reached = Vec::new(alloc);
     for event in events {

@@ -1,8 +1,9 @@
 //! Which reads share an earlier one.
 
-ghost use Rattle.std.specs.Prelude.{◌≡◌, ◌≤◌, ◌<◌, ◌^◌, ℕ, map, Some, IfOk, OnOk, length, replicate, slice_index};
+ghost use Rattle.std.specs.Prelude.{◌≡◌, ◌≤◌, ◌<◌, ◌^◌, IfOk, OnOk, length, max, replicate};
 ghost use Rattle.dh_ports.specs.Noted.{event_seen};
-ghost use Rattle.dh_ports.specs.Shared.{assign_at, key_at, versions_after, keys_from, shared_step, shared_steps, which_are, is_shared, shared_in};
+ghost use Rattle.dh_ports.specs.Shared.{keys_from, shared_step, shared_steps, which_are, is_shared, shared_in};
+ghost use Rattle.dh_ports.specs.InTrees.{AreVersions, all_seen, assigned_then, event_key, happened_then};
 ghost use Rattle.dh_ports.specs.Classes.{keys_seen};
 
 use crate::classes::classes;
@@ -15,8 +16,9 @@ use std::alloc::Global;
 /// Adds versions of variables that were never assigned.
 #[tactic(auto, using(crate::proofs::Turns::zero_more))]
 fn grow(versions: &mut Vec<u64>, to: usize) -> Result<(), NoMemory>
-    ensures same { OnOk result ((e : ℕ) → slice_index versions.new.items e ≡ slice_index versions.old.items e) }
+    ensures same { OnOk result (AreVersions versions.old versions.new (λ v. v)) }
     ensures long { OnOk result (to ≤ length versions.new.items) }
+    ensures most { OnOk result (length versions.new.items ≤ max (length versions.old.items) to) }
 {
     for _ in versions.len()..to {
         versions.push(0)?;
@@ -26,7 +28,7 @@ fn grow(versions: &mut Vec<u64>, to: usize) -> Result<(), NoMemory>
 
 /// Notes that a variable got a value at a moment.
 fn assign(versions: &mut Vec<u64>, entity: Option<u32>, at: u64) -> Result<(), NoMemory>
-    ensures { OnOk result ((e : ℕ) → slice_index versions.new.items e ≡ assign_at (λ x. slice_index versions.old.items x) at entity e) }
+    ensures { OnOk result (AreVersions versions.old versions.new (assigned_then at entity)) }
 {
     if let Some(entity) = entity {
         let entity = entity as usize;
@@ -45,8 +47,9 @@ fn event_key(
     event: Event<'_>,
 ) -> Result<Vec<u64>, NoMemory>
     requires few { at < 2 ^ 63 }
-    ensures key { IfOk result (λ key. key.items ≡ key_at (λ e. slice_index versions.old.items e) at (event_seen event.entry)) }
-    ensures versions { OnOk result ((e : ℕ) → slice_index versions.new.items e ≡ versions_after (λ x. slice_index versions.old.items x) at (event_seen event.entry) e) }
+    ensures key { IfOk result (λ key. key.items ≡ event_key versions.old.items at event.entry) }
+    ensures versions { OnOk result (AreVersions versions.old versions.new
+        (happened_then at event.entry)) }
 {
     match event {
         Event::Touch {
@@ -72,7 +75,8 @@ fn event_key(
 
 /// The keys of reads; those of other events are empty.
 fn read_keys(alloc: Global, events: &[Event<'_>]) -> Result<Vec<Vec<u64>>, NoMemory>
-    ensures { IfOk result (λ keys. keys_seen keys.items ≡ keys_from (λ e. 0) 0 (map event_seen events.now)) }
+    ensures { IfOk result (λ keys. keys_seen keys.items
+        ≡ keys_from (λ e. 0) 0 (all_seen events.now)) }
 {
     let mut versions = Vec::new(alloc);
     let mut keys = Vec::new(alloc);
@@ -104,7 +108,7 @@ fn share_step(event: Event<'_>, class: usize) -> Step
 /// The steps that events are.
 fn all_steps(alloc: Global, events: &[Event<'_>], classes: &[usize]) -> Result<Vec<Step>, NoMemory>
     requires long { length classes.now ≡ length events.now }
-    ensures { IfOk result (λ steps. steps.items ≡ shared_steps classes.now (map event_seen events.now)) }
+    ensures { IfOk result (λ steps. steps.items ≡ shared_steps classes.now (all_seen events.now)) }
 {
     let mut steps = Vec::new(alloc);
     for i in 0..events.len() {
@@ -143,7 +147,7 @@ fn shares(event: Event<'_>, left: u64) -> bool
 /// Which of these events are reads of which nothing is left.
 fn which_shared(alloc: Global, events: &[Event<'_>], lefts: &[u64]) -> Result<Vec<bool>, NoMemory>
     requires long { length lefts.now ≡ length events.now }
-    ensures { IfOk result (λ shared. shared.items ≡ which_are (map event_seen events.now) lefts.now) }
+    ensures { IfOk result (λ shared. shared.items ≡ which_are (all_seen events.now) lefts.now) }
 {
     let mut shared = Vec::new(alloc);
     for i in 0..events.len() {
@@ -155,7 +159,7 @@ fn which_shared(alloc: Global, events: &[Event<'_>], lefts: &[u64]) -> Result<Ve
 /// For each event whether it is a read that shares an earlier one: a read before it with its key took what
 /// was left, and was not in an arm that ended.
 pub fn find_shared(alloc: Global, events: &[Event<'_>]) -> Result<Vec<bool>, NoMemory>
-    ensures { IfOk result (λ shared. shared.items ≡ shared_in (map event_seen events.now)) }
+    ensures { IfOk result (λ shared. shared.items ≡ shared_in (all_seen events.now)) }
 {
     let keys = read_keys(alloc, events)?;
     let slots = classes(alloc, keys.as_slice())?;

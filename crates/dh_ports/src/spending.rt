@@ -1,7 +1,8 @@
 //! What is left of slots before each event, where accesses take of them.
 
-ghost use Rattle.std.specs.Prelude.{◌≡◌, map, IfOk, length, slice_index};
-ghost use Rattle.dh_ports.specs.Levels.{lefts_of, start};
+ghost use Rattle.std.specs.Prelude.{◌≡◌, IfOk, length};
+ghost use Rattle.dh_ports.specs.InTrees.{all_seen};
+ghost use Rattle.dh_ports.specs.Levels.{lefts_from};
 ghost use Rattle.dh_ports.specs.Noted.{event_seen};
 ghost use Rattle.dh_ports.specs.Spending.{spending_step as step_of, spending_steps};
 
@@ -42,7 +43,8 @@ fn all_spending(
     charges: &[Charge],
 ) -> Result<Vec<Step>, NoMemory>
     requires long { length charges.now ≡ length events.now }
-    ensures { IfOk result (λ steps. steps.items ≡ spending_steps charges.now (map event_seen events.now)) }
+    ensures { IfOk result (λ steps. steps.items
+        ≡ spending_steps charges.now (all_seen events.now)) }
 {
     let mut steps = Vec::new(alloc);
     for i in 0..events.len() {
@@ -59,7 +61,8 @@ pub fn spent_lefts(
     charges: &[Charge],
 ) -> Result<Vec<u64>, NoMemory>
     requires long { length charges.now ≡ length events.now }
-    ensures { IfOk result (λ lefts. lefts.items ≡ lefts_of (λ s. start (slice_index starts.items s)) (spending_steps charges.now (map event_seen events.now))) }
+    ensures { IfOk result (λ lefts. lefts.items
+        ≡ lefts_from starts.items (spending_steps charges.now (all_seen events.now))) }
 {
     let steps = all_spending(alloc, events, charges)?;
     lefts(alloc, starts, steps.as_slice())

@@ -7,9 +7,9 @@ ghost use Rattle.dh_tree.specs.Ready.{IsReady};
 ghost use Rattle.dh_tree.specs.Seen.{program_seen};
 ghost use Rattle.dh_tree.specs.Shapes.{IsMemory};
 ghost use Rattle.dh_ports.specs.Flags.{TellsSpent};
+ghost use Rattle.dh_ports.specs.InTrees.{all_reached_by, all_seen};
 ghost use Rattle.dh_ports.specs.Incidents.{incidents};
 ghost use Rattle.dh_ports.specs.Noted.{event_seen};
-ghost use Rattle.dh_ports.specs.Reached.{reach_of};
 ghost use Rattle.dh_ports.specs.Scanned as scanned;
 ghost use Rattle.dh_ports.specs.Scanned.{ledger_of, spend_at, spends_of};
 
@@ -59,7 +59,8 @@ fn all_spends(
 ) -> Result<Vec<Spend>, NoMemory>
     requires reached { length reached.now ≡ length events.now }
     requires shared { length shared.now ≡ length events.now }
-    ensures { IfOk result (λ spends. spends.items ≡ spends_of reached.now shared.now (map event_seen events.now)) }
+    ensures { IfOk result (λ spends. spends.items
+        ≡ spends_of reached.now shared.now (all_seen events.now)) }
 {
     let mut spends = Vec::new(alloc);
     for i in 0..events.len() {
@@ -132,8 +133,8 @@ pub fn find_spent(
     reached: &[Option<Reach>],
 ) -> Result<Vec<bool>, NoMemory>
     requires ready { IsReady (program_seen typed.now) }
-    requires events { map event_seen events.now ≡ incidents None (program_seen typed.now).body }
-    requires reached { reached.now ≡ map (reach_of (program_seen typed.now)) (map event_seen events.now) }
+    requires events { all_seen events.now ≡ incidents None (program_seen typed.now).body }
+    requires reached { reached.now ≡ all_reached_by typed.now events.now }
     ensures { IfOk result (λ flags. TellsSpent (program_seen typed.now) flags.items) }
 {
     let shared = find_shared(alloc, events)?;

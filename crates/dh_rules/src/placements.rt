@@ -1,12 +1,13 @@
 //! Where memories are declared, and what is assigned to.
 
-ghost use Rattle.std.specs.Prelude.{◌≡◌, map, option_map, None, [], ◌∷◌};
+ghost use Rattle.std.specs.Prelude.{◌≡◌, map, None, [], ◌∷◌};
 ghost use Rattle.dh_tree.specs.Kinds.{when};
 ghost use Rattle.dh_tree.specs.LeastBreach.{least_of, breach};
 ghost use Rattle.dh_tree.specs.Placements as placements;
-ghost use Rattle.dh_tree.specs.Placements.{action_placement_breaches, other_placement_breaches, groups_placement_breaches, decls_placement_breaches, placement_breaches};
-ghost use Rattle.dh_tree.specs.Seen.{action_seen, declared_seen, program_seen, groups, part_seen, maybe_seen};
+ghost use Rattle.dh_tree.specs.Placements.{decls_placement_breaches, placement_breaches};
+ghost use Rattle.dh_tree.specs.Seen.{declared_seen, program_seen};
 ghost use Rattle.dh_tree.specs.Told.{TellsLeast};
+ghost use Rattle.dh_rules.specs.Walked.{command_broken, other_broken, parts_broken};
 
 use dh_base::{PassFault, Place, Rule};
 use dh_tree::{
@@ -59,7 +60,7 @@ fn names_iterator(entities: &[Entity], entity: Option<u32>) -> bool
 #[cycle(commands)]
 #[tactic(auto, using(dh_tree::proofs::SeenActions::actions_are, dh_tree::proofs::Leasts::least_append))]
 fn keep_command(entities: &[Entity], within: bool, kept: &mut Option<Breach>, command: &Command)
-    ensures { kept.new ≡ least_of kept.old (action_placement_breaches entities.now within (action_seen command.now)) }
+    ensures { kept.new ≡ least_of kept.old (command_broken entities.now within command.now) }
 {
     match &command.form {
         CommandForm::LetMemory {
@@ -96,7 +97,7 @@ fn keep_command(entities: &[Entity], within: bool, kept: &mut Option<Breach>, co
 /// Those in an arm of a branch or a block that joins copies, where there is one.
 #[cycle(commands)]
 fn keep_other(entities: &[Entity], kept: &mut Option<Breach>, other: &Option<Box<Command>>)
-    ensures { kept.new ≡ least_of kept.old (other_placement_breaches entities.now (maybe_seen (option_map (λ b. action_seen b.value) other.now))) }
+    ensures { kept.new ≡ least_of kept.old (other_broken entities.now other.now) }
 {
     match other {
         Some(block) => keep_command(entities, true, kept, block),
@@ -108,7 +109,7 @@ fn keep_other(entities: &[Entity], kept: &mut Option<Breach>, other: &Option<Box
 #[cycle(commands)]
 #[tactic(auto, using(dh_tree::proofs::SeenActions::actions_are, dh_tree::proofs::Leasts::least_append))]
 fn keep_groups(entities: &[Entity], within: bool, kept: &mut Option<Breach>, parts: &[Vec<Command>])
-    ensures { kept.new ≡ least_of kept.old (groups_placement_breaches entities.now within (groups (map part_seen parts.now))) }
+    ensures { kept.new ≡ least_of kept.old (parts_broken entities.now within parts.now) }
 {
     for part in parts {
         for command in part {
@@ -119,7 +120,8 @@ fn keep_groups(entities: &[Entity], within: bool, kept: &mut Option<Breach>, par
 
 /// Those of the memories from outside.
 fn keep_decls(kept: &mut Option<Breach>, decls: &[Decl])
-    ensures { kept.new ≡ least_of kept.old (decls_placement_breaches (map declared_seen decls.now)) }
+    ensures { kept.new ≡ least_of kept.old (decls_placement_breaches
+        (map declared_seen decls.now)) }
 {
     for decl in decls {
         keep_if(

@@ -8,3 +8,5 @@ pub mod States
 pub mod Courses
 pub mod Advances
 pub mod Runs
+pub mod InScenes
+pub mod Held

@@ -4,6 +4,7 @@ use Rattle.std.specs.Prelude.{◌≡◌, ℕ, ◌+◌, List, [], ◌∷◌, leng
 use Rattle.std.specs.List.{AllByRecursion}
 use Rattle.dh_base.specs.declared.lists.NoMemory.{NoMemory}
 use Rattle.dh_base.specs.declared.outcomes.Outcome.{Outcome}
+use Rattle.dh_base.specs.declared.outcomes.Outcome.TheVariants.{Going}
 use Rattle.dh_value.specs.declared.words.Word.{Word}
 use Rattle.dh_tree.specs.declared.tables.MemEntry.{MemEntry}
 use Rattle.dh_tree.specs.declared.trees.programs.Tree.{Tree}
@@ -47,11 +48,11 @@ pub record StandsAt (p : Program) (memories : List (List ℕ)) (n : ℕ) (r : Ru
   pub tabled : r.table ≡ table_of p
   pub stands : standing_of r ≡ standing (meaning_of p) memories n
 
--- a step leads to where the run stands after one step more, and tells the outcome there; after want of
--- memory the run is as before
+-- a step leads to where the run stands after one step more, and tells the outcome there; memory is refused
+-- to a run alone that goes on, and then it is as before
 abbrev pub StepsOn : Run → Result Outcome NoMemory → Run → Type 0
 StepsOn old (Ok o) new = (o ≡ new.outcome) × ((p : Program) (memories : List (List ℕ)) (n : ℕ) → StandsAt p memories n old → StandsAt p memories (n + 1) new)
-StepsOn old (Err e) new = new ≡ old
+StepsOn old (Err e) new = (new ≡ old) × (old.outcome ≡ Going)
 
 -- a run that can go on, with its banks and their numbers
 pub record IsSteady (r : Run) (banks : List Bank) (firsts : List ℕ) : Type 0 where

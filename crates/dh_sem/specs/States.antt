@@ -1,6 +1,9 @@
 -- What a step keeps of what its commands did so far.
-use Rattle.std.specs.Prelude.{◌≡◌, ℕ, ◌<◌, List, [], ◌∷◌, length, slice_set, slice_index_or, false, Option, Some, None, Result, Ok, Err}
+use Rattle.std.specs.Prelude.{◌≡◌, ℕ, ◌+◌, ◌<◌, Vec, List, [], ◌∷◌, length, slice_set, slice_index_or, false, Option, Some, None, Result, Ok, Err}
+use Rattle.std.specs.List.{AllByRecursion}
+use Rattle.std.specs.Global.{Global}
 use Rattle.dh_value.specs.declared.words.Word.{Word}
+use Rattle.dh_value.specs.Words.{IsWord}
 use Rattle.dh_tree.specs.declared.tables.MemEntry.{MemEntry}
 use Rattle.dh_tree.specs.declared.trees.expressions.Expr.{Expr}
 use denote.Ref.{Bor}
@@ -17,6 +20,7 @@ use Rattle.dh_sem.specs.declared.evaluating.Stop.{Stop}
 use Rattle.dh_sem.specs.declared.evaluating.Stop.TheVariants as stop
 use Rattle.dh_sem.specs.Spent.{HaveSpent}
 use Rattle.dh_sem.specs.Banks.{all_banks}
+use Rattle.dh_sem.specs.Rows.{contents_of}
 use Rattle.dh_sem.specs.Scenes.{IsSound, variables_of}
 
 -- the writes among events, in order
@@ -95,3 +99,23 @@ Ends table e now (Err stop.NoMemory) s = Unit {0}
 abbrev pub test_or_none : List Memory → Option (Bor Expr) → Term
 test_or_none ms None = truth_value false
 test_or_none ms (Some t) = term_meant ms (term_seen t.now)
+
+-- where all variables were values of their kinds and this is one, they are
+abbrev pub StayWords : (old new : State) → Word → Type 0
+StayWords old new value = AllByRecursion IsWord old.variables.items → IsWord value → AllByRecursion IsWord new.variables.items
+
+-- undoing all changes leads to the same variables as before
+abbrev pub GoBackAlike : (old new : State) → Type 0
+GoBackAlike old new = undone new.changes.items new.variables.items ≡ undone old.changes.items old.variables.items
+
+-- one variable is set
+abbrev pub IsAssigned : (old new : State) → (entity : ℕ) → Word → Type 0
+IsAssigned old new entity value = new.variables.items ≡ slice_set old.variables.items entity value
+
+-- one change is noted
+abbrev pub NotesOne : (old new : State) → Type 0
+NotesOne old new = length new.changes.items ≡ length old.changes.items + 1
+
+-- memories have these writes, in order
+abbrev pub AreWritten : (old new : Vec (Vec ℕ Global) Global) → List Write → Type 0
+AreWritten old new ws = contents_of new.items ≡ written_by ws (contents_of old.items)

@@ -1,22 +1,17 @@
 //! The values of expressions, and the accesses that they make.
 
-ghost use Rattle.std.specs.Prelude.{◌≡◌, ◌<◌, ◌≤◌, ◌+◌, ◌^◌, ◌++◌, [], ◌∷◌, List, IfOk, length, map, unsigned_abs};
+ghost use Rattle.std.specs.Prelude.{◌≡◌, ◌<◌, ◌≤◌, ◌+◌, ◌^◌, IfOk, length};
 ghost use Rattle.dh_base.specs.declared.outcomes.FaultKind.TheVariants.{OutOfRange};
 ghost use Rattle.dh_base.specs.declared.outcomes.Outcome.TheVariants.{Faulted, Stuck};
-ghost use Rattle.dh_value.specs.Words.{with_bits};
 ghost use Rattle.std.specs.List.{AllByRecursion};
 ghost use Rattle.dh_tree.specs.Shapes.{IsMemory};
 ghost use Rattle.dh_tree.specs.Tables.{elements_in, most_elements};
-ghost use Rattle.dh_tree.specs.Elements.{dims_at, position_of, position_in_bank};
-ghost use Rattle.dh_tree.specs.Effects.{Event, value_of, values_of, term_events, terms_events, access_made, bank_access_made, reads, kind_in};
-ghost use Rattle.dh_tree.specs.Meaning.{term_meant, terms_meant, memory_of};
-ghost use Rattle.dh_tree.specs.Seen.{term_seen, terms};
-ghost use Rattle.dh_tree.specs.Suited.{IsSuited, AreSuited, HasBank};
+ghost use Rattle.dh_tree.specs.Meaning.{memory_of};
+ghost use Rattle.dh_tree.specs.Suited.{HasBank};
 ghost use Rattle.dh_sem.specs.declared.evaluating.Stop.TheVariants as stop;
 ghost use Rattle.dh_sem.specs.Banks.{first_bank, all_banks};
-ghost use Rattle.dh_sem.specs.Rows.{contents_of, element_in, spot_seen};
-ghost use Rattle.dh_sem.specs.Spent.{HaveSpent};
-ghost use Rattle.dh_sem.specs.Scenes.{IsSound, IsSet, Spends, Finds, memories_in, variables_of};
+ghost use Rattle.dh_sem.specs.Scenes.{IsSet, memories_in};
+ghost use Rattle.dh_sem.specs.InScenes.{AllSuit, AreSound, EvaluationSpends, EvaluationsSpend, FindsIn, FindsInBank, SpendsMore, Suits, element_value, read_of, value_in, values_in};
 
 use crate::operands::{
     UNSET, applied, converted, element_of, entity_of, kind_found, literal, truth,
@@ -127,7 +122,7 @@ pub fn find(
     requires table { AllByRecursion IsMemory scene.now.entries.now }
     requires few { elements_in scene.now.entries.now ≤ most_elements }
     requires memory { memory < length scene.now.entries.now }
-    ensures { Finds scene.now.entries.now place (access_made scene.now.entries.now place memory indices.now) memory (position_of (dims_at scene.now.entries.now memory) (map unsigned_abs indices.now)) result }
+    ensures { FindsIn scene.now place memory indices.now result }
 {
     let dims = scene.entries[memory].shape.dims.as_slice();
     match locate(dims, indices) {
@@ -152,7 +147,7 @@ pub fn find_in_bank(
     requires table { AllByRecursion IsMemory scene.now.entries.now }
     requires few { elements_in scene.now.entries.now ≤ most_elements }
     requires there { HasBank scene.now.entries.now memory bank }
-    ensures { Finds scene.now.entries.now place (bank_access_made scene.now.entries.now place memory bank row) memory (position_in_bank (dims_at scene.now.entries.now memory) bank (unsigned_abs row)) result }
+    ensures { FindsInBank scene.now place memory bank row result }
 {
     let dims = scene.entries[memory].shape.dims.as_slice();
     match index_below(row, measure(dims).rows) {
@@ -186,9 +181,8 @@ fn read(scene: &Scene<'_>, banks: &mut [Bank], place: Place, element: Element) -
     requires there { HasBank scene.now.entries.now element.memory element.bank }
     requires long { length banks.old ≡ all_banks scene.now.entries.now }
     ensures long { length banks.new ≡ length banks.old }
-    ensures value { IfOk result (λ w. w ≡ with_bits (kind_in scene.now.entries.now element.memory) (element_in (contents_of scene.now.memories.now) element.memory element.position)) }
-    ensures spends { (es : List Event) → HaveSpent scene.now.entries.now es scene.now.step banks.old
-        → Spends scene.now.entries.now (es ++ reads place (spot_seen element) ∷ []) scene.now.step result banks.new }
+    ensures value { IfOk result (λ w. w ≡ element_value scene.now element) }
+    ensures spends { SpendsMore scene.now banks.old result banks.new (read_of place element) }
 {
     let at = bank_at(scene, element);
     let ports = scene.entries[element.memory as usize].shape.ports;
@@ -211,14 +205,13 @@ pub fn evaluate(
     banks: &mut [Bank],
     value: &Expr,
 ) -> Result<Word, Stop>
-    requires suited { IsSuited scene.now.entries.now (term_meant (memories_in scene.now) (term_seen value.now)) }
+    requires suited { Suits scene.now value.now }
     requires set { IsSet scene.now }
-    requires sound { IsSound scene.now.entries.now (contents_of scene.now.memories.now) variables.now }
+    requires sound { AreSound scene.now variables.now }
     requires long { length banks.old ≡ all_banks scene.now.entries.now }
     ensures long { length banks.new ≡ length banks.old }
-    ensures value { IfOk result (λ w. w ≡ value_of scene.now.entries.now (contents_of scene.now.memories.now) (variables_of variables.now) [] (term_meant (memories_in scene.now) (term_seen value.now))) }
-    ensures spends { (es : List Event) → HaveSpent scene.now.entries.now es scene.now.step banks.old
-        → Spends scene.now.entries.now (es ++ term_events scene.now.entries.now (contents_of scene.now.memories.now) (variables_of variables.now) [] (term_meant (memories_in scene.now) (term_seen value.now))) scene.now.step result banks.new }
+    ensures value { IfOk result (λ w. w ≡ value_in scene.now variables.now value.now) }
+    ensures spends { EvaluationSpends scene.now variables.now banks.old result banks.new value.now }
 {
     let kind = kind_found(value.kind);
     match &value.form {
@@ -262,14 +255,14 @@ pub fn evaluate_all(
     banks: &mut [Bank],
     indices: &[Expr],
 ) -> Result<Vec<i128>, Stop>
-    requires suited { AreSuited scene.now.entries.now (terms_meant (memories_in scene.now) (terms (map term_seen indices.now))) }
+    requires suited { AllSuit scene.now indices.now }
     requires set { IsSet scene.now }
-    requires sound { IsSound scene.now.entries.now (contents_of scene.now.memories.now) variables.now }
+    requires sound { AreSound scene.now variables.now }
     requires long { length banks.old ≡ all_banks scene.now.entries.now }
     ensures long { length banks.new ≡ length banks.old }
-    ensures value { IfOk result (λ is. is.items ≡ values_of scene.now.entries.now (contents_of scene.now.memories.now) (variables_of variables.now) [] (terms_meant (memories_in scene.now) (terms (map term_seen indices.now)))) }
-    ensures spends { (es : List Event) → HaveSpent scene.now.entries.now es scene.now.step banks.old
-        → Spends scene.now.entries.now (es ++ terms_events scene.now.entries.now (contents_of scene.now.memories.now) (variables_of variables.now) [] (terms_meant (memories_in scene.now) (terms (map term_seen indices.now)))) scene.now.step result banks.new }
+    ensures value { IfOk result (λ is. is.items ≡ values_in scene.now variables.now indices.now) }
+    ensures spends { EvaluationsSpend scene.now variables.now banks.old result banks.new
+        indices.now }
 {
     let mut values = Vec::new(scene.alloc);
     for index in indices {

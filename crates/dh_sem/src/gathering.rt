@@ -1,13 +1,11 @@
 //! The phases of a command: what it does in each of its steps.
 
-ghost use Rattle.std.specs.Prelude.{◌≡◌, ◌++◌, ◌-◌, [], ◌∷◌, ℕ, List, Option, map, IfOk, OnOk};
+ghost use Rattle.std.specs.Prelude.{◌≡◌, [], ◌∷◌, ℕ, List, IfOk, OnOk};
 ghost use Rattle.std.specs.List.{AllByRecursion};
 ghost use Rattle.dh_tree.specs.Phases as source;
-ghost use Rattle.dh_tree.specs.Phases.{phases, groups_phases, are_straight, one_straight, one_command, of_list, choice_phases, turn_phases};
-ghost use Rattle.dh_tree.specs.Meaning.{low_of};
-ghost use Rattle.dh_tree.specs.Seen.{action_seen, groups, part_seen};
-ghost use Rattle.dh_sem.specs.Courses.{commands_seen, forms_seen, IsCourse, IsFormed, AreGathered, Gathers, Keeps, list_at, lists_of, done_by, open_after, Joined};
-ghost use Rattle.dh_sem.specs.declared.courses.Frame.TheVariants as frame;
+ghost use Rattle.dh_tree.specs.Phases.{phases, are_straight};
+ghost use Rattle.dh_sem.specs.Courses.{forms_seen, IsFormed, Joined};
+ghost use Rattle.dh_sem.specs.Held.{ChoosesForms, CountsForms, EndsPhase, GathersCommand, GathersParts, HoldsCommand, HoldsForms, IsCourseOf, IsOnePhase, JoinFormed, JoinsDone, JoinsOpen, RepeatsForms, StayFormed};
 
 use crate::courses::{Choice, Form, Frame, Loop, Node, Turns};
 use dh_base::NoMemory;
@@ -17,7 +15,7 @@ use std::mem;
 
 /// The phase of a command alone.
 fn one_phase<'a>(alloc: Global, command: &'a Command) -> Result<Vec<Form<'a>>, NoMemory>
-    ensures phases { IfOk result (λ forms. (lists : List source.Phases) → forms_seen lists forms.items ≡ one_command (action_seen command.now)) }
+    ensures phases { IfOk result (λ forms. IsOnePhase command.now forms.items) }
     ensures formed { IfOk result (λ forms. (n : ℕ) → AllByRecursion (IsFormed n) forms.items) }
 {
     let mut commands = Vec::new(alloc);
@@ -40,9 +38,9 @@ fn end_phase<'a>(
     done: &mut Vec<Form<'a>>,
     current: &mut Vec<&'a Command>,
 ) -> Result<(), NoMemory>
-    ensures done { OnOk result ((lists : List source.Phases) → forms_seen lists done.new.items ≡ forms_seen lists done.old.items ++ one_straight (commands_seen current.old.items)) }
+    ensures done { OnOk result (EndsPhase done.old done.new current.old) }
     ensures current { OnOk result (current.new.items ≡ []) }
-    ensures formed { OnOk result ((n : ℕ) → AllByRecursion (IsFormed n) done.old.items → AllByRecursion (IsFormed n) done.new.items) }
+    ensures formed { OnOk result (StayFormed done.old done.new) }
 {
     if !current.is_empty() {
         let commands = mem::replace(current, Vec::new(alloc));
@@ -85,9 +83,9 @@ fn join<'a>(
     current: &mut Vec<&'a Command>,
     mut next: Vec<Form<'a>>,
 ) -> Result<(), NoMemory>
-    ensures done { OnOk result ((lists : List source.Phases) → forms_seen lists done.new.items ≡ forms_seen lists done.old.items ++ done_by (commands_seen current.old.items) (forms_seen lists next.entry.items)) }
-    ensures current { OnOk result ((lists : List source.Phases) → commands_seen current.new.items ≡ open_after (commands_seen current.old.items) (forms_seen lists next.entry.items)) }
-    ensures formed { OnOk result ((n : ℕ) → AllByRecursion (IsFormed n) done.old.items → AllByRecursion (IsFormed n) next.entry.items → AllByRecursion (IsFormed n) done.new.items) }
+    ensures done { OnOk result (JoinsDone done.old done.new current.old next.entry) }
+    ensures current { OnOk result (JoinsOpen current.old current.new next.entry) }
+    ensures formed { OnOk result (JoinFormed done.old done.new next.entry) }
 {
     if join_open(current, next.as_slice())? {
         return Ok(());
@@ -110,7 +108,7 @@ fn is_straight(forms: &[Form<'_>]) -> bool
 
 /// Holds a list of phases in nodes. Gives its first node, if it has one.
 fn hold<'a>(nodes: &mut Vec<Node<'a>>, mut forms: Vec<Form<'a>>) -> Result<Option<usize>, NoMemory>
-    ensures { IfOk result (λ first. (ps : List source.Phase) → IsCourse nodes.old.items → AreGathered nodes.old.items forms.entry.items ps → Keeps nodes.old.items nodes.new.items first (of_list ps)) }
+    ensures { IfOk result (λ first. HoldsForms nodes.old nodes.new forms.entry first) }
 {
     let mut first = None;
     while let Some(form) = forms.pop() {
@@ -129,7 +127,8 @@ fn choose<'a>(
     chosen: Vec<Form<'a>>,
     other: Vec<Form<'a>>,
 ) -> Result<Vec<Form<'a>>, NoMemory>
-    ensures { IfOk result (λ forms. (ps qs : List source.Phase) → IsCourse nodes.old.items → AreGathered nodes.old.items chosen.entry.items ps → AreGathered nodes.old.items other.entry.items qs → Gathers nodes.old.items nodes.new.items forms.items (choice_phases (action_seen command.now) ps qs)) }
+    ensures { IfOk result (λ forms. ChoosesForms nodes.old nodes.new command.now chosen.entry
+        other.entry forms) }
 {
     let simple = is_straight(chosen.as_slice()) & is_straight(other.as_slice());
     if simple {
@@ -154,7 +153,7 @@ fn repeat<'a>(
     command: &'a Command,
     body: Vec<Form<'a>>,
 ) -> Result<Vec<Form<'a>>, NoMemory>
-    ensures { IfOk result (λ forms. (ps : List source.Phase) → IsCourse nodes.old.items → AreGathered nodes.old.items body.entry.items ps → Gathers nodes.old.items nodes.new.items forms.items (source.repeated (action_seen command.now) (of_list ps) ∷ [])) }
+    ensures { IfOk result (λ forms. RepeatsForms nodes.old nodes.new command.now body.entry forms) }
 {
     let body = hold(nodes, body)?;
     one_form(alloc, Form::Loop(Loop { command, body }))
@@ -170,7 +169,8 @@ fn count<'a>(
     high: u64,
     body: Vec<Form<'a>>,
 ) -> Result<Vec<Form<'a>>, NoMemory>
-    ensures { IfOk result (λ forms. (ps : List source.Phase) → IsCourse nodes.old.items → low ≡ low_of (action_seen command.now) → AreGathered nodes.old.items body.entry.items ps → Gathers nodes.old.items nodes.new.items forms.items (turn_phases (action_seen command.now) (high - low) ps)) }
+    ensures { IfOk result (λ forms. CountsForms nodes.old nodes.new command.now low high
+        body.entry forms) }
 {
     let turns = high.saturating_sub(low);
     if body.is_empty() || turns == 0 {
@@ -196,7 +196,7 @@ pub fn phases_in<'a>(
     nodes: &mut Vec<Node<'a>>,
     command: &'a Command,
 ) -> Result<Vec<Form<'a>>, NoMemory>
-    ensures { IfOk result (λ forms. IsCourse nodes.old.items → Gathers nodes.old.items nodes.new.items forms.items (phases (action_seen command.now))) }
+    ensures { IfOk result (λ forms. GathersCommand nodes.old nodes.new command.now forms) }
 {
     match &command.form {
         CommandForm::Let { .. } => one_phase(alloc, command),
@@ -238,7 +238,7 @@ fn phases_in_parts<'a>(
     nodes: &mut Vec<Node<'a>>,
     parts: &'a [Vec<Command>],
 ) -> Result<Vec<Form<'a>>, NoMemory>
-    ensures { IfOk result (λ forms. IsCourse nodes.old.items → Gathers nodes.old.items nodes.new.items forms.items (groups_phases (groups (map part_seen parts.now)))) }
+    ensures { IfOk result (λ forms. GathersParts nodes.old nodes.new parts.now forms) }
 {
     let mut done = Vec::new(alloc);
     let mut current = Vec::new(alloc);
@@ -258,7 +258,7 @@ fn hold_all<'a>(
     nodes: &mut Vec<Node<'a>>,
     command: &'a Command,
 ) -> Result<Option<usize>, NoMemory>
-    ensures { IfOk result (λ first. IsCourse nodes.old.items → Keeps nodes.old.items nodes.new.items first (of_list (phases (action_seen command.now)))) }
+    ensures { IfOk result (λ first. HoldsCommand nodes.old nodes.new command.now first) }
 {
     let forms = phases_in(alloc, nodes, command)?;
     hold(nodes, forms)
@@ -269,7 +269,7 @@ pub fn course<'a>(
     alloc: Global,
     command: &'a Command,
 ) -> Result<(Vec<Node<'a>>, Vec<Frame>), NoMemory>
-    ensures { IfOk result (λ r. IsCourse r.0.items × ((first : Option ℕ) × (r.1.items ≡ frame.List first ∷ []) × (list_at (lists_of r.0.items) first ≡ of_list (phases (action_seen command.now))))) }
+    ensures { IfOk result (λ r. IsCourseOf command.now r.0.items r.1.items) }
 {
     let mut nodes = Vec::new(alloc);
     let first = hold_all(alloc, &mut nodes, command)?;

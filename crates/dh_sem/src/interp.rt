@@ -150,14 +150,14 @@ impl<'a> Interp<'a> {
     ///
     /// # Errors
     ///
-    /// `NoMemory` where an allocation was refused.
+    /// `NoMemory` where an allocation was refused, which a run that goes on alone asks for.
     pub fn step(&mut self) -> Result<Outcome, NoMemory>
         requires steps { self.old.steps < 2 ^ 64 - 1 }
         ensures { StepsOn self.old result self.new }
     {
-        if self.outcome != Outcome::Going {
+        let Outcome::Going = self.outcome else {
             return Ok(self.outcome);
-        }
+        };
         let scene = Scene {
             alloc: self.alloc,
             program: self.program,

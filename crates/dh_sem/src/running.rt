@@ -1,23 +1,19 @@
 //! What commands do in a logical step.
 
-ghost use Rattle.std.specs.Prelude.{◌≡◌, ℕ, ◌<◌, ◌≤◌, ◌++◌, [], ◌∷◌, false, List, IfOk, length, map, slice_set};
+ghost use Rattle.std.specs.Prelude.{◌≡◌, ◌<◌, ◌≤◌, [], ◌∷◌, List, IfOk, length, slice_set};
 ghost use Rattle.std.specs.List.{AllByRecursion};
-ghost use Rattle.dh_value.specs.declared.kinds.Kind.{Kind};
 ghost use Rattle.dh_value.specs.Words.{IsWord};
-ghost use Rattle.dh_tree.specs.Effects.{Event, Effect, with_events, writes, kept_bits, assigned_at, stored_at, stored_in_bank_at, commands_run, outer_paths, holds_at, tested_at};
-ghost use Rattle.dh_tree.specs.Meaning.{term_meant, terms_meant, store_meant, action_meant, part_meant, groups_meant, commands_meant, entity_number, test_meant, iterator_of};
-ghost use Rattle.dh_tree.specs.Seen.{term_seen, terms, action_seen, part_seen, groups, actions};
+ghost use Rattle.dh_tree.specs.Effects.{writes};
+ghost use Rattle.dh_tree.specs.Meaning.{entity_number, test_meant, iterator_of};
+ghost use Rattle.dh_tree.specs.Seen.{action_seen};
 ghost use Rattle.dh_tree.specs.Shapes.{IsMemory};
-ghost use Rattle.dh_tree.specs.Steps.{turn_begun};
-ghost use Rattle.dh_tree.specs.Suited.{IsSuited, AreSuited, HasBank};
+ghost use Rattle.dh_tree.specs.Suited.{HasBank};
 ghost use Rattle.dh_tree.specs.Tables.{elements_in, most_elements};
-ghost use Rattle.dh_tree.specs.Tree.{number as number_term, no_commands, command as one_command};
 ghost use Rattle.dh_sem.specs.Banks.{all_banks};
-ghost use Rattle.dh_sem.specs.Rows.{contents_of, spot_seen};
 ghost use Rattle.dh_tree.specs.Memories.{Memory};
-ghost use Rattle.dh_sem.specs.Scenes.{IsSet, Spends, memories_in};
-ghost use Rattle.dh_sem.specs.Spent.{HaveSpent};
-ghost use Rattle.dh_sem.specs.States.{AreRunnable, IsReady, KeepsBack, Keeps, Ends, test_or_none, undone, written_by};
+ghost use Rattle.dh_sem.specs.Scenes.{IsSet};
+ghost use Rattle.dh_sem.specs.States.{KeepsBack, test_or_none, undone, AreWritten, GoBackAlike, IsAssigned, NotesOne, StayWords};
+ghost use Rattle.dh_sem.specs.InScenes.{AllSuit, CanRun, Decides, IsReadyIn, Runs, SpendsWrite, StartsIn, Suits, TestSuits, assigned_in, block_in, block_run, command_in, command_run, meant_in, part_in, part_run, phase_in, row_stored_in, store_in, store_run, stored_in, straight_run, term_run, test_in, test_run, turn_in, written_in};
 
 use crate::evaluating::{
     Scene, Stop, bank_at, evaluate, evaluate_all, find, find_in_bank, memory_of, stuck,
@@ -69,9 +65,10 @@ fn set(state: &mut State, entity: u32, value: Word) -> Result<(), AllocFailed<Ch
     ensures banks { state.new.banks ≡ state.old.banks }
     ensures writes { state.new.writes ≡ state.old.writes }
     ensures kept { length state.new.variables.items ≡ length state.old.variables.items }
-    ensures set { IfOk result (λ _. state.new.variables.items ≡ slice_set state.old.variables.items entity value) }
-    ensures words { AllByRecursion IsWord state.old.variables.items → IsWord value → AllByRecursion IsWord state.new.variables.items }
-    ensures back { undone state.new.changes.items state.new.variables.items ≡ undone state.old.changes.items state.old.variables.items }
+    ensures set { IfOk result (λ _. IsAssigned state.old state.new entity value) }
+    ensures noted { IfOk result (λ _. NotesOne state.old state.new) }
+    ensures words { StayWords state.old state.new value }
+    ensures back { GoBackAlike state.old state.new }
 {
     let before = state.variables[entity as usize];
     state.changes.push(Change { entity, before })?;
@@ -82,12 +79,13 @@ fn set(state: &mut State, entity: u32, value: Word) -> Result<(), AllocFailed<Ch
 /// Evaluates a right side and sets a variable to it.
 fn assign(scene: &Scene<'_>, state: &mut State, target: &Ref, value: &Expr) -> Result<(), Stop>
     requires set { IsSet scene.now }
-    requires ready { IsReady scene.now.entries.now (contents_of scene.now.memories.now) state.old }
-    requires suited { IsSuited scene.now.entries.now (term_meant (memories_in scene.now) (term_seen value.now)) }
+    requires ready { IsReadyIn scene.now state.old }
+    requires suited { Suits scene.now value.now }
     requires entity { entity_number target.now.entity < length state.old.variables.items }
-    ensures ready { IsReady scene.now.entries.now (contents_of scene.now.memories.now) state.new }
+    ensures ready { IsReadyIn scene.now state.new }
     ensures back { KeepsBack state.old state.new }
-    ensures ran { (e : Effect) → Keeps scene.now.entries.now e scene.now.step state.old → Ends scene.now.entries.now (assigned_at scene.now.entries.now (contents_of scene.now.memories.now) 0 (entity_number target.now.entity) (term_meant (memories_in scene.now) (term_seen value.now)) [] e) scene.now.step result state.new }
+    ensures ran { Runs scene.now state.old result state.new
+        (assigned_in scene.now target.now value.now) }
 {
     let word = evaluate(
         scene,
@@ -107,8 +105,7 @@ fn claim(scene: &Scene<'_>, banks: &mut [Bank], place: Place, element: Element) 
     requires there { HasBank scene.now.entries.now element.memory element.bank }
     requires long { length banks.old ≡ all_banks scene.now.entries.now }
     ensures long { length banks.new ≡ length banks.old }
-    ensures spends { (es : List Event) (value : ℕ) → HaveSpent scene.now.entries.now es scene.now.step banks.old
-        → Spends scene.now.entries.now (es ++ writes place (spot_seen element) value ∷ []) scene.now.step result banks.new }
+    ensures spends { SpendsWrite scene.now banks.old result banks.new place element }
 {
     let at = bank_at(scene, element);
     let ports = scene.entries[element.memory as usize].shape.ports;
@@ -128,13 +125,13 @@ fn put(
     value: Word,
 ) -> Result<(), Stop>
     requires set { IsSet scene.now }
-    requires ready { IsReady scene.now.entries.now (contents_of scene.now.memories.now) state.old }
+    requires ready { IsReadyIn scene.now state.old }
     requires there { HasBank scene.now.entries.now element.memory element.bank }
     requires word { IsWord value }
-    ensures ready { IsReady scene.now.entries.now (contents_of scene.now.memories.now) state.new }
+    ensures ready { IsReadyIn scene.now state.new }
     ensures back { KeepsBack state.old state.new }
-    ensures ran { (e : Effect) → Keeps scene.now.entries.now e scene.now.step state.old
-        → Ends scene.now.entries.now (with_events e (writes place (spot_seen element) (kept_bits scene.now.entries.now element.memory value) ∷ [])) scene.now.step result state.new }
+    ensures ran { Runs scene.now state.old result state.new
+        (written_in scene.now place element value) }
 {
     claim(scene, state.banks.as_mut_slice(), place, element)?;
     let bits = cast(value, scene.entries[element.memory as usize].shape.kind).bits;
@@ -156,13 +153,14 @@ fn store_element(
     value: &Expr,
 ) -> Result<(), Stop>
     requires set { IsSet scene.now }
-    requires ready { IsReady scene.now.entries.now (contents_of scene.now.memories.now) state.old }
+    requires ready { IsReadyIn scene.now state.old }
     requires memory { memory < length scene.now.entries.now }
-    requires indices { AreSuited scene.now.entries.now (terms_meant (memories_in scene.now) (terms (map term_seen indices.now))) }
-    requires value { IsSuited scene.now.entries.now (term_meant (memories_in scene.now) (term_seen value.now)) }
-    ensures ready { IsReady scene.now.entries.now (contents_of scene.now.memories.now) state.new }
+    requires indices { AllSuit scene.now indices.now }
+    requires value { Suits scene.now value.now }
+    ensures ready { IsReadyIn scene.now state.new }
     ensures back { KeepsBack state.old state.new }
-    ensures ran { (e : Effect) → Keeps scene.now.entries.now e scene.now.step state.old → Ends scene.now.entries.now (stored_at scene.now.entries.now (contents_of scene.now.memories.now) place memory (terms_meant (memories_in scene.now) (terms (map term_seen indices.now))) (term_meant (memories_in scene.now) (term_seen value.now)) [] e) scene.now.step result state.new }
+    ensures ran { Runs scene.now state.old result state.new
+        (stored_in scene.now place memory indices.now value.now) }
 {
     let variables = state.variables.as_slice();
     let word = evaluate(scene, variables, state.banks.as_mut_slice(), value)?;
@@ -182,13 +180,14 @@ fn store_row(
     value: &Expr,
 ) -> Result<(), Stop>
     requires set { IsSet scene.now }
-    requires ready { IsReady scene.now.entries.now (contents_of scene.now.memories.now) state.old }
+    requires ready { IsReadyIn scene.now state.old }
     requires there { HasBank scene.now.entries.now memory bank }
-    requires row { IsSuited scene.now.entries.now (term_meant (memories_in scene.now) (term_seen row.now)) }
-    requires value { IsSuited scene.now.entries.now (term_meant (memories_in scene.now) (term_seen value.now)) }
-    ensures ready { IsReady scene.now.entries.now (contents_of scene.now.memories.now) state.new }
+    requires row { Suits scene.now row.now }
+    requires value { Suits scene.now value.now }
+    ensures ready { IsReadyIn scene.now state.new }
     ensures back { KeepsBack state.old state.new }
-    ensures ran { (e : Effect) → Keeps scene.now.entries.now e scene.now.step state.old → Ends scene.now.entries.now (stored_in_bank_at scene.now.entries.now (contents_of scene.now.memories.now) place memory bank (term_meant (memories_in scene.now) (term_seen row.now)) (term_meant (memories_in scene.now) (term_seen value.now)) [] e) scene.now.step result state.new }
+    ensures ran { Runs scene.now state.old result state.new
+        (row_stored_in scene.now place memory bank row.now value.now) }
 {
     let variables = state.variables.as_slice();
     let word = evaluate(scene, variables, state.banks.as_mut_slice(), value)?;
@@ -201,11 +200,12 @@ fn store_row(
 #[tactic(auto, using(dh_tree::proofs::SeenTerms::terms_are))]
 fn store(scene: &Scene<'_>, state: &mut State, target: &Expr, value: &Expr) -> Result<(), Stop>
     requires set { IsSet scene.now }
-    requires ready { IsReady scene.now.entries.now (contents_of scene.now.memories.now) state.old }
-    requires runnable { AreRunnable scene.now.entries.now (length state.old.variables.items) (one_command (store_meant (memories_in scene.now) (term_seen target.now) (term_seen value.now)) no_commands) }
-    ensures ready { IsReady scene.now.entries.now (contents_of scene.now.memories.now) state.new }
+    requires ready { IsReadyIn scene.now state.old }
+    requires runnable { CanRun scene.now state.old (store_in scene.now target.now value.now) }
+    ensures ready { IsReadyIn scene.now state.new }
     ensures back { KeepsBack state.old state.new }
-    ensures ran { (e : Effect) → Keeps scene.now.entries.now e scene.now.step state.old → Ends scene.now.entries.now (commands_run scene.now.entries.now (contents_of scene.now.memories.now) outer_paths (one_command (store_meant (memories_in scene.now) (term_seen target.now) (term_seen value.now)) no_commands) e) scene.now.step result state.new }
+    ensures ran { Runs scene.now state.old result state.new
+        (store_run scene.now target.now value.now) }
 {
     match &target.form {
         ExprForm::Access { of, indices } => {
@@ -234,12 +234,12 @@ fn store(scene: &Scene<'_>, state: &mut State, target: &Expr, value: &Expr) -> R
 /// Evaluates the test of an `if`.
 fn decide(scene: &Scene<'_>, state: &mut State, test: &Expr) -> Result<bool, Stop>
     requires set { IsSet scene.now }
-    requires ready { IsReady scene.now.entries.now (contents_of scene.now.memories.now) state.old }
-    requires suited { IsSuited scene.now.entries.now (term_meant (memories_in scene.now) (term_seen test.now)) }
-    ensures ready { IsReady scene.now.entries.now (contents_of scene.now.memories.now) state.new }
+    requires ready { IsReadyIn scene.now state.old }
+    requires suited { Suits scene.now test.now }
+    ensures ready { IsReadyIn scene.now state.new }
     ensures back { KeepsBack state.old state.new }
-    ensures holds { (e : Effect) → Keeps scene.now.entries.now e scene.now.step state.old → IfOk result (λ b. holds_at scene.now.entries.now (contents_of scene.now.memories.now) e.variables (term_meant (memories_in scene.now) (term_seen test.now)) [] ≡ b) }
-    ensures ran { (e : Effect) → Keeps scene.now.entries.now e scene.now.step state.old → Ends scene.now.entries.now (tested_at scene.now.entries.now (contents_of scene.now.memories.now) (term_meant (memories_in scene.now) (term_seen test.now)) [] e) scene.now.step result state.new }
+    ensures holds { Decides scene.now state.old result (meant_in scene.now test.now) }
+    ensures ran { Runs scene.now state.old result state.new (term_run scene.now test.now) }
 {
     let word = evaluate(
         scene,
@@ -253,11 +253,11 @@ fn decide(scene: &Scene<'_>, state: &mut State, test: &Expr) -> Result<bool, Sto
 /// Sets a variable without a right side to 0 or false.
 fn start(scene: &Scene<'_>, state: &mut State, name: &Ref) -> Result<(), Stop>
     requires set { IsSet scene.now }
-    requires ready { IsReady scene.now.entries.now (contents_of scene.now.memories.now) state.old }
+    requires ready { IsReadyIn scene.now state.old }
     requires entity { entity_number name.now.entity < length state.old.variables.items }
-    ensures ready { IsReady scene.now.entries.now (contents_of scene.now.memories.now) state.new }
+    ensures ready { IsReadyIn scene.now state.new }
     ensures back { KeepsBack state.old state.new }
-    ensures ran { (e : Effect) (k : Kind) → Keeps scene.now.entries.now e scene.now.step state.old → Ends scene.now.entries.now (assigned_at scene.now.entries.now (contents_of scene.now.memories.now) 0 (entity_number name.now.entity) (number_term k false 0) [] e) scene.now.step result state.new }
+    ensures ran { StartsIn scene.now state.old result state.new name.now }
 {
     set(state, entity_of(name), UNSET)?;
     Ok(())
@@ -266,7 +266,8 @@ fn start(scene: &Scene<'_>, state: &mut State, name: &Ref) -> Result<(), Stop>
 /// The test of a `while` or an `if`.
 #[tactic(auto, using(dh_tree::proofs::SeenActions::actions_are))]
 fn test_of(command: &Command) -> Option<&Expr>
-    ensures { (ms : List Memory) → test_meant ms (action_seen command.now) ≡ test_or_none ms result }
+    ensures { (ms : List Memory) → test_meant ms (action_seen command.now)
+        ≡ test_or_none ms result }
 {
     match &command.form {
         CommandForm::If { test, .. } => Some(test),
@@ -286,12 +287,12 @@ fn test_of(command: &Command) -> Option<&Expr>
 /// Evaluates the test of a `while` or an `if`.
 pub fn test(scene: &Scene<'_>, state: &mut State, command: &Command) -> Result<bool, Stop>
     requires set { IsSet scene.now }
-    requires ready { IsReady scene.now.entries.now (contents_of scene.now.memories.now) state.old }
-    requires suited { IsSuited scene.now.entries.now (test_meant (memories_in scene.now) (action_seen command.now)) }
-    ensures ready { IsReady scene.now.entries.now (contents_of scene.now.memories.now) state.new }
+    requires ready { IsReadyIn scene.now state.old }
+    requires suited { TestSuits scene.now command.now }
+    ensures ready { IsReadyIn scene.now state.new }
     ensures back { KeepsBack state.old state.new }
-    ensures holds { (e : Effect) → Keeps scene.now.entries.now e scene.now.step state.old → IfOk result (λ b. holds_at scene.now.entries.now (contents_of scene.now.memories.now) e.variables (test_meant (memories_in scene.now) (action_seen command.now)) [] ≡ b) }
-    ensures ran { (e : Effect) → Keeps scene.now.entries.now e scene.now.step state.old → Ends scene.now.entries.now (tested_at scene.now.entries.now (contents_of scene.now.memories.now) (test_meant (memories_in scene.now) (action_seen command.now)) [] e) scene.now.step result state.new }
+    ensures holds { Decides scene.now state.old result (test_in scene.now command.now) }
+    ensures ran { Runs scene.now state.old result state.new (test_run scene.now command.now) }
 {
     match test_of(command) {
         Some(test) => decide(scene, state, test),
@@ -327,11 +328,11 @@ pub fn begin_turn(
     command: &Command,
     value: u64,
 ) -> Result<(), Stop>
-    requires ready { IsReady scene.now.entries.now (contents_of scene.now.memories.now) state.old }
+    requires ready { IsReadyIn scene.now state.old }
     requires entity { iterator_of (action_seen command.now) < length state.old.variables.items }
-    ensures ready { IsReady scene.now.entries.now (contents_of scene.now.memories.now) state.new }
+    ensures ready { IsReadyIn scene.now state.new }
     ensures back { KeepsBack state.old state.new }
-    ensures ran { (e : Effect) → Keeps scene.now.entries.now e scene.now.step state.old → Ends scene.now.entries.now (turn_begun (iterator_of (action_seen command.now)) value e) scene.now.step result state.new }
+    ensures ran { Runs scene.now state.old result state.new (turn_in command.now value) }
 {
     let word = Word {
         kind: Kind::Unsigned(64),
@@ -346,11 +347,11 @@ pub fn begin_turn(
 #[tactic(auto, using(dh_tree::proofs::SeenActions::actions_are))]
 pub fn run(scene: &Scene<'_>, state: &mut State, command: &Command) -> Result<(), Stop>
     requires set { IsSet scene.now }
-    requires ready { IsReady scene.now.entries.now (contents_of scene.now.memories.now) state.old }
-    requires runnable { AreRunnable scene.now.entries.now (length state.old.variables.items) (action_meant (memories_in scene.now) (action_seen command.now) no_commands) }
-    ensures ready { IsReady scene.now.entries.now (contents_of scene.now.memories.now) state.new }
+    requires ready { IsReadyIn scene.now state.old }
+    requires runnable { CanRun scene.now state.old (command_in scene.now command.now) }
+    ensures ready { IsReadyIn scene.now state.new }
     ensures back { KeepsBack state.old state.new }
-    ensures ran { (e : Effect) → Keeps scene.now.entries.now e scene.now.step state.old → Ends scene.now.entries.now (commands_run scene.now.entries.now (contents_of scene.now.memories.now) outer_paths (action_meant (memories_in scene.now) (action_seen command.now) no_commands) e) scene.now.step result state.new }
+    ensures ran { Runs scene.now state.old result state.new (command_run scene.now command.now) }
 {
     match &command.form {
         CommandForm::Let { name, value, .. } => match value {
@@ -384,11 +385,11 @@ pub fn run(scene: &Scene<'_>, state: &mut State, command: &Command) -> Result<()
 #[tactic(auto, using(dh_tree::proofs::SeenActions::actions_are))]
 fn run_block(scene: &Scene<'_>, state: &mut State, body: &[Vec<Command>]) -> Result<(), Stop>
     requires set { IsSet scene.now }
-    requires ready { IsReady scene.now.entries.now (contents_of scene.now.memories.now) state.old }
-    requires runnable { AreRunnable scene.now.entries.now (length state.old.variables.items) (groups_meant (memories_in scene.now) (groups (map part_seen body.now)) no_commands) }
-    ensures ready { IsReady scene.now.entries.now (contents_of scene.now.memories.now) state.new }
+    requires ready { IsReadyIn scene.now state.old }
+    requires runnable { CanRun scene.now state.old (block_in scene.now body.now) }
+    ensures ready { IsReadyIn scene.now state.new }
     ensures back { KeepsBack state.old state.new }
-    ensures ran { (e : Effect) → Keeps scene.now.entries.now e scene.now.step state.old → Ends scene.now.entries.now (commands_run scene.now.entries.now (contents_of scene.now.memories.now) outer_paths (groups_meant (memories_in scene.now) (groups (map part_seen body.now)) no_commands) e) scene.now.step result state.new }
+    ensures ran { Runs scene.now state.old result state.new (block_run scene.now body.now) }
 {
     for part in body {
         run_part(scene, state, part.as_slice())?;
@@ -401,11 +402,11 @@ fn run_block(scene: &Scene<'_>, state: &mut State, body: &[Vec<Command>]) -> Res
 #[tactic(auto, using(dh_tree::proofs::SeenActions::actions_are))]
 fn run_part(scene: &Scene<'_>, state: &mut State, part: &[Command]) -> Result<(), Stop>
     requires set { IsSet scene.now }
-    requires ready { IsReady scene.now.entries.now (contents_of scene.now.memories.now) state.old }
-    requires runnable { AreRunnable scene.now.entries.now (length state.old.variables.items) (part_meant (memories_in scene.now) (actions (map action_seen part.now)) no_commands) }
-    ensures ready { IsReady scene.now.entries.now (contents_of scene.now.memories.now) state.new }
+    requires ready { IsReadyIn scene.now state.old }
+    requires runnable { CanRun scene.now state.old (part_in scene.now part.now) }
+    ensures ready { IsReadyIn scene.now state.new }
     ensures back { KeepsBack state.old state.new }
-    ensures ran { (e : Effect) → Keeps scene.now.entries.now e scene.now.step state.old → Ends scene.now.entries.now (commands_run scene.now.entries.now (contents_of scene.now.memories.now) outer_paths (part_meant (memories_in scene.now) (actions (map action_seen part.now)) no_commands) e) scene.now.step result state.new }
+    ensures ran { Runs scene.now state.old result state.new (part_run scene.now part.now) }
 {
     for command in part {
         run(scene, state, command)?;
@@ -416,11 +417,11 @@ fn run_part(scene: &Scene<'_>, state: &mut State, part: &[Command]) -> Result<()
 /// Runs the commands of a phase, in order.
 pub fn run_phase(scene: &Scene<'_>, state: &mut State, commands: &[&Command]) -> Result<(), Stop>
     requires set { IsSet scene.now }
-    requires ready { IsReady scene.now.entries.now (contents_of scene.now.memories.now) state.old }
-    requires runnable { AreRunnable scene.now.entries.now (length state.old.variables.items) (commands_meant (memories_in scene.now) (map (λ c. action_seen c.now) commands.now)) }
-    ensures ready { IsReady scene.now.entries.now (contents_of scene.now.memories.now) state.new }
+    requires ready { IsReadyIn scene.now state.old }
+    requires runnable { CanRun scene.now state.old (phase_in scene.now commands.now) }
+    ensures ready { IsReadyIn scene.now state.new }
     ensures back { KeepsBack state.old state.new }
-    ensures ran { (e : Effect) → Keeps scene.now.entries.now e scene.now.step state.old → Ends scene.now.entries.now (commands_run scene.now.entries.now (contents_of scene.now.memories.now) outer_paths (commands_meant (memories_in scene.now) (map (λ c. action_seen c.now) commands.now)) e) scene.now.step result state.new }
+    ensures ran { Runs scene.now state.old result state.new (straight_run scene.now commands.now) }
 {
     for command in commands {
         run(scene, state, command)?;
@@ -457,7 +458,7 @@ fn set_element(values: &mut Vec<u64>, position: u64, bits: u64)
 
 /// Makes a write, where its element is.
 fn make(memories: &mut Vec<Vec<u64>>, write: Write)
-    ensures { contents_of memories.new.items ≡ written_by (write ∷ []) (contents_of memories.old.items) }
+    ensures { AreWritten memories.old memories.new (write ∷ []) }
 {
     if let Some(values) = memories.get_mut(write.memory as usize) {
         set_element(values, write.position, write.bits);
@@ -466,7 +467,7 @@ fn make(memories: &mut Vec<Vec<u64>>, write: Write)
 
 /// Makes writes, in order.
 pub fn write_all(memories: &mut Vec<Vec<u64>>, writes: &[Write])
-    ensures { contents_of memories.new.items ≡ written_by writes.now (contents_of memories.old.items) }
+    ensures { AreWritten memories.old memories.new writes.now }
 {
     for write in writes {
         make(memories, *write);

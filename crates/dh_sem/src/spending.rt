@@ -38,7 +38,8 @@ fn enter(bank: &mut Bank, ports: u64, step: u64)
 /// `NoMemory` where an allocation was refused.
 pub fn read_row(bank: &mut Bank, ports: u64, step: u64, row: u64) -> Result<bool, NoMemory>
     ensures step { bank.new.step ≡ step }
-    ensures reads { ReadsRow (rows_now bank.old step) (left_now bank.old ports step) row result bank.new.rows.items bank.new.left }
+    ensures reads { ReadsRow (rows_now bank.old step)
+        (left_now bank.old ports step) row result bank.new.rows.items bank.new.left }
 {
     enter(bank, ports, step);
     if bank.rows.contains(&row) {
@@ -55,7 +56,8 @@ pub fn read_row(bank: &mut Bank, ports: u64, step: u64, row: u64) -> Result<bool
 /// Writes in a step to a bank with so many ports. False where no port is left.
 pub fn write_row(bank: &mut Bank, ports: u64, step: u64) -> bool
     ensures step { bank.new.step ≡ step }
-    ensures writes { WritesRow (rows_now bank.old step) (left_now bank.old ports step) result bank.new.rows.items bank.new.left }
+    ensures writes { WritesRow (rows_now bank.old step)
+        (left_now bank.old ports step) result bank.new.rows.items bank.new.left }
 {
     enter(bank, ports, step);
     if bank.left == 0 {

@@ -1,18 +1,11 @@
 //! One logical step.
 
-ghost use Rattle.std.specs.Prelude.{◌≡◌, ◌≤◌, ◌-◌, ◌++◌, [], ◌∷◌, if◌then◌else◌, OnOk, length};
-ghost use Rattle.std.specs.List.{AllByRecursion};
-ghost use Rattle.dh_tree.specs.Effects.{Effect, holds_at, tested_at};
-ghost use Rattle.dh_tree.specs.Meaning.{test_meant};
-ghost use Rattle.dh_tree.specs.Seen.{action_seen};
-ghost use Rattle.dh_tree.specs.Suited.{IsSuited};
-ghost use Rattle.dh_sem.specs.declared.courses.Frame.TheVariants as frame;
-ghost use Rattle.dh_sem.specs.Rows.{contents_of};
-ghost use Rattle.dh_sem.specs.Scenes.{IsSet, memories_in};
+ghost use Rattle.std.specs.Prelude.{◌≡◌, ◌≤◌, ◌-◌, ◌++◌, OnOk, length};
+ghost use Rattle.dh_sem.specs.Scenes.{IsSet};
 ghost use Rattle.dh_sem.specs.Spent.{AreUsedBy};
-ghost use Rattle.dh_sem.specs.States.{IsReady, IsRunnable, KeepsBack, Keeps, Ends, written_by};
-ghost use Rattle.dh_sem.specs.Advances.{Advances, begun_from, rest_run, rest_after};
-ghost use Rattle.dh_sem.specs.Courses.{IsCourse, IsFrame, IsTaken, IsCounted, IsRunnableTaken, turns_frames, to_come, taken_run, taken_after};
+ghost use Rattle.dh_sem.specs.States.{KeepsBack, written_by};
+ghost use Rattle.dh_sem.specs.Courses.{IsCourse, IsTaken, IsCounted, turns_frames};
+ghost use Rattle.dh_sem.specs.InScenes.{AdvancesIn, AllCanRun, AreFrames, Chooses, ComesNext, IsReadyIn, LeavesFrames, LeavesRest, LeavesTaken, NextFrames, Repeats, Runs, TakenCanRun, TestSuits, rest_in, taken_in, test_run};
 
 use crate::courses::{Form, Frame, Node, Taken, open, take};
 use crate::evaluating::{Scene, Stop};
@@ -47,12 +40,12 @@ fn again(
     body: Option<usize>,
 ) -> Result<(), Stop>
     requires set { IsSet scene.now }
-    requires ready { IsReady scene.now.entries.now (contents_of scene.now.memories.now) state.old }
-    requires suited { IsSuited scene.now.entries.now (test_meant (memories_in scene.now) (action_seen command.now)) }
-    ensures ready { IsReady scene.now.entries.now (contents_of scene.now.memories.now) state.new }
+    requires ready { IsReadyIn scene.now state.old }
+    requires suited { TestSuits scene.now command.now }
+    ensures ready { IsReadyIn scene.now state.new }
     ensures back { KeepsBack state.old state.new }
-    ensures ran { (e : Effect) → Keeps scene.now.entries.now e scene.now.step state.old → Ends scene.now.entries.now (tested_at scene.now.entries.now (contents_of scene.now.memories.now) (test_meant (memories_in scene.now) (action_seen command.now)) [] e) scene.now.step result state.new }
-    ensures left { (e : Effect) → Keeps scene.now.entries.now e scene.now.step state.old → OnOk result (frames.new.items ≡ (if holds_at scene.now.entries.now (contents_of scene.now.memories.now) e.variables (test_meant (memories_in scene.now) (action_seen command.now)) [] then (frames.old.items ++ frame.One taken ∷ []) ++ frame.List body ∷ [] else frames.old.items)) }
+    ensures ran { Runs scene.now state.old result state.new (test_run scene.now command.now) }
+    ensures left { Repeats scene.now state.old result command.now taken body frames.old frames.new }
 {
     if test(scene, state, command)? {
         frames.push(Frame::One(taken))?;
@@ -71,12 +64,13 @@ fn choose(
     other: Option<usize>,
 ) -> Result<(), Stop>
     requires set { IsSet scene.now }
-    requires ready { IsReady scene.now.entries.now (contents_of scene.now.memories.now) state.old }
-    requires suited { IsSuited scene.now.entries.now (test_meant (memories_in scene.now) (action_seen command.now)) }
-    ensures ready { IsReady scene.now.entries.now (contents_of scene.now.memories.now) state.new }
+    requires ready { IsReadyIn scene.now state.old }
+    requires suited { TestSuits scene.now command.now }
+    ensures ready { IsReadyIn scene.now state.new }
     ensures back { KeepsBack state.old state.new }
-    ensures ran { (e : Effect) → Keeps scene.now.entries.now e scene.now.step state.old → Ends scene.now.entries.now (tested_at scene.now.entries.now (contents_of scene.now.memories.now) (test_meant (memories_in scene.now) (action_seen command.now)) [] e) scene.now.step result state.new }
-    ensures left { (e : Effect) → Keeps scene.now.entries.now e scene.now.step state.old → OnOk result (frames.new.items ≡ frames.old.items ++ frame.List (if holds_at scene.now.entries.now (contents_of scene.now.memories.now) e.variables (test_meant (memories_in scene.now) (action_seen command.now)) [] then chosen else other) ∷ []) }
+    ensures ran { Runs scene.now state.old result state.new (test_run scene.now command.now) }
+    ensures left { Chooses scene.now state.old result command.now chosen other frames.old
+        frames.new }
 {
     let arm = if test(scene, state, command)? {
         chosen
@@ -98,14 +92,14 @@ fn run_taken(
 ) -> Result<(), Stop>
     requires course { IsCourse nodes.now }
     requires set { IsSet scene.now }
-    requires ready { IsReady scene.now.entries.now (contents_of scene.now.memories.now) state.old }
+    requires ready { IsReadyIn scene.now state.old }
     requires taken { IsTaken (length nodes.now) taken }
-    requires runnable { IsRunnableTaken scene.now.entries.now (length state.old.variables.items) (memories_in scene.now) nodes.now taken }
-    ensures ready { IsReady scene.now.entries.now (contents_of scene.now.memories.now) state.new }
+    requires runnable { TakenCanRun scene.now state.old nodes.now taken }
+    ensures ready { IsReadyIn scene.now state.new }
     ensures back { KeepsBack state.old state.new }
-    ensures ran { (e : Effect) → Keeps scene.now.entries.now e scene.now.step state.old → Ends scene.now.entries.now (taken_run scene.now.entries.now (contents_of scene.now.memories.now) (memories_in scene.now) nodes.now taken e) scene.now.step result state.new }
-    ensures left { (e : Effect) → Keeps scene.now.entries.now e scene.now.step state.old → OnOk result (to_come (memories_in scene.now) nodes.now frames.new.items ≡ taken_after scene.now.entries.now (contents_of scene.now.memories.now) (taken_run scene.now.entries.now (contents_of scene.now.memories.now) (memories_in scene.now) nodes.now taken e).variables (memories_in scene.now) nodes.now taken (to_come (memories_in scene.now) nodes.now frames.old.items)) }
-    ensures frames { (e : Effect) → Keeps scene.now.entries.now e scene.now.step state.old → AllByRecursion (IsFrame (length nodes.now)) frames.old.items → OnOk result (AllByRecursion (IsFrame (length nodes.now)) frames.new.items) }
+    ensures ran { Runs scene.now state.old result state.new (taken_in scene.now nodes.now taken) }
+    ensures left { LeavesTaken scene.now state.old result nodes.now taken frames.old frames.new }
+    ensures frames { LeavesFrames scene.now state.old result nodes.now frames.old frames.new }
 {
     let Some(taken) = taken else {
         return Ok(());
@@ -139,14 +133,15 @@ fn run_next(
 ) -> Result<(), Stop>
     requires course { IsCourse nodes.now }
     requires set { IsSet scene.now }
-    requires ready { IsReady scene.now.entries.now (contents_of scene.now.memories.now) state.old }
-    requires frames { AllByRecursion (IsFrame (length nodes.now)) frames.old.items }
-    requires runnable { AllByRecursion (IsRunnable scene.now.entries.now (length state.old.variables.items)) (to_come (memories_in scene.now) nodes.now frames.old.items) }
-    ensures ready { IsReady scene.now.entries.now (contents_of scene.now.memories.now) state.new }
+    requires ready { IsReadyIn scene.now state.old }
+    requires frames { AreFrames nodes.now frames.old.items }
+    requires runnable { AllCanRun scene.now state.old nodes.now frames.old.items }
+    ensures ready { IsReadyIn scene.now state.new }
     ensures back { KeepsBack state.old state.new }
-    ensures ran { (e : Effect) → Keeps scene.now.entries.now e scene.now.step state.old → Ends scene.now.entries.now (rest_run scene.now.entries.now (contents_of scene.now.memories.now) (to_come (memories_in scene.now) nodes.now frames.old.items) e) scene.now.step result state.new }
-    ensures left { (e : Effect) → Keeps scene.now.entries.now e scene.now.step state.old → OnOk result (to_come (memories_in scene.now) nodes.now frames.new.items ≡ rest_after scene.now.entries.now (contents_of scene.now.memories.now) (rest_run scene.now.entries.now (contents_of scene.now.memories.now) (to_come (memories_in scene.now) nodes.now frames.old.items) e).variables (to_come (memories_in scene.now) nodes.now frames.old.items)) }
-    ensures frames { (e : Effect) → Keeps scene.now.entries.now e scene.now.step state.old → OnOk result (AllByRecursion (IsFrame (length nodes.now)) frames.new.items) }
+    ensures ran { Runs scene.now state.old result state.new
+        (rest_in scene.now nodes.now frames.old.items) }
+    ensures left { LeavesRest scene.now state.old result nodes.now frames.old frames.new }
+    ensures frames { NextFrames scene.now state.old result nodes.now frames.new.items }
 {
     let taken = take(nodes, frames)?;
     run_taken(scene, state, nodes, frames, taken)
@@ -162,16 +157,16 @@ pub fn advance(
 ) -> Result<(), Stop>
     requires course { IsCourse nodes.now }
     requires set { IsSet scene.now }
-    requires ready { IsReady scene.now.entries.now (contents_of scene.now.memories.now) state.old }
+    requires ready { IsReadyIn scene.now state.old }
     requires unspent { AreUsedBy (scene.now.step - 1) state.old.banks.items }
     requires begins { 1 ≤ scene.now.step }
-    requires frames { AllByRecursion (IsFrame (length nodes.now)) frames.old.items }
-    requires runnable { AllByRecursion (IsRunnable scene.now.entries.now (length state.old.variables.items)) (to_come (memories_in scene.now) nodes.now frames.old.items) }
-    ensures ready { IsReady scene.now.entries.now (contents_of scene.now.memories.now) state.new }
+    requires frames { AreFrames nodes.now frames.old.items }
+    requires runnable { AllCanRun scene.now state.old nodes.now frames.old.items }
+    ensures ready { IsReadyIn scene.now state.new }
     ensures long { length state.new.variables.items ≡ length state.old.variables.items }
-    ensures advances { Advances scene.now.entries.now (rest_run scene.now.entries.now (contents_of scene.now.memories.now) (to_come (memories_in scene.now) nodes.now frames.old.items) (begun_from state.old)) scene.now.step result state.old state.new }
-    ensures left { OnOk result (to_come (memories_in scene.now) nodes.now frames.new.items ≡ rest_after scene.now.entries.now (contents_of scene.now.memories.now) (rest_run scene.now.entries.now (contents_of scene.now.memories.now) (to_come (memories_in scene.now) nodes.now frames.old.items) (begun_from state.old)).variables (to_come (memories_in scene.now) nodes.now frames.old.items)) }
-    ensures frames { OnOk result (AllByRecursion (IsFrame (length nodes.now)) frames.new.items) }
+    ensures advances { AdvancesIn scene.now nodes.now frames.old.items result state.old state.new }
+    ensures left { OnOk result (ComesNext scene.now state.old nodes.now frames.old frames.new) }
+    ensures frames { OnOk result (AreFrames nodes.now frames.new.items) }
 {
     state.writes.clear();
     state.changes.clear();

@@ -1,2 +1,3 @@
 pub mod Classified
 pub mod Above
+pub mod Placed

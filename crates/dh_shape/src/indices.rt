@@ -2,13 +2,10 @@
 
 ghost use Rattle.std.specs.Prelude.{◌≡◌, ℤ, pos, ◌+ℤ◌};
 ghost use Rattle.dh_value.specs.declared.operators.Op.TheVariants as op;
-ghost use Rattle.dh_tree.specs.Counters.{counters_of, counter_in};
 ghost use Rattle.dh_tree.specs.Indices as definitions;
-ghost use Rattle.dh_tree.specs.Indices.{index_kind, sum_kind};
-ghost use Rattle.dh_tree.specs.Kinds.{signed_number};
-ghost use Rattle.dh_tree.specs.Seen.{form_seen, program_seen};
+ghost use Rattle.dh_tree.specs.Seen.{form_seen};
 ghost use Rattle.dh_shape.specs.Classified as answers;
-ghost use Rattle.dh_shape.specs.Classified.{Classifies, literal_of, name_of, moved_kind};
+ghost use Rattle.dh_shape.specs.Classified.{IsCounted, IsKindOf, IsMoved, IsSum, literal_of, name_of, number_in};
 
 use dh_tree::{Counter, Expr, ExprForm, Kind, Typed};
 use dh_value::{Op, fits};
@@ -39,7 +36,7 @@ struct Offset {
 
 /// A number of 64 bits and another with a sign, added.
 fn sum_of(number: u64, literal: Offset) -> i128
-    ensures { result ≡ pos number +ℤ signed_number literal.negative literal.value }
+    ensures { result ≡ pos number +ℤ number_in literal }
 {
     let number = i128::from(number);
     let value = i128::from(literal.value);
@@ -52,7 +49,7 @@ fn sum_of(number: u64, literal: Offset) -> i128
 
 /// The number of a literal.
 fn number_of(literal: Offset) -> i128
-    ensures { result ≡ signed_number literal.negative literal.value }
+    ensures { result ≡ number_in literal }
 {
     let value = i128::from(literal.value);
     if literal.negative { -value } else { value }
@@ -70,7 +67,7 @@ fn fits_kind(kind: Option<Kind>, number: i128) -> bool
 
 /// Whether every value of an iterator with a literal added is at least 0 and a value of the kind.
 fn all_fit(kind: Option<Kind>, counter: Counter, literal: Offset) -> bool
-    ensures { result ≡ definitions.all_fit kind counter (signed_number literal.negative literal.value) }
+    ensures { result ≡ definitions.all_fit kind counter (number_in literal) }
 {
     counter.high <= counter.low
         || (fits_kind(kind, sum_of(counter.low, literal))
@@ -79,7 +76,7 @@ fn all_fit(kind: Option<Kind>, counter: Counter, literal: Offset) -> bool
 
 /// What a name with a literal added is.
 fn counted(typed: &Typed, kind: Option<Kind>, entity: Option<u32>, literal: Offset) -> IndexKind
-    ensures { Classifies (counters_of (program_seen typed.now)) (definitions.counted kind (counter_in (counters_of (program_seen typed.now)) entity) (signed_number literal.negative literal.value)) result }
+    ensures { IsCounted typed.now kind entity literal result }
 {
     let Some(entity) = entity else {
         return IndexKind::Dynamic;
@@ -135,7 +132,7 @@ fn moved(
     name: Option<Option<u32>>,
     literal: Option<Offset>,
 ) -> IndexKind
-    ensures { Classifies (counters_of (program_seen typed.now)) (moved_kind (counters_of (program_seen typed.now)) kind name literal) result }
+    ensures { IsMoved typed.now kind name literal result }
 {
     match literal {
         Some(literal) => match name {
@@ -148,7 +145,7 @@ fn moved(
 
 /// What a sum is.
 fn added(typed: &Typed, kind: Option<Kind>, left: &Expr, right: &Expr) -> IndexKind
-    ensures { Classifies (counters_of (program_seen typed.now)) (sum_kind (counters_of (program_seen typed.now)) kind op.Add (form_seen left.now.form) (form_seen right.now.form)) result }
+    ensures { IsSum typed.now kind op.Add left.now right.now result }
 {
     let named = name(left);
     if named.is_some() {
@@ -173,14 +170,14 @@ fn opposite(literal: Option<Offset>) -> Option<Offset>
 
 /// What a difference is.
 fn taken(typed: &Typed, kind: Option<Kind>, left: &Expr, right: &Expr) -> IndexKind
-    ensures { Classifies (counters_of (program_seen typed.now)) (sum_kind (counters_of (program_seen typed.now)) kind op.Sub (form_seen left.now.form) (form_seen right.now.form)) result }
+    ensures { IsSum typed.now kind op.Sub left.now right.now result }
 {
     moved(typed, kind, name(left), opposite(literal(right)))
 }
 
 /// What an operation is.
 fn sum(typed: &Typed, kind: Option<Kind>, op: Op, left: &Expr, right: &Expr) -> IndexKind
-    ensures { Classifies (counters_of (program_seen typed.now)) (sum_kind (counters_of (program_seen typed.now)) kind op (form_seen left.now.form) (form_seen right.now.form)) result }
+    ensures { IsSum typed.now kind op left.now right.now result }
 {
     match op {
         Op::Add => added(typed, kind, left, right),
@@ -206,7 +203,7 @@ fn sum(typed: &Typed, kind: Option<Kind>, op: Op, left: &Expr, right: &Expr) -> 
 /// values are at least 0 and values of the index's kind; or another.
 #[tactic(auto, using(dh_tree::proofs::SeenTerms::terms_are))]
 pub fn classify(typed: &Typed, index: &Expr) -> IndexKind
-    ensures { Classifies (counters_of (program_seen typed.now)) (index_kind (counters_of (program_seen typed.now)) index.now.kind (form_seen index.now.form)) result }
+    ensures { IsKindOf typed.now index.now result }
 {
     match &index.form {
         ExprForm::Number { negative, value } => IndexKind::Constant(number_of(Offset {

@@ -6,8 +6,6 @@
 mod indices;
 mod limits;
 mod places;
-#[cfg(test)]
-mod tests;
 
 pub use indices::{IndexKind, classify};
 pub use limits::within;

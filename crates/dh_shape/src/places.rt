@@ -1,10 +1,11 @@
 //! Where the elements of memories lie.
 
-ghost use Rattle.std.specs.Prelude.{◌≡◌, ◌≤◌, length, Some, None, if◌then◌else◌};
+ghost use Rattle.std.specs.Prelude.{◌≡◌, ◌≤◌, length};
 ghost use Rattle.std.specs.List.{AllByRecursion};
-ghost use Rattle.dh_tree.specs.Elements.{banks_of, bank_of, row_of, is_within};
+ghost use Rattle.dh_tree.specs.Elements.{banks_of};
 ghost use Rattle.dh_tree.specs.Shapes.{IsDim, most_banks};
 ghost use Rattle.dh_tree.specs.Tables.{elements_of, most_elements};
+ghost use Rattle.dh_shape.specs.Placed.{place_of};
 
 use dh_tree::Shape;
 
@@ -16,7 +17,7 @@ pub fn bank_row(shape: &Shape, index: &[u64]) -> Option<(u32, u32)>
     requires banks { banks_of shape.now.dims ≤ most_banks }
     requires elements { elements_of shape.now.dims ≤ most_elements }
     requires indices { length index.now ≡ length shape.now.dims }
-    ensures { result ≡ (if is_within shape.now.dims index.now then Some (bank_of shape.now.dims index.now, row_of shape.now.dims index.now) else None) }
+    ensures { result ≡ place_of shape.now index.now }
 {
     let mut bank = 0;
     let mut row = 0;

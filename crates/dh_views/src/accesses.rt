@@ -1,16 +1,15 @@
 //! The indices of accesses.
 
-ghost use Rattle.std.specs.Prelude.{◌≡◌, ◌*◌, ◌/◌, ◌≤◌, map, min, option_map, slice_get};
-ghost use Rattle.dh_tree.specs.Counters.{counters_of, counter_in};
+ghost use Rattle.std.specs.Prelude.{◌≡◌, ◌*◌, ◌/◌, ◌≤◌, Some, min, option_map, slice_get};
+ghost use Rattle.dh_tree.specs.Counters.{counter_in};
 ghost use Rattle.dh_tree.specs.Elements as elements;
 ghost use Rattle.dh_tree.specs.Indices as definitions;
-ghost use Rattle.dh_tree.specs.Indices.{index_kind, index_breaches, indices_breaches, row_breaches, bank_breaches, access_breaches, physical_breaches};
-ghost use Rattle.dh_tree.specs.Kinds.{signed_number};
+ghost use Rattle.dh_tree.specs.Indices.{row_breaches, bank_breaches};
 ghost use Rattle.dh_tree.specs.LeastBreach.{least_of};
-ghost use Rattle.dh_tree.specs.Memories.{memory_in, memories_of};
-ghost use Rattle.dh_tree.specs.Seen.{form_seen, term_seen, terms, program_seen};
-ghost use Rattle.dh_shape.specs.Classified.{Classifies};
+ghost use Rattle.dh_tree.specs.Seen.{term_seen};
+ghost use Rattle.dh_shape.specs.Classified.{loops_in};
 ghost use Rattle.dh_views.specs.Kept.{number_bound, copies_of, entry_dims};
+ghost use Rattle.dh_views.specs.Walked.{KeepsKind, access_broken, bank_broken, dims_in, index_broken, indices_broken, is_no_row};
 
 use crate::declared::shape_keeps;
 use crate::keeping::keep_if;
@@ -30,7 +29,7 @@ fn is_beyond(size: u128, number: i128) -> bool
 
 /// The copies of the body of a loop; 1 for what is no loop.
 fn copies(typed: &Typed, entity: u32) -> u64
-    ensures { result ≡ copies_of (counter_in (counters_of (program_seen typed.now)) (Some entity)) }
+    ensures { result ≡ copies_of (counter_in (loops_in typed.now) (Some entity)) }
 {
     match typed.counter(entity) {
         Some(counter) => counter.factor,
@@ -40,7 +39,7 @@ fn copies(typed: &Typed, entity: u32) -> u64
 
 /// The breach of an index of this kind.
 fn keep_kind(typed: &Typed, kept: &mut Option<Breach>, dim: &Dim, place: Place, kind: IndexKind)
-    ensures { (k : definitions.IndexKind) → Classifies (counters_of (program_seen typed.now)) k kind → kept.new ≡ least_of kept.old (index_breaches dim.now place k) }
+    ensures { KeepsKind typed.now kept.old kept.new dim.now place kind }
 {
     match kind {
         IndexKind::Constant(number) => {
@@ -57,14 +56,14 @@ fn keep_kind(typed: &Typed, kept: &mut Option<Breach>, dim: &Dim, place: Place, 
 
 /// The breach of an index of a dimension.
 fn keep_index(typed: &Typed, kept: &mut Option<Breach>, dim: &Dim, index: &Expr)
-    ensures { kept.new ≡ least_of kept.old (index_breaches dim.now index.now.place (index_kind (counters_of (program_seen typed.now)) index.now.kind (form_seen index.now.form))) }
+    ensures { kept.new ≡ least_of kept.old (index_broken typed.now dim.now index.now) }
 {
     keep_kind(typed, kept, dim, index.place, classify(typed, index));
 }
 
 /// Those of indices, each for its dimension.
 fn keep_indices(typed: &Typed, kept: &mut Option<Breach>, dims: &[Dim], indices: &[Expr])
-    ensures { kept.new ≡ least_of kept.old (indices_breaches (counters_of (program_seen typed.now)) dims.now (terms (map term_seen indices.now))) }
+    ensures { kept.new ≡ least_of kept.old (indices_broken typed.now dims.now indices.now) }
 {
     for (dim, index) in dims.iter().zip(indices.iter()) {
         keep_index(typed, kept, dim, index);
@@ -129,7 +128,7 @@ fn keep_bank(kept: &mut Option<Breach>, dims: &[Dim], bank: u64, place: Place)
 
 /// Whether a literal is no row of a bank.
 fn is_row_beyond(dims: &[Dim], negative: bool, value: u64) -> bool
-    ensures { result ≡ definitions.is_beyond (elements.rows_of dims.now) (signed_number negative value) }
+    ensures { result ≡ is_no_row dims.now negative value }
 {
     (negative && value != 0) || rows(dims) <= u128::from(value)
 }
@@ -178,7 +177,7 @@ fn dims_at(entries: &[MemEntry], number: usize) -> Option<&[Dim]>
 /// of the memory; an access has as many indices, so that only accesses to a bank can cost more than
 /// their own text: each of these goes through all dimensions of its memory.
 fn kept_dims(typed: &Typed, entity: Option<u32>) -> Option<&[Dim]>
-    ensures { option_map (λ d. d.now) result ≡ definitions.kept_dims (memory_in (memories_of (program_seen typed.now)) entity) }
+    ensures { option_map (λ d. d.now) result ≡ dims_in typed.now entity }
 {
     let Some(entity) = entity else {
         return None;
@@ -196,7 +195,7 @@ pub(crate) fn keep_access(
     of: Option<u32>,
     indices: &[Expr],
 )
-    ensures { kept.new ≡ least_of kept.old (access_breaches (counters_of (program_seen typed.now)) (definitions.kept_dims (memory_in (memories_of (program_seen typed.now)) of)) (terms (map term_seen indices.now))) }
+    ensures { kept.new ≡ least_of kept.old (access_broken typed.now of indices.now) }
 {
     match kept_dims(typed, of) {
         Some(dims) => keep_indices(typed, kept, dims, indices),
@@ -207,7 +206,7 @@ pub(crate) fn keep_access(
 /// Those of the bank and the row of an access to a bank.
 #[tactic(auto, using(dh_tree::proofs::Leasts::least_append))]
 fn keep_in_bank(kept: &mut Option<Breach>, dims: &[Dim], bank: u64, bank_place: Place, row: &Expr)
-    ensures { kept.new ≡ least_of kept.old (physical_breaches (Some dims.now) bank bank_place (term_seen row.now)) }
+    ensures { kept.new ≡ least_of kept.old (bank_broken (Some dims.now) bank bank_place row.now) }
 {
     keep_bank(kept, dims, bank, bank_place);
     keep_row(kept, dims, row);
@@ -222,7 +221,8 @@ pub(crate) fn keep_physical(
     bank_place: Place,
     row: &Expr,
 )
-    ensures { kept.new ≡ least_of kept.old (physical_breaches (definitions.kept_dims (memory_in (memories_of (program_seen typed.now)) of)) bank bank_place (term_seen row.now)) }
+    ensures { kept.new ≡ least_of kept.old (bank_broken
+        (dims_in typed.now of) bank bank_place row.now) }
 {
     match kept_dims(typed, of) {
         Some(dims) => keep_in_bank(kept, dims, bank, bank_place, row),

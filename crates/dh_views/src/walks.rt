@@ -1,11 +1,12 @@
 //! The walk over a program.
 
-ghost use Rattle.std.specs.Prelude.{◌≡◌, map, option_map, None};
-ghost use Rattle.dh_tree.specs.Indices.{known_of, term_index_breaches, terms_index_breaches, maybe_index_breaches, action_index_breaches, other_index_breaches, groups_index_breaches, index_breaches_of};
+ghost use Rattle.std.specs.Prelude.{◌≡◌, None};
+ghost use Rattle.dh_tree.specs.Indices.{index_breaches_of};
 ghost use Rattle.dh_tree.specs.LeastBreach.{least_of};
-ghost use Rattle.dh_tree.specs.Seen.{term_seen, terms, action_seen, action_form_seen, groups, part_seen, maybe_seen, program_seen};
+ghost use Rattle.dh_tree.specs.Seen.{action_form_seen, program_seen};
 ghost use Rattle.dh_tree.specs.Told.{TellsLeast};
 ghost use Rattle.dh_views.specs.Kept.{loop_breaches};
+ghost use Rattle.dh_views.specs.Walked.{term_broken, terms_broken, maybe_broken, command_broken, other_broken, parts_broken};
 
 use crate::accesses::{keep_access, keep_physical};
 use crate::declared::{keep_decls, keep_shape};
@@ -17,7 +18,7 @@ use dh_tree::{Breach, Command, CommandForm, Expr, ExprForm, Typed};
 #[cycle(terms)]
 #[tactic(auto, using(dh_tree::proofs::SeenTerms::terms_are, dh_tree::proofs::Leasts::least_append))]
 fn keep_term(typed: &Typed, kept: &mut Option<Breach>, term: &Expr)
-    ensures { kept.new ≡ least_of kept.old (term_index_breaches (known_of (program_seen typed.now)) (term_seen term.now)) }
+    ensures { kept.new ≡ least_of kept.old (term_broken typed.now term.now) }
 {
     match &term.form {
         ExprForm::Number { .. } => {}
@@ -48,7 +49,7 @@ fn keep_term(typed: &Typed, kept: &mut Option<Breach>, term: &Expr)
 #[cycle(terms)]
 #[tactic(auto, using(dh_tree::proofs::SeenTerms::terms_are, dh_tree::proofs::Leasts::least_append))]
 fn keep_terms(typed: &Typed, kept: &mut Option<Breach>, indices: &[Expr])
-    ensures { kept.new ≡ least_of kept.old (terms_index_breaches (known_of (program_seen typed.now)) (terms (map term_seen indices.now))) }
+    ensures { kept.new ≡ least_of kept.old (terms_broken typed.now indices.now) }
 {
     for index in indices {
         keep_term(typed, kept, index);
@@ -57,7 +58,7 @@ fn keep_terms(typed: &Typed, kept: &mut Option<Breach>, indices: &[Expr])
 
 /// Those in an expression that may lack.
 fn keep_maybe(typed: &Typed, kept: &mut Option<Breach>, value: &Option<Expr>)
-    ensures { kept.new ≡ least_of kept.old (maybe_index_breaches (known_of (program_seen typed.now)) (option_map term_seen value.now)) }
+    ensures { kept.new ≡ least_of kept.old (maybe_broken typed.now value.now) }
 {
     match value {
         Some(value) => keep_term(typed, kept, value),
@@ -101,7 +102,7 @@ fn keep_turns(kept: &mut Option<Breach>, form: &CommandForm)
 #[cycle(commands)]
 #[tactic(auto, using(dh_tree::proofs::SeenActions::actions_are, dh_tree::proofs::Leasts::least_append))]
 fn keep_command(typed: &Typed, kept: &mut Option<Breach>, command: &Command)
-    ensures { kept.new ≡ least_of kept.old (action_index_breaches (known_of (program_seen typed.now)) (action_seen command.now)) }
+    ensures { kept.new ≡ least_of kept.old (command_broken typed.now command.now) }
 {
     match &command.form {
         CommandForm::Let { value, .. } => keep_maybe(typed, kept, value),
@@ -143,7 +144,7 @@ fn keep_command(typed: &Typed, kept: &mut Option<Breach>, command: &Command)
 /// Those in a block that may lack.
 #[cycle(commands)]
 fn keep_other(typed: &Typed, kept: &mut Option<Breach>, other: &Option<Box<Command>>)
-    ensures { kept.new ≡ least_of kept.old (other_index_breaches (known_of (program_seen typed.now)) (maybe_seen (option_map (λ b. action_seen b.value) other.now))) }
+    ensures { kept.new ≡ least_of kept.old (other_broken typed.now other.now) }
 {
     match other {
         Some(block) => keep_command(typed, kept, block),
@@ -155,7 +156,7 @@ fn keep_other(typed: &Typed, kept: &mut Option<Breach>, other: &Option<Box<Comma
 #[cycle(commands)]
 #[tactic(auto, using(dh_tree::proofs::SeenActions::actions_are, dh_tree::proofs::Leasts::least_append))]
 fn keep_groups(typed: &Typed, kept: &mut Option<Breach>, parts: &[Vec<Command>])
-    ensures { kept.new ≡ least_of kept.old (groups_index_breaches (known_of (program_seen typed.now)) (groups (map part_seen parts.now))) }
+    ensures { kept.new ≡ least_of kept.old (parts_broken typed.now parts.now) }
 {
     for part in parts {
         for command in part {

@@ -1,4 +1,4 @@
-use Rattle.std.proofs.Common.{ap, sym, ◌∙◌, map, ◌++◌, None}
+use Rattle.std.proofs.Common.{ap, ◌∙◌, map, ◌++◌, None}
 use Rattle.dh_tree.specs.declared.trees.programs.Tree.{Tree}
 use Rattle.dh_tree.specs.Seen.{program_seen, action_seen}
 use Rattle.dh_ports.specs.Incidents.{incidents}

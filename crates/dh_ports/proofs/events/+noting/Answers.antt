@@ -7,15 +7,15 @@ use Rattle.dh_ports.specs.Noted.{event_seen}
 use Rattle.dh_ports.proofs.NotedFacts.{choice_noted, choice_goes, while_noted, loop_noted, loop_goes, block_noted}
 use Rattle.dh_ports.proofs.events.+noting.Goals as goal
 
-pub note_command-returns-in_ok-note-in-If-5-clause-events : goal.note_command-returns-in_ok-note-in-If-5-clause-events
-note_command-returns-in_ok-note-in-If-5-clause-events t c =
+pub note_command-returns-in_ok-note-in-If-clause-events : goal.note_command-returns-in_ok-note-in-If-clause-events
+note_command-returns-in_ok-note-in-If-clause-events t c =
     choice_noted c.args.going c.args.command.now.id (action_form_seen c.args.command.now.form) (term_seen c.in-If.test) _ _ (ap action_form_seen c.in-If.is ∙ if_is _ _ _) c.is_choice_stepped-stepped.result c.phase_of-phase-in-If.result c.going_into-in-If.result c.in_ok-behind-in-If.behind c.going_into-in-If-2.result
     (c.is_choice_stepped-stepped.ensures ∙ ap (λ x. choice_stepped (action_seen x) (maybe_seen (option_map (λ b. action_seen b.value) c.in-If.other))) c.deref.ensures)
     (c.phase_of-phase-in-If.ensures ∙ ap (λ h. phase_at h c.args.command.now.id) c.going_into.ensures) c.going_into-in-If.ensures (c.in_ok-behind-in-If.ensures.going ∙ ap (λ x. going_after c.going_into-in-If.result (action_seen x)) c.deref-in-If.ensures) c.going_into-in-If-2.ensures
-    _ _ _ _ _ _ _ _ _ c.in_ok-note_reads-in-If.ensures c.in_ok-note-in-If.ensures c.in_ok-note-in-If-2.ensures (c.in_ok-behind-in-If.ensures.events ∙ ap (λ x. map event_seen c.note-in-If-2.new.events.items ++ incidents c.going_into-in-If.result (action_seen x)) c.deref-in-If.ensures) c.in_ok-note-in-If-3.ensures c.in_ok-note-in-If-4.ensures c.in_ok-last-in-If.ensures.events c.in_ok-note-in-If-5.ensures
+    _ _ _ _ _ _ _ c.in_ok-note_reads-in-If.ensures c.in_ok-note_two-in-If.ensures (c.in_ok-behind-in-If.ensures.events ∙ ap (λ x. map event_seen c.note_two.new.events.items ++ incidents c.going_into-in-If.result (action_seen x)) c.deref-in-If.ensures) c.in_ok-note_two-in-If-2.ensures c.in_ok-last-in-If.ensures.events c.in_ok-note-in-If.ensures
 
-pub note_command-returns-in_ok-note-in-If-5-clause-going : goal.note_command-returns-in_ok-note-in-If-5-clause-going
-note_command-returns-in_ok-note-in-If-5-clause-going t c =
+pub note_command-returns-in_ok-note-in-If-clause-going : goal.note_command-returns-in_ok-note-in-If-clause-going
+note_command-returns-in_ok-note-in-If-clause-going t c =
     choice_goes c.args.going c.args.command.now.id (action_form_seen c.args.command.now.form) (term_seen c.in-If.test) _ _ (ap action_form_seen c.in-If.is ∙ if_is _ _ _) c.is_choice_stepped-stepped.result c.phase_of-phase-in-If.result c.going_into-in-If.result c.in_ok-behind-in-If.behind c.going_into-in-If-2.result
     (c.is_choice_stepped-stepped.ensures ∙ ap (λ x. choice_stepped (action_seen x) (maybe_seen (option_map (λ b. action_seen b.value) c.in-If.other))) c.deref.ensures)
     (c.phase_of-phase-in-If.ensures ∙ ap (λ h. phase_at h c.args.command.now.id) c.going_into.ensures) c.going_into-in-If.ensures (c.in_ok-behind-in-If.ensures.going ∙ ap (λ x. going_after c.going_into-in-If.result (action_seen x)) c.deref-in-If.ensures) c.going_into-in-If-2.ensures

@@ -1,8 +1,4 @@
 use Rattle.dh_ports.proofs.PlacesOnce.{one_first, none_first}
-use Rattle.dh_ports.proofs.RowsWithin.{ready_within}
-use Rattle.dh_ports.proofs.SpentTold.{told}
-use Rattle.dh_ports.proofs.LateTold as late
-use Rattle.dh_ports.proofs.FirstTold.{first_told}
 use Rattle.dh_ports.proofs.laws.port_breaches_are_one.Goals as goal
 
 pub returns : goal.returns
