@@ -2,7 +2,7 @@
 -- An element of a list stands at the same place of a longer one, so an equation of an old cell is one
 -- of the new cells, and what solves the new ones solves the old ones: each fact of every solution of
 -- the old cells is one of the new. In the same way the operands of an old cell stay where they were.
-use Rattle.std.proofs.Common.{◌≡◌, ℕ, ◌⊎◌, inl, inr, Some, List, [], ◌∷◌, ◌++◌, length, refl, sym, ap, subst, ◌∙◌, arith, length-append}
+use Rattle.std.proofs.Common.{◌≡◌, ℕ, ◌+◌, ◌⊎◌, inl, inr, Some, List, [], ◌∷◌, ◌++◌, length, refl, sym, ap, subst, ◌∙◌, arith, length-append}
 use Rattle.std.specs.Prelude.{slice_get, option_map}
 use Rattle.std.proofs.Math.ListN.{get_or-append}
 use Rattle.std.proofs.Math.Seq.{get_or-append_seam}
@@ -14,7 +14,7 @@ use Rattle.dh_net.specs.declared.nets.CellForm.{CellForm}
 use Rattle.dh_net.specs.declared.nets.CellForm.TheVariants.{Const, Reg, Data, Add, Or, Xor, Eq, Mux}
 use Rattle.dh_net.specs.Valid.{HasWidth, IsOperand, AreOperands, FormFits, IsCell}
 use Rattle.dh_net.specs.Clock.{form_value}
-use Rattle.dh_compile.specs.Drafts.{Drafted, drafted, plain_registers, AreCells, IsNext, Solves, Always, Extends, Grows, Adds, IsClock}
+use Rattle.dh_compile.specs.Drafts.{Drafted, drafted, mk_cell, plain_registers, AreCells, IsNext, Solves, Always, Extends, Grows, Adds, Appends, Gains, IsClock}
 
 -- an element stays where it is
 pub get_longer : {A : Type 0} (xs : List A) (x : A) (i : ℕ) (y : A) → slice_get xs i ≡ Some y → slice_get (xs ++ x ∷ []) i ≡ Some y
@@ -126,9 +126,6 @@ clock_later old new wire g h = record {
   is = later old.cells new.cells _ g.cells h.is;
 }
 
-abbrev mk_cell : (width : ℕ) (form : CellForm) → Cell
-mk_cell width form = record { width = width; form = form }
-
 -- the same where the draft and the new cells go by other names
 pub valid_push : (d : Drafted) (table : List MemEntry) (cells new : List Cell) (width : ℕ) (form : CellForm) → drafted table cells ≡ d
     → new ≡ cells ++ mk_cell width form ∷ [] → AreCells table cells → IsNext d width form → AreCells table new
@@ -144,3 +141,19 @@ adds_push d table cells new wire width form view more last =
     (subst (λ (x : List Cell). Adds (drafted table cells) (drafted table x) wire width (λ rs hs ws. form_value rs hs ws width form)) (sym more)
     (subst (λ (x : ℕ). Adds (drafted table cells) (drafted table (cells ++ mk_cell width form ∷ [])) x width (λ rs hs ws. form_value rs hs ws width form)) (sym last)
     (adds_next table cells (mk_cell width form))))
+
+pub appends_push : (d : Drafted) (table : List MemEntry) (cells new : List Cell) (wire width : ℕ) (form : CellForm) → drafted table cells ≡ d
+    → new ≡ cells ++ mk_cell width form ∷ [] → wire ≡ length cells → Appends d (drafted table new) wire width form
+appends_push d table cells new wire width form view more last = record {
+  number = last ∙ ap (λ (x : Drafted). length x.cells) view;
+  one = more ∙ ap (λ (x : Drafted). x.cells ++ mk_cell width form ∷ []) view;
+}
+
+pub gains_push : (d : Drafted) (table : List MemEntry) (cells new : List Cell) (width : ℕ) (form : CellForm) → drafted table cells ≡ d
+    → new ≡ cells ++ mk_cell width form ∷ [] → Gains d (drafted table new) 1
+gains_push d table cells new width form view more =
+    ap length more ∙ (length-append cells (mk_cell width form ∷ []) ∙ ap (λ (x : Drafted). length x.cells + 1) view)
+
+-- what was added in two goes
+pub gains_then : (a b c : Drafted) (m n k : ℕ) → m + n ≡ k → Gains a b m → Gains b c n → Gains a c k
+gains_then a b c m n k sum h g = omega (arith, sum, h, g)

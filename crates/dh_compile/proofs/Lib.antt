@@ -22,7 +22,6 @@ pub mod Counted
 pub mod Programs
 pub mod Gathered
 pub mod Assembled
-pub mod FirstProgram
 pub mod Serving
 pub mod Times
 pub mod Pointwise
@@ -36,3 +35,4 @@ pub mod GroupRuns
 pub mod ZeroReads
 pub mod PlayingPrograms
 pub mod Taking
+pub mod Gained

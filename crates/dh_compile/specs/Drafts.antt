@@ -1,6 +1,6 @@
 -- What the cells of a net that is being built say of its wires. Cells are only appended, so each
 -- fact is stated for every solution of the cells' equations: what solves more cells solves fewer.
-use Rattle.std.specs.Prelude.{◌≡◌, ℕ, ◌≤◌, List, [], ◌∷◌, length, slice_get, slice_index, Option, Some, None}
+use Rattle.std.specs.Prelude.{◌≡◌, ℕ, ◌+◌, ◌≤◌, List, [], ◌∷◌, ◌++◌, length, slice_get, slice_index, Option, Some, None}
 use Rattle.dh_tree.specs.declared.tables.MemEntry.{MemEntry}
 use Rattle.dh_compile.specs.declared.stores.Operand.{Operand}
 use Rattle.dh_net.specs.Valid.{HasWidth, FormFits, IsCell, IsPort}
@@ -17,6 +17,9 @@ pub record Drafted : Type 0 where
 
 abbrev pub drafted : List MemEntry → List Cell → Drafted
 drafted table cells = record { table = table; cells = cells }
+
+abbrev pub mk_cell : (width : ℕ) → CellForm → Cell
+mk_cell width form = record { width = width; form = form }
 
 -- the two registers, of which only the widths matter to a cell
 abbrev pub plain_registers : List Register
@@ -54,6 +57,15 @@ pub record Adds (old new : Drafted) (wire width : ℕ) (value : List ℕ → Lis
   pub grows : Grows old new
   pub wide : HasWidth new.cells wire width
   pub is : Always new.cells (λ registers held wires. slice_index wires wire ≡ value registers held wires)
+
+-- this one cell was appended, once and nothing else, and the wire is its own
+pub record Appends (old new : Drafted) (wire width : ℕ) (form : CellForm) : Type 0 where
+  pub number : wire ≡ length old.cells
+  pub one : new.cells ≡ old.cells ++ mk_cell width form ∷ []
+
+-- so many cells were added
+abbrev pub Gains : (old new : Drafted) → ℕ → Type 0
+Gains old new count = length new.cells ≡ length old.cells + count
 
 -- the wire shows the register that counts the clocks
 pub record IsClock (d : Drafted) (wire : ℕ) : Type 0 where

@@ -5,6 +5,7 @@ pub mod Built
 pub mod GroupRun
 pub mod Compiled
 pub mod Drafts
+pub mod Counts
 pub mod Drivers
 pub mod Heads
 pub mod Taken

@@ -2,8 +2,9 @@
 
 ghost use Rattle.std.specs.Prelude.{◌≡◌, ◌+◌, ◌%◌, ◌^◌, ◌==◌, ◌<◌, ◌≤◌, bit_or, if◌then◌else◌, slice_index, IfOk};
 ghost use Rattle.dh_net.specs.Valid.{HasWidth};
+ghost use Rattle.dh_compile.specs.Counts.{head_cells, ends_cells};
 ghost use Rattle.dh_compile.specs.Timetable.{total_length, ends_at};
-ghost use Rattle.dh_compile.specs.Drafts.{Adds, IsClock};
+ghost use Rattle.dh_compile.specs.Drafts.{Adds, Gains, IsClock};
 ghost use Rattle.dh_compile.specs.Heads.{AddsHead};
 
 use crate::drafts::Draft;
@@ -32,7 +33,8 @@ pub(crate) struct Head {
 fn push_count(draft: &mut Draft, clock: u64, done: u64) -> Result<u64, NoMemory>
     requires clock { IsClock draft.old clock }
     requires done { HasWidth draft.old.cells done 1 }
-    ensures { IfOk result (λ wire. Adds draft.old draft.new wire 32 (λ registers held wires. if slice_index wires done == 1 then slice_index registers 0 else (slice_index registers 0 + 1) % 2 ^ 32)) }
+    ensures adds { IfOk result (λ wire. Adds draft.old draft.new wire 32 (λ registers held wires. if slice_index wires done == 1 then slice_index registers 0 else (slice_index registers 0 + 1) % 2 ^ 32)) }
+    ensures gains { IfOk result (λ _. Gains draft.old draft.new 3) }
 {
     let one = push_constant(draft, 32, 1)?;
     let more = draft.push(32, CellForm::Add { a: clock, b: one })?;
@@ -49,7 +51,8 @@ fn push_count(draft: &mut Draft, clock: u64, done: u64) -> Result<u64, NoMemory>
 /// Adds the wires that each net has. `total` is the number of all clocks.
 pub(crate) fn push_head(draft: &mut Draft, total: u64) -> Result<Head, NoMemory>
     requires { total < 2 ^ 32 }
-    ensures { IfOk result (λ head. AddsHead draft.old draft.new head total) }
+    ensures adds { IfOk result (λ head. AddsHead draft.old draft.new head total) }
+    ensures gains { IfOk result (λ _. Gains draft.old draft.new head_cells) }
 {
     let clock = draft.push(32, CellForm::Reg { register: 0 })?;
     let tick = draft.push(1, CellForm::Reg { register: 1 })?;
@@ -70,7 +73,8 @@ fn push_end(draft: &mut Draft, clock: u64, chain: u64, number: u64) -> Result<u6
     requires clock { IsClock draft.old clock }
     requires chain { HasWidth draft.old.cells chain 1 }
     requires fits { number < 2 ^ 32 }
-    ensures { IfOk result (λ wire. Adds draft.old draft.new wire 1 (λ registers held wires. bit_or (slice_index wires chain) (if slice_index registers 0 == number then 1 else 0))) }
+    ensures adds { IfOk result (λ wire. Adds draft.old draft.new wire 1 (λ registers held wires. bit_or (slice_index wires chain) (if slice_index registers 0 == number then 1 else 0))) }
+    ensures gains { IfOk result (λ _. Gains draft.old draft.new 3) }
 {
     let here = push_at(draft, clock, number)?;
     draft.push(1, CellForm::Or { a: chain, b: here })
@@ -84,7 +88,8 @@ pub(crate) fn push_ends(
 ) -> Result<u64, NoMemory>
     requires clock { IsClock draft.old clock }
     requires total { total_length groups.now < 2 ^ 32 }
-    ensures { IfOk result (λ wire. Adds draft.old draft.new wire 1 (λ registers held wires. if ends_at 0 groups.now (slice_index registers 0) then 1 else 0)) }
+    ensures adds { IfOk result (λ wire. Adds draft.old draft.new wire 1 (λ registers held wires. if ends_at 0 groups.now (slice_index registers 0) then 1 else 0)) }
+    ensures gains { IfOk result (λ _. Gains draft.old draft.new (ends_cells groups.now)) }
 {
     let mut chain = push_constant(draft, 1, 0)?;
     let mut begin: u64 = 0;

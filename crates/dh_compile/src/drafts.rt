@@ -2,7 +2,7 @@
 
 ghost use Rattle.std.specs.Prelude.{◌≡◌, [], IfOk};
 ghost use Rattle.dh_net.specs.Clock.{form_value};
-ghost use Rattle.dh_compile.specs.Drafts.{AreCells, IsNext, Adds};
+ghost use Rattle.dh_compile.specs.Drafts.{AreCells, IsNext, Adds, Appends, Gains};
 
 use dh_base::{Items, NoMemory};
 use dh_net::{Cell, CellForm};
@@ -39,10 +39,12 @@ impl Draft {
         }
     }
 
-    /// Adds a cell, and answers the wire that it drives. After want of memory the draft is as before.
+    /// Adds a cell, and answers the wire that it drives.
     pub(crate) fn push(&mut self, width: u8, form: CellForm) -> Result<u64, NoMemory>
         requires { IsNext self.old width form }
-        ensures { IfOk result (λ wire. Adds self.old self.new wire width (λ registers held wires. form_value registers held wires width form)) }
+        ensures adds { IfOk result (λ wire. Adds self.old self.new wire width (λ registers held wires. form_value registers held wires width form)) }
+        ensures appended { IfOk result (λ wire. Appends self.old self.new wire width form) }
+        ensures gains { IfOk result (λ _. Gains self.old self.new 1) }
     {
         let wire = self.cells.len() as u64;
         self.cells.push(Cell { width, form })?;

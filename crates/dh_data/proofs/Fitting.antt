@@ -18,7 +18,7 @@ use Rattle.dh_tree.specs.Shapes.{IsDim, IsMemory, IsProgramTable}
 use Rattle.dh_tree.specs.Tables.{elements_of, elements_in, most_elements, FitsEntry, Fits}
 use Rattle.dh_tree.specs.declared.tables.Dim.{Dim}
 use Rattle.dh_tree.specs.declared.tables.MemEntry.{MemEntry}
-use Rattle.dh_data.specs.DataFiles.{ReadsAs, EachItem, IsSized, joined, in_order, AreElements, IsContents, AreContents, Says, AreSaid, Reads, IfTold}
+use Rattle.dh_data.specs.DataFiles.{ReadsAs, EachItem, IsSized, joined, in_order, AreElements, IsContents, AreContents, Says, AreSaid, HasAll, Reads, IfTold}
 use Rattle.dh_data.specs.Reading.{IsHeld, Shows, IsSaid}
 use Rattle.dh_data.specs.declared.data_files.DataFault.{DataFault}
 use Rattle.dh_data.specs.declared.data_files.DataFault.TheVariants.{NotJson, Missing, Unknown, Format, Size, Value, NoMemory}
@@ -141,12 +141,13 @@ of_object (array ds) ms e = absurd (none-some ms (sym e))
 of_object (object m) ms e = ap object (same_Some _ _ (sym e))
 
 -- what an object says, a value that is one shows
-pub said_shows : (table : List MemEntry) (d : Data) (ms : Members) (r : Result (List (List ℕ)) DataFault) → d ≡ object ms → IfTold r (Says table ms r) → Shows table d r
-said_shows table d ms (Ok m) is h = (ms, (is, h))
-said_shows table d ms (Err NotJson) is h = absurd h
-said_shows table d ms (Err (Missing i)) is h = (ms, (is, h))
-said_shows table d ms (Err (Unknown n)) is h = (ms, (is, h))
-said_shows table d ms (Err (Format i)) is h = (ms, (is, h))
-said_shows table d ms (Err (Size i)) is h = (ms, (is, h))
-said_shows table d ms (Err (Value i p)) is h = (ms, (is, h))
-said_shows table d ms (Err NoMemory) is h = tt
+pub said_shows : (table : List MemEntry) (d : Data) (ms : Members) (r : Result (List (List ℕ)) DataFault) → d ≡ object ms → IfTold r (Says table ms r) → (r ≡ Err NoMemory → HasAll table ms)
+    → Shows table d r
+said_shows table d ms (Ok m) is h refused = (ms, (is, h))
+said_shows table d ms (Err NotJson) is h refused = absurd h
+said_shows table d ms (Err (Missing i)) is h refused = (ms, (is, h))
+said_shows table d ms (Err (Unknown n)) is h refused = (ms, (is, h))
+said_shows table d ms (Err (Format i)) is h refused = (ms, (is, h))
+said_shows table d ms (Err (Size i)) is h refused = (ms, (is, h))
+said_shows table d ms (Err (Value i p)) is h refused = (ms, (is, h))
+said_shows table d ms (Err NoMemory) is h refused = (ms, (is, refused refl))

@@ -1,11 +1,9 @@
 pub mod Signed
 pub mod Floats
 pub mod Memories
-pub mod Letters
 pub mod Elements
 pub mod Names
 pub mod Contents
 pub mod OneMeaning
 pub mod Fitting
-pub mod SampleTables
 pub mod Rows

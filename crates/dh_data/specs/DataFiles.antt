@@ -235,3 +235,11 @@ IfTold (Err NoMemory) P = Unit {0}
 -- what `read` answers: what the bytes mean, but where memory was refused
 abbrev pub Reads : List MemEntry → List ℕ → Result (List (List ℕ)) DataFault → Type 0
 Reads table bytes answer = IfTold answer (Means table bytes answer)
+
+-- the bytes mean what was answered, and nothing else, but where memory was refused
+abbrev pub IsOnlyMeaning : List MemEntry → List ℕ → Result (List (List ℕ)) DataFault → Type 0
+IsOnlyMeaning table bytes answer = (other : Result (List (List ℕ)) DataFault) → Means table bytes other → IfTold answer (other ≡ answer)
+
+-- bytes mean at most one thing for a table
+abbrev pub HasOneMeaning : List MemEntry → List ℕ → Type 0
+HasOneMeaning table bytes = (one other : Result (List (List ℕ)) DataFault) → Means table bytes one → Means table bytes other → one ≡ other

@@ -1,4 +1,3 @@
 pub mod DataFiles
 pub mod Reading
 pub mod Reports
-pub mod Samples

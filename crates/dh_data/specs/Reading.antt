@@ -1,5 +1,5 @@
 -- What the parts of `read` and `report` promise one another; for private clauses.
-use Rattle.std.specs.Prelude.{◌≡◌, ◌≤◌, ◌++◌, ℕ, List, [], ◌∷◌, map, if◌then◌else◌, codes, length, Bool, true, false, Option, Some, None, Result, Ok, Err, Vec}
+use Rattle.std.specs.Prelude.{◌≡◌, ◌≤◌, ◌++◌, ℕ, List, [], ◌∷◌, map, if◌then◌else◌, codes, length, Bool, true, false, Option, Some, None, option_map, Result, Ok, Err, Vec}
 use Rattle.std.specs.List.{AllByRecursion}
 use Rattle.std.specs.Cmp.Lexicographic.{slice_cmp}
 use Rattle.std.specs.Ordering.{nat_cmp}
@@ -9,11 +9,15 @@ use Rattle.std.specs.BTreeSet.{BTreeSet, contains_by}
 use Rattle.std.specs.declared.alloc.Global.{Global}
 use denote.Ref.{Bor}
 use Rattle.serde_json.specs.Data.{Data, object, Members}
+use Rattle.serde_json.specs.Find.{get_member}
+use Rattle.serde_json.specs.View.{view}
+use Rattle.serde_json.specs.declared.value.Value.{Value as JsonValue}
 use Rattle.dh_value.specs.declared.kinds.Kind.{Kind}
 use Rattle.dh_value.specs.Words.{IsInteger}
 use Rattle.dh_tree.specs.Tables.{elements_of, most_elements}
+use Rattle.dh_tree.specs.declared.tables.Dim.{Dim}
 use Rattle.dh_tree.specs.declared.tables.MemEntry.{MemEntry}
-use Rattle.dh_data.specs.DataFiles.{outside_names, Lacks, HasNoOther, IsLeastUnknown, Offers, IsElement, IsNoElement, AreElements, IsContents, AreContents, IsFirst, IsOtherFormat, IsOtherSize, IsOtherValue, StopsAt, Says}
+use Rattle.dh_data.specs.DataFiles.{outside_names, Lacks, HasAll, HasNoOther, IsLeastUnknown, Offers, IsSized, in_order, IsElement, IsNoElement, AreElements, IsContents, AreContents, IsFirst, IsOtherFormat, IsOtherSize, IsOtherValue, StopsAt, Says}
 use Rattle.dh_data.specs.declared.data_files.DataFault.{DataFault}
 use Rattle.dh_data.specs.declared.data_files.DataFault.TheVariants.{NotJson, Missing, Unknown, Format, Size, Value, NoMemory}
 
@@ -30,7 +34,11 @@ pub record IsHeld (e : MemEntry) : Type 0 where
 abbrev pub IsSaid : List MemEntry → Data → Result (List (List ℕ)) DataFault → Type 0
 IsSaid table d answer = (ms : Members) × ((d ≡ object ms) × Says table ms answer)
 
--- what a value means for a table
+-- a value is an object that has a member for each outside memory
+abbrev pub IsWhole : List MemEntry → Data → Type 0
+IsWhole table d = (ms : Members) × ((d ≡ object ms) × HasAll table ms)
+
+-- what a value means for a table; memory is refused only where it is an object that lacks no member
 abbrev pub Shows : List MemEntry → Data → Result (List (List ℕ)) DataFault → Type 0
 Shows table d (Ok memories) = IsSaid table d (Ok memories)
 Shows table d (Err NotJson) = (ms : Members) → d ≡ object ms → ⊥
@@ -39,7 +47,7 @@ Shows table d (Err (Unknown name)) = IsSaid table d (Err (Unknown name))
 Shows table d (Err (Format i)) = IsSaid table d (Err (Format i))
 Shows table d (Err (Size i)) = IsSaid table d (Err (Size i))
 Shows table d (Err (Value i position)) = IsSaid table d (Err (Value i position))
-Shows table d (Err NoMemory) = Unit {0}
+Shows table d (Err NoMemory) = IsWhole table d
 
 -- the first memory without a member, or that there is none
 abbrev pub FindsMissing : List MemEntry → Members → Option ℕ → Type 0
@@ -66,7 +74,12 @@ SaysLists table ms (Err (Size i)) = StopsAt (IsOtherSize ms) ms table i
 SaysLists table ms (Err (Value i position)) = StopsAt (IsOtherValue ms position) ms table i
 SaysLists table ms (Err NoMemory) = Unit {0}
 
--- the contents of the memory with this number, or its fault
+-- nothing keeps the contents of a memory from being read but an element, or want of memory
+abbrev pub MayBeRead : Members → MemEntry → Type 0
+MayBeRead ms e = e.outside ≡ true → (d : Data) × (Offers e.shape.kind (get_member e.name ms) d × IsSized e.shape.dims d)
+
+-- the contents of the memory with this number, or its fault; memory is refused only where its member has a
+-- format that agrees, and lists of the sizes declared
 abbrev pub SaysContents : Members → ℕ → MemEntry → Result (Vec ℕ Global) DataFault → Type 0
 SaysContents ms memory e (Ok v) = IsContents ms e v.items
 SaysContents ms memory e (Err NotJson) = ⊥
@@ -75,7 +88,7 @@ SaysContents ms memory e (Err (Unknown name)) = ⊥
 SaysContents ms memory e (Err (Format i)) = (i ≡ memory) × IsOtherFormat ms e
 SaysContents ms memory e (Err (Size i)) = (i ≡ memory) × IsOtherSize ms e
 SaysContents ms memory e (Err (Value i position)) = (i ≡ memory) × IsOtherValue ms position e
-SaysContents ms memory e (Err NoMemory) = Unit {0}
+SaysContents ms memory e (Err NoMemory) = MayBeRead ms e
 
 -- the data that what was found offers, or that it offers none
 abbrev pub FindsData : Kind → Option Data → Option Data → Type 0
@@ -97,7 +110,15 @@ pub record Pushes (k : Kind) (ds : List Data) (old new : List ℕ) (all : Bool) 
   pub added : new ≡ old ++ bits
   pub are : PushesBits k ds bits all
 
+-- the elements of nested lists were added so
+abbrev pub PushesAll : Kind → List Dim → Data → (old new : List ℕ) → Bool → Type 0
+PushesAll k dims d old new all = Pushes k (in_order dims d) old new all
+
 -- the first of these names that is not one of the others
 abbrev pub first_other : (others names : List (List ℕ)) → Option (List ℕ)
 first_other others [] = None
 first_other others (n ∷ ns) = if is_member bytes_eq others n then first_other others ns else Some n
+
+-- the data of a value, where one was found
+abbrev pub found_data : Option (Bor JsonValue) → Option Data
+found_data found = option_map (λ v. view v.now) found

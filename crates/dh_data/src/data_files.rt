@@ -1,11 +1,12 @@
 //! Reads a data file: the initial contents of the memories of a table, as JSON.
 
-ghost use Rattle.std.specs.Prelude.{◌≡◌, ◌<◌, ◌^◌, List, ℕ, length, map, IfOk, Result};
+ghost use Rattle.std.specs.Prelude.{◌≡◌, ◌<◌, ◌^◌, length, map, Err, IfOk};
 ghost use Rattle.std.specs.List.{AllByRecursion};
 ghost use Rattle.serde_json.specs.View.{view, members_view};
 ghost use Rattle.dh_tree.specs.Shapes.{IsProgramTable};
 ghost use Rattle.dh_tree.specs.Tables.{Fits};
-ghost use Rattle.dh_data.specs.DataFiles.{Means, Reads, IfTold, Says};
+ghost use Rattle.dh_data.specs.DataFiles.{Reads, IfTold, Says, HasAll, IsOnlyMeaning};
+ghost use Rattle.dh_data.specs.declared.data_files.DataFault.TheVariants as fault;
 ghost use Rattle.dh_data.specs.Reading.{IsHeld, Shows, FindsMissing, FindsUnknown, KnowsNames, SaysLists};
 
 use crate::members::{contents_of, member};
@@ -81,7 +82,7 @@ impl<T: Drop> From<AllocFailed<T>> for DataFault {
 pub fn read(alloc: Global, table: &MemTable, bytes: &[u8]) -> Result<Memories, DataFault>
     requires { IsProgramTable table.now }
     ensures reads { Reads table.now bytes.now result }
-    ensures only { (other : Result (List (List ℕ)) DataFault) → Means table.now bytes.now other → IfTold result (other ≡ result) }
+    ensures only { IsOnlyMeaning table.now bytes.now result }
     ensures fits { IfOk result (λ m. Fits table.now m) }
 {
     match Value::from_slice(alloc, bytes) {
@@ -113,7 +114,8 @@ fn contents_by(
 ) -> Result<Memories, DataFault>
     requires entries { AllByRecursion IsHeld entries.now }
     requires few { length entries.now < 2 ^ 32 }
-    ensures { IfTold result (Says entries.now (members_view members.now.entries) result) }
+    ensures says { IfTold result (Says entries.now (members_view members.now.entries) result) }
+    ensures refused { result ≡ Err fault.NoMemory → HasAll entries.now (members_view members.now.entries) }
 {
     if let Some(memory) = first_missing(entries, members) {
         return Err(DataFault::Missing { memory });
@@ -144,7 +146,7 @@ fn least_unknown(
     entries: &[MemEntry],
     members: &Map<String, Value>,
 ) -> Result<Option<Name>, AllocError>
-    ensures { IfOk result (λ name. FindsUnknown entries.now (members_view members.now.entries) name) }
+    ensures { IfOk result (FindsUnknown entries.now (members_view members.now.entries)) }
 {
     let known = outside_names(alloc, entries)?;
     // The members are in byte order of their names.

@@ -7,8 +7,6 @@ mod data_files;
 mod laws;
 mod members;
 mod reports;
-#[cfg(test)]
-mod tests;
 
 pub use data_files::{DataFault, read};
 pub use laws::bytes_mean_one_thing;

@@ -1,13 +1,13 @@
 //! Reads the member that a data file has for a memory.
 
-ghost use Rattle.std.specs.Prelude.{◌≡◌, ◌↔◌, IfOk, IsTrue, option_map};
+ghost use Rattle.std.specs.Prelude.{◌≡◌, ◌↔◌, [], IfOk, IsOk, IsTrue};
 ghost use Rattle.serde_json.specs.Data.{boolean, number, string, unsigned};
 ghost use Rattle.serde_json.specs.Find.{get_member};
 ghost use Rattle.serde_json.specs.View.{view, members_view};
 ghost use Rattle.dh_value.specs.Words.{IsInteger, IsValue, width_of, word_of};
 ghost use Rattle.dh_data.specs.Reports.{is_signed as sign_of};
-ghost use Rattle.dh_data.specs.DataFiles.{IsThisIfThere, IsFormat, Agrees, IsSized as SizedBy, in_order};
-ghost use Rattle.dh_data.specs.Reading.{IsHeld, SaysContents, FindsData, FindsElement, Pushes, bitnum};
+ghost use Rattle.dh_data.specs.DataFiles.{IsThisIfThere, IsFormat, Agrees, IsSized as SizedBy, IsNoElement};
+ghost use Rattle.dh_data.specs.Reading.{IsHeld, SaysContents, FindsData, FindsElement, PushesAll, bitnum, found_data};
 
 use crate::data_files::DataFault;
 use crate::reports::{elements, signed};
@@ -18,7 +18,7 @@ use std::alloc::{AllocError, Global};
 
 /// The member with this name.
 pub fn member<'v>(members: &'v Map<String, Value>, name: &str) -> Option<&'v Value>
-    ensures { option_map (λ v. view v.now) result ≡ get_member name.now (members_view members.now.entries) }
+    ensures { found_data result ≡ get_member name.now (members_view members.now.entries) }
 {
     members.get(name)
 }
@@ -55,7 +55,7 @@ pub fn contents_of(
 
 /// The value of `data`, where what was found is an object that has one, and its `format` agrees.
 fn data_of(kind: Kind, found: Option<&Value>) -> Option<&Value>
-    ensures { FindsData kind (option_map (λ v. view v.now) found.entry) (option_map (λ v. view v.now) result) }
+    ensures { FindsData kind (found_data found.entry) (found_data result) }
 {
     let members = found?.as_object()?;
     let data = member(members, "data")?;
@@ -67,7 +67,7 @@ fn data_of(kind: Kind, found: Option<&Value>) -> Option<&Value>
 }
 
 fn agrees(kind: Kind, format: Option<&Value>) -> bool
-    ensures { IsTrue result ↔ Agrees kind (option_map (λ v. view v.now) format.entry) }
+    ensures { IsTrue result ↔ Agrees kind (found_data format.entry) }
 {
     match format {
         Some(format) => is_format(kind, format),
@@ -89,7 +89,7 @@ fn is_format(kind: Kind, format: &Value) -> bool
 }
 
 fn is_sign(kind: Kind, found: Option<&Value>) -> bool
-    ensures { IsTrue result ↔ IsThisIfThere (option_map (λ v. view v.now) found.entry) (boolean (sign_of kind)) }
+    ensures { IsTrue result ↔ IsThisIfThere (found_data found.entry) (boolean (sign_of kind)) }
 {
     match found {
         Some(value) => value.as_bool() == Some(signed(kind)),
@@ -98,7 +98,7 @@ fn is_sign(kind: Kind, found: Option<&Value>) -> bool
 }
 
 fn is_bitnum(found: Option<&Value>) -> bool
-    ensures { IsTrue result ↔ IsThisIfThere (option_map (λ v. view v.now) found.entry) (string bitnum) }
+    ensures { IsTrue result ↔ IsThisIfThere (found_data found.entry) (string bitnum) }
 {
     match found {
         Some(value) => value.as_str() == Some("bitnum"),
@@ -107,7 +107,7 @@ fn is_bitnum(found: Option<&Value>) -> bool
 }
 
 fn is_width(kind: Kind, found: Option<&Value>) -> bool
-    ensures { IsTrue result ↔ IsThisIfThere (option_map (λ v. view v.now) found.entry) (number (unsigned (width_of kind))) }
+    ensures { IsTrue result ↔ IsThisIfThere (found_data found.entry) (number (unsigned (width_of kind))) }
 {
     match found {
         Some(value) => value.as_u64() == Some(u64::from(width(kind))),
@@ -145,14 +145,10 @@ fn push_elements(
     value: &Value,
 ) -> Result<bool, AllocError>
     requires { IsInteger kind }
-    ensures { IfOk result (λ all. Pushes kind (in_order dims.now (view value.now)) values.old.items values.new.items all) }
+    ensures { IfOk result (PushesAll kind dims.now (view value.now) values.old.items values.new.items) }
 {
     let Some((_, rest)) = dims.split_first() else {
-        let Some(bits) = element_of(kind, value) else {
-            return Ok(false);
-        };
-        values.push(bits)?;
-        return Ok(true);
+        return push_element(values, kind, value);
     };
     let Some(items) = value.as_array() else {
         return Ok(true);
@@ -163,6 +159,22 @@ fn push_elements(
         }
     }
     Ok(true)
+}
+
+/// Adds an element, where it is a whole number of the kind; answers whether it is one. An element that is
+/// none takes no memory.
+fn push_element(values: &mut Vec<u64>, kind: Kind, value: &Value) -> Result<bool, AllocError>
+    requires { IsInteger kind }
+    ensures pushes { IfOk result (PushesAll kind [] (view value.now) values.old.items values.new.items) }
+    ensures none { IsNoElement kind (view value.now) → IsOk result }
+{
+    match element_of(kind, value) {
+        Some(bits) => {
+            values.push(bits)?;
+            Ok(true)
+        }
+        None => Ok(false),
+    }
 }
 
 /// The bits of a whole number of the kind.

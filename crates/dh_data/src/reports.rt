@@ -1,14 +1,15 @@
 //! Writes a report: how a run stands and the contents of its outside memories, as a line of JSON.
 
-ghost use Rattle.std.specs.Prelude.{◌≡◌, ◌<◌, ◌≤◌, ◌^◌, ◌*◌, ◌-ℤ◌, pos, if◌then◌else◌, nat_lt, map, length, min, ◌-◌, IfOk, OnOk, string_bytes};
+ghost use Rattle.std.specs.Prelude.{◌≡◌, ◌<◌, ◌≤◌, ◌^◌, false, [], map, length, min, ◌-◌, IfOk, IsOk, OnOk, string_bytes};
 ghost use Rattle.std.specs.List.{AllByRecursion};
 ghost use Rattle.serde_json.specs.Data.{object, no_members};
 ghost use Rattle.serde_json.specs.View.{view, members_view};
 ghost use Rattle.dh_tree.specs.Shapes.{IsProgramTable};
 ghost use Rattle.dh_tree.specs.Tables.{FitsEntry, Fits, elements_of};
 ghost use Rattle.dh_value.specs.Words.{IsInteger, width_of};
+ghost use Rattle.dh_value.specs.declared.kinds.Kind.TheVariants as kind;
 ghost use Rattle.dh_data.specs.Reading.{IsHeld};
-ghost use Rattle.dh_data.specs.Reports.{report_text, report_data, outside_data, with_outside, memory_data, nested_data, element_data, is_signed, outcome_text as outcome_bytes, name_at, fault_name as fault_bytes};
+ghost use Rattle.dh_data.specs.Reports.{report_text, report_data, outside_data, with_outside, memory_data, nested_data, element_data, number_of, is_signed, outcome_text as outcome_bytes, name_at, fault_name as fault_bytes};
 
 use dh_base::{FaultKind, NoMemory, Outcome, Place};
 use dh_tree::{Dim, Kind, MemEntry, MemTable, Memories};
@@ -99,8 +100,9 @@ fn put_memory(
 ) -> Result<(), AllocError>
     requires entry { IsHeld entry.now }
     requires fits { FitsEntry entry.now values.now }
-    ensures { OnOk result (members_view members.new.entries
+    ensures put { OnOk result (members_view members.new.entries
         ≡ with_outside entry.now values.now (members_view members.old.entries)) }
+    ensures local { entry.now.outside ≡ false → IsOk result }
 {
     if !entry.outside {
         return Ok(());
@@ -136,7 +138,8 @@ fn nested(alloc: Global, kind: Kind, dims: &[Dim], values: &[u64]) -> Result<Val
     requires kind { IsInteger kind }
     requires small { AllByRecursion (λ v. v < 2 ^ width_of kind) values.now }
     requires long { length values.now ≡ elements_of dims.now }
-    ensures { IfOk result (λ v. view v ≡ nested_data kind dims.now values.now) }
+    ensures seen { IfOk result (λ v. view v ≡ nested_data kind dims.now values.now) }
+    ensures element { dims.now ≡ [] → IsOk result }
 {
     let Some((dim, rest)) = dims.split_first() else {
         return Ok(element(kind, values[0]));
@@ -178,7 +181,7 @@ fn element(kind: Kind, bits: u64) -> Value
 fn signed_number(bits: u64, width: u8) -> i64
     requires width { (1 ≤ width) × (width ≤ 64) }
     requires small { bits < 2 ^ width }
-    ensures { result ≡ (if nat_lt (2 * bits) (2 ^ width) then pos bits else pos bits -ℤ pos (2 ^ width)) }
+    ensures { result ≡ number_of (kind.Signed width) bits }
 {
     let greatest = u64::MAX >> (64 - width);
     if bits <= greatest / 2 {

@@ -23,3 +23,9 @@ HasOneValuation net s = (ws : List ℕ) × (Settles net s ws × ((vs : List ℕ)
 -- so many clocks lead from the state to a state, and to no other
 abbrev pub HasOneRun : Net → ℕ → State → Type 0
 HasOneRun net c s = (t : State) × (ClocksTo net c s t × ((u : State) → ClocksTo net c s u → u ≡ t))
+
+-- each state has one valuation, whose wires fit where the state fits, and one run
+pub record IsDetermined (net : Net) : Type 0 where
+  pub one_valuation : (s : State) → HasOneValuation net s
+  pub one_run : (clocks : ℕ) (s : State) → HasOneRun net clocks s
+  pub fits : (s : State) (wires : List ℕ) → Settles net s wires → FitsNet net s → WiresFit net.cells wires

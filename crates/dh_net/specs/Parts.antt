@@ -1,11 +1,46 @@
 -- What the functions of this crate promise one another; no public contract names it.
-use Rattle.std.specs.Prelude.{◌≡◌, ℕ, List, slice_get, Some}
+use Rattle.std.specs.Prelude.{◌≡◌, ℕ, List, length, slice_get, Some, option_map}
 use Rattle.dh_tree.specs.declared.tables.MemEntry.{MemEntry}
 use Rattle.dh_net.specs.declared.nets.Cell.{Cell}
+use Rattle.dh_net.specs.declared.nets.CellForm.{CellForm}
 use Rattle.dh_net.specs.declared.nets.Driver.{Driver}
-use Rattle.dh_net.specs.Valid.{IsDriver}
+use Rattle.dh_net.specs.declared.nets.Net.{Net}
+use Rattle.dh_net.specs.declared.nets.Register.{Register}
+use Rattle.dh_net.specs.Valid.{HasWidth, FormFits, IsCell, IsDriver, IsRegister}
+
+-- there is such a register, of this width
+abbrev pub HasRegister : List Register → (register width : ℕ) → Type 0
+HasRegister registers register width = option_map (λ r. r.width) (slice_get registers register) ≡ Some width
+
+-- the form has what it needs in a cell of the net with this number and width
+abbrev pub FitsIn : Net → (cell width : ℕ) → CellForm → Type 0
+FitsIn net cell width form = FormFits net.table net.registers net.cells cell width form
+
+-- it is the net's cell with this number
+abbrev pub IsCellIn : Net → ℕ → Cell → Type 0
+IsCellIn net i c = IsCell net.table net.registers net.cells i c
+
+-- all cells of the net are
+abbrev pub HasCells : Net → Type 0
+HasCells net = (i : ℕ) (c : Cell) → slice_get net.cells i ≡ Some c → IsCell net.table net.registers net.cells i c
+
+-- all registers of the net are
+abbrev pub HasRegisters : Net → Type 0
+HasRegisters net = (i : ℕ) (r : Register) → slice_get net.registers i ≡ Some r → IsRegister net.cells r
+
+-- all of these are drivers of a port of the memory
+abbrev pub DriveMemory : List Cell → MemEntry → List Driver → Type 0
+DriveMemory cells e ds = (k : ℕ) (d : Driver) → slice_get ds k ≡ Some d → IsDriver cells e d
 
 -- each driver in the list at a memory's number is a driver of a port of that memory
 abbrev pub AreDrivers : List Cell → List MemEntry → List (List Driver) → Type 0
 AreDrivers cells table drivers =
     (p : ℕ) (ds : List Driver) (e : MemEntry) → slice_get drivers p ≡ Some ds → slice_get table p ≡ Some e → (k : ℕ) (d : Driver) → slice_get ds k ≡ Some d → IsDriver cells e d
+
+-- each memory has its port, with drivers of it
+abbrev pub HasPorts : Net → Type 0
+HasPorts net = (length net.drivers ≡ length net.table) × AreDrivers net.cells net.table net.drivers
+
+-- the outputs are wires of their widths
+abbrev pub HasOutputs : Net → Type 0
+HasOutputs net = HasWidth net.cells net.tick 1 × (HasWidth net.cells net.done 1 × HasWidth net.cells net.fault 32)

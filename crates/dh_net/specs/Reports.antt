@@ -4,7 +4,9 @@ use Rattle.dh_base.specs.declared.outcomes.FaultKind.{FaultKind}
 use Rattle.dh_base.specs.declared.outcomes.Outcome.{Outcome}
 use Rattle.dh_base.specs.declared.outcomes.Outcome.TheVariants.{Going, Ended, Faulted, Stuck}
 use Rattle.dh_base.specs.declared.places.Place.{Place}
-use Rattle.dh_net.specs.Plays.{Run, clocks_of, EndsAfter, FaultsAfter, FaultsWithin, Fit}
+use Rattle.dh_net.specs.declared.nets.Net.{Net}
+use Rattle.dh_net.specs.Ends.{IsRunOf}
+use Rattle.dh_net.specs.Plays.{Run, clocks_of, EndsAfter, FaultsAfter, FaultsWithin, Fit, Plays}
 
 -- the run ended, and its last step ends within the limit
 pub record ReportsEnd (r : Run) (limit steps clocks : ℕ) : Type 0 where
@@ -36,3 +38,12 @@ ReportsAs r limit (Stuck memory bank place) steps clocks = ⊥
 pub record Reports (r : Run) (limit : ℕ) (outcome : Outcome) (steps clocks : ℕ) (memories : List (List ℕ)) : Type 0 where
   pub stands : ReportsAs r limit outcome steps clocks
   pub contents : memories ≡ r.memories steps
+
+-- what the net comes to from this start, under any limit of clocks, is what the run comes to
+abbrev pub ComesAs : Net → Run → List (List ℕ) → Type 0
+ComesAs net r start =
+    (limit : ℕ) (outcome : Outcome) (steps clocks : ℕ) (memories : List (List ℕ)) → IsRunOf net start limit outcome steps clocks memories → Reports r limit outcome steps clocks memories
+
+-- from each start from which the net plays the run, it comes to what the run comes to
+abbrev pub PlayingTells : Net → Run → Type 0
+PlayingTells net r = (start : List (List ℕ)) → Plays net r start → ComesAs net r start

@@ -1,12 +1,11 @@
 //! When a net is valid: widths agree, and whatever is named is there and earlier.
 
-ghost use Rattle.std.specs.Prelude.{◌≡◌, ℕ, ◌<◌, ◌≤◌, ◌^◌, ◌↔◌, IsTrue, List, slice_get, Some, length, option_map};
-ghost use Rattle.dh_tree.specs.declared.tables.MemEntry.{MemEntry};
+ghost use Rattle.std.specs.Prelude.{◌≡◌, ℕ, ◌<◌, ◌≤◌, ◌^◌, ◌↔◌, IsTrue, length};
 ghost use Rattle.std.specs.List.{AllByRecursion};
 ghost use Rattle.dh_tree.specs.Tables.{IsTable, IsEntry};
 ghost use Rattle.dh_value.specs.Words.{width_of};
-ghost use Rattle.dh_net.specs.Valid.{HasWidth, IsOperand, AreOperands, IsPort, FormFits, IsCell, IsRegister, IsRowWidth, IsDriver, IsValid};
-ghost use Rattle.dh_net.specs.Parts.{AreDrivers};
+ghost use Rattle.dh_net.specs.Valid.{HasWidth, IsOperand, AreOperands, IsPort, IsRegister, IsRowWidth, IsDriver, IsValid};
+ghost use Rattle.dh_net.specs.Parts.{HasRegister, FitsIn, IsCellIn, HasCells, HasRegisters, DriveMemory, AreDrivers, HasPorts, HasOutputs};
 
 use crate::nets::{Cell, CellForm, Driver, Net, Register};
 use dh_base::Items;
@@ -79,7 +78,7 @@ pub fn kind_width(kind: Kind) -> u8
 
 // Whether there is such a register, of the width.
 fn is_register_of(registers: &[Register], register: u64, width: u8) -> bool
-    ensures { IsTrue result ↔ (option_map (λ r. r.width) (slice_get registers.now register) ≡ Some width) }
+    ensures { IsTrue result ↔ HasRegister registers.now register width }
 {
     match registers.get(register as usize) {
         Some(found) => found.width == width,
@@ -100,7 +99,7 @@ fn is_port(table: &[MemEntry], memory: u32, bank: u32, port: u32, width: u8) -> 
 // Whether the form has the operands that it needs.
 fn form_fits(net: &Net, cell: usize, width: u8, form: CellForm) -> bool
     requires { width ≤ 64 }
-    ensures { IsTrue result ↔ FormFits net.now.table net.now.registers net.now.cells cell width form }
+    ensures { IsTrue result ↔ FitsIn net.now cell width form }
 {
     let cells = net.cells.as_slice();
     match form {
@@ -121,14 +120,14 @@ fn form_fits(net: &Net, cell: usize, width: u8, form: CellForm) -> bool
 
 // Whether the cell with this number is one of a valid net.
 fn is_cell(net: &Net, number: usize, cell: Cell) -> bool
-    ensures { IsTrue result ↔ IsCell net.now.table net.now.registers net.now.cells number cell }
+    ensures { IsTrue result ↔ IsCellIn net.now number cell }
 {
     1 <= cell.width && cell.width <= 64 && form_fits(net, number, cell.width, cell.form)
 }
 
 // Whether all cells are.
 fn are_cells(net: &Net) -> bool
-    ensures { IsTrue result ↔ ((i : ℕ) (c : Cell) → slice_get net.now.cells i ≡ Some c → IsCell net.now.table net.now.registers net.now.cells i c) }
+    ensures { IsTrue result ↔ HasCells net.now }
 {
     for (i, cell) in net.cells.as_slice().iter().enumerate() {
         if !is_cell(net, i, *cell) {
@@ -150,7 +149,7 @@ fn is_register(cells: &[Cell], register: Register) -> bool
 
 // Whether all registers are.
 fn are_registers(net: &Net) -> bool
-    ensures { IsTrue result ↔ ((i : ℕ) (r : Register) → slice_get net.now.registers i ≡ Some r → IsRegister net.now.cells r) }
+    ensures { IsTrue result ↔ HasRegisters net.now }
 {
     let cells = net.cells.as_slice();
     for register in net.registers.as_slice() {
@@ -174,7 +173,7 @@ fn is_driver(cells: &[Cell], entry: &MemEntry, driver: Driver) -> bool
 // Whether all drivers of the port are.
 fn are_drivers(cells: &[Cell], entry: &MemEntry, drivers: &[Driver]) -> bool
     requires { IsEntry entry.now }
-    ensures { IsTrue result ↔ ((k : ℕ) (d : Driver) → slice_get drivers.now k ≡ Some d → IsDriver cells.now entry.now d) }
+    ensures { IsTrue result ↔ DriveMemory cells.now entry.now drivers.now }
 {
     for driver in drivers {
         if !is_driver(cells, entry, *driver) {
@@ -201,7 +200,7 @@ fn have_drivers(cells: &[Cell], table: &[MemEntry], drivers: &[Items<Driver>]) -
 // Whether each memory has its port, and all drivers of all ports are drivers of a valid net.
 fn have_ports(net: &Net) -> bool
     requires { IsTable net.now.table }
-    ensures { IsTrue result ↔ ((length net.now.drivers ≡ length net.now.table) × AreDrivers net.now.cells net.now.table net.now.drivers) }
+    ensures { IsTrue result ↔ HasPorts net.now }
 {
     net.drivers.len() == net.table.len()
         && have_drivers(
@@ -213,7 +212,7 @@ fn have_ports(net: &Net) -> bool
 
 // Whether the outputs are wires of their widths.
 fn has_outputs(net: &Net) -> bool
-    ensures { IsTrue result ↔ (HasWidth net.now.cells net.now.tick 1 × (HasWidth net.now.cells net.now.done 1 × HasWidth net.now.cells net.now.fault 32)) }
+    ensures { IsTrue result ↔ HasOutputs net.now }
 {
     let cells = net.cells.as_slice();
     has_width(cells, net.tick, 1)
@@ -232,6 +231,3 @@ pub fn valid(net: &Net) -> bool
     }
     are_registers(net) && are_cells(net) && have_ports(net) && has_outputs(net)
 }
-
-#[cfg(test)]
-mod tests;

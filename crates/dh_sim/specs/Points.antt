@@ -1,10 +1,10 @@
 -- What a contract sees of a simulator, and what holds of every simulator.
-use Rattle.std.specs.Prelude.{◌≡◌, ℕ, Bool, List, length, map, Vec}
+use Rattle.std.specs.Prelude.{◌≡◌, ℕ, Bool, false, List, length, map, Vec}
 use Rattle.std.specs.Global.{Global}
 use Rattle.dh_tree.specs.Tables.{Fits}
 use Rattle.dh_net.specs.declared.nets.Net.{Net}
 use Rattle.dh_net.specs.Valid.{IsValid}
-use Rattle.dh_net.specs.Clock.{State, Settles}
+use Rattle.dh_net.specs.Clock.{State, Settles, has_clashes, start_of}
 use Rattle.dh_net.specs.Laws.{FitsNet}
 
 -- a simulator: its net, the state in which it stands, and whether the last clock had a clash
@@ -13,9 +13,21 @@ pub record Point : Type 0 where
   pub state : State
   pub clash : Bool
 
+-- the rows of banks
+abbrev pub rows_of : List (Vec ℕ Global) → List (List ℕ)
+rows_of banks = map (λ b. b.items) banks
+
 -- the state that flat arrays hold
 abbrev pub state_of : (registers held : List ℕ) (banks : List (Vec ℕ Global)) → State
-state_of registers held banks = record { registers = registers; held = held; banks = map (λ b. b.items) banks }
+state_of registers held banks = record { registers = registers; held = held; banks = rows_of banks }
+
+-- a simulator before its net's first clock, with these memories
+abbrev pub started : Net → List (List ℕ) → Point
+started net memories = record { net = net; state = start_of net memories; clash = false }
+
+-- a clock from where the simulator stands has a clash, or has none
+abbrev pub Clashes : Point → Bool → Type 0
+Clashes p clash = (wires : List ℕ) → Settles p.net p.state wires → clash ≡ has_clashes wires p.net.drivers
 
 -- the net is valid, the state is one that it can have, and the wires are those of the state
 pub record IsSound (net : Net) (s : State) (wires : List ℕ) : Type 0 where

@@ -1,5 +1,5 @@
 -- That what a cell names is there: it has its place in the registers, the held data or the wires.
-use Rattle.std.specs.Prelude.{◌≡◌, ℕ, ◌<◌, true, List, slice_get, Option, Some, None}
+use Rattle.std.specs.Prelude.{◌≡◌, ℕ, ◌<◌, true, List, length, slice_get, Option, Some, None}
 use Rattle.dh_net.specs.declared.nets.CellForm.{CellForm}
 use Rattle.dh_net.specs.declared.nets.Driver.{Driver}
 use Rattle.dh_net.specs.declared.nets.CellForm.TheVariants.{Const, Reg, Data, Add, Or, Xor, Eq, Mux}
@@ -14,6 +14,10 @@ IsInRooms registers held wires (Or a b) = (a < wires) × (b < wires)
 IsInRooms registers held wires (Xor a b) = (a < wires) × (b < wires)
 IsInRooms registers held wires (Eq a b) = (a < wires) × (b < wires)
 IsInRooms registers held wires (Mux c a b) = (c < wires) × ((a < wires) × (b < wires))
+
+-- what the form names is in these registers, held data and wires
+abbrev pub IsInLists : (registers held wires : List ℕ) → CellForm → Type 0
+IsInLists registers held wires form = IsInRooms (length registers) (length held) (length wires) form
 
 -- so are the wires of a driver
 pub record IsDriverInRooms (wires : ℕ) (d : Driver) : Type 0 where

@@ -3,7 +3,7 @@
 ghost use Rattle.std.specs.Prelude.{◌≡◌, ◌<◌, ◌^◌, length, map, replicate, slice_index, IfOk};
 ghost use Rattle.dh_net.specs.Valid.{IsValid};
 ghost use Rattle.dh_net.specs.Clock.{IsValuation, Clocks, has_clashes};
-ghost use Rattle.dh_sim.specs.Points.{IsSound, state_of};
+ghost use Rattle.dh_sim.specs.Points.{IsSound, rows_of, state_of};
 ghost use Rattle.dh_sim.specs.Shows.{ShowsAs};
 
 use crate::cells::settle;
@@ -64,7 +64,7 @@ pub fn settled_wires(
 
 /// A copy of lists.
 pub fn copied(alloc: Global, lists: &[Vec<u64>]) -> Result<Vec<Vec<u64>>, NoMemory>
-    ensures { IfOk result (λ v. map (λ b. b.items) v.items ≡ map (λ b. b.items) lists.now) }
+    ensures { IfOk result (λ v. rows_of v.items ≡ rows_of lists.now) }
 {
     let mut copies = Vec::with_capacity(alloc, lists.len())?;
     for list in lists {
@@ -98,7 +98,8 @@ pub fn clock_arrays(
     wires: &mut [u64],
 ) -> bool
     requires { IsSound net.now (state_of registers.old held.old banks.old) wires.old }
-    ensures clocked { Clocks net.now (state_of registers.old held.old banks.old) (state_of registers.new held.new banks.new) }
+    ensures clocked { Clocks net.now (state_of registers.old held.old banks.old)
+        (state_of registers.new held.new banks.new) }
     ensures sound { IsSound net.now (state_of registers.new held.new banks.new) wires.new }
     ensures clash { result ≡ has_clashes wires.old net.now.drivers }
 {

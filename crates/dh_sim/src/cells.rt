@@ -3,7 +3,7 @@
 ghost use Rattle.std.specs.Prelude.{◌≡◌, ◌+◌, ◌%◌, ◌^◌, ◌≤◌, length};
 ghost use Rattle.dh_net.specs.Clock.{form_value, IsValuation};
 ghost use Rattle.dh_net.specs.Valid.{IsValid};
-ghost use Rattle.dh_sim.specs.Rooms.{IsInRooms};
+ghost use Rattle.dh_sim.specs.Rooms.{IsInLists};
 
 use dh_net::{Cell, CellForm, Net};
 
@@ -29,7 +29,7 @@ fn sum(a: u64, b: u64, width: u8) -> u64
 fn cell_value(cell: &Cell, registers: &[u64], held: &[u64], wires: &[u64]) -> u64
     requires least { 1 ≤ cell.now.width }
     requires greatest { cell.now.width ≤ 64 }
-    requires rooms { IsInRooms (length registers.now) (length held.now) (length wires.now) cell.now.form }
+    requires rooms { IsInLists registers.now held.now wires.now cell.now.form }
     ensures { result ≡ form_value registers.now held.now wires.now cell.now.width cell.now.form }
 {
     match cell.form {

@@ -7,8 +7,6 @@ mod cells;
 mod ports;
 mod runs;
 mod simulator;
-#[cfg(test)]
-mod tests;
 
 pub use arrays::Shown;
 pub use runs::{RunEnd, run_net};

@@ -4,6 +4,7 @@
 ghost use Rattle.std.specs.Prelude.{◌≡◌, length, map, slice_index, slice_set};
 ghost use Rattle.dh_net.specs.Clock.{has_clash, has_clashes, served, held_by, rows_by, held_after, banks_after};
 ghost use Rattle.dh_net.specs.Valid.{IsValid};
+ghost use Rattle.dh_sim.specs.Points.{rows_of};
 ghost use Rattle.dh_sim.specs.Rooms.{AreDriversInRooms, IsServedInRooms};
 
 use dh_net::{Driver, Net};
@@ -103,8 +104,8 @@ pub fn serve_ports(net: &Net, wires: &[u64], held: &mut [u64], banks: &mut [Vec<
     requires wires { length wires.now ≡ length net.now.cells }
     requires held { length held.old ≡ length net.now.drivers }
     requires banks { length banks.old ≡ length net.now.drivers }
-    ensures held { held.new ≡ held_after wires.now net.now.drivers (map (λ b. b.items) banks.old) held.old }
-    ensures banks { map (λ b. b.items) banks.new ≡ banks_after wires.now net.now.drivers (map (λ b. b.items) banks.old) }
+    ensures held { held.new ≡ held_after wires.now net.now.drivers (rows_of banks.old) held.old }
+    ensures banks { rows_of banks.new ≡ banks_after wires.now net.now.drivers (rows_of banks.old) }
 {
     for (port, drivers) in net.drivers.as_slice().iter().enumerate() {
         let driver = first_active(drivers.as_slice(), wires);

@@ -1,12 +1,10 @@
 //! The run of a net under a limit of clocks.
 
-ghost use Rattle.std.specs.Prelude.{◌≡◌, ◌≤◌, IfOk, List, ℕ, Bool};
+ghost use Rattle.std.specs.Prelude.{◌≡◌, ◌≤◌, IfOk};
 ghost use Rattle.dh_tree.specs.Tables.{Fits};
 ghost use Rattle.dh_net.specs.Valid.{IsValid};
-ghost use Rattle.dh_net.specs.Clock.{Settles};
-ghost use Rattle.dh_net.specs.Ends.{entry_at, StopsAs, IsRunOf};
-ghost use Rattle.dh_sim.specs.Shows.{ShowsAs};
-ghost use Rattle.dh_sim.specs.Underway.{IsUnderway, IsEndShown};
+ghost use Rattle.dh_net.specs.Ends.{entry_at};
+ghost use Rattle.dh_sim.specs.Underway.{IsUnderway, TellsEnd, StopsIn, RunsTo};
 
 use crate::arrays::Shown;
 use crate::simulator::Sim;
@@ -38,7 +36,7 @@ fn entry_named(net: &Net, number: u32) -> Option<(FaultKind, Place)>
 
 // The end that the net shows, where it shows one: a fault comes before done.
 fn end_shown(net: &Net, shown: Shown) -> Option<Outcome>
-    ensures { (wires : List ℕ) (clash : Bool) → ShowsAs shown net.now wires clash → IsEndShown net.now wires result }
+    ensures { TellsEnd net.now shown result }
 {
     match entry_named(net, shown.fault) {
         Some((kind, place)) => Some(Outcome::Faulted { kind, place }),
@@ -54,7 +52,7 @@ fn run_to_end(net: &Net, sim: &mut Sim<'_>, limit: u64) -> RunEnd
     ensures net { sim.new.net ≡ net.now }
     ensures within { result.clocks ≤ limit }
     ensures underway { IsUnderway net.now sim.old.state result.clocks sim.new.state result.steps }
-    ensures stops { (wires : List ℕ) → Settles net.now sim.new.state wires → StopsAs net.now wires result.clocks limit result.outcome }
+    ensures stops { StopsIn net.now sim.new.state result.clocks limit result.outcome }
 {
     let mut shown = sim.shown();
     let mut steps = 0;
@@ -90,7 +88,7 @@ pub fn run_net(
 ) -> Result<(RunEnd, Memories), NoMemory>
     requires valid { IsValid net.now }
     requires fits { Fits net.now.table memories }
-    ensures { IfOk result (λ r. IsRunOf net.now memories limit r.0.outcome r.0.steps r.0.clocks r.1 × Fits net.now.table r.1) }
+    ensures { IfOk result (λ r. RunsTo net.now memories limit r.0 r.1) }
 {
     let mut sim = Sim::new(alloc, net, memories)?;
     let end = run_to_end(net, &mut sim, limit);

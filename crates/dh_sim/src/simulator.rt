@@ -1,10 +1,11 @@
 //! The simulator: a net with its registers, held data, banks and wires in flat arrays.
 
-ghost use Rattle.std.specs.Prelude.{◌≡◌, ◌<◌, ◌^◌, false, length, map, replicate, slice_index, IfOk, List, ℕ};
+ghost use Rattle.std.specs.Prelude.{◌≡◌, IfOk};
 ghost use Rattle.dh_tree.specs.Tables.{Fits};
 ghost use Rattle.dh_net.specs.Valid.{IsValid};
-ghost use Rattle.dh_net.specs.Clock.{Settles, Clocks, start_of, has_clashes};
-ghost use Rattle.dh_sim.specs.Shows.{ShowsAs};
+ghost use Rattle.dh_net.specs.Clock.{Clocks};
+ghost use Rattle.dh_sim.specs.Points.{Clashes, started};
+ghost use Rattle.dh_sim.specs.Shows.{ShowsAt};
 
 use crate::arrays::{
     Shown, clock_arrays, copied, initial_registers, settled_wires, shown_by, zeros,
@@ -47,7 +48,7 @@ impl<'a> Sim<'a> {
     pub fn new(alloc: Global, net: &'a Net, memories: Memories) -> Result<Sim<'a>, NoMemory>
         requires valid { IsValid net.now }
         requires fits { Fits net.now.table memories }
-        ensures { IfOk result (λ s. s ≡ record { net = net.now; state = start_of net.now memories; clash = false }) }
+        ensures { IfOk result (λ s. s ≡ started net.now memories) }
     {
         let registers = initial_registers(alloc, net)?;
         let held = zeros(alloc, net.drivers.len())?;
@@ -67,8 +68,8 @@ impl<'a> Sim<'a> {
     pub fn clock(&mut self) -> Shown
         ensures net { self.new.net ≡ self.old.net }
         ensures clocked { Clocks self.old.net self.old.state self.new.state }
-        ensures clash { (wires : List ℕ) → Settles self.old.net self.old.state wires → self.new.clash ≡ has_clashes wires self.old.net.drivers }
-        ensures shown { (wires : List ℕ) → Settles self.new.net self.new.state wires → ShowsAs result self.new.net wires self.new.clash }
+        ensures clash { Clashes self.old self.new.clash }
+        ensures shown { ShowsAt result self.new }
     {
         self.clash = clock_arrays(
             self.net,
@@ -82,7 +83,7 @@ impl<'a> Sim<'a> {
 
     /// What the net shows in the present state.
     pub fn shown(&self) -> Shown
-        ensures { (wires : List ℕ) → Settles self.now.net self.now.state wires → ShowsAs result self.now.net wires self.now.clash }
+        ensures { ShowsAt result self.now }
     {
         shown_by(self.net, &self.wires, self.clash)
     }

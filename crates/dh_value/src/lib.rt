@@ -10,8 +10,6 @@ mod kinds;
 mod laws;
 mod operations;
 mod operators;
-#[cfg(test)]
-mod tests;
 mod words;
 
 pub use contents::Memories;

@@ -21,3 +21,9 @@ pub record InRange (net : Net) : Type 0 where
 -- no other valid net of the program, with reads of data 0, has this text
 abbrev pub IsAlone : List ℕ → Net → Type 0
 IsAlone text net = (other : Net) → IsValid other → InRange other → HasReadsZero other → text_of other ≡ text → other ≡ net
+
+-- a valid net of the program, with reads of data 0
+pub record IsOfProgram (net : Net) : Type 0 where
+  pub valid : IsValid net
+  pub range : InRange net
+  pub zeros : HasReadsZero net

@@ -1,8 +1,9 @@
 //! The head of the text: its comments, and the list of the module's ports.
 
-ghost use Rattle.std.specs.Prelude.{◌≡◌, ◌++◌, OnOk, string_bytes};
+ghost use Rattle.std.specs.Prelude.{◌≡◌, [], IsOk, OnOk};
 ghost use Rattle.std.specs.List.{AllByRecursion};
 ghost use Rattle.dh_tree.specs.Tables.{IsEntry};
+ghost use Rattle.dh_verilog.specs.Adding.{Adds};
 ghost use Rattle.dh_verilog.specs.Listed.{each, numbered};
 ghost use Rattle.dh_verilog.specs.Ranges.{IsPlace};
 ghost use Rattle.dh_verilog.specs.Head.{kind_text, dim_text, dims_text, side_text, memory_line, fault_name, fault_line, ports_of, pin_lines, module_text};
@@ -15,7 +16,7 @@ use std::fmt::Write;
 
 // Writes the kind.
 fn write_kind(out: &mut String, kind: Kind) -> Result<(), AllocError>
-    ensures { OnOk result (string_bytes out.new ≡ string_bytes out.old ++ kind_text kind) }
+    ensures { Adds result out.old out.new (kind_text kind) }
 {
     match kind {
         Kind::Bool => out.push_str("bool"),
@@ -26,14 +27,15 @@ fn write_kind(out: &mut String, kind: Kind) -> Result<(), AllocError>
 
 // Writes the dimension: its size and its banks.
 fn write_dim(out: &mut String, dim: Dim) -> Result<(), AllocError>
-    ensures { OnOk result (string_bytes out.new ≡ string_bytes out.old ++ dim_text dim) }
+    ensures { Adds result out.old out.new (dim_text dim) }
 {
     write!(out, "{}:{}", dim.size, dim.banks)
 }
 
 // Writes the dimensions, joined.
 fn write_dims(out: &mut String, dims: &[Dim]) -> Result<(), AllocError>
-    ensures { OnOk result (string_bytes out.new ≡ string_bytes out.old ++ dims_text dims.now) }
+    ensures text { Adds result out.old out.new (dims_text dims.now) }
+    ensures none { dims.now ≡ [] → IsOk result }
 {
     match dims.split_first() {
         Some((first, others)) => {
@@ -57,7 +59,7 @@ fn side(outside: bool) -> &'static str
 
 // Writes the comment on the memory with this number.
 fn write_memory_line(out: &mut String, number: usize, entry: &MemEntry) -> Result<(), AllocError>
-    ensures { OnOk result (string_bytes out.new ≡ string_bytes out.old ++ memory_line number entry.now) }
+    ensures { Adds result out.old out.new (memory_line number entry.now) }
 {
     write!(out, "// memory {} {} ", number, entry.name.as_str())?;
     write_kind(out, entry.shape.kind)?;
@@ -68,7 +70,7 @@ fn write_memory_line(out: &mut String, number: usize, entry: &MemEntry) -> Resul
 
 /// Writes the comments on all memories.
 pub fn write_memories(out: &mut String, table: &[MemEntry]) -> Result<(), AllocError>
-    ensures { OnOk result (string_bytes out.new ≡ string_bytes out.old ++ numbered memory_line 0 table.now) }
+    ensures { Adds result out.old out.new (numbered memory_line 0 table.now) }
 {
     for (i, entry) in table.iter().enumerate() {
         write_memory_line(out, i, entry)?;
@@ -92,7 +94,7 @@ fn write_fault_line(
     kind: FaultKind,
     place: Place,
 ) -> Result<(), AllocError>
-    ensures text { OnOk result (string_bytes out.new ≡ string_bytes out.old ++ fault_line number (kind, place)) }
+    ensures text { Adds result out.old out.new (fault_line number (kind, place)) }
     ensures range { IsPlace place }
 {
     let name = name_of_fault(kind);
@@ -105,7 +107,7 @@ fn write_fault_line(
 
 /// Writes the comments on all faults.
 pub fn write_faults(out: &mut String, faults: &[(FaultKind, Place)]) -> Result<(), AllocError>
-    ensures text { OnOk result (string_bytes out.new ≡ string_bytes out.old ++ numbered fault_line 1 faults.now) }
+    ensures text { Adds result out.old out.new (numbered fault_line 1 faults.now) }
     ensures range { OnOk result (AllByRecursion (λ f. IsPlace f.1) faults.now) }
 {
     for (i, (kind, place)) in faults.iter().enumerate() {
@@ -117,7 +119,7 @@ pub fn write_faults(out: &mut String, faults: &[(FaultKind, Place)]) -> Result<(
 // Writes the pins of all ports.
 fn write_all_pins(out: &mut String, table: &[MemEntry]) -> Result<(), AllocError>
     requires { AllByRecursion IsEntry table.now }
-    ensures { OnOk result (string_bytes out.new ≡ string_bytes out.old ++ each pin_lines (ports_of 0 table.now)) }
+    ensures { Adds result out.old out.new (each pin_lines (ports_of 0 table.now)) }
 {
     for (i, entry) in table.iter().enumerate() {
         write_pins(out, port_of_memory(i, entry))?;
@@ -128,7 +130,7 @@ fn write_all_pins(out: &mut String, table: &[MemEntry]) -> Result<(), AllocError
 /// Writes the list of the module's ports.
 pub fn write_module(out: &mut String, table: &[MemEntry]) -> Result<(), AllocError>
     requires { AllByRecursion IsEntry table.now }
-    ensures { OnOk result (string_bytes out.new ≡ string_bytes out.old ++ module_text (ports_of 0 table.now)) }
+    ensures { Adds result out.old out.new (module_text (ports_of 0 table.now)) }
 {
     out.push_str("module kernel(\n  input clk,\n  output tick,\n  output done,\n")?;
     out.push_str("  output [31:0] fault")?;

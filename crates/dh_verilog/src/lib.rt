@@ -6,8 +6,6 @@
 mod heads;
 mod laws;
 mod ports;
-#[cfg(test)]
-mod tests;
 mod writing;
 
 pub use laws::text_tells_the_net;

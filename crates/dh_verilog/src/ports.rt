@@ -1,7 +1,8 @@
 //! The ports of memories, their pins, and the lines that say what drives them.
 
-ghost use Rattle.std.specs.Prelude.{◌≡◌, ◌≤◌, ◌++◌, OnOk, string_bytes};
+ghost use Rattle.std.specs.Prelude.{◌≡◌, ◌≤◌};
 ghost use Rattle.dh_tree.specs.Tables.{IsEntry};
+ghost use Rattle.dh_verilog.specs.Adding.{Adds};
 ghost use Rattle.dh_verilog.specs.Listed.{each};
 ghost use Rattle.dh_verilog.specs.Head.{port_of, pin, bit_pin, wide_pin, pin_lines};
 ghost use Rattle.dh_verilog.specs.Driving.{enables_text, enable_line, ending_of, signal_width, zero_text, value_text, choice_text, choice_line, port_lines};
@@ -56,7 +57,7 @@ pub fn port_of_memory(memory: usize, entry: &MemEntry) -> Port
 
 // Writes the name of a pin.
 fn write_pin(out: &mut String, port: Port, ending: &str) -> Result<(), AllocError>
-    ensures { OnOk result (string_bytes out.new ≡ string_bytes out.old ++ pin port ending.now) }
+    ensures { Adds result out.old out.new (pin port ending.now) }
 {
     write!(
         out,
@@ -67,7 +68,7 @@ fn write_pin(out: &mut String, port: Port, ending: &str) -> Result<(), AllocErro
 
 // Writes the line of an output of one bit, after the comma of the line before.
 fn write_bit_pin(out: &mut String, port: Port, ending: &str) -> Result<(), AllocError>
-    ensures { OnOk result (string_bytes out.new ≡ string_bytes out.old ++ bit_pin port ending.now) }
+    ensures { Adds result out.old out.new (bit_pin port ending.now) }
 {
     out.push_str(",\n  output ")?;
     write_pin(out, port, ending)
@@ -82,7 +83,7 @@ fn write_wide_pin(
     ending: &str,
 ) -> Result<(), AllocError>
     requires { 1 ≤ width }
-    ensures { OnOk result (string_bytes out.new ≡ string_bytes out.old ++ wide_pin direction.now width port ending.now) }
+    ensures { Adds result out.old out.new (wide_pin direction.now width port ending.now) }
 {
     write!(out, ",\n  {} [{}:0] ", direction, width - 1)?;
     write_pin(out, port, ending)
@@ -92,7 +93,7 @@ fn write_wide_pin(
 pub fn write_pins(out: &mut String, port: Port) -> Result<(), AllocError>
     requires rows { 1 ≤ port.row_width }
     requires data { 1 ≤ port.width }
-    ensures { OnOk result (string_bytes out.new ≡ string_bytes out.old ++ pin_lines port) }
+    ensures { Adds result out.old out.new (pin_lines port) }
 {
     write_bit_pin(out, port, "_en")?;
     write_bit_pin(out, port, "_we")?;
@@ -103,7 +104,7 @@ pub fn write_pins(out: &mut String, port: Port) -> Result<(), AllocError>
 
 // Writes the enable wires, joined.
 fn write_enables(out: &mut String, drivers: &[Driver]) -> Result<(), AllocError>
-    ensures { OnOk result (string_bytes out.new ≡ string_bytes out.old ++ enables_text drivers.now) }
+    ensures { Adds result out.old out.new (enables_text drivers.now) }
 {
     match drivers.split_first() {
         Some((first, others)) => {
@@ -119,7 +120,7 @@ fn write_enables(out: &mut String, drivers: &[Driver]) -> Result<(), AllocError>
 
 // Writes the line of the enable pin.
 fn write_enable_line(out: &mut String, port: Port, drivers: &[Driver]) -> Result<(), AllocError>
-    ensures { OnOk result (string_bytes out.new ≡ string_bytes out.old ++ enable_line port drivers.now) }
+    ensures { Adds result out.old out.new (enable_line port drivers.now) }
 {
     out.push_str("  assign ")?;
     write_pin(out, port, "_en")?;
@@ -152,7 +153,7 @@ fn width_at(signal: Signal, port: Port) -> u8
 
 // Writes a zero of the width.
 fn write_zero(out: &mut String, width: u8) -> Result<(), AllocError>
-    ensures { OnOk result (string_bytes out.new ≡ string_bytes out.old ++ zero_text width) }
+    ensures { Adds result out.old out.new (zero_text width) }
 {
     write!(out, "{width}'d0")
 }
@@ -164,7 +165,7 @@ fn write_value(
     port: Port,
     driver: Driver,
 ) -> Result<(), AllocError>
-    ensures { OnOk result (string_bytes out.new ≡ string_bytes out.old ++ value_text signal port driver) }
+    ensures { Adds result out.old out.new (value_text signal port driver) }
 {
     match signal {
         Signal::Write if driver.write => out.push_str("1'd1"),
@@ -182,7 +183,7 @@ fn write_choice(
     port: Port,
     driver: Driver,
 ) -> Result<(), AllocError>
-    ensures { OnOk result (string_bytes out.new ≡ string_bytes out.old ++ choice_text signal port driver) }
+    ensures { Adds result out.old out.new (choice_text signal port driver) }
 {
     write!(out, "w{} ? ", driver.enable)?;
     write_value(out, signal, port, driver)?;
@@ -196,7 +197,7 @@ fn write_choices(
     port: Port,
     drivers: &[Driver],
 ) -> Result<(), AllocError>
-    ensures { OnOk result (string_bytes out.new ≡ string_bytes out.old ++ each (choice_text signal port) drivers.now) }
+    ensures { Adds result out.old out.new (each (choice_text signal port) drivers.now) }
 {
     for driver in drivers {
         write_choice(out, signal, port, *driver)?;
@@ -211,7 +212,7 @@ fn write_choice_line(
     port: Port,
     drivers: &[Driver],
 ) -> Result<(), AllocError>
-    ensures { OnOk result (string_bytes out.new ≡ string_bytes out.old ++ choice_line signal port drivers.now) }
+    ensures { Adds result out.old out.new (choice_line signal port drivers.now) }
 {
     out.push_str("  assign ")?;
     write_pin(out, port, ending(signal))?;
@@ -223,7 +224,7 @@ fn write_choice_line(
 
 /// Writes the four lines that say what drives the port.
 pub fn write_port_lines(out: &mut String, port: Port, drivers: &[Driver]) -> Result<(), AllocError>
-    ensures { OnOk result (string_bytes out.new ≡ string_bytes out.old ++ port_lines port drivers.now) }
+    ensures { Adds result out.old out.new (port_lines port drivers.now) }
 {
     write_enable_line(out, port, drivers)?;
     write_choice_line(out, Signal::Write, port, drivers)?;

@@ -1,13 +1,13 @@
 //! The text of a net.
 
-ghost use Rattle.std.specs.Prelude.{◌≡◌, ◌<◌, ◌≤◌, ◌^◌, ◌++◌, IfOk, OnOk, string_bytes, length};
+ghost use Rattle.std.specs.Prelude.{◌≡◌, ◌<◌, ◌≤◌, ◌^◌, IfOk, OnOk, length};
 ghost use Rattle.std.specs.List.{AllByRecursion};
 ghost use Rattle.dh_tree.specs.Tables.{IsEntry};
-ghost use Rattle.dh_net.specs.Valid.{IsValid};
+ghost use Rattle.dh_net.specs.Valid.{IsValid, HasReadsZero};
+ghost use Rattle.dh_verilog.specs.Adding.{Adds};
 ghost use Rattle.dh_verilog.specs.Listed.{numbered};
 ghost use Rattle.dh_verilog.specs.Head.{ports_of};
 ghost use Rattle.dh_verilog.specs.Driving.{driving_text};
-ghost use Rattle.dh_net.specs.Valid.{HasReadsZero};
 ghost use Rattle.dh_verilog.specs.Ranges.{InRange, IsAlone};
 ghost use Rattle.dh_verilog.specs.Text.{register_line, binary_text, form_text, cell_line, outputs_text, update_line, clock_text, text_of};
 
@@ -22,7 +22,7 @@ use std::fmt::Write;
 // Writes the declaration of the register with this number.
 fn write_register(out: &mut String, number: usize, register: Register) -> Result<(), AllocError>
     requires { 1 ≤ register.width }
-    ensures { OnOk result (string_bytes out.new ≡ string_bytes out.old ++ register_line number register) }
+    ensures { Adds result out.old out.new (register_line number register) }
 {
     let Register { width, initial, .. } = register;
     write!(
@@ -38,7 +38,7 @@ fn write_register(out: &mut String, number: usize, register: Register) -> Result
 // Writes the declarations of all registers.
 fn write_registers(out: &mut String, registers: &[Register]) -> Result<(), AllocError>
     requires { AllByRecursion (λ r. 1 ≤ r.width) registers.now }
-    ensures text { OnOk result (string_bytes out.new ≡ string_bytes out.old ++ numbered register_line 0 registers.now) }
+    ensures text { Adds result out.old out.new (numbered register_line 0 registers.now) }
     ensures count { length registers.now < 2 ^ 64 }
 {
     for (i, register) in registers.iter().enumerate() {
@@ -49,14 +49,14 @@ fn write_registers(out: &mut String, registers: &[Register]) -> Result<(), Alloc
 
 // Writes an operation on two wires.
 fn write_binary(out: &mut String, a: u64, sign: &str, b: u64) -> Result<(), AllocError>
-    ensures { OnOk result (string_bytes out.new ≡ string_bytes out.old ++ binary_text a sign.now b) }
+    ensures { Adds result out.old out.new (binary_text a sign.now b) }
 {
     write!(out, "w{a}{sign}w{b}")
 }
 
 // Writes the expression of a cell of this width.
 fn write_form(out: &mut String, width: u8, form: CellForm) -> Result<(), AllocError>
-    ensures { OnOk result (string_bytes out.new ≡ string_bytes out.old ++ form_text width form) }
+    ensures { Adds result out.old out.new (form_text width form) }
 {
     match form {
         CellForm::Const { bits } => write!(out, "{width}'d{bits}"),
@@ -76,7 +76,7 @@ fn write_form(out: &mut String, width: u8, form: CellForm) -> Result<(), AllocEr
 // Writes the declaration of the wire with this number.
 fn write_cell(out: &mut String, number: usize, cell: Cell) -> Result<(), AllocError>
     requires { 1 ≤ cell.width }
-    ensures { OnOk result (string_bytes out.new ≡ string_bytes out.old ++ cell_line number cell) }
+    ensures { Adds result out.old out.new (cell_line number cell) }
 {
     write!(out, "  wire [{}:0] w{} = ", cell.width - 1, number)?;
     write_form(out, cell.width, cell.form)?;
@@ -86,7 +86,7 @@ fn write_cell(out: &mut String, number: usize, cell: Cell) -> Result<(), AllocEr
 // Writes the declarations of all wires.
 fn write_cells(out: &mut String, cells: &[Cell]) -> Result<(), AllocError>
     requires { AllByRecursion (λ c. 1 ≤ c.width) cells.now }
-    ensures text { OnOk result (string_bytes out.new ≡ string_bytes out.old ++ numbered cell_line 0 cells.now) }
+    ensures text { Adds result out.old out.new (numbered cell_line 0 cells.now) }
     ensures count { length cells.now < 2 ^ 64 }
 {
     for (i, cell) in cells.iter().enumerate() {
@@ -103,7 +103,7 @@ fn write_drivers(
 ) -> Result<(), AllocError>
     requires entries { AllByRecursion IsEntry table.now }
     requires ports { length drivers.now ≡ length table.now }
-    ensures { OnOk result (string_bytes out.new ≡ string_bytes out.old ++ driving_text (ports_of 0 table.now) drivers.now) }
+    ensures { Adds result out.old out.new (driving_text (ports_of 0 table.now) drivers.now) }
 {
     for (i, entry) in table.iter().enumerate() {
         write_port_lines(out, port_of_memory(i, entry), drivers[i].as_slice())?;
@@ -113,7 +113,7 @@ fn write_drivers(
 
 // Writes the outputs.
 fn write_outputs(out: &mut String, tick: u64, done: u64, fault: u64) -> Result<(), AllocError>
-    ensures { OnOk result (string_bytes out.new ≡ string_bytes out.old ++ outputs_text tick done fault) }
+    ensures { Adds result out.old out.new (outputs_text tick done fault) }
 {
     write!(
         out,
@@ -123,14 +123,14 @@ fn write_outputs(out: &mut String, tick: u64, done: u64, fault: u64) -> Result<(
 
 // Writes what the register with this number takes.
 fn write_update(out: &mut String, number: usize, register: Register) -> Result<(), AllocError>
-    ensures { OnOk result (string_bytes out.new ≡ string_bytes out.old ++ update_line number register) }
+    ensures { Adds result out.old out.new (update_line number register) }
 {
     write!(out, "    r{} <= w{};\n", number, register.next)
 }
 
 // Writes what all registers take.
 fn write_updates(out: &mut String, registers: &[Register]) -> Result<(), AllocError>
-    ensures { OnOk result (string_bytes out.new ≡ string_bytes out.old ++ numbered update_line 0 registers.now) }
+    ensures { Adds result out.old out.new (numbered update_line 0 registers.now) }
 {
     for (i, register) in registers.iter().enumerate() {
         write_update(out, i, *register)?;
@@ -140,7 +140,7 @@ fn write_updates(out: &mut String, registers: &[Register]) -> Result<(), AllocEr
 
 // Writes what each clock does, and the end.
 fn write_clock(out: &mut String, registers: &[Register]) -> Result<(), AllocError>
-    ensures { OnOk result (string_bytes out.new ≡ string_bytes out.old ++ clock_text registers.now) }
+    ensures { Adds result out.old out.new (clock_text registers.now) }
 {
     out.push_str("  always @(posedge clk) begin\n")?;
     write_updates(out, registers)?;
@@ -150,7 +150,7 @@ fn write_clock(out: &mut String, registers: &[Register]) -> Result<(), AllocErro
 // Writes the text of the net.
 fn write_net(out: &mut String, net: &Net) -> Result<(), AllocError>
     requires { IsValid net.now }
-    ensures text { OnOk result (string_bytes out.new ≡ string_bytes out.old ++ text_of net.now) }
+    ensures text { Adds result out.old out.new (text_of net.now) }
     ensures range { OnOk result (InRange net.now) }
 {
     let table = net.table.as_slice();

@@ -1,9 +1,16 @@
+use Rattle.std.proofs.Common.{refl}
 use Rattle.std.proofs.lemmas.Result.{IfOk-weaker}
+use Rattle.dh_compile.proofs.Cells.{gains_then}
 use Rattle.dh_compile.proofs.Counted.{count_adds}
 use Rattle.dh_compile.proofs.clocks.push_count.Goals as goal
 
-pub returns : goal.returns
-returns c =
+pub returns-clause-adds : goal.returns-clause-adds
+returns-clause-adds c =
     IfOk-weaker c.push-2.result _ _
-    (λ w a. count_adds c.args.draft.now c.push_constant.new.draft c.push.new.self c.push-2.new.self c.args.clock c.args.done c.in_ok-one.one c.in_ok-more.more w c.requires.clock c.in_ok-one.ensures c.in_ok-more.ensures a)
-    c.push-2.ensures
+    (λ w a. count_adds c.args.draft.now c.push_constant.new.draft c.push.new.self c.push-2.new.self c.args.clock c.args.done c.in_ok-one.one c.in_ok-more.more w c.requires.clock c.in_ok-one.ensures.adds c.in_ok-more.ensures.adds a)
+    c.push-2.ensures.adds
+
+pub returns-clause-gains : goal.returns-clause-gains
+returns-clause-gains c =
+    let two = gains_then c.args.draft.now c.push_constant.new.draft c.push.new.self 1 1 2 refl c.in_ok-one.ensures.gains c.in_ok-more.ensures.gains in
+    IfOk-weaker c.push-2.result _ _ (λ _ g. gains_then c.args.draft.now c.push.new.self c.push-2.new.self 2 1 3 refl two g) c.push-2.ensures.gains

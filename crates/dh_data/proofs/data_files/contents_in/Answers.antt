@@ -2,7 +2,7 @@ use Rattle.std.proofs.Common.{◌<◌, ◌^◌, List, length, sym, subst}
 use Rattle.std.specs.List.{AllByRecursion}
 use Rattle.serde_json.specs.View.{view, members_view}
 use Rattle.dh_tree.specs.declared.tables.MemEntry.{MemEntry}
-use Rattle.dh_data.specs.DataFiles.{Says, IfTold}
+use Rattle.dh_data.specs.DataFiles.{Says, HasAll, IfTold}
 use Rattle.dh_data.specs.Reading.{IsHeld}
 use Rattle.dh_data.proofs.Fitting.{held, few_memories, of_object, said_shows}
 use Rattle.dh_data.proofs.data_files.contents_in.Goals as goal
@@ -16,4 +16,5 @@ contents_by-requires-clause-few c = subst (λ (es : List MemEntry). length es < 
 pub returns-in-Some : goal.returns-in-Some
 returns-in-Some c =
     said_shows c.args.table.now (view c.args.value.now) (members_view c.in-Some.members.now.entries) c.contents_by.result (of_object (view c.args.value.now) (members_view c.in-Some.members.now.entries) c.in-Some.ensures)
-    (subst (λ (es : List MemEntry). IfTold c.contents_by.result (Says es (members_view c.in-Some.members.now.entries) c.contents_by.result)) c.as_slice.ensures c.contents_by.ensures)
+    (subst (λ (es : List MemEntry). IfTold c.contents_by.result (Says es (members_view c.in-Some.members.now.entries) c.contents_by.result)) c.as_slice.ensures c.contents_by.ensures.says)
+    (λ refused. subst (λ (es : List MemEntry). HasAll es (members_view c.in-Some.members.now.entries)) c.as_slice.ensures (c.contents_by.ensures.refused refused))

@@ -19,7 +19,7 @@ loop-preserved t c =
     let back = c.split_at.ensures.back ∙ ap (λ n. drop n left) w in
     record {
       same = row_added c.in-Some.dim.now.size c.loop.counter (elements_of ns) (nested_data k ns) left c.split_at.result.0.now c.split_at.result.1.now (map view c.loop.lists.items) (map view c.push.new.self.items) (view c.in_ok-nested.field-0) c.loop-test.true front back
-          (c.in_ok-nested.ensures) (ap (map view) c.in_ok-push.ensures.items ∙ map-append view c.loop.lists.items (c.in_ok-nested.field-0 ∷ [])) ∙ c.loop.invariant.same;
+          c.in_ok-nested.ensures.seen (ap (map view) c.in_ok-push.ensures.items ∙ map-append view c.loop.lists.items (c.in_ok-nested.field-0 ∷ [])) ∙ c.loop.invariant.same;
       small = subst (λ xs. AllByRecursion (λ v. v < 2 ^ width_of k) xs) (sym back) (rest_small (λ v. v < 2 ^ width_of k) (elements_of ns) left c.loop.invariant.small);
       long = ap (λ (xs : List ℕ). length xs) back ∙ row.behind;
     }

@@ -14,7 +14,7 @@ pub loop-i-preserved : goal.loop-i-preserved
 loop-i-preserved c =
     let t = turn c.args.entries.now c.args.lists.now c.loop-i.i _ _ c.loop-i-test.true c.index-entries-i.is c.index-lists-i.is c.loop-i.invariant.table c.loop-i.invariant.fits in
     record {
-      same = after_turn _ _ _ _ _ _ _ _ _ t c.as_slice.ensures.value c.in_ok-put_memory.ensures ∙ c.loop-i.invariant.same;
+      same = after_turn _ _ _ _ _ _ _ _ _ t c.as_slice.ensures.value c.in_ok-put_memory.ensures.put ∙ c.loop-i.invariant.same;
       table = t.table;
       fits = t.rests;
     }
