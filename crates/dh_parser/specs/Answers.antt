@@ -43,6 +43,12 @@ AnswersBy same _ rest o = ⊥
 pub record Answers {A B : Type 0} (same : B → A → Type 0) (given : Result B Stop) (rest : List Token) (o : Outcome A) : Type 0 where
   pub holds : AnswersBy same given rest o
 
+-- memory is wanting only where a text was read
+abbrev pub IfWanting : {A B : Type 0} → Result B Stop → Outcome A → Type 0
+IfWanting (Err stop.NoMemory) (good a r) = Unit {0}
+IfWanting (Err stop.NoMemory) _ = ⊥
+IfWanting _ o = Unit {0}
+
 -- the tokens after a mark, if it came next, and whether it did
 abbrev pub Took : Mark → Bool → List Token → List Token → Type 0
 Took m true old new = (comes m old ≡ true) × ((p : Place) × (the m old ≡ good p new))

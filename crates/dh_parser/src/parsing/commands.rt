@@ -187,7 +187,6 @@ fn read_else_if(reader: &mut Reader<'_>) -> Result<Command, Stop>
 }
 
 /// The block of this number that holds this command alone.
-#[tactic(auto, using(dh_tree::proofs::SeenActions::actions_are))]
 fn block_of_one(alloc: Global, id: u32, inner: Command) -> Result<Command, Stop>
     ensures { Made (λ block. action_seen block ≡ action id inner.place (blocks (group_then (action_then (action_seen inner) no_actions) no_groups))) result }
 {
@@ -238,7 +237,6 @@ fn read_for(reader: &mut Reader<'_>) -> Result<Command, Stop>
 }
 
 /// The loop of this number with this head and these blocks.
-#[tactic(auto, using(dh_tree::proofs::SeenActions::actions_are))]
 fn counted_loop(
     id: u32,
     head: LoopHead,

@@ -4,9 +4,8 @@ ghost use Rattle.std.specs.Prelude.{◌≡◌, ◌<◌, ◌≤◌, length, map, 
 ghost use Rattle.dh_tree.specs.PlainTrees.{term, number, truth_value};
 ghost use Rattle.dh_tree.specs.Seen.{form_seen, term_seen};
 ghost use Rattle.dh_parser.specs.Answers.{Answers, Made, SameTerm, SameIndices};
-ghost use Rattle.dh_parser.specs.Grammar.{NameText};
 ghost use Rattle.dh_parser.specs.Reading.{expression, operand, named_from, access_from, all_indices, the_index, bracket_from, the_argument, the_arguments};
-ghost use Rattle.dh_parser.specs.TreesOfTexts.{ref_of, access_of, index_of, arguments_of, joined_terms};
+ghost use Rattle.dh_parser.specs.TreesOfTexts.{name_text, access_of, index_of, arguments_of, joined_terms};
 
 use crate::parsing::operators::{level_above, take_operator};
 use crate::parsing::reading::{Mark, Reader, Stop};
@@ -77,7 +76,8 @@ pub(crate) fn read_operand(reader: &mut Reader<'_>) -> Result<Expr, Stop>
 /// What a name begins: an access, or the name alone.
 #[cycle(expression)]
 fn read_named(reader: &mut Reader<'_>, of: Ref) -> Result<Expr, Stop>
-    ensures answer { (n : NameText) → of ≡ ref_of n → Answers (λ e t. SameTerm e t) result reader.new.rest.now (named_from expression n reader.old.rest.now) }
+    requires { of.entity ≡ None }
+    ensures answer { Answers (λ e t. SameTerm e t) result reader.new.rest.now (named_from expression (name_text of) reader.old.rest.now) }
     ensures commands { reader.new.commands ≡ reader.old.commands }
     ensures shorter { length reader.new.rest.now ≤ length reader.old.rest.now }
 {
@@ -91,7 +91,8 @@ fn read_named(reader: &mut Reader<'_>, of: Ref) -> Result<Expr, Stop>
 /// The rest of the access `of[index]..` or `of{bank}[row]`, after its name.
 #[cycle(expression)]
 pub(crate) fn read_access(reader: &mut Reader<'_>, of: Ref) -> Result<Expr, Stop>
-    ensures answer { (n : NameText) → of ≡ ref_of n → Answers (λ e a. term_seen e ≡ access_of a) result reader.new.rest.now (access_from expression n reader.old.rest.now) }
+    requires { of.entity ≡ None }
+    ensures answer { Answers (λ e a. term_seen e ≡ access_of a) result reader.new.rest.now (access_from expression (name_text of) reader.old.rest.now) }
     ensures commands { reader.new.commands ≡ reader.old.commands }
     ensures shorter { length reader.new.rest.now ≤ length reader.old.rest.now }
 {
@@ -197,7 +198,6 @@ fn read_argument(reader: &mut Reader<'_>) -> Result<Expr, Stop>
 }
 
 /// The expression of this form, its kind not yet found.
-#[tactic(auto, using(dh_tree::proofs::SeenTerms::terms_are))]
 fn plain(place: Place, form: ExprForm) -> Expr
     ensures { term_seen result ≡ term place None (form_seen form) }
 {
@@ -209,7 +209,6 @@ fn plain(place: Place, form: ExprForm) -> Expr
 }
 
 /// A number, or a number after a `-`.
-#[tactic(auto, using(dh_tree::proofs::SeenTerms::terms_are))]
 fn literal(place: Place, negative: bool, value: u64) -> Expr
     ensures { term_seen result ≡ term place None (number negative value) }
 {
@@ -217,7 +216,6 @@ fn literal(place: Place, negative: bool, value: u64) -> Expr
 }
 
 /// `true` or `false`.
-#[tactic(auto, using(dh_tree::proofs::SeenTerms::terms_are))]
 fn truth(place: Place, value: bool) -> Expr
     ensures { term_seen result ≡ term place None (truth_value value) }
 {
@@ -225,7 +223,6 @@ fn truth(place: Place, value: bool) -> Expr
 }
 
 /// `left op right`
-#[tactic(auto, using(dh_tree::proofs::SeenTerms::terms_are))]
 fn joined(alloc: Global, op: Op, left: Expr, right: Expr) -> Result<Expr, Stop>
     ensures { Made (λ e. term_seen e ≡ joined_terms op (term_seen left) (term_seen right)) result }
 {

@@ -1,9 +1,10 @@
 //! The head of a `for`.
 
-ghost use Rattle.std.specs.Prelude.{◌≡◌, ◌<◌, ◌≤◌, length, IfOk};
+ghost use Rattle.std.specs.Prelude.{◌≡◌, ◌<◌, ◌≤◌, length, IfOk, IfErr};
 ghost use Rattle.dh_parser.specs.Answers.{Answers, SameHead, SameUnrolled};
 ghost use Rattle.dh_parser.specs.Reading.{the_declared, the_head, the_unroll};
 ghost use Rattle.dh_parser.specs.TreesOfTexts.{declared_of, factor_of};
+ghost use Rattle.dh_parser.specs.declared.parsing.reading.Stop.TheVariants as stop;
 
 use crate::parsing::reading::{Mark, Numeral, Reader, Stop};
 use crate::parsing::types::read_kind;
@@ -60,6 +61,7 @@ pub(crate) fn read_loop_head(reader: &mut Reader<'_>) -> Result<LoopHead, Stop>
 
 /// The kind after `:`, if that sign comes next.
 fn read_declared(reader: &mut Reader<'_>) -> Result<Option<Kind>, Stop>
+    ensures memory { IfErr result (λ e. e ≡ stop.Here) }
     ensures answer { Answers (λ declared t. declared ≡ declared_of t) result reader.new.rest.now (the_declared reader.old.rest.now) }
     ensures commands { reader.new.commands ≡ reader.old.commands }
     ensures shorter { length reader.new.rest.now ≤ length reader.old.rest.now }
@@ -73,6 +75,7 @@ fn read_declared(reader: &mut Reader<'_>) -> Result<Option<Kind>, Stop>
 /// The number after `unroll` with the place of the word, if that comes next; else 1, at the place of the
 /// loop.
 fn read_factor(reader: &mut Reader<'_>, place: Place) -> Result<(Numeral, Place), Stop>
+    ensures memory { IfErr result (λ e. e ≡ stop.Here) }
     ensures answer { Answers (λ v t. SameUnrolled v.0 v.1 (factor_of place t)) result reader.new.rest.now (the_unroll reader.old.rest.now) }
     ensures commands { reader.new.commands ≡ reader.old.commands }
     ensures shorter { length reader.new.rest.now ≤ length reader.old.rest.now }
