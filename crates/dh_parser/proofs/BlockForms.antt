@@ -39,9 +39,9 @@ block_made id old count new place opener closer body p h e f g s = record {
 pub one_made : (id : ℕ) (place : Place) (inner : Command) (part : Vec Command Global) (body : Vec (Vec Command Global) Global) (none : List Command) (nothing : List (Vec Command Global))
     → part.items ≡ none ++ inner ∷ [] → none ≡ [] → body.items ≡ nothing ++ part ∷ [] → nothing ≡ []
     → action id place (action_form_seen (Block body)) ≡ action id place (blocks (group_then (action_then (action_seen inner) no_actions) no_groups))
-one_made id place inner part body none nothing one no two not =
+one_made id place inner part body none nothing one first two second =
     ap (λ f. action id place f)
-    (block_is body ∙ (ap (λ l. blocks (groups (map part_seen l))) (two ∙ ap (λ l. l ++ part ∷ []) not) ∙ ap (λ l. blocks (group_then (actions (map action_seen l)) no_groups)) (one ∙ ap (λ l. l ++ inner ∷ []) no)))
+    (block_is body ∙ (ap (λ l. blocks (groups (map part_seen l))) (two ∙ ap (λ l. l ++ part ∷ []) second) ∙ ap (λ l. blocks (group_then (actions (map action_seen l)) no_groups)) (one ∙ ap (λ l. l ++ inner ∷ []) first)))
 
 pub body_made : {t : Action} (id old count new : ℕ) (place : Place) (body : Vec (Vec Command Global) Global) (p : PartsText) (end : Place)
     → t ≡ action id place (action_form_seen (Block body)) → id ≡ old → count ≡ old + 1 → place ≡ parts_place end p → SameParts body p count new → t ≡ body_of old p end

@@ -1,18 +1,19 @@
 //! Expressions: operands joined by operators, of which the tighter take their operands first.
 
-ghost use Rattle.std.specs.Prelude.{◌≡◌, ◌<◌, ◌≤◌, length, map, IfOk, None};
+ghost use Rattle.std.specs.Prelude.{◌≡◌, ◌<◌, ◌≤◌, length, map, IfOk, IfErr, None};
 ghost use Rattle.dh_tree.specs.PlainTrees.{term, number, truth_value};
 ghost use Rattle.dh_tree.specs.Seen.{form_seen, term_seen};
 ghost use Rattle.dh_parser.specs.Answers.{Answers, Made, SameTerm, SameIndices};
-ghost use Rattle.dh_parser.specs.Reading.{expression, operand, named_from, access_from, all_indices, the_index, bracket_from, the_argument, the_arguments};
-ghost use Rattle.dh_parser.specs.TreesOfTexts.{name_text, access_of, index_of, arguments_of, joined_terms};
+ghost use Rattle.dh_parser.specs.Reading.{expression, operand, named_from, access_from, all_indices, the_index, bracket_from, the_cast, the_argument, the_arguments};
+ghost use Rattle.dh_parser.specs.TreesOfTexts.{name_text, kind_of, access_of, index_of, arguments_of, joined_terms};
+ghost use Rattle.dh_parser.specs.declared.parsing.reading.Stop.TheVariants as stop;
 
 use crate::parsing::operators::{level_above, take_operator};
 use crate::parsing::reading::{Mark, Reader, Stop};
 use crate::parsing::types::read_kind;
 use dh_base::Place;
 use dh_lexer::TokenKind;
-use dh_tree::{Expr, ExprForm, Ref};
+use dh_tree::{Expr, ExprForm, Kind, Ref};
 use dh_value::Op;
 use std::alloc::Global;
 
@@ -157,11 +158,22 @@ fn read_bracketed(reader: &mut Reader<'_>, opening: Place) -> Result<Expr, Stop>
         reader.skip(Mark::CloseParen)?;
         return Ok(inner);
     }
+    let to = read_cast(reader)?;
+    let inner = Box::new(reader.alloc, inner)?;
+    Ok(plain(opening, ExprForm::Cast { inner, to }))
+}
+
+/// `as kind)`, what makes an expression behind `(` a cast.
+fn read_cast(reader: &mut Reader<'_>) -> Result<Kind, Stop>
+    ensures answer { Answers (λ kind t. kind ≡ kind_of t.kind) result reader.new.rest.now (the_cast reader.old.rest.now) }
+    ensures commands { reader.new.commands ≡ reader.old.commands }
+    ensures shorter { length reader.new.rest.now ≤ length reader.old.rest.now }
+    ensures memory { IfErr result (λ e. e ≡ stop.Here) }
+{
     reader.skip(Mark::As)?;
     let to = read_kind(reader)?;
     reader.skip(Mark::CloseParen)?;
-    let inner = Box::new(reader.alloc, inner)?;
-    Ok(plain(opening, ExprForm::Cast { inner, to }))
+    Ok(to)
 }
 
 /// Arguments between parentheses, after the first of these.

@@ -1,8 +1,8 @@
 //! The head of a `for`.
 
 ghost use Rattle.std.specs.Prelude.{◌≡◌, ◌<◌, ◌≤◌, length, IfOk, IfErr};
-ghost use Rattle.dh_parser.specs.Answers.{Answers, SameHead, SameUnrolled};
-ghost use Rattle.dh_parser.specs.Reading.{the_declared, the_head, the_unroll};
+ghost use Rattle.dh_parser.specs.Answers.{Answers, SameHead, SameRange, SameUnrolled};
+ghost use Rattle.dh_parser.specs.Reading.{the_declared, the_head, the_range, the_unroll};
 ghost use Rattle.dh_parser.specs.TreesOfTexts.{declared_of, factor_of};
 ghost use Rattle.dh_parser.specs.declared.parsing.reading.Stop.TheVariants as stop;
 
@@ -30,6 +30,17 @@ pub(crate) struct LoopHead {
     pub unroll: Place,
 }
 
+/// What an iterator goes over, as it is written.
+#[derive(Clone, Copy)]
+pub(crate) struct WrittenRange {
+    /// The iterator's kind, where it is written.
+    pub declared: Option<Kind>,
+    /// Its first value.
+    pub low: Numeral,
+    /// The number after its last value.
+    pub high: Numeral,
+}
+
 /// `for (let iterator: declared = low..high) unroll factor`
 pub(crate) fn read_loop_head(reader: &mut Reader<'_>) -> Result<LoopHead, Stop>
     ensures answer { Answers (λ head t. SameHead head t) result reader.new.rest.now (the_head reader.old.rest.now) }
@@ -41,21 +52,36 @@ pub(crate) fn read_loop_head(reader: &mut Reader<'_>) -> Result<LoopHead, Stop>
     reader.skip(Mark::OpenParen)?;
     reader.skip(Mark::Let)?;
     let iterator = reader.name()?;
+    let range = read_range(reader)?;
+    let (factor, unroll) = read_factor(reader, place)?;
+    Ok(LoopHead {
+        place,
+        iterator,
+        declared: range.declared,
+        low: range.low,
+        high: range.high,
+        factor,
+        unroll,
+    })
+}
+
+/// `: kind = low..high)`, behind an iterator.
+fn read_range(reader: &mut Reader<'_>) -> Result<WrittenRange, Stop>
+    ensures answer { Answers (λ range t. SameRange range t) result reader.new.rest.now (the_range reader.old.rest.now) }
+    ensures commands { reader.new.commands ≡ reader.old.commands }
+    ensures shorter { length reader.new.rest.now ≤ length reader.old.rest.now }
+    ensures memory { IfErr result (λ e. e ≡ stop.Here) }
+{
     let declared = read_declared(reader)?;
     reader.skip(Mark::Assign)?;
     let low = reader.number()?;
     reader.skip(Mark::Range)?;
     let high = reader.number()?;
     reader.skip(Mark::CloseParen)?;
-    let (factor, unroll) = read_factor(reader, place)?;
-    Ok(LoopHead {
-        place,
-        iterator,
+    Ok(WrittenRange {
         declared,
         low,
         high,
-        factor,
-        unroll,
     })
 }
 

@@ -31,3 +31,8 @@ returns-in_ok-value-in_default-kind c = record {
   commands = search rules;
   shorter = search rules;
 }
+
+pub returns-in_err-value-in-Becomes-clause-answer : goal.returns-in_err-value-in-Becomes-clause-answer
+returns-in_err-value-in-Becomes-clause-answer c =
+    rw (after_at (name_text c.args.name) _ _ c.token-item.result _ (first_is _ _ c.in-len1-up.len_at_least c.token-item.is) c.in-Becomes.is, given c.from_residual.ensures)
+    (err_then _ c.in_err-value-in-Becomes.ensures.answer)
