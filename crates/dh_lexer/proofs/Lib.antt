@@ -10,3 +10,4 @@ pub mod CutOnce
 pub mod LexedSoFar
 pub mod MostSeen
 pub mod TokensReady
+pub mod NamesTaken

@@ -110,3 +110,18 @@ front_of l =
     (if (slice_index l 0 == 47) && (slice_index l 1 == 47) then Some (gap_of (2 + line_len (drop 2 l))) else
     (if (slice_index l 0 == 47) && (slice_index l 1 == 42) then option_map (λ n. gap_of (2 + n)) (block_len (drop 2 l)) else
     option_map front_token (token_of l)))
+
+-- a token was found that is a name, the one kind that takes memory
+abbrev pub IsNamed : Option TokenKind → Type 0
+IsNamed (Some (kind.Name n)) = Unit {0}
+IsNamed _ = ⊥
+
+-- the same with its length
+abbrev pub IsNamedToken : Option (TokenKind × ℕ) → Type 0
+IsNamedToken (Some t) = IsNamed (Some t.0)
+IsNamedToken None = ⊥
+
+-- a text begins with a name
+abbrev pub IsNamedFront : Option (Front × ℕ) → Type 0
+IsNamedFront (Some (front.Token k, length)) = IsNamed (Some k)
+IsNamedFront _ = ⊥

@@ -1,10 +1,10 @@
 //! The piece that a text begins with: a space, a comment, or the longest token.
 
-ghost use Rattle.std.specs.Prelude.{◌≡◌, ◌+◌, ◌<◌, ◌≤◌, length, drop, slice_index, IfOk, option_map};
+ghost use Rattle.std.specs.Prelude.{◌≡◌, ◌+◌, ◌<◌, ◌≤◌, length, drop, slice_index, MatchResult, option_map};
 ghost use Rattle.std.specs.List.{AllByRecursion};
 ghost use Rattle.dh_tree.specs.Names.{IsNameByte};
 ghost use Rattle.dh_lexer.specs.FrontPiece as first;
-ghost use Rattle.dh_lexer.specs.FrontPiece.{run_len, line_len, block_len, run_of, token_of, front_of};
+ghost use Rattle.dh_lexer.specs.FrontPiece.{run_len, line_len, block_len, run_of, token_of, front_of, IsNamed, IsNamedToken, IsNamedFront};
 
 use crate::numbers::number;
 use crate::signs::sign;
@@ -22,7 +22,8 @@ pub enum Front {
     Token(TokenKind),
 }
 
-/// What begins at `at` and its length, or None where nothing does that a text may have.
+/// What begins at `at` and its length, or None where nothing does that a text may have. Only a name
+/// takes memory.
 #[tactic(auto, unfolding(crate::specs::FrontPiece::front_of))]
 pub(crate) fn front_at(
     alloc: Global,
@@ -30,7 +31,7 @@ pub(crate) fn front_at(
     at: usize,
 ) -> Result<Option<(Front, usize)>, NoMemory>
     requires { at < length text.now }
-    ensures { IfOk result (λ o. o ≡ front_of (drop at text.now)) }
+    ensures { MatchResult result (λ o. o ≡ front_of (drop at text.now)) (λ _. IsNamedFront (front_of (drop at text.now))) }
 {
     if is_space(text[at]) {
         return Ok(Some((Front::Gap, 1)));
@@ -117,7 +118,7 @@ fn block_end(text: &[u8], at: usize) -> Option<usize>
 #[tactic(auto, unfolding(crate::specs::FrontPiece::token_of))]
 fn token_at(alloc: Global, text: &[u8], at: usize) -> Result<Option<(TokenKind, usize)>, NoMemory>
     requires { at < length text.now }
-    ensures { IfOk result (λ o. o ≡ token_of (drop at text.now)) }
+    ensures { MatchResult result (λ o. o ≡ token_of (drop at text.now)) (λ _. IsNamedToken (token_of (drop at text.now))) }
 {
     if !is_name_byte(text[at]) {
         return Ok(sign(text[at], byte_at(text, at, 1), byte_at(text, at, 2)));
@@ -147,7 +148,7 @@ fn run_end(text: &[u8], at: usize) -> usize
 #[tactic(auto, unfolding(crate::specs::FrontPiece::run_of))]
 fn run(alloc: Global, bytes: &[u8]) -> Result<Option<TokenKind>, NoMemory>
     requires { (0 < length bytes.now) × AllByRecursion IsNameByte bytes.now }
-    ensures { IfOk result (λ o. o ≡ run_of bytes.now) }
+    ensures { MatchResult result (λ o. o ≡ run_of bytes.now) (λ _. IsNamed (run_of bytes.now)) }
 {
     if bytes[0].is_ascii_digit() {
         return match number(bytes) {

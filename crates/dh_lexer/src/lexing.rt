@@ -1,7 +1,7 @@
 //! The lexer: it takes the longest token at each point and never goes back, so that each byte is
 //! looked at a bounded number of times.
 
-ghost use Rattle.std.specs.Prelude.{◌≡◌, ℕ, ◌+◌, ◌^◌, ◌<◌, ◌≤◌, List, [], ◌∷◌, ◌++◌, length, OnOk, IfOk};
+ghost use Rattle.std.specs.Prelude.{◌≡◌, ℕ, ◌+◌, ◌^◌, ◌<◌, ◌≤◌, List, [], ◌∷◌, ◌++◌, length, is_ok, if◌then◌else◌, OnErr, IfOk};
 ghost use Rattle.dh_base.specs.declared.faults.PassFault.TheVariants as fault;
 ghost use Rattle.dh_base.specs.declared.places.Place.{Place};
 ghost use Rattle.dh_lexer.specs.LexedText as text;
@@ -49,9 +49,10 @@ pub fn tokens_are_one()
     ensures either { (text : List ℕ) (ts : List Token) (p : Place) → HasTokens text ts → IsBreach text p → ⊥ }
 {}
 
-/// Adds the token that stands at this place, if it is one.
+/// Adds the token that stands at this place, if it is one. After want of memory the tokens are as before.
 fn keep(tokens: &mut Vec<Token>, front: Front, place: Place) -> Result<(), NoMemory>
-    ensures { OnOk result (tokens.new.items ≡ tokens.old.items ++ text.kept front place) }
+    ensures tokens { tokens.new.items ≡ (if is_ok result then tokens.old.items ++ text.kept front place else tokens.old.items) }
+    ensures memory { OnErr result (text.kept front place ≡ [] → ⊥) }
 {
     if let Front::Token(kind) = front {
         tokens.push(Token { kind, place })?;
@@ -88,6 +89,3 @@ fn next_place(place: Place, byte: u8) -> Place
         }
     }
 }
-
-#[cfg(test)]
-mod tests;

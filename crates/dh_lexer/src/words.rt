@@ -1,8 +1,8 @@
 //! Words: those of the language, those that it keeps out, and names.
 
-ghost use Rattle.std.specs.Prelude.{◌≡◌, IfOk};
+ghost use Rattle.std.specs.Prelude.{◌≡◌, MatchResult};
 ghost use Rattle.dh_lexer.specs.FrontPiece as first;
-ghost use Rattle.dh_lexer.specs.FrontPiece.{word_kind};
+ghost use Rattle.dh_lexer.specs.FrontPiece.{word_kind, IsNamed};
 
 use crate::tokens::{OutWord, TokenKind};
 use dh_base::NoMemory;
@@ -10,10 +10,10 @@ use dh_tree::Name;
 use std::alloc::Global;
 
 /// The token that is this word: a word of the language, one that it keeps out, or else a name.
-/// Never None.
+/// Never None. Only a name takes memory.
 #[tactic(auto, unfolding(crate::specs::FrontPiece::word_kind))]
 pub(crate) fn word(alloc: Global, text: &str) -> Result<Option<TokenKind>, NoMemory>
-    ensures { IfOk result (λ k. k ≡ word_kind text.now) }
+    ensures { MatchResult result (λ k. k ≡ word_kind text.now) (λ _. IsNamed (word_kind text.now)) }
 {
     if let Some(kind) = kept_word(text) {
         return Ok(Some(kind));

@@ -1,5 +1,5 @@
 -- What is seen of the commands that the parser makes.
-use Rattle.std.proofs.Common.{◌≡◌, map, Some, None, ap, ◌∙◌}
+use Rattle.std.proofs.Common.{◌≡◌, Bool, true, false, map, Option, Some, None, refl, ap, ◌∙◌}
 use Rattle.std.specs.Prelude.{Vec}
 use Rattle.std.specs.Global.{Global}
 use Rattle.dh_base.specs.declared.places.Place.{Place}
@@ -8,12 +8,13 @@ use Rattle.dh_tree.specs.declared.trees.expressions.Ref.{Ref}
 use Rattle.dh_tree.specs.declared.trees.expressions.Expr.{Expr}
 use Rattle.dh_tree.specs.declared.trees.commands.ViewForm.{ViewForm}
 use Rattle.dh_tree.specs.declared.trees.commands.CommandForm.TheVariants.{Let, View, Assign, Store, Reduce, Call}
-use Rattle.dh_tree.specs.PlainTrees.{lets, views, assigns, stores, reduces, calls}
+use Rattle.dh_tree.specs.PlainTrees.{Term, ActionForm, lets, views, assigns, stores, reduces, calls}
 use Rattle.dh_tree.specs.Seen.{term_seen, plan_seen, action_form_seen}
 use Rattle.dh_tree.proofs.SeenActions.{let_is, view_is, assign_is, store_is, reduce_is, call_is}
-use Rattle.dh_parser.specs.Grammar.{NameText, ExprText, ViewText, ReducerText, AccessText, ArgumentsText, let_value, view, assign, store, reduce, call}
-use Rattle.dh_parser.specs.TreesOfTexts.{ref_of, access_of, arguments_of, parent_of, reducer_op, simple_form}
-use Rattle.dh_parser.specs.Answers.{SamePlan, SameTerm}
+use Rattle.dh_parser.specs.Grammar.{NameText, TypeText, ValueText, ExprText, ViewText, ReducerText, AccessText, ArgumentsText, let_value, view, assign, store, reduce, call}
+use Rattle.dh_parser.specs.TreesOfTexts.{ref_of, shape_of, shape_places_of, value_of, is_memory_type, let_written, let_of, access_of, arguments_of, parent_of, reducer_op, simple_form}
+use Rattle.dh_parser.specs.declared.parsing.types.WrittenType.{WrittenType}
+use Rattle.dh_parser.specs.Answers.{SamePlan, SameTerm, SameType}
 
 pub view_seen : (name parent : Ref) (form : ViewForm) (word equal : Place) (n : NameText) (v : ViewText) → name ≡ ref_of n → SamePlan parent form v → action_form_seen (View name parent form) ≡ simple_form (view word n equal v)
 view_seen name parent form word equal n v e s =
@@ -33,3 +34,14 @@ store_seen target e place a t f s = store_is target e ∙ (ap (λ x. stores x (t
 
 pub reduce_seen : (name : Ref) (o : Op) (e : Expr) (place : Place) (n : NameText) (r : ReducerText) (t : ExprText) → name ≡ ref_of n → o ≡ reducer_op r → SameTerm e t → action_form_seen (Reduce name o e) ≡ simple_form (reduce n r place t)
 reduce_seen name o e place n r t f g s = reduce_is name o e ∙ (ap (λ x. reduces x o (term_seen e)) f ∙ (ap (λ x. reduces (ref_of n) x (term_seen e)) g ∙ ap (λ x. reduces (ref_of n) (reducer_op r) x) s))
+
+let_by : (b : Bool) (n : NameText) (t : TypeText) (v : ValueText) → let_written b (ref_of n) (shape_of t) (shape_places_of t) (value_of v) ≡ let_of b n t v
+let_by true n t v = refl
+let_by false n t v = refl
+
+pub let_seen : {f : ActionForm} (name : Ref) (w : WrittenType) (value : Option Term) (n : NameText) (t : TypeText) (v : ValueText) → f ≡ let_written w.is_memory name w.shape w.places value → name ≡ ref_of n → SameType w t → value ≡ value_of v
+    → f ≡ let_of (is_memory_type t.ports t.dims) n t v
+let_seen name w value n t v h e s i =
+    h ∙ (ap (λ r. let_written w.is_memory r w.shape w.places value) e ∙ (ap (λ b. let_written b (ref_of n) w.shape w.places value) s.memory
+    ∙ (ap (λ x. let_written (is_memory_type t.ports t.dims) (ref_of n) x w.places value) s.shape ∙ (ap (λ x. let_written (is_memory_type t.ports t.dims) (ref_of n) (shape_of t) x value) s.places
+    ∙ (ap (λ x. let_written (is_memory_type t.ports t.dims) (ref_of n) (shape_of t) (shape_places_of t) x) i ∙ let_by (is_memory_type t.ports t.dims) n t v)))))

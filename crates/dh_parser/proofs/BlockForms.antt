@@ -1,13 +1,13 @@
 -- What is seen of the commands with blocks that the parser makes, and how many commands they are.
-use Rattle.std.proofs.Common.{◌≡◌, ℕ, suc, ◌+◌, Option, option_map, ap, ◌∙◌, arith}
+use Rattle.std.proofs.Common.{◌≡◌, ℕ, suc, ◌+◌, List, [], ◌∷◌, ◌++◌, map, Option, option_map, ap, ◌∙◌, arith}
 use Rattle.std.specs.Prelude.{Vec}
 use Rattle.std.specs.Global.{Global}
 use Rattle.dh_base.specs.declared.places.Place.{Place}
 use Rattle.dh_tree.specs.declared.trees.expressions.Expr.{Expr}
 use Rattle.dh_tree.specs.declared.trees.commands.Command.{Command}
 use Rattle.dh_tree.specs.declared.trees.commands.CommandForm.TheVariants.{Block, If, While}
-use Rattle.dh_tree.specs.PlainTrees.{Placed, Unrolled, Action, action, MaybeAction, blocks, decides, repeats, counts}
-use Rattle.dh_tree.specs.Seen.{action_form_seen, action_seen, maybe_seen, placed, unrolled}
+use Rattle.dh_tree.specs.PlainTrees.{Placed, Unrolled, Action, action, action_then, no_actions, group_then, no_groups, MaybeAction, blocks, decides, repeats, counts}
+use Rattle.dh_tree.specs.Seen.{action_form_seen, action_seen, actions, part_seen, groups, maybe_seen, placed, unrolled}
 use Rattle.dh_tree.proofs.SeenActions.{block_is, if_is, while_is}
 use Rattle.dh_parser.specs.declared.parsing.loops.LoopHead.{LoopHead}
 use Rattle.dh_parser.specs.declared.parsing.reading.Numeral.{Numeral}
@@ -34,6 +34,14 @@ block_made id old count new place opener closer body p h e f g s = record {
       ∙ (ap (λ x. action x place (blocks (parts_of (suc old) p))) e ∙ ap (λ x. action old x (blocks (parts_of (suc old) p))) g))));
   counted = after_one old count new (count_parts p) f s.counted;
 }
+
+-- a block of one part with one command
+pub one_made : (id : ℕ) (place : Place) (inner : Command) (part : Vec Command Global) (body : Vec (Vec Command Global) Global) (none : List Command) (nothing : List (Vec Command Global))
+    → part.items ≡ none ++ inner ∷ [] → none ≡ [] → body.items ≡ nothing ++ part ∷ [] → nothing ≡ []
+    → action id place (action_form_seen (Block body)) ≡ action id place (blocks (group_then (action_then (action_seen inner) no_actions) no_groups))
+one_made id place inner part body none nothing one first two second =
+    ap (λ f. action id place f)
+    (block_is body ∙ (ap (λ l. blocks (groups (map part_seen l))) (two ∙ ap (λ l. l ++ part ∷ []) second) ∙ ap (λ l. blocks (group_then (actions (map action_seen l)) no_groups)) (one ∙ ap (λ l. l ++ inner ∷ []) first)))
 
 pub body_made : {t : Action} (id old count new : ℕ) (place : Place) (body : Vec (Vec Command Global) Global) (p : PartsText) (end : Place)
     → t ≡ action id place (action_form_seen (Block body)) → id ≡ old → count ≡ old + 1 → place ≡ parts_place end p → SameParts body p count new → t ≡ body_of old p end

@@ -46,3 +46,4 @@ pub mod ItemLoops
 pub mod BodyPlaces
 pub mod Parsed
 pub mod WidthPlaces
+pub mod HeadForms

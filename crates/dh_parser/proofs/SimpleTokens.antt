@@ -1,5 +1,5 @@
 -- What the first tokens of a command without blocks say of it.
-use Rattle.std.proofs.Common.{◌≡◌, Bool, true, false, if◌then◌else◌, List, ◌∷◌, Option, Some, None, option_map, Ok, [], subst, refl, ap, sym, ◌∙◌}
+use Rattle.std.proofs.Common.{◌≡◌, Bool, true, false, if◌then◌else◌, List, ◌∷◌, ◌<◌, length, arith, Option, Some, None, option_map, Ok, [], subst, refl, ap, sym, ◌∙◌}
 use Rattle.dh_base.specs.declared.places.Place.{Place}
 use Rattle.dh_lexer.specs.declared.tokens.Token.{Token}
 use Rattle.dh_lexer.specs.declared.tokens.TokenKind.{TokenKind}
@@ -78,3 +78,7 @@ name_starts p (t ∷ ts) h = name_starts_from p t.kind t ts (sym h)
 
 pub stands : (p : Place) (all ts : List Token) (t : Token) → all ≡ t ∷ ts → StandsAt (Ok p) all → t.place ≡ p
 stands p all ts t e h = sym (subst (λ l. StandsAt (Ok p) l) e h)
+
+pub some_stand : (p : Place) (all : List Token) → StandsAt (Ok p) all → 0 < length all
+some_stand p [] h = absurd h
+some_stand p (t ∷ ts) h = omega arith

@@ -1,13 +1,14 @@
 -- Loops that read expressions one after another.
-use Rattle.std.proofs.Common.{◌≡◌, ℕ, suc, true, false, List, [], ◌∷◌, ◌++◌, map, length, append_assoc, append-nil, refl, ap, sym, ◌∙◌}
+use Rattle.std.proofs.Common.{◌≡◌, ℕ, suc, true, false, if◌then◌else◌, List, [], ◌∷◌, ◌++◌, map, length, append_assoc, append-nil, refl, ap, sym, ◌∙◌}
+use Rattle.dh_base.specs.declared.places.Place.{Place}
 use Rattle.dh_lexer.specs.declared.tokens.Token.{Token}
 use Rattle.dh_tree.specs.declared.trees.expressions.Expr.{Expr}
 use Rattle.dh_tree.specs.PlainTrees.{Term, Terms, no_terms, term_then}
 use Rattle.dh_tree.specs.Seen.{term_seen, terms}
 use Rattle.dh_parser.specs.declared.parsing.reading.Mark.TheVariants as mark
 use Rattle.dh_parser.specs.Marks.{comes}
-use Rattle.dh_parser.specs.Grammar.{NameText, no_indices, index_then, element, no_more_arguments, argument_then, some_arguments}
-use Rattle.dh_parser.specs.Reading.{good, bind, the, the_index, more_indices, all_indices, access_from, the_expression, the_argument, more_arguments, the_arguments, expression}
+use Rattle.dh_parser.specs.Grammar.{NameText, ExprText, KindText, cast, bracket, no_indices, index_then, element, no_more_arguments, argument_then, some_arguments}
+use Rattle.dh_parser.specs.Reading.{Outcome, good, bind, the, the_kind, the_test, the_cast, bracket_from, the_index, more_indices, all_indices, access_from, the_expression, the_argument, more_arguments, the_arguments, expression}
 use Rattle.dh_parser.proofs.Going.{assoc, same_bind, if_true, if_false}
 
 -- terms in front of others
@@ -73,3 +74,24 @@ seen_first e x g n s = ap (λ u. u ∷ x) (sym s) ∙ ap (λ l. map term_seen l 
 
 pub seen_all : {w : List Term} (es : List Expr) → w ≡ map term_seen es ++ [] → map term_seen es ≡ w
 seen_all es f = sym (f ∙ append-nil (map term_seen es))
+
+-- a test, as a part of what it stands in
+pub test_then : {A : Type 0} (ts : List Token) (go : Place → ExprText → Place → List Token → Outcome A)
+    → bind (the mark.OpenParen ts) (λ opener r. bind (the_expression r) (λ e r. bind (the mark.CloseParen r) (λ closer r. go opener e closer r))) ≡ bind (the_test ts) (λ t r. go t.opener t.test t.closer r)
+test_then ts go = sym (
+    assoc (the mark.OpenParen ts) _ _ ∙ same_bind (the mark.OpenParen ts) _ _ λ opener r0.
+    assoc (the_expression r0) _ _ ∙ same_bind (the_expression r0) _ _ λ e r1.
+    assoc (the mark.CloseParen r1) _ _)
+
+-- a cast's kind, as a part of what stands in parentheses
+pub cast_then : {A : Type 0} (ts : List Token) (go : Place → KindText → Place → List Token → Outcome A)
+    → bind (the mark.As ts) (λ word r. bind (the_kind r) (λ k r. bind (the mark.CloseParen r) (λ closer r. go word k closer r))) ≡ bind (the_cast ts) (λ t r. go t.word t.kind t.closer r)
+cast_then ts go = sym (
+    assoc (the mark.As ts) _ _ ∙ same_bind (the mark.As ts) _ _ λ word r0.
+    assoc (the_kind r0) _ _ ∙ same_bind (the_kind r0) _ _ λ k r1.
+    assoc (the mark.CloseParen r1) _ _)
+
+pub bracket_is : (opener : Place) (ts : List Token)
+    → bracket_from expression opener ts ≡ bind (expression 0 ts) (λ e r. if comes mark.As r then bind (the_cast r) (λ t r. good (cast opener e t.word t.kind t.closer) r) else bind (the mark.CloseParen r) (λ closer r. good (bracket opener e closer) r))
+bracket_is opener ts = same_bind (expression 0 ts) _ _ λ e r.
+    ap (λ o. if comes mark.As r then o else bind (the mark.CloseParen r) (λ closer r. good (bracket opener e closer) r)) (cast_then r (λ word k closer r. good (cast opener e word k closer) r))

@@ -1,13 +1,15 @@
 -- The answer of reading blocks does not hang on the number of steps, where these suffice.
-use Rattle.std.proofs.Common.{◌≡◌, ℕ, zero, suc, ◌≤◌, true, if◌then◌else◌, List, length, refl, ap, ◌<◌, arith}
+use Rattle.std.proofs.Common.{◌≡◌, ◌∙◌, ℕ, zero, suc, ◌≤◌, true, if◌then◌else◌, List, length, refl, ap, ◌<◌, arith}
 use Rattle.dh_lexer.specs.declared.tokens.Token.{Token}
 use Rattle.dh_parser.specs.declared.parsing.reading.Mark.TheVariants as mark
 use Rattle.dh_parser.specs.Marks.{comes}
 use Rattle.dh_parser.specs.Grammar.{block, part_then, PartText, simple_then, compound_then, semicolon_then, block_alone, if_alone, while_loop, for_loop, IfText, if_else, ElseText, no_else, else_block, else_if, some_combine}
-use Rattle.dh_parser.specs.Reading.{Outcome, good, bind, the, steps, the_expression, the_simple, the_head, Blocks, the_if, the_while, the_combine, the_for, the_compound, Beginning, begins_simple, begins_compound, begins_semicolon, begins_nothing, beginning, part_with, the_part, the_parts, read_block, the_block, whole_if, whole_else}
+use Rattle.dh_parser.specs.Reading.{Outcome, good, bind, the, steps, the_expression, the_simple, the_head, Blocks, the_if, the_test, the_while, the_combine, the_for, the_compound, Beginning, begins_simple, begins_compound, begins_semicolon, begins_nothing, beginning, part_with, the_part, the_parts, read_block, the_block, whole_if, whole_else}
 use Rattle.dh_parser.proofs.StepsOfExpressions.{mark_left, none_below, lt-own}
 use Rattle.dh_parser.proofs.StepsOfPrograms.{expression_left, EnoughBlocks, compound_left, part_left, parts_left, blocks_left, block_left, head_left, simple_left}
 use Rattle.dh_parser.proofs.WholeExpressions.{same_next, same_either}
+use Rattle.dh_parser.proofs.Going.{same_bind}
+use Rattle.dh_parser.proofs.TermLoops.{test_then}
 
 -- two readers of blocks with one answer on fewer than m tokens, on which they do not give up
 pub record Both (m : ℕ) (b1 b2 : Blocks) : Type 0 where
@@ -161,3 +163,13 @@ compound_is_if ts e = ap (λ b. if b then bind (the_if the_block (steps ts) ts) 
     else (if comes mark.For ts
     then the_for the_block ts
     else (bind (the_block ts) λ b r. good (block_alone b) r)))) e
+
+-- an `if` and a `while` by their tests
+pub if_by_test : (ts : List Token)
+    → whole_if ts ≡ bind (the mark.If ts) (λ word r. bind (the_test r) (λ t r. bind (the_block r) (λ b r. bind (whole_else r) (λ other r. good (if_else word t.opener t.test t.closer b other) r))))
+if_by_test ts = if_is ts ∙ same_bind (the mark.If ts) _ _ λ word r0.
+    test_then r0 (λ opener e closer r. bind (the_block r) (λ b r. bind (whole_else r) (λ other r. good (if_else word opener e closer b other) r)))
+
+pub while_by_test : (ts : List Token) → the_while the_block ts ≡ bind (the mark.While ts) (λ word r. bind (the_test r) (λ t r. bind (the_block r) (λ b r. good (while_loop word t.opener t.test t.closer b) r)))
+while_by_test ts = same_bind (the mark.While ts) _ _ λ word r0.
+    test_then r0 (λ opener e closer r. bind (the_block r) (λ b r. good (while_loop word opener e closer b) r))

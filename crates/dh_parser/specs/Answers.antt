@@ -28,10 +28,11 @@ use Rattle.dh_parser.specs.declared.parsing.types.WrittenPorts.{WrittenPorts}
 use Rattle.dh_parser.specs.declared.parsing.types.WrittenBanks.{WrittenBanks}
 use Rattle.dh_parser.specs.declared.parsing.types.WrittenDim.{WrittenDim}
 use Rattle.dh_parser.specs.declared.parsing.loops.LoopHead.{LoopHead}
+use Rattle.dh_parser.specs.declared.parsing.loops.WrittenRange.{WrittenRange}
 use Rattle.dh_parser.specs.Grammar.{ItemsText, FactorText, SuffixText, OffsetText, ViewText, SimpleText, BlockText, PartsText, PartText, CompoundText, IfText, ElseText, CombineText, ExprText, IndexText, MoreIndicesText, PortsText, no_ports, some_ports, BanksText, DimsText, TypeText, HeadText}
 use Rattle.dh_parser.specs.Marks.{comes}
 use Rattle.dh_parser.specs.TreesOfTexts.{placed_of, ref_of, word_of, banks_of, dims_of, places_of, shape_of, shape_places_of, is_memory_type, declared_of, factor_of, term_of, index_of, indices_of, suffix_of, parent_of, view_of, simple_form, simple_place, block_of, parts_of, part_of, compound_of, if_of, else_of, combine_of, if_place, count_block, count_parts, count_part, count_compound, count_if, count_else, count_combine, decls_of, functions_of, count_items}
-use Rattle.dh_parser.specs.Reading.{Outcome, good, bad, the, sign_text, sign_at, Beginning, begins_simple, begins_compound, begins_semicolon, begins_nothing}
+use Rattle.dh_parser.specs.Reading.{Outcome, good, bad, the, RangeText, sign_text, sign_at, Beginning, begins_simple, begins_compound, begins_semicolon, begins_nothing}
 
 abbrev pub AnswersBy : {A B : Type 0} → (B → A → Type 0) → Result B Stop → List Token → Outcome A → Type 0
 AnswersBy same (Ok v) rest (good a r) = same v a × (rest ≡ r)
@@ -42,6 +43,12 @@ AnswersBy same _ rest o = ⊥
 -- what is given, with the tokens to come, answers as the outcome says
 pub record Answers {A B : Type 0} (same : B → A → Type 0) (given : Result B Stop) (rest : List Token) (o : Outcome A) : Type 0 where
   pub holds : AnswersBy same given rest o
+
+-- memory is wanting only where a text was read
+abbrev pub IfWanting : {A B : Type 0} → Result B Stop → Outcome A → Type 0
+IfWanting (Err stop.NoMemory) (good a r) = Unit {0}
+IfWanting (Err stop.NoMemory) _ = ⊥
+IfWanting _ o = Unit {0}
 
 -- the tokens after a mark, if it came next, and whether it did
 abbrev pub Took : Mark → Bool → List Token → List Token → Type 0
@@ -80,6 +87,12 @@ pub record SameType (w : WrittenType) (t : TypeText) : Type 0 where
   pub shape : w.shape ≡ shape_of t
   pub places : w.places ≡ shape_places_of t
   pub memory : w.is_memory ≡ is_memory_type t.ports t.dims
+
+-- what an iterator goes over
+pub record SameRange (w : WrittenRange) (t : RangeText) : Type 0 where
+  pub declared : w.declared ≡ declared_of t.declared
+  pub low : SameNumber w.low (placed_of t.low)
+  pub high : SameNumber w.high (placed_of t.high)
 
 pub record SameHead (h : LoopHead) (t : HeadText) : Type 0 where
   pub place : h.place ≡ t.word

@@ -298,6 +298,38 @@ the_arguments ts =
     bind (more_arguments (steps r) r) λ more r.
     good (some_arguments e more) r)
 
+-- `( test )`, what an `if` or a `while` asks
+pub record TestText : Type 0 where
+  pub opener : Place
+  pub test : ExprText
+  pub closer : Place
+
+abbrev pub test_text : Place → ExprText → Place → TestText
+test_text opener test closer = record { opener = opener; test = test; closer = closer }
+
+abbrev pub the_test : List Token → Outcome TestText
+the_test ts =
+    bind (the mark.OpenParen ts) λ opener r.
+    bind (the_expression r) λ e r.
+    bind (the mark.CloseParen r) λ closer r.
+    good (test_text opener e closer) r
+
+-- `as kind )`, what makes an expression behind `(` a cast
+pub record CastText : Type 0 where
+  pub word : Place
+  pub kind : KindText
+  pub closer : Place
+
+abbrev pub cast_text : Place → KindText → Place → CastText
+cast_text word k closer = record { word = word; kind = k; closer = closer }
+
+abbrev pub the_cast : List Token → Outcome CastText
+the_cast ts =
+    bind (the mark.As ts) λ word r.
+    bind (the_kind r) λ k r.
+    bind (the mark.CloseParen r) λ closer r.
+    good (cast_text word k closer) r
+
 abbrev pub factor_text : Place → Place → NumberText → Place → FactorText
 factor_text opener word factor closer = record { opener = opener; word = word; factor = factor; closer = closer }
 
@@ -461,6 +493,28 @@ the_unroll ts =
     bind (the_number r) λ factor r.
     good (some_unroll word factor) r)
     else good no_unroll ts
+
+-- `: kind = low..high)`, what an iterator goes over
+pub record RangeText : Type 0 where
+  pub declared : DeclaredText
+  pub equal : Place
+  pub low : NumberText
+  pub range : Place
+  pub high : NumberText
+  pub closer : Place
+
+abbrev pub range_text : DeclaredText → Place → NumberText → Place → NumberText → Place → RangeText
+range_text declared equal low range high closer = record { declared = declared; equal = equal; low = low; range = range; high = high; closer = closer }
+
+abbrev pub the_range : List Token → Outcome RangeText
+the_range ts =
+    bind (the_declared ts) λ declared r.
+    bind (the mark.Assign r) λ equal r.
+    bind (the_number r) λ low r.
+    bind (the mark.Range r) λ range r.
+    bind (the_number r) λ high r.
+    bind (the mark.CloseParen r) λ closer r.
+    good (range_text declared equal low range high closer) r
 
 abbrev pub head_text : Place → Place → Place → NameText → DeclaredText → Place → NumberText → Place → NumberText → Place → UnrollText → HeadText
 head_text word opener let_word iterator declared equal low range high closer unroll = record {

@@ -18,6 +18,10 @@ use Rattle.dh_tree.specs.PlainTrees.{Term, term, TermForm, number, truth_value, 
 abbrev pub ref_of : NameText → Ref
 ref_of n = record { name = n.name; place = n.place; entity = None }
 
+-- the text of a name, of which it may be the name that is not yet resolved
+abbrev pub name_text : Ref → NameText
+name_text r = record { name = r.name; place = r.place }
+
 abbrev pub placed_of : NumberText → Placed
 placed_of n = record { value = n.value; place = n.place }
 
@@ -147,6 +151,11 @@ abbrev pub reducer_op : ReducerText → Op
 reducer_op adds = op.Add
 reducer_op subtracts = op.Sub
 reducer_op multiplies = op.Mul
+
+-- a `let` with a type of this shape, that of a memory or that of a scalar
+abbrev pub let_written : Bool → Ref → Shape → ShapePlaces → Option Term → ActionForm
+let_written true name shape places value = lets_memory name shape places value
+let_written false name shape places value = lets name (Some shape.kind) value
 
 -- a `let` with a type
 abbrev pub let_of : Bool → NameText → TypeText → ValueText → ActionForm

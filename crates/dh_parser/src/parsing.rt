@@ -50,6 +50,3 @@ pub fn parse(alloc: Global, tokens: &[Token]) -> Result<Tree, PassFault>
         }
     }
 }
-
-#[cfg(test)]
-mod tests;

@@ -4,8 +4,8 @@ ghost use Rattle.std.specs.Prelude.{◌≡◌, ◌<◌, ◌≤◌, ◌+◌, ◌^
 ghost use Rattle.dh_base.specs.declared.places.Place.{Place};
 ghost use Rattle.dh_tree.specs.Seen.{action_seen, maybe_seen, placed, unrolled};
 ghost use Rattle.dh_tree.specs.PlainTrees.{action, counts, blocks, group_then, no_groups, action_then, no_actions};
-ghost use Rattle.dh_parser.specs.Answers.{Answers, Made, SameBlock, SameCompound, SameIf, SameElseIf, SameElse, SameCombine, SamePart, SameParts, begins_as};
-ghost use Rattle.dh_parser.specs.Reading.{the_parts, the_part, the_compound, the_block, whole_if, whole_else, the_while, the_for, the_combine, beginning, steps};
+ghost use Rattle.dh_parser.specs.Answers.{Answers, Made, SameBlock, SameCompound, SameIf, SameElseIf, SameElse, SameCombine, SamePart, SameParts, SameTerm, begins_as};
+ghost use Rattle.dh_parser.specs.Reading.{the_test, the_parts, the_part, the_compound, the_block, whole_if, whole_else, the_while, the_for, the_combine, beginning, steps};
 ghost use Rattle.dh_parser.specs.TreesOfTexts.{combine_place_of};
 
 use crate::parsing::expressions::read_expression;
@@ -14,7 +14,7 @@ use crate::parsing::reading::{Mark, Reader, Stop, begin};
 use crate::parsing::simple::read_simple;
 use dh_base::Place;
 use dh_lexer::{Token, TokenKind};
-use dh_tree::{Command, CommandForm};
+use dh_tree::{Command, CommandForm, Expr};
 use std::alloc::Global;
 
 /// What begins at a token, among the commands of a part.
@@ -132,6 +132,32 @@ pub(crate) fn read_block(reader: &mut Reader<'_>) -> Result<Command, Stop>
     Ok(Command { id, place, form })
 }
 
+/// `{ .. }`, as a command holds it.
+#[cycle(command)]
+fn read_boxed_block(reader: &mut Reader<'_>) -> Result<Box<Command>, Stop>
+    requires { reader.old.commands + length reader.old.rest.now ≤ 2 ^ 32 }
+    ensures answer { Answers (λ block b. SameBlock block.value b reader.old.commands reader.new.commands) result reader.new.rest.now (the_block reader.old.rest.now) }
+    ensures room { reader.new.commands + length reader.new.rest.now ≤ reader.old.commands + length reader.old.rest.now }
+    ensures shorter { length reader.new.rest.now ≤ length reader.old.rest.now }
+    ensures taken { IfOk result (λ _. length reader.new.rest.now < length reader.old.rest.now) }
+{
+    let block = read_block(reader)?;
+    let block = Box::new(reader.alloc, block)?;
+    Ok(block)
+}
+
+/// `(test)`, what an `if` or a `while` asks.
+fn read_test(reader: &mut Reader<'_>) -> Result<Expr, Stop>
+    ensures answer { Answers (λ e t. SameTerm e t.test) result reader.new.rest.now (the_test reader.old.rest.now) }
+    ensures commands { reader.new.commands ≡ reader.old.commands }
+    ensures shorter { length reader.new.rest.now ≤ length reader.old.rest.now }
+{
+    reader.skip(Mark::OpenParen)?;
+    let test = read_expression(reader, 0)?;
+    reader.skip(Mark::CloseParen)?;
+    Ok(test)
+}
+
 /// `if (test) { .. }` with what follows `else`, if anything does.
 #[cycle(command)]
 fn read_if(reader: &mut Reader<'_>) -> Result<Command, Stop>
@@ -143,11 +169,8 @@ fn read_if(reader: &mut Reader<'_>) -> Result<Command, Stop>
 {
     let place = reader.skip(Mark::If)?;
     let id = begin(&mut reader.commands);
-    reader.skip(Mark::OpenParen)?;
-    let test = read_expression(reader, 0)?;
-    reader.skip(Mark::CloseParen)?;
-    let then = read_block(reader)?;
-    let then = Box::new(reader.alloc, then)?;
+    let test = read_test(reader)?;
+    let then = read_boxed_block(reader)?;
     let other = read_else(reader)?;
     let form = CommandForm::If { test, then, other };
     Ok(Command { id, place, form })
@@ -169,8 +192,8 @@ fn read_else(reader: &mut Reader<'_>) -> Result<Option<Box<Command>>, Stop>
         let inner = read_else_if(reader)?;
         return Ok(Some(Box::new(reader.alloc, inner)?));
     }
-    let block = read_block(reader)?;
-    Ok(Some(Box::new(reader.alloc, block)?))
+    let block = read_boxed_block(reader)?;
+    Ok(Some(block))
 }
 
 /// The block that an `if` after `else` stands for: its one command is that `if`.
@@ -187,7 +210,6 @@ fn read_else_if(reader: &mut Reader<'_>) -> Result<Command, Stop>
 }
 
 /// The block of this number that holds this command alone.
-#[tactic(auto, using(dh_tree::proofs::SeenActions::actions_are))]
 fn block_of_one(alloc: Global, id: u32, inner: Command) -> Result<Command, Stop>
     ensures { Made (λ block. action_seen block ≡ action id inner.place (blocks (group_then (action_then (action_seen inner) no_actions) no_groups))) result }
 {
@@ -211,11 +233,8 @@ fn read_while(reader: &mut Reader<'_>) -> Result<Command, Stop>
 {
     let place = reader.skip(Mark::While)?;
     let id = begin(&mut reader.commands);
-    reader.skip(Mark::OpenParen)?;
-    let test = read_expression(reader, 0)?;
-    reader.skip(Mark::CloseParen)?;
-    let body = read_block(reader)?;
-    let body = Box::new(reader.alloc, body)?;
+    let test = read_test(reader)?;
+    let body = read_boxed_block(reader)?;
     let form = CommandForm::While { test, body };
     Ok(Command { id, place, form })
 }
@@ -231,14 +250,12 @@ fn read_for(reader: &mut Reader<'_>) -> Result<Command, Stop>
 {
     let head = read_loop_head(reader)?;
     let id = begin(&mut reader.commands);
-    let body = read_block(reader)?;
-    let body = Box::new(reader.alloc, body)?;
+    let body = read_boxed_block(reader)?;
     let (combine, combine_place) = read_combine(reader, head.place)?;
     Ok(counted_loop(id, head, body, combine, combine_place))
 }
 
 /// The loop of this number with this head and these blocks.
-#[tactic(auto, using(dh_tree::proofs::SeenActions::actions_are))]
 fn counted_loop(
     id: u32,
     head: LoopHead,
@@ -291,6 +308,6 @@ fn read_combine(
         return Ok((None, place));
     }
     let word = reader.skip(Mark::Combine)?;
-    let block = read_block(reader)?;
-    Ok((Some(Box::new(reader.alloc, block)?), word))
+    let block = read_boxed_block(reader)?;
+    Ok((Some(block), word))
 }

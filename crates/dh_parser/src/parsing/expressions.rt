@@ -1,19 +1,19 @@
 //! Expressions: operands joined by operators, of which the tighter take their operands first.
 
-ghost use Rattle.std.specs.Prelude.{◌≡◌, ◌<◌, ◌≤◌, length, map, IfOk, None};
+ghost use Rattle.std.specs.Prelude.{◌≡◌, ◌<◌, ◌≤◌, length, map, IfOk, IfErr, None};
 ghost use Rattle.dh_tree.specs.PlainTrees.{term, number, truth_value};
 ghost use Rattle.dh_tree.specs.Seen.{form_seen, term_seen};
 ghost use Rattle.dh_parser.specs.Answers.{Answers, Made, SameTerm, SameIndices};
-ghost use Rattle.dh_parser.specs.Grammar.{NameText};
-ghost use Rattle.dh_parser.specs.Reading.{expression, operand, named_from, access_from, all_indices, the_index, bracket_from, the_argument, the_arguments};
-ghost use Rattle.dh_parser.specs.TreesOfTexts.{ref_of, access_of, index_of, arguments_of, joined_terms};
+ghost use Rattle.dh_parser.specs.Reading.{expression, operand, named_from, access_from, all_indices, the_index, bracket_from, the_cast, the_argument, the_arguments};
+ghost use Rattle.dh_parser.specs.TreesOfTexts.{name_text, kind_of, access_of, index_of, arguments_of, joined_terms};
+ghost use Rattle.dh_parser.specs.declared.parsing.reading.Stop.TheVariants as stop;
 
 use crate::parsing::operators::{level_above, take_operator};
 use crate::parsing::reading::{Mark, Reader, Stop};
 use crate::parsing::types::read_kind;
 use dh_base::Place;
 use dh_lexer::TokenKind;
-use dh_tree::{Expr, ExprForm, Ref};
+use dh_tree::{Expr, ExprForm, Kind, Ref};
 use dh_value::Op;
 use std::alloc::Global;
 
@@ -77,7 +77,8 @@ pub(crate) fn read_operand(reader: &mut Reader<'_>) -> Result<Expr, Stop>
 /// What a name begins: an access, or the name alone.
 #[cycle(expression)]
 fn read_named(reader: &mut Reader<'_>, of: Ref) -> Result<Expr, Stop>
-    ensures answer { (n : NameText) → of ≡ ref_of n → Answers (λ e t. SameTerm e t) result reader.new.rest.now (named_from expression n reader.old.rest.now) }
+    requires { of.entity ≡ None }
+    ensures answer { Answers (λ e t. SameTerm e t) result reader.new.rest.now (named_from expression (name_text of) reader.old.rest.now) }
     ensures commands { reader.new.commands ≡ reader.old.commands }
     ensures shorter { length reader.new.rest.now ≤ length reader.old.rest.now }
 {
@@ -91,7 +92,8 @@ fn read_named(reader: &mut Reader<'_>, of: Ref) -> Result<Expr, Stop>
 /// The rest of the access `of[index]..` or `of{bank}[row]`, after its name.
 #[cycle(expression)]
 pub(crate) fn read_access(reader: &mut Reader<'_>, of: Ref) -> Result<Expr, Stop>
-    ensures answer { (n : NameText) → of ≡ ref_of n → Answers (λ e a. term_seen e ≡ access_of a) result reader.new.rest.now (access_from expression n reader.old.rest.now) }
+    requires { of.entity ≡ None }
+    ensures answer { Answers (λ e a. term_seen e ≡ access_of a) result reader.new.rest.now (access_from expression (name_text of) reader.old.rest.now) }
     ensures commands { reader.new.commands ≡ reader.old.commands }
     ensures shorter { length reader.new.rest.now ≤ length reader.old.rest.now }
 {
@@ -156,11 +158,22 @@ fn read_bracketed(reader: &mut Reader<'_>, opening: Place) -> Result<Expr, Stop>
         reader.skip(Mark::CloseParen)?;
         return Ok(inner);
     }
+    let to = read_cast(reader)?;
+    let inner = Box::new(reader.alloc, inner)?;
+    Ok(plain(opening, ExprForm::Cast { inner, to }))
+}
+
+/// `as kind)`, what makes an expression behind `(` a cast.
+fn read_cast(reader: &mut Reader<'_>) -> Result<Kind, Stop>
+    ensures answer { Answers (λ kind t. kind ≡ kind_of t.kind) result reader.new.rest.now (the_cast reader.old.rest.now) }
+    ensures commands { reader.new.commands ≡ reader.old.commands }
+    ensures shorter { length reader.new.rest.now ≤ length reader.old.rest.now }
+    ensures memory { IfErr result (λ e. e ≡ stop.Here) }
+{
     reader.skip(Mark::As)?;
     let to = read_kind(reader)?;
     reader.skip(Mark::CloseParen)?;
-    let inner = Box::new(reader.alloc, inner)?;
-    Ok(plain(opening, ExprForm::Cast { inner, to }))
+    Ok(to)
 }
 
 /// Arguments between parentheses, after the first of these.
@@ -197,7 +210,6 @@ fn read_argument(reader: &mut Reader<'_>) -> Result<Expr, Stop>
 }
 
 /// The expression of this form, its kind not yet found.
-#[tactic(auto, using(dh_tree::proofs::SeenTerms::terms_are))]
 fn plain(place: Place, form: ExprForm) -> Expr
     ensures { term_seen result ≡ term place None (form_seen form) }
 {
@@ -209,7 +221,6 @@ fn plain(place: Place, form: ExprForm) -> Expr
 }
 
 /// A number, or a number after a `-`.
-#[tactic(auto, using(dh_tree::proofs::SeenTerms::terms_are))]
 fn literal(place: Place, negative: bool, value: u64) -> Expr
     ensures { term_seen result ≡ term place None (number negative value) }
 {
@@ -217,7 +228,6 @@ fn literal(place: Place, negative: bool, value: u64) -> Expr
 }
 
 /// `true` or `false`.
-#[tactic(auto, using(dh_tree::proofs::SeenTerms::terms_are))]
 fn truth(place: Place, value: bool) -> Expr
     ensures { term_seen result ≡ term place None (truth_value value) }
 {
@@ -225,7 +235,6 @@ fn truth(place: Place, value: bool) -> Expr
 }
 
 /// `left op right`
-#[tactic(auto, using(dh_tree::proofs::SeenTerms::terms_are))]
 fn joined(alloc: Global, op: Op, left: Expr, right: Expr) -> Result<Expr, Stop>
     ensures { Made (λ e. term_seen e ≡ joined_terms op (term_seen left) (term_seen right)) result }
 {

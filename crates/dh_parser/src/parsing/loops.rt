@@ -1,9 +1,10 @@
 //! The head of a `for`.
 
-ghost use Rattle.std.specs.Prelude.{◌≡◌, ◌<◌, ◌≤◌, length, IfOk};
-ghost use Rattle.dh_parser.specs.Answers.{Answers, SameHead, SameUnrolled};
-ghost use Rattle.dh_parser.specs.Reading.{the_declared, the_head, the_unroll};
+ghost use Rattle.std.specs.Prelude.{◌≡◌, ◌<◌, ◌≤◌, length, IfOk, IfErr};
+ghost use Rattle.dh_parser.specs.Answers.{Answers, SameHead, SameRange, SameUnrolled};
+ghost use Rattle.dh_parser.specs.Reading.{the_declared, the_head, the_range, the_unroll};
 ghost use Rattle.dh_parser.specs.TreesOfTexts.{declared_of, factor_of};
+ghost use Rattle.dh_parser.specs.declared.parsing.reading.Stop.TheVariants as stop;
 
 use crate::parsing::reading::{Mark, Numeral, Reader, Stop};
 use crate::parsing::types::read_kind;
@@ -29,6 +30,17 @@ pub(crate) struct LoopHead {
     pub unroll: Place,
 }
 
+/// What an iterator goes over, as it is written.
+#[derive(Clone, Copy)]
+pub(crate) struct WrittenRange {
+    /// The iterator's kind, where it is written.
+    pub declared: Option<Kind>,
+    /// Its first value.
+    pub low: Numeral,
+    /// The number after its last value.
+    pub high: Numeral,
+}
+
 /// `for (let iterator: declared = low..high) unroll factor`
 pub(crate) fn read_loop_head(reader: &mut Reader<'_>) -> Result<LoopHead, Stop>
     ensures answer { Answers (λ head t. SameHead head t) result reader.new.rest.now (the_head reader.old.rest.now) }
@@ -40,26 +52,42 @@ pub(crate) fn read_loop_head(reader: &mut Reader<'_>) -> Result<LoopHead, Stop>
     reader.skip(Mark::OpenParen)?;
     reader.skip(Mark::Let)?;
     let iterator = reader.name()?;
+    let range = read_range(reader)?;
+    let (factor, unroll) = read_factor(reader, place)?;
+    Ok(LoopHead {
+        place,
+        iterator,
+        declared: range.declared,
+        low: range.low,
+        high: range.high,
+        factor,
+        unroll,
+    })
+}
+
+/// `: kind = low..high)`, behind an iterator.
+fn read_range(reader: &mut Reader<'_>) -> Result<WrittenRange, Stop>
+    ensures answer { Answers (λ range t. SameRange range t) result reader.new.rest.now (the_range reader.old.rest.now) }
+    ensures commands { reader.new.commands ≡ reader.old.commands }
+    ensures shorter { length reader.new.rest.now ≤ length reader.old.rest.now }
+    ensures memory { IfErr result (λ e. e ≡ stop.Here) }
+{
     let declared = read_declared(reader)?;
     reader.skip(Mark::Assign)?;
     let low = reader.number()?;
     reader.skip(Mark::Range)?;
     let high = reader.number()?;
     reader.skip(Mark::CloseParen)?;
-    let (factor, unroll) = read_factor(reader, place)?;
-    Ok(LoopHead {
-        place,
-        iterator,
+    Ok(WrittenRange {
         declared,
         low,
         high,
-        factor,
-        unroll,
     })
 }
 
 /// The kind after `:`, if that sign comes next.
 fn read_declared(reader: &mut Reader<'_>) -> Result<Option<Kind>, Stop>
+    ensures memory { IfErr result (λ e. e ≡ stop.Here) }
     ensures answer { Answers (λ declared t. declared ≡ declared_of t) result reader.new.rest.now (the_declared reader.old.rest.now) }
     ensures commands { reader.new.commands ≡ reader.old.commands }
     ensures shorter { length reader.new.rest.now ≤ length reader.old.rest.now }
@@ -73,6 +101,7 @@ fn read_declared(reader: &mut Reader<'_>) -> Result<Option<Kind>, Stop>
 /// The number after `unroll` with the place of the word, if that comes next; else 1, at the place of the
 /// loop.
 fn read_factor(reader: &mut Reader<'_>, place: Place) -> Result<(Numeral, Place), Stop>
+    ensures memory { IfErr result (λ e. e ≡ stop.Here) }
     ensures answer { Answers (λ v t. SameUnrolled v.0 v.1 (factor_of place t)) result reader.new.rest.now (the_unroll reader.old.rest.now) }
     ensures commands { reader.new.commands ≡ reader.old.commands }
     ensures shorter { length reader.new.rest.now ≤ length reader.old.rest.now }

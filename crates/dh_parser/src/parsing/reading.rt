@@ -1,7 +1,7 @@
 //! Where the parser stands, and the single tokens that it takes.
 
-ghost use Rattle.std.specs.Prelude.{◌≡◌, ◌<◌, ◌≤◌, ◌+◌, ◌^◌, length, IfOk};
-ghost use Rattle.dh_parser.specs.Answers.{Answers, SameNumber, StandsAt, Took};
+ghost use Rattle.std.specs.Prelude.{◌≡◌, ◌<◌, ◌≤◌, ◌+◌, ◌^◌, None, length, IfOk, IfErr};
+ghost use Rattle.dh_parser.specs.Answers.{Answers, IfWanting, SameNumber, StandsAt, Took};
 ghost use Rattle.dh_parser.specs.Marks as marks;
 ghost use Rattle.dh_parser.specs.Marks.{comes};
 ghost use Rattle.dh_parser.specs.Reading.{the, the_number, the_name, goes_on};
@@ -206,6 +206,7 @@ impl Reader<'_> {
 
     /// Takes this, which has to come next. Gives its place.
     pub fn skip(&mut self, mark: Mark) -> Result<Place, Stop>
+        ensures memory { IfErr result (λ e. e ≡ stop.Here) }
         ensures answer { Answers (λ place p. place ≡ p) result self.new.rest.now (the mark self.old.rest.now) }
         ensures shorter { length self.new.rest.now ≤ length self.old.rest.now }
         ensures taken { IfOk result (λ _. length self.new.rest.now < length self.old.rest.now) }
@@ -220,8 +221,10 @@ impl Reader<'_> {
         }
     }
 
-    /// Takes a name, which has to come next.
+    /// Takes a name, which has to come next. Only where one does it takes memory.
     pub fn name(&mut self) -> Result<Ref, Stop>
+        ensures memory { IfWanting result (the_name self.old.rest.now) }
+        ensures unnumbered { IfOk result (λ name. name.entity ≡ None) }
         ensures answer { Answers (λ name n. name ≡ ref_of n) result self.new.rest.now (the_name self.old.rest.now) }
         ensures shorter { length self.new.rest.now ≤ length self.old.rest.now }
         ensures taken { IfOk result (λ _. length self.new.rest.now < length self.old.rest.now) }
@@ -249,6 +252,7 @@ impl Reader<'_> {
 
     /// Takes a number, which has to come next.
     pub fn number(&mut self) -> Result<Numeral, Stop>
+        ensures memory { IfErr result (λ e. e ≡ stop.Here) }
         ensures answer { Answers (λ number n. SameNumber number (placed_of n)) result self.new.rest.now (the_number self.old.rest.now) }
         ensures shorter { length self.new.rest.now ≤ length self.old.rest.now }
         ensures taken { IfOk result (λ _. length self.new.rest.now < length self.old.rest.now) }

@@ -1,13 +1,12 @@
 //! Commands without blocks.
 
-ghost use Rattle.std.specs.Prelude.{◌≡◌, ◌<◌, ◌≤◌, ◌+◌, ◌^◌, length, option_map, IfOk};
+ghost use Rattle.std.specs.Prelude.{◌≡◌, ◌<◌, ◌≤◌, ◌+◌, ◌^◌, None, length, option_map, IfOk};
 ghost use Rattle.dh_base.specs.declared.places.Place.{Place};
 ghost use Rattle.dh_tree.specs.PlainTrees.{action};
 ghost use Rattle.dh_tree.specs.Seen.{action_seen, action_form_seen, term_seen};
-ghost use Rattle.dh_parser.specs.Answers.{Answers, SameSimple, SameType, StandsAt};
-ghost use Rattle.dh_parser.specs.Grammar.{NameText, TypeText, ValueText};
+ghost use Rattle.dh_parser.specs.Answers.{Answers, SameSimple, StandsAt};
 ghost use Rattle.dh_parser.specs.Reading.{the_simple, let_from, after_name, store_from, the_value};
-ghost use Rattle.dh_parser.specs.TreesOfTexts.{ref_of, simple_form, simple_place, value_of, let_of, is_memory_type};
+ghost use Rattle.dh_parser.specs.TreesOfTexts.{name_text, simple_form, simple_place, value_of, let_written};
 
 use crate::parsing::expressions::{read_access, read_arguments, read_expression};
 use crate::parsing::operators::reducer_of;
@@ -33,6 +32,7 @@ pub(crate) fn read_simple(reader: &mut Reader<'_>) -> Result<Command, Stop>
 
 /// What a command is that begins with `let`, `view` or a name.
 fn read_form(reader: &mut Reader<'_>) -> Result<CommandForm, Stop>
+    requires { 0 < length reader.old.rest.now }
     ensures answer { (p : Place) → StandsAt (Ok p) reader.old.rest.now → Answers (λ form s. SameSimple p form s) result reader.new.rest.now (the_simple reader.old.rest.now) }
     ensures commands { reader.new.commands ≡ reader.old.commands }
     ensures shorter { length reader.new.rest.now ≤ length reader.old.rest.now }
@@ -83,10 +83,8 @@ fn read_let(reader: &mut Reader<'_>) -> Result<CommandForm, Stop>
 }
 
 /// The `let` of this name with a type.
-#[tactic(auto, using(dh_tree::proofs::SeenActions::actions_are))]
 fn typed_let(name: Ref, written: WrittenType, value: Option<Expr>) -> CommandForm
-    ensures { (n : NameText) (t : TypeText) (v : ValueText) → name ≡ ref_of n → SameType written t → option_map term_seen value ≡ value_of v
-        → action_form_seen result ≡ let_of (is_memory_type t.ports t.dims) n t v }
+    ensures { action_form_seen result ≡ let_written written.is_memory name written.shape written.places (option_map term_seen value) }
 {
     let WrittenType {
         shape,
@@ -123,7 +121,8 @@ fn read_value(reader: &mut Reader<'_>) -> Result<Option<Expr>, Stop>
 
 /// The rest of a command that begins with this name.
 fn read_named(reader: &mut Reader<'_>, name: Ref) -> Result<CommandForm, Stop>
-    ensures answer { (n : NameText) → name ≡ ref_of n → Answers (λ form s. SameSimple n.place form s) result reader.new.rest.now (after_name n reader.old.rest.now) }
+    requires { name.entity ≡ None }
+    ensures answer { Answers (λ form s. SameSimple name.place form s) result reader.new.rest.now (after_name (name_text name) reader.old.rest.now) }
     ensures commands { reader.new.commands ≡ reader.old.commands }
     ensures shorter { length reader.new.rest.now ≤ length reader.old.rest.now }
 {
@@ -165,7 +164,8 @@ fn read_named(reader: &mut Reader<'_>, name: Ref) -> Result<CommandForm, Stop>
 
 /// The rest of a store to an element of the memory of this name.
 fn read_store(reader: &mut Reader<'_>, name: Ref) -> Result<CommandForm, Stop>
-    ensures answer { (n : NameText) → name ≡ ref_of n → Answers (λ form s. SameSimple n.place form s) result reader.new.rest.now (store_from n reader.old.rest.now) }
+    requires { name.entity ≡ None }
+    ensures answer { Answers (λ form s. SameSimple name.place form s) result reader.new.rest.now (store_from (name_text name) reader.old.rest.now) }
     ensures commands { reader.new.commands ≡ reader.old.commands }
     ensures shorter { length reader.new.rest.now ≤ length reader.old.rest.now }
 {

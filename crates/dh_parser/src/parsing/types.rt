@@ -1,12 +1,13 @@
 //! Kinds and types.
 
-ghost use Rattle.std.specs.Prelude.{◌≡◌, ◌<◌, ◌≤◌, length, IfOk};
+ghost use Rattle.std.specs.Prelude.{◌≡◌, ◌<◌, ◌≤◌, length, IfOk, IfErr};
 ghost use Rattle.dh_base.specs.declared.places.Place.{Place};
 ghost use Rattle.dh_value.specs.declared.kinds.Kind.TheVariants as kinds;
 ghost use Rattle.dh_parser.specs.Answers.{Answers, SameBanks, SamePorts, SameDim, SameType};
 ghost use Rattle.dh_parser.specs.Grammar.{TypeText, bit_kind, ubit_kind};
 ghost use Rattle.dh_parser.specs.Reading.{width_then, the_kind, the_ports, the_banks, the_dim, the_dims, the_type, steps};
 ghost use Rattle.dh_parser.specs.TreesOfTexts.{kind_of, kind_place, dims_of, places_of};
+ghost use Rattle.dh_parser.specs.declared.parsing.reading.Stop.TheVariants as stop;
 
 use crate::parsing::reading::{Mark, Numeral, Reader, Stop};
 use dh_base::{Items, Place};
@@ -56,6 +57,7 @@ const MOST_BITS: u64 = 64;
 
 /// `bool`, `bit<width>` or `ubit<width>`
 pub(crate) fn read_kind(reader: &mut Reader<'_>) -> Result<Kind, Stop>
+    ensures memory { IfErr result (λ e. e ≡ stop.Here) }
     ensures answer { Answers (λ kind k. kind ≡ kind_of k) result reader.new.rest.now (the_kind reader.old.rest.now) }
     ensures commands { reader.new.commands ≡ reader.old.commands }
     ensures shorter { length reader.new.rest.now ≤ length reader.old.rest.now }
@@ -82,6 +84,7 @@ pub(crate) fn read_kind(reader: &mut Reader<'_>) -> Result<Kind, Stop>
 
 /// The width of a kind between its signs, from 1 to 64.
 fn read_width(reader: &mut Reader<'_>) -> Result<u8, Stop>
+    ensures memory { IfErr result (λ e. e ≡ stop.Here) }
     ensures answer { (word : Place) → Answers (λ width k. kinds.Unsigned width ≡ kind_of k) result reader.new.rest.now (width_then (ubit_kind word) reader.old.rest.now) }
     ensures signed { (word : Place) → Answers (λ width k. kinds.Signed width ≡ kind_of k) result reader.new.rest.now (width_then (bit_kind word) reader.old.rest.now) }
     ensures commands { reader.new.commands ≡ reader.old.commands }
@@ -153,6 +156,7 @@ fn written_type(
 
 /// A number of ports in braces, if a brace comes next.
 fn read_ports(reader: &mut Reader<'_>) -> Result<Option<WrittenPorts>, Stop>
+    ensures memory { IfErr result (λ e. e ≡ stop.Here) }
     ensures answer { Answers (λ ports p. SamePorts ports p) result reader.new.rest.now (the_ports reader.old.rest.now) }
     ensures commands { reader.new.commands ≡ reader.old.commands }
     ensures shorter { length reader.new.rest.now ≤ length reader.old.rest.now }
@@ -184,6 +188,7 @@ fn read_dims(reader: &mut Reader<'_>) -> Result<(Items<Dim>, Items<DimPlaces>), 
 
 /// `[size]` or `[size bank banks]`
 fn read_dim(reader: &mut Reader<'_>) -> Result<WrittenDim, Stop>
+    ensures memory { IfErr result (λ e. e ≡ stop.Here) }
     ensures answer { Answers (λ written put. SameDim written put) result reader.new.rest.now (the_dim reader.old.rest.now) }
     ensures commands { reader.new.commands ≡ reader.old.commands }
     ensures shorter { length reader.new.rest.now ≤ length reader.old.rest.now }
@@ -209,6 +214,7 @@ fn read_dim(reader: &mut Reader<'_>) -> Result<WrittenDim, Stop>
 
 /// The number after `bank`, if the word comes next; else 1, at the place of the size.
 fn read_banks(reader: &mut Reader<'_>, size: Place) -> Result<WrittenBanks, Stop>
+    ensures memory { IfErr result (λ e. e ≡ stop.Here) }
     ensures answer { Answers (λ banks t. SameBanks size banks t) result reader.new.rest.now (the_banks reader.old.rest.now) }
     ensures commands { reader.new.commands ≡ reader.old.commands }
     ensures shorter { length reader.new.rest.now ≤ length reader.old.rest.now }

@@ -1,10 +1,11 @@
 //! Views.
 
-ghost use Rattle.std.specs.Prelude.{◌≡◌, ◌<◌, ◌≤◌, length, IfOk};
+ghost use Rattle.std.specs.Prelude.{◌≡◌, ◌<◌, ◌≤◌, length, IfOk, IfErr};
 ghost use Rattle.dh_base.specs.declared.places.Place.{Place};
 ghost use Rattle.dh_parser.specs.Answers.{Answers, SameNumber, SameFactors, SameSuffix, SameSuffixes, SameOffsets, SamePlan, SameSimple, SameTerm};
 ghost use Rattle.dh_parser.specs.Reading.{the_factor, the_suffix, the_offset, all_of, parent_and, the_view, view_command_from};
 ghost use Rattle.dh_parser.specs.TreesOfTexts.{ref_of, placed_of};
+ghost use Rattle.dh_parser.specs.declared.parsing.reading.Stop.TheVariants as stop;
 
 use crate::parsing::expressions::{read_expression, read_operand};
 use crate::parsing::reading::{Mark, Numeral, Reader, Stop};
@@ -133,6 +134,7 @@ fn read_factors(reader: &mut Reader<'_>) -> Result<Factors, Stop>
 
 /// `[by factor]`
 fn read_factor(reader: &mut Reader<'_>) -> Result<Numeral, Stop>
+    ensures memory { IfErr result (λ e. e ≡ stop.Here) }
     ensures answer { Answers (λ n f. SameNumber n (placed_of f.factor)) result reader.new.rest.now (the_factor reader.old.rest.now) }
     ensures commands { reader.new.commands ≡ reader.old.commands }
     ensures shorter { length reader.new.rest.now ≤ length reader.old.rest.now }

@@ -36,7 +36,7 @@ loop-at-preserved c =
     let n : (c.loop-at.at + c.in-Some.length) - c.loop-at.at ≡ c.in-Some.length = omega arith in
     let is = c.place_past-place.ensures in
     let past = rw n at is in
-    rw (c.in_ok-keep.ensures, past) (lexed_more c.args.text.now _ _ c.loop-at.at c.in-Some.front c.in-Some.length c.loop-at.invariant (sym c.in-Some.is ∙ c.in_ok-front.ensures))
+    rw (c.in_ok-keep.ensures.tokens, past) (lexed_more c.args.text.now _ _ c.loop-at.at c.in-Some.front c.in-Some.length c.loop-at.invariant (sym c.in-Some.is ∙ c.in_ok-front.ensures))
 
 pub returns : goal.returns
 returns c =

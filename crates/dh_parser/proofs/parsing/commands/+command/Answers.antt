@@ -3,7 +3,7 @@ use Rattle.dh_parser.specs.Grammar.{if_alone, simple_then, compound_then, semico
 use Rattle.dh_parser.specs.Reading.{the_part, the_parts, the_block, begins_simple, begins_compound, begins_nothing}
 use Rattle.dh_parser.proofs.Going.{ok_then, err_then, given, known}
 use Rattle.dh_parser.proofs.Loops.{loop_begins, loop_turn, loop_ends, through}
-use Rattle.dh_parser.proofs.WholeBlocks.{block_is, if_is, compound_is_if}
+use Rattle.dh_parser.proofs.WholeBlocks.{block_is, if_by_test, while_by_test, compound_is_if}
 use Rattle.dh_parser.proofs.BlockForms.{block_made, if_made, while_made, for_made, moved}
 use Rattle.dh_parser.proofs.PartLoops.{part_begins, parts_begin, simple_more, compound_more, semicolon_more, part_more, part_ends, part_last, parts_end, part_moved, part_by, simple_turn, simple_last, compound_turn, semicolon_turn, parts_turn, parts_last}
 use Rattle.dh_parser.proofs.parsing.commands.+command.Goals as goal
@@ -43,80 +43,7 @@ read_for-returns-clause-answer t c =
     ok_then _ c.in_ok-head.ensures.answer λ h p0.
     ok_then _ c.in_ok-body.ensures.answer λ b p1.
     ok_then _ c.in_ok-combine.ensures.answer λ m p2.
-    record { holds = (for_made c.begin-id.result _ _ _ _ c.in_ok-head.head h _ _ _ _ b m c.counted_loop.ensures (c.begin-id.ensures.id ∙ c.in_ok-head.ensures.commands) (c.begin-id.ensures.count ∙ ap (λ n. n + 1) c.in_ok-head.ensures.commands) p0 (search rules) p1 p2.0 p2.1, refl) }
-
-pub read_if-returns-in_err-place-clause-answer : goal.read_if-returns-in_err-place-clause-answer
-read_if-returns-in_err-place-clause-answer t c =
-    rw (if_is c.args.reader.now.rest.now, given c.from_residual.ensures)
-    (err_then _ c.in_err-place.ensures.answer)
-
-pub read_if-returns-in_err-skip-clause-answer : goal.read_if-returns-in_err-skip-clause-answer
-read_if-returns-in_err-skip-clause-answer t c =
-    rw (if_is c.args.reader.now.rest.now, given c.from_residual-in_err-skip.ensures)
-    (ok_then _ c.in_ok-place.ensures.answer λ a0 p0.
-    err_then _ c.in_err-skip.ensures.answer)
-
-pub read_if-returns-in_err-test-clause-answer : goal.read_if-returns-in_err-test-clause-answer
-read_if-returns-in_err-test-clause-answer t c =
-    rw (if_is c.args.reader.now.rest.now, given c.from_residual-in_err-test.ensures)
-    (ok_then _ c.in_ok-place.ensures.answer λ a0 p0.
-    ok_then _ c.in_ok-skip.ensures.answer λ a1 p1.
-    err_then _ c.in_err-test.ensures.answer)
-
-pub read_if-returns-in_err-skip-2-clause-answer : goal.read_if-returns-in_err-skip-2-clause-answer
-read_if-returns-in_err-skip-2-clause-answer t c =
-    rw (if_is c.args.reader.now.rest.now, given c.from_residual-in_err-skip-2.ensures)
-    (ok_then _ c.in_ok-place.ensures.answer λ a0 p0.
-    ok_then _ c.in_ok-skip.ensures.answer λ a1 p1.
-    ok_then _ c.in_ok-test.ensures.answer λ a2 p2.
-    err_then _ c.in_err-skip-2.ensures.answer)
-
-pub read_if-returns-in_err-then-clause-answer : goal.read_if-returns-in_err-then-clause-answer
-read_if-returns-in_err-then-clause-answer t c =
-    rw (if_is c.args.reader.now.rest.now, given c.from_residual-in_err-then.ensures)
-    (ok_then _ c.in_ok-place.ensures.answer λ a0 p0.
-    ok_then _ c.in_ok-skip.ensures.answer λ a1 p1.
-    ok_then _ c.in_ok-test.ensures.answer λ a2 p2.
-    ok_then _ c.in_ok-skip-2.ensures.answer λ a3 p3.
-    err_then _ c.in_err-then.ensures.answer)
-
-pub read_if-returns-in_err-other-clause-answer : goal.read_if-returns-in_err-other-clause-answer
-read_if-returns-in_err-other-clause-answer t c =
-    rw (if_is c.args.reader.now.rest.now, given c.from_residual-in_err-other.ensures)
-    (ok_then _ c.in_ok-place.ensures.answer λ a0 p0.
-    ok_then _ c.in_ok-skip.ensures.answer λ a1 p1.
-    ok_then _ c.in_ok-test.ensures.answer λ a2 p2.
-    ok_then _ c.in_ok-skip-2.ensures.answer λ a3 p3.
-    ok_then _ c.in_ok-then.ensures.answer λ a4 p4.
-    err_then _ c.in_err-other.ensures.answer)
-
-pub read_if-returns-clause-answer : goal.read_if-returns-clause-answer
-read_if-returns-clause-answer t c =
-    rw (if_is c.args.reader.now.rest.now)
-    (ok_then _ c.in_ok-place.ensures.answer λ word p0.
-    ok_then _ c.in_ok-skip.ensures.answer λ opener p1.
-    ok_then _ c.in_ok-test.ensures.answer λ e p2.
-    ok_then _ c.in_ok-skip-2.ensures.answer λ closer p3.
-    ok_then _ c.in_ok-then.ensures.answer λ b p4.
-    ok_then _ c.in_ok-other.ensures.answer λ l p5.
-    record { holds = (if_made c.begin-id.result _ _ _ _ c.in_ok-place.place word opener closer c.in_ok-test.test _ _ _ e b l refl (c.begin-id.ensures.id ∙ c.in_ok-place.ensures.commands) (c.in_ok-skip-2.ensures.commands ∙ (c.in_ok-test.ensures.commands ∙ (c.in_ok-skip.ensures.commands ∙ (c.begin-id.ensures.count ∙ ap (λ n. n + 1) c.in_ok-place.ensures.commands)))) p0 p2 (search rules) p4 p5, refl) })
-
-pub read_while-returns-in_err-skip-2-clause-answer : goal.read_while-returns-in_err-skip-2-clause-answer
-read_while-returns-in_err-skip-2-clause-answer t c =
-    rw (given c.from_residual-in_err-skip-2.ensures)
-    (ok_then _ c.in_ok-place.ensures.answer λ a0 p0.
-    ok_then _ c.in_ok-skip.ensures.answer λ a1 p1.
-    ok_then _ c.in_ok-test.ensures.answer λ a2 p2.
-    err_then _ c.in_err-skip-2.ensures.answer)
-
-pub read_while-returns-clause-answer : goal.read_while-returns-clause-answer
-read_while-returns-clause-answer t c =
-    ok_then _ c.in_ok-place.ensures.answer λ word p0.
-    ok_then _ c.in_ok-skip.ensures.answer λ opener p1.
-    ok_then _ c.in_ok-test.ensures.answer λ e p2.
-    ok_then _ c.in_ok-skip-2.ensures.answer λ closer p3.
-    ok_then _ c.in_ok-body.ensures.answer λ b p4.
-    record { holds = (while_made c.begin-id.result _ _ _ c.in_ok-place.place word opener closer c.in_ok-test.test _ _ e b refl (c.begin-id.ensures.id ∙ c.in_ok-place.ensures.commands) (c.in_ok-skip-2.ensures.commands ∙ (c.in_ok-test.ensures.commands ∙ (c.in_ok-skip.ensures.commands ∙ (c.begin-id.ensures.count ∙ ap (λ n. n + 1) c.in_ok-place.ensures.commands)))) p0 p2 (search rules) p4, refl) }
+    record { holds = (for_made c.begin-id.result _ _ _ _ c.in_ok-head.head h _ _ _ _ b m c.counted_loop.ensures (c.begin-id.ensures.id ∙ c.in_ok-head.ensures.commands) (c.begin-id.ensures.count ∙ ap (λ n. n + 1) c.in_ok-head.ensures.commands) p0 refl p1 p2.0 p2.1, refl) }
 
 pub read_part-loop-reader-init : goal.read_part-loop-reader-init
 read_part-loop-reader-init t c = record {
@@ -200,3 +127,75 @@ read_sequence-loop-parts-preserved t c =
       room = search rules;
       shorter = search rules;
     }
+
+pub read_for-returns-in_err-head-clause-answer : goal.read_for-returns-in_err-head-clause-answer
+read_for-returns-in_err-head-clause-answer t c =
+    rw (given c.from_residual.ensures)
+    (err_then _ c.in_err-head.ensures.answer)
+
+pub read_for-returns-in_err-body-clause-answer : goal.read_for-returns-in_err-body-clause-answer
+read_for-returns-in_err-body-clause-answer t c =
+    rw (given c.from_residual-in_err-body.ensures)
+    (ok_then _ c.in_ok-head.ensures.answer λ a0 p0.
+    err_then _ c.in_err-body.ensures.answer)
+
+pub read_if-returns-in_err-place-clause-answer : goal.read_if-returns-in_err-place-clause-answer
+read_if-returns-in_err-place-clause-answer t c =
+    rw (if_by_test c.args.reader.now.rest.now, given c.from_residual.ensures)
+    (err_then _ c.in_err-place.ensures.answer)
+
+pub read_if-returns-in_err-test-clause-answer : goal.read_if-returns-in_err-test-clause-answer
+read_if-returns-in_err-test-clause-answer t c =
+    rw (if_by_test c.args.reader.now.rest.now, given c.from_residual-in_err-test.ensures)
+    (ok_then _ c.in_ok-place.ensures.answer λ a0 p0.
+    err_then _ c.in_err-test.ensures.answer)
+
+pub read_if-returns-in_err-then-clause-answer : goal.read_if-returns-in_err-then-clause-answer
+read_if-returns-in_err-then-clause-answer t c =
+    rw (if_by_test c.args.reader.now.rest.now, given c.from_residual-in_err-then.ensures)
+    (ok_then _ c.in_ok-place.ensures.answer λ a0 p0.
+    ok_then _ c.in_ok-test.ensures.answer λ a1 p1.
+    err_then _ c.in_err-then.ensures.answer)
+
+pub read_if-returns-in_err-other-clause-answer : goal.read_if-returns-in_err-other-clause-answer
+read_if-returns-in_err-other-clause-answer t c =
+    rw (if_by_test c.args.reader.now.rest.now, given c.from_residual-in_err-other.ensures)
+    (ok_then _ c.in_ok-place.ensures.answer λ a0 p0.
+    ok_then _ c.in_ok-test.ensures.answer λ a1 p1.
+    ok_then _ c.in_ok-then.ensures.answer λ a2 p2.
+    err_then _ c.in_err-other.ensures.answer)
+
+pub read_if-returns-clause-answer : goal.read_if-returns-clause-answer
+read_if-returns-clause-answer t c =
+    rw (if_by_test c.args.reader.now.rest.now)
+    (ok_then _ c.in_ok-place.ensures.answer λ a0 p0.
+    ok_then _ c.in_ok-test.ensures.answer λ a1 p1.
+    ok_then _ c.in_ok-then.ensures.answer λ a2 p2.
+    ok_then _ c.in_ok-other.ensures.answer λ a3 p3.
+    record { holds = (if_made c.begin-id.result _ _ _ _ c.in_ok-place.place a0 a1.opener a1.closer c.in_ok-test.test c.in_ok-then.then _ _ a1.test a2 a3 refl (c.begin-id.ensures.id ∙ c.in_ok-place.ensures.commands) (c.in_ok-test.ensures.commands ∙ (c.begin-id.ensures.count ∙ ap (λ n. n + 1) c.in_ok-place.ensures.commands)) p0 p1 refl p2 p3, refl) })
+
+pub read_while-returns-in_err-place-clause-answer : goal.read_while-returns-in_err-place-clause-answer
+read_while-returns-in_err-place-clause-answer t c =
+    rw (while_by_test c.args.reader.now.rest.now, given c.from_residual.ensures)
+    (err_then _ c.in_err-place.ensures.answer)
+
+pub read_while-returns-in_err-test-clause-answer : goal.read_while-returns-in_err-test-clause-answer
+read_while-returns-in_err-test-clause-answer t c =
+    rw (while_by_test c.args.reader.now.rest.now, given c.from_residual-in_err-test.ensures)
+    (ok_then _ c.in_ok-place.ensures.answer λ a0 p0.
+    err_then _ c.in_err-test.ensures.answer)
+
+pub read_while-returns-in_err-body-clause-answer : goal.read_while-returns-in_err-body-clause-answer
+read_while-returns-in_err-body-clause-answer t c =
+    rw (while_by_test c.args.reader.now.rest.now, given c.from_residual-in_err-body.ensures)
+    (ok_then _ c.in_ok-place.ensures.answer λ a0 p0.
+    ok_then _ c.in_ok-test.ensures.answer λ a1 p1.
+    err_then _ c.in_err-body.ensures.answer)
+
+pub read_while-returns-clause-answer : goal.read_while-returns-clause-answer
+read_while-returns-clause-answer t c =
+    rw (while_by_test c.args.reader.now.rest.now)
+    (ok_then _ c.in_ok-place.ensures.answer λ a0 p0.
+    ok_then _ c.in_ok-test.ensures.answer λ a1 p1.
+    ok_then _ c.in_ok-body.ensures.answer λ a2 p2.
+    record { holds = (while_made c.begin-id.result _ _ _ c.in_ok-place.place a0 a1.opener a1.closer c.in_ok-test.test c.in_ok-body.body _ a1.test a2 refl (c.begin-id.ensures.id ∙ c.in_ok-place.ensures.commands) (c.in_ok-test.ensures.commands ∙ (c.begin-id.ensures.count ∙ ap (λ n. n + 1) c.in_ok-place.ensures.commands)) p0 p1 refl p2, refl) })

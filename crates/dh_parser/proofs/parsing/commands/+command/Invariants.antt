@@ -19,6 +19,9 @@ decreases-read_else_if l = length l.reader.now.rest.now * 8 + 3
 abbrev pub decreases-read_block : goal.decreases-read_block
 decreases-read_block l = length l.reader.now.rest.now * 8 + 2
 
+abbrev pub decreases-read_boxed_block : goal.decreases-read_boxed_block
+decreases-read_boxed_block l = length l.reader.now.rest.now * 8 + 3
+
 abbrev pub decreases-read_if : goal.decreases-read_if
 decreases-read_if l = length l.reader.now.rest.now * 8 + 2
 

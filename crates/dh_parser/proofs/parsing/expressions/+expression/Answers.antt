@@ -4,20 +4,21 @@ use Rattle.dh_parser.specs.Reading.{expression, the_index, more_indices}
 use Rattle.dh_parser.proofs.Going.{ok_then, err_then, given, when_true, when_false}
 use Rattle.dh_parser.proofs.Loops.{loop_after, loop_goes, loop_refused, loop_done}
 use Rattle.dh_parser.proofs.OperatorLoops.{chain_begins, chain_none, chain_goes}
-use Rattle.dh_parser.proofs.TermLoops.{terms_first, terms_listed, terms_listed_all, indices_go, indices_end, element_is}
-use Rattle.dh_parser.proofs.TermForms.{variable_seen, access_seen, physical_seen, cast_seen}
+use Rattle.dh_parser.proofs.TermLoops.{terms_first, terms_listed, terms_listed_all, indices_go, indices_end, element_is, bracket_is}
+use Rattle.dh_parser.specs.TreesOfTexts.{name_text}
+use Rattle.dh_parser.proofs.TermForms.{unnumbered, variable_seen, access_seen, physical_seen, cast_seen}
 use Rattle.dh_parser.proofs.parsing.expressions.+expression.Goals as goal
 
 pub read_access-returns-then-not-is_next-clause-answer :
     goal.read_access-returns-then-not-is_next-clause-answer
-read_access-returns-then-not-is_next-clause-answer t c = λ n e.
-    rw (element_is n _ (sym c.if-not-is_next.ensures))
+read_access-returns-then-not-is_next-clause-answer t c =
+    rw (element_is (name_text c.args.of) _ (sym c.if-not-is_next.ensures))
     (ok_then _ c.in_ok-indices.ensures.answer λ p s.
-    record { holds = (access_seen _ n _ p.0 p.1 c.plain.ensures e s, refl) })
+    record { holds = (access_seen _ (name_text c.args.of) _ p.0 p.1 c.plain.ensures (unnumbered c.args.of c.requires) s, refl) })
 
 pub read_access-returns-in_err-row-clause-answer :
     goal.read_access-returns-in_err-row-clause-answer
-read_access-returns-in_err-row-clause-answer t c = λ n e.
+read_access-returns-in_err-row-clause-answer t c =
     rw (given c.from_residual-in_err-row.ensures)
     (when_true _ _ (sym c.if-not-is_next.ensures)
     (ok_then _ c.in_ok-skip.ensures.answer λ opener p0.
@@ -26,41 +27,13 @@ read_access-returns-in_err-row-clause-answer t c = λ n e.
     err_then _ c.in_err-row.ensures.answer))
 
 pub read_access-returns-clause-answer : goal.read_access-returns-clause-answer
-read_access-returns-clause-answer t c = λ n e.
+read_access-returns-clause-answer t c =
     when_true _ _ (sym c.if-not-is_next.ensures)
     (ok_then _ c.in_ok-skip.ensures.answer λ opener p0.
     ok_then _ c.in_ok-bank.ensures.answer λ bank p1.
     ok_then _ c.in_ok-skip-2.ensures.answer λ closer p2.
     ok_then _ c.in_ok-row.ensures.answer λ row p3.
-    record { holds = (physical_seen _ n _ bank _ _ row opener closer c.plain-2.ensures e p1 (search rules) p3, refl) })
-
-pub read_bracketed-returns-in_err-to-clause-answer :
-    goal.read_bracketed-returns-in_err-to-clause-answer
-read_bracketed-returns-in_err-to-clause-answer t c =
-    rw (given c.from_residual-in_err-to.ensures)
-    (ok_then _ c.in_ok-inner.ensures.answer λ e p0.
-    when_true _ _ (sym c.if-not-is_next.ensures)
-    (ok_then _ c.in_ok-skip-2.ensures.answer λ word p1.
-    err_then _ c.in_err-to.ensures.answer))
-
-pub read_bracketed-returns-in_err-skip-3-clause-answer :
-    goal.read_bracketed-returns-in_err-skip-3-clause-answer
-read_bracketed-returns-in_err-skip-3-clause-answer t c =
-    rw (given c.from_residual-in_err-skip-3.ensures)
-    (ok_then _ c.in_ok-inner.ensures.answer λ e p0.
-    when_true _ _ (sym c.if-not-is_next.ensures)
-    (ok_then _ c.in_ok-skip-2.ensures.answer λ word p1.
-    ok_then _ c.in_ok-to.ensures.answer λ k p2.
-    err_then _ c.in_err-skip-3.ensures.answer))
-
-pub read_bracketed-returns-clause-answer : goal.read_bracketed-returns-clause-answer
-read_bracketed-returns-clause-answer t c =
-    ok_then _ c.in_ok-inner.ensures.answer λ e p0.
-    when_true _ _ (sym c.if-not-is_next.ensures)
-    (ok_then _ c.in_ok-skip-2.ensures.answer λ word p1.
-    ok_then _ c.in_ok-to.ensures.answer λ k p2.
-    ok_then _ c.in_ok-skip-3.ensures.answer λ closer p3.
-    record { holds = (cast_seen _ _ _ _ e k word closer c.plain.ensures (search rules) p0 p2, refl) })
+    record { holds = (physical_seen _ (name_text c.args.of) _ bank _ _ row opener closer c.plain-2.ensures (unnumbered c.args.of c.requires) p1 (search rules) p3, refl) })
 
 pub read_expression-returns-in_err-left-clause-answer :
     goal.read_expression-returns-in_err-left-clause-answer
@@ -107,5 +80,65 @@ read_indices-returns-clause-answer t c =
     loop_done no_indices c.loop-reader.invariant.loops (indices_end _ (search rules)) (λ put so. terms_listed_all _ (so no_indices))
 
 pub read_named-returns-clause-answer : goal.read_named-returns-clause-answer
-read_named-returns-clause-answer t c = λ n e.
-    when_false _ _ (sym c.if-goes_on.ensures) (record { holds = (variable_seen _ n c.plain.ensures e, refl) })
+read_named-returns-clause-answer t c =
+    when_false _ _ (sym c.if-goes_on.ensures) (record { holds = (variable_seen _ (name_text c.args.of) c.plain.ensures (unnumbered c.args.of c.requires), refl) })
+
+pub read_index-returns-in_err-skip-clause-answer : goal.read_index-returns-in_err-skip-clause-answer
+read_index-returns-in_err-skip-clause-answer t c =
+    rw (given c.from_residual.ensures)
+    (err_then _ c.in_err-skip.ensures.answer)
+
+pub read_index-returns-in_err-index-clause-answer : goal.read_index-returns-in_err-index-clause-answer
+read_index-returns-in_err-index-clause-answer t c =
+    rw (given c.from_residual-in_err-index.ensures)
+    (ok_then _ c.in_ok-skip.ensures.answer λ a0 p0.
+    err_then _ c.in_err-index.ensures.answer)
+
+pub read_index-returns-in_err-skip-2-clause-answer : goal.read_index-returns-in_err-skip-2-clause-answer
+read_index-returns-in_err-skip-2-clause-answer t c =
+    rw (given c.from_residual-in_err-skip-2.ensures)
+    (ok_then _ c.in_ok-skip.ensures.answer λ a0 p0.
+    ok_then _ c.in_ok-index.ensures.answer λ a1 p1.
+    err_then _ c.in_err-skip-2.ensures.answer)
+
+pub read_index-returns-clause-answer : goal.read_index-returns-clause-answer
+read_index-returns-clause-answer t c =
+    ok_then _ c.in_ok-skip.ensures.answer λ a0 p0.
+    ok_then _ c.in_ok-index.ensures.answer λ a1 p1.
+    ok_then _ c.in_ok-skip-2.ensures.answer λ a2 p2.
+    record { holds = (p1, refl) }
+
+pub read_access-returns-in_err-bank-clause-answer : goal.read_access-returns-in_err-bank-clause-answer
+read_access-returns-in_err-bank-clause-answer t c =
+    rw (given c.from_residual-in_err-bank.ensures)
+    (when_true _ _ (sym c.if-not-is_next.ensures)
+    (ok_then _ c.in_ok-skip.ensures.answer λ a0 p0.
+    err_then _ c.in_err-bank.ensures.answer))
+
+pub read_access-returns-in_err-skip-2-clause-answer : goal.read_access-returns-in_err-skip-2-clause-answer
+read_access-returns-in_err-skip-2-clause-answer t c =
+    rw (given c.from_residual-in_err-skip-2.ensures)
+    (when_true _ _ (sym c.if-not-is_next.ensures)
+    (ok_then _ c.in_ok-skip.ensures.answer λ a0 p0.
+    ok_then _ c.in_ok-bank.ensures.answer λ a1 p1.
+    err_then _ c.in_err-skip-2.ensures.answer))
+
+pub read_bracketed-returns-in_err-inner-clause-answer : goal.read_bracketed-returns-in_err-inner-clause-answer
+read_bracketed-returns-in_err-inner-clause-answer t c =
+    rw (bracket_is c.args.opening c.args.reader.now.rest.now, given c.from_residual.ensures)
+    (err_then _ c.in_err-inner.ensures.answer)
+
+pub read_bracketed-returns-in_err-to-clause-answer : goal.read_bracketed-returns-in_err-to-clause-answer
+read_bracketed-returns-in_err-to-clause-answer t c =
+    rw (bracket_is c.args.opening c.args.reader.now.rest.now, given c.from_residual-in_err-to.ensures)
+    (ok_then _ c.in_ok-inner.ensures.answer λ e p0.
+    when_true _ _ (sym c.if-not-is_next.ensures)
+    (err_then _ c.in_err-to.ensures.answer))
+
+pub read_bracketed-returns-clause-answer : goal.read_bracketed-returns-clause-answer
+read_bracketed-returns-clause-answer t c =
+    rw (bracket_is c.args.opening c.args.reader.now.rest.now)
+    (ok_then _ c.in_ok-inner.ensures.answer λ e p0.
+    when_true _ _ (sym c.if-not-is_next.ensures)
+    (ok_then _ c.in_ok-to.ensures.answer λ k p1.
+    record { holds = (cast_seen _ _ _ _ e k.kind k.word k.closer c.plain.ensures (search rules) p0 p1, refl) }))

@@ -25,3 +25,14 @@ returns-in_err-written-clause-answer c = λ word.
     (ok_then _ c.in_ok-name.ensures.answer λ n p0.
     ok_then _ c.in_ok-skip.ensures.answer λ colon p1.
     err_then _ c.in_err-written.ensures.answer)
+
+pub returns-in_err-name-clause-answer : goal.returns-in_err-name-clause-answer
+returns-in_err-name-clause-answer c = λ word.
+    rw (given c.from_residual.ensures)
+    (err_then _ c.in_err-name.ensures.answer)
+
+pub returns-in_err-skip-clause-answer : goal.returns-in_err-skip-clause-answer
+returns-in_err-skip-clause-answer c = λ word.
+    rw (given c.from_residual-in_err-skip.ensures)
+    (ok_then _ c.in_ok-name.ensures.answer λ a0 p0.
+    err_then _ c.in_err-skip.ensures.answer)

@@ -13,3 +13,8 @@ returns-clause-answer c =
     ok_then _ c.in_ok-skip.ensures.answer λ comma p0.
     ok_then _ c.in_ok-parameter.ensures.answer λ p p1.
     record { holds = (p1, refl) }
+
+pub returns-in_err-skip-clause-answer : goal.returns-in_err-skip-clause-answer
+returns-in_err-skip-clause-answer c =
+    rw (given c.from_residual.ensures)
+    (err_then _ c.in_err-skip.ensures.answer)

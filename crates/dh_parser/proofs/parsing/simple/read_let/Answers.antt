@@ -1,6 +1,6 @@
 use Rattle.std.proofs.Common.{refl, sym}
 use Rattle.dh_parser.proofs.Going.{ok_then, err_then, given, when_true, when_false}
-use Rattle.dh_parser.proofs.ActionForms.{value_seen}
+use Rattle.dh_parser.proofs.ActionForms.{value_seen, let_seen}
 use Rattle.dh_parser.proofs.parsing.simple.read_let.Goals as goal
 
 pub returns-then-not-is_next-clause-answer : goal.returns-then-not-is_next-clause-answer
@@ -35,4 +35,9 @@ returns-clause-answer c = λ word.
     (ok_then _ c.in_ok-skip-2.ensures.answer λ colon p1.
     ok_then _ c.in_ok-written.ensures.answer λ t p2.
     ok_then _ c.in_ok-value-2.ensures.answer λ v p3.
-    record { holds = ((c.typed_let.ensures n t v p0 p2 p3, refl), refl) })
+    record { holds = ((let_seen _ c.in_ok-written.written _ n t v c.typed_let.ensures p0 p2 p3, refl), refl) })
+
+pub returns-in_err-name-clause-answer : goal.returns-in_err-name-clause-answer
+returns-in_err-name-clause-answer c = λ word.
+    rw (given c.from_residual.ensures)
+    (err_then _ c.in_err-name.ensures.answer)

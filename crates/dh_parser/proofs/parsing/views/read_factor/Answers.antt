@@ -1,3 +1,4 @@
+use Rattle.std.proofs.Common.{refl}
 use Rattle.dh_parser.proofs.Going.{ok_then, err_then, given}
 use Rattle.dh_parser.proofs.parsing.views.read_factor.Goals as goal
 
@@ -8,3 +9,29 @@ returns-in_err-skip-3-clause-answer c =
     ok_then _ c.in_ok-skip-2.ensures.answer λ a1 s1.
     ok_then _ c.in_ok-factor.ensures.answer λ a2 s2.
     err_then _ c.in_err-skip-3.ensures.answer)
+
+pub returns-in_err-skip-clause-answer : goal.returns-in_err-skip-clause-answer
+returns-in_err-skip-clause-answer c =
+    rw (given c.from_residual.ensures)
+    (err_then _ c.in_err-skip.ensures.answer)
+
+pub returns-in_err-skip-2-clause-answer : goal.returns-in_err-skip-2-clause-answer
+returns-in_err-skip-2-clause-answer c =
+    rw (given c.from_residual-in_err-skip-2.ensures)
+    (ok_then _ c.in_ok-skip.ensures.answer λ a0 p0.
+    err_then _ c.in_err-skip-2.ensures.answer)
+
+pub returns-in_err-factor-clause-answer : goal.returns-in_err-factor-clause-answer
+returns-in_err-factor-clause-answer c =
+    rw (given c.from_residual-in_err-factor.ensures)
+    (ok_then _ c.in_ok-skip.ensures.answer λ a0 p0.
+    ok_then _ c.in_ok-skip-2.ensures.answer λ a1 p1.
+    err_then _ c.in_err-factor.ensures.answer)
+
+pub returns-clause-answer : goal.returns-clause-answer
+returns-clause-answer c =
+    ok_then _ c.in_ok-skip.ensures.answer λ a0 p0.
+    ok_then _ c.in_ok-skip-2.ensures.answer λ a1 p1.
+    ok_then _ c.in_ok-factor.ensures.answer λ a2 p2.
+    ok_then _ c.in_ok-skip-3.ensures.answer λ a3 p3.
+    record { holds = (p2, refl) }

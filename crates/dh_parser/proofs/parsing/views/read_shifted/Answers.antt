@@ -13,3 +13,8 @@ returns-clause-answer c =
     ok_then _ c.in_ok-parent.ensures.answer λ parent p0.
     ok_then _ c.in_ok-offsets.ensures.answer λ l p1.
     record { holds = ((p0, p1), refl) }
+
+pub returns-in_err-parent-clause-answer : goal.returns-in_err-parent-clause-answer
+returns-in_err-parent-clause-answer c =
+    rw (given c.from_residual.ensures)
+    (err_then _ c.in_err-parent.ensures.answer)

@@ -39,3 +39,21 @@ returns-clause-answer c =
     ok_then _ (rw (← operand_is _) at c.in_ok-offset.ensures.answer) λ offset p4.
     ok_then _ c.in_ok-skip-4.ensures.answer λ closer p5.
     record { holds = ((p2, p4), refl) }
+
+pub returns-in_err-skip-clause-answer : goal.returns-in_err-skip-clause-answer
+returns-in_err-skip-clause-answer c =
+    rw (given c.from_residual.ensures)
+    (err_then _ c.in_err-skip.ensures.answer)
+
+pub returns-in_err-skip-2-clause-answer : goal.returns-in_err-skip-2-clause-answer
+returns-in_err-skip-2-clause-answer c =
+    rw (given c.from_residual-in_err-skip-2.ensures)
+    (ok_then _ c.in_ok-skip.ensures.answer λ a0 p0.
+    err_then _ c.in_err-skip-2.ensures.answer)
+
+pub returns-in_err-factor-clause-answer : goal.returns-in_err-factor-clause-answer
+returns-in_err-factor-clause-answer c =
+    rw (given c.from_residual-in_err-factor.ensures)
+    (ok_then _ c.in_ok-skip.ensures.answer λ a0 p0.
+    ok_then _ c.in_ok-skip-2.ensures.answer λ a1 p1.
+    err_then _ c.in_err-factor.ensures.answer)

@@ -16,3 +16,14 @@ returns-clause-answer c = λ word.
     ok_then _ c.in_ok-skip.ensures.answer λ equal p1.
     ok_then _ c.in_ok-parent.ensures.answer λ v p2.
     record { holds = ((view_seen _ _ _ word equal n v p0 p2, refl), refl) }
+
+pub returns-in_err-name-clause-answer : goal.returns-in_err-name-clause-answer
+returns-in_err-name-clause-answer c = λ word.
+    rw (given c.from_residual.ensures)
+    (err_then _ c.in_err-name.ensures.answer)
+
+pub returns-in_err-skip-clause-answer : goal.returns-in_err-skip-clause-answer
+returns-in_err-skip-clause-answer c = λ word.
+    rw (given c.from_residual-in_err-skip.ensures)
+    (ok_then _ c.in_ok-name.ensures.answer λ a0 p0.
+    err_then _ c.in_err-skip.ensures.answer)

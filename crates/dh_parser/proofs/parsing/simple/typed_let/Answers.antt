@@ -1,0 +1,15 @@
+use Rattle.std.proofs.Common.{Some, option_map, ap, sym, ◌∙◌}
+use Rattle.dh_tree.specs.Seen.{term_seen}
+use Rattle.dh_tree.proofs.SeenActions.{let_is, let_memory_is}
+use Rattle.dh_parser.specs.TreesOfTexts.{let_written}
+use Rattle.dh_parser.proofs.parsing.simple.typed_let.Goals as goal
+
+pub returns-then-is_memory : goal.returns-then-is_memory
+returns-then-is_memory c =
+    let w = c.args.written in
+    let_memory_is c.args.name w.shape w.places c.args.value ∙ sym (ap (λ b. let_written b c.args.name w.shape w.places (option_map term_seen c.args.value)) c.if-is_memory.true)
+
+pub returns : goal.returns
+returns c =
+    let w = c.args.written in
+    let_is c.args.name (Some w.shape.kind) c.args.value ∙ sym (ap (λ b. let_written b c.args.name w.shape w.places (option_map term_seen c.args.value)) c.if-is_memory.false)
