@@ -1,18 +1,18 @@
 -- How a read of an open file ends, from the facts of its steps. The reader was cut one byte past the
 -- limit. If more bytes came than the limit, the file has more, since a cut takes a prefix. If no
 -- more came, the cut was not reached, so the prefix is the whole file.
-use Rattle.std.proofs.Common.{ℕ, ◌≡◌, ◌<◌, ◌≤◌, ◌+◌, ◌-◌, ◌^◌, List, [], ◌++◌, take, length, min, Option, Some, None, option_map, IfSome, sym, ◌∙◌, ap, subst, inl, Result, Ok, Err, Vec, arith}
+use Rattle.std.proofs.Common.{ℕ, ◌≡◌, ◌<◌, ◌≤◌, ◌+◌, ◌-◌, ◌^◌, List, [], ◌++◌, take, length, min, Option, Some, None, option_map, IfSome, sym, ◌∙◌, ap, subst, inl, inr, Result, Ok, Err, Vec, arith}
 use Rattle.std.proofs.lemmas.List.{length-take, take_all}
 use Rattle.dh_base.specs.declared.outside.FileFault.{FileFault}
 use Rattle.dh_base.specs.declared.outside.FileFault.TheVariants as file
 use Rattle.std.specs.declared.alloc.Global.{Global}
-use Rattle.dh_base.specs.Outside.{Told, Untold, Reads, Rose, RoseBy, MayBe, MayExceed}
-use Rattle.dahlia.specs.Counted.{Counts, Meets, files_with, told_of}
+use Rattle.dh_base.specs.Outside.{Told, Untold, Reads, CountsRead, Rose, RoseBy, MayBe, MayExceed, risen}
+use Rattle.dahlia.specs.Counted.{Counts, CountsOpened, Meets, files_with, told_of}
 
 -- an error ends the read, whatever is told of the file; no fault was counted before it
 pub met_ends : (told : Told) (name : List ℕ) (limit : ℕ) (old now new : Counts) (fault : FileFault) → now.faults ≡ old.faults
     → Meets now new fault → Reads (files_with told old) (files_with told new) name limit (Err fault)
-met_ends told name limit old now new file.Failed same rose = inl (subst (λ n. Rose n new.faults) same rose)
+met_ends told name limit old now new file.Failed same met = inl (subst (λ n. Rose n new.faults) same met.0)
 met_ends told name limit old now new file.TooLong same none = elim none [ ]
 met_ends told name limit old now new file.NoMemory same rose = tt
 
@@ -58,3 +58,25 @@ untold None first name limit old new (Err file.Failed) reads = reads
 untold (Some bytes) first name limit old new (Err file.Failed) reads = reads
 untold left first name limit old new (Err file.TooLong) reads = (reads.0, tt)
 untold left first name limit old new (Err file.NoMemory) reads = tt
+
+-- an error of the system counts a fault only where the read fails
+pub met_counts : (old now new : Counts) (fault : FileFault) → now.faults ≡ old.faults → now.reads ≡ old.reads → Meets now new fault → CountsOpened old new (Err fault)
+met_counts old now new file.Failed same reads met = record { reads = met.1 ∙ reads; fault = tt }
+met_counts old now new file.TooLong same reads none = elim none [ ]
+met_counts old now new file.NoMemory same reads met = record { reads = ap (λ s. s.reads) met ∙ reads; fault = ap (λ s. s.faults) met ∙ same }
+
+-- a read that was counted before it began
+pub counted : (old mid new : Counts) (result : Result (Vec ℕ Global) FileFault) → mid.reads ≡ risen old.reads 1 → mid.faults ≡ old.faults → CountsOpened mid new result
+    → CountsRead (files_with Untold old) (files_with Untold new) result
+counted old mid new (Ok bytes) reads faults c = record { reads = c.reads ∙ reads; fault = c.fault ∙ faults }
+counted old mid new (Err file.Failed) reads faults c = record { reads = c.reads ∙ reads; fault = tt }
+counted old mid new (Err file.TooLong) reads faults c = record { reads = c.reads ∙ reads; fault = c.fault ∙ faults }
+counted old mid new (Err file.NoMemory) reads faults c = record { reads = c.reads ∙ reads; fault = c.fault ∙ faults }
+
+pub answered : (old mid new : Counts) (name : List ℕ) (limit : ℕ) (result : Result (Vec ℕ Global) FileFault) → mid.faults ≡ old.faults → mid.taken ≡ old.taken
+    → Reads (files_with Untold mid) (files_with Untold new) name limit result → Reads (files_with Untold old) (files_with Untold new) name limit result
+answered old mid new name limit (Ok bytes) f t reads = reads
+answered old mid new name limit (Err file.Failed) f t (inl rose) = inl (subst (λ n. Rose n new.faults) f rose)
+answered old mid new name limit (Err file.Failed) f t (inr absent) = inr absent
+answered old mid new name limit (Err file.TooLong) f t reads = (subst (λ n. RoseBy limit n new.taken) t reads.0, tt)
+answered old mid new name limit (Err file.NoMemory) f t reads = tt

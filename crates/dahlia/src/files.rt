@@ -3,7 +3,7 @@
 ghost use Rattle.std.specs.Prelude.{◌≡◌, []};
 ghost use Rattle.std.specs.IoError.{error_kind};
 ghost use Rattle.dh_base.specs.Outside.{Untold, KeepsFiles, Reads};
-ghost use Rattle.dahlia.specs.Counted.{Counts, Meets, files_with, told_of};
+ghost use Rattle.dahlia.specs.Counted.{Counts, CountsOpened, Meets, files_with, told_of};
 
 use dh_base::{FileFault, Files};
 use std::alloc::Global;
@@ -43,6 +43,18 @@ impl<'a, R: std::rt::Files> RealFiles<'a, R> {
         }
     }
 
+    /// The bytes of a file by its name, if they are no longer than the limit.
+    fn read_named(&mut self, alloc: Global, name: &str, limit: u64) -> Result<Vec<u8>, FileFault>
+        ensures keeps { KeepsFiles (files_with Untold self.old) (files_with Untold self.new) }
+        ensures counts { CountsOpened self.old self.new result }
+        ensures answer { Reads (files_with Untold self.old) (files_with Untold self.new) name.now limit result }
+    {
+        match fs::open(self.rt, name) {
+            Ok(file) => self.read_open(alloc, file, limit),
+            Err(error) => Err(self.met(&error)),
+        }
+    }
+
     /// The bytes that an open file has left, if they are no longer than the limit. No more than
     /// one byte past it is taken, so a file that never ends is too long.
     fn read_open<F: Read + Drop>(
@@ -52,6 +64,7 @@ impl<'a, R: std::rt::Files> RealFiles<'a, R> {
         limit: u64,
     ) -> Result<Vec<u8>, FileFault>
         ensures keeps { KeepsFiles (files_with Untold self.old) (files_with Untold self.new) }
+        ensures counts { CountsOpened self.old self.new result }
         ensures answer { Reads (files_with (told_of (F.remaining file)) self.old) (files_with (told_of (F.remaining file)) self.new) [] limit result }
     {
         let mut contents = Vec::new(alloc);
@@ -84,10 +97,8 @@ impl<'a, R: std::rt::Files> Files for RealFiles<'a, R> {
     ghost seen = { files_with Untold };
 
     fn read(&mut self, alloc: Global, name: &str, limit: u64) -> Result<Vec<u8>, FileFault> {
-        match fs::open(self.rt, name) {
-            Ok(file) => self.read_open(alloc, file, limit),
-            Err(error) => Err(self.met(&error)),
-        }
+        self.reads = self.reads.saturating_add(1);
+        self.read_named(alloc, name, limit)
     }
 }
 

@@ -1,8 +1,9 @@
 //! The standard output, or any other writer, as the output that the program writes.
 
-ghost use Rattle.std.specs.Prelude.{◌≡◌, None, OnErr, OnOk};
+ghost use Rattle.std.specs.Prelude.{◌≡◌, OnErr, OnOk};
 ghost use Rattle.std.specs.Io.KnownBytes.{Appends};
-ghost use Rattle.dh_base.specs.Outside.{Rose, KeepsSink, Writes};
+ghost use Rattle.dh_base.specs.Outside.{Rose, KeepsSink, CountsWrite, Writes};
+ghost use Rattle.dahlia.specs.Counted.{sink_with};
 
 use dh_base::{Sink, SinkFault};
 use std::io;
@@ -27,13 +28,14 @@ impl<W: Write> StdSink<W> {
 }
 
 impl<W: Write> Sink for StdSink<W> {
-    ghost seen = { λ s. record { bytes = None; faults = s.faults } };
+    ghost seen = { λ s. sink_with s.faults };
 
     /// As the trait says, and the writer holds the whole piece after an `Ok`. Each `Err` counts as a
     /// fault, also that of a flush, and of a writer that takes nothing of a piece that isn't empty.
     fn write(&mut self, piece: &[u8]) -> Result<(), SinkFault>
-        ensures keeps { KeepsSink (record { bytes = None; faults = self.old.faults }) (record { bytes = None; faults = self.new.faults }) }
-        ensures answer { Writes (record { bytes = None; faults = self.old.faults }) (record { bytes = None; faults = self.new.faults }) piece.now result }
+        ensures keeps { KeepsSink (sink_with self.old.faults) (sink_with self.new.faults) }
+        ensures counts { CountsWrite (sink_with self.old.faults) (sink_with self.new.faults) result }
+        ensures answer { Writes (sink_with self.old.faults) (sink_with self.new.faults) piece.now result }
         ensures counted { OnErr result (Rose self.old.faults self.new.faults) }
         ensures whole { OnOk result (Appends (W.contents self.old.writer) (W.contents self.new.writer) piece.now) }
     {

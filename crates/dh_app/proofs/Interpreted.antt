@@ -8,7 +8,7 @@ use Rattle.dh_tree.specs.PlainTrees.{Program}
 use Rattle.dh_tree.specs.Tables.{Fits}
 use Rattle.dh_data.specs.declared.reports.Ending.{Ending}
 use Rattle.dh_sem.specs.Runs.{Run, StandsAt, StepsOn}
-use Rattle.dh_app.specs.Interpreting.{stands_after, ending_at}
+use Rattle.dh_app.specs.InterpretJob.{stands_after, ending_at}
 use Rattle.dh_app.proofs.Standings.{steps_within, stays, standing_fits}
 
 -- its outcome and steps, and its memories

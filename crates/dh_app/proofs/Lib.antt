@@ -1,8 +1,13 @@
+pub mod DataLines
+pub mod Endings
 pub mod Interpreted
+pub mod JobAnswers
+pub mod Lined
 pub mod Naming
-pub mod OneJob
-pub mod Replying
+pub mod OneAnswer
+pub mod Reading
+pub mod Reported
 pub mod Runs
 pub mod Standings
 pub mod StepWords
-pub mod Succeeding
+pub mod Touching

@@ -3,16 +3,15 @@ use Rattle.std.proofs.Common.{◌≡◌, ℕ, ◌<◌, ◌≤◌, ◌&&◌, Bool
 use Rattle.std.specs.Str.{bytes_eq}
 use Rattle.std.proofs.lemmas.List.{length-map}
 use Rattle.dh_app.specs.Words.{is_file_word, usual_steps, steps_of, over_file, interpret_for, interpret_with, simulate_with, over_data, job_of}
-use Rattle.dh_app.specs.Asking.{data_at}
-use Rattle.dh_app.specs.Ends.{Names, NamesCheck, NamesLower, NamesInterpret}
+use Rattle.dh_app.specs.Asking.{file_at, data_at}
 use Rattle.dh_app.specs.declared.words.Job.{Job}
 use Rattle.dh_app.specs.declared.words.Job.TheVariants.{Check, Lower, Interpret, Simulate}
 
 -- the word of a list at a place, by its view
-word_at : {S : Type 0} (view : S → List ℕ) (ws : List S) (k : ℕ) (w : S) → k < length ws → w ≡ get_or ws k w → get_or (map view ws) k [] ≡ view w
-word_at view [] k w l e = absurd (let z : k < 0 = l in omega arith)
-word_at view (x ∷ xs) zero w l e = ap view (sym e)
-word_at view (x ∷ xs) (suc k) w l e = word_at view xs k w (let z : suc k < suc (length xs) = l in omega arith) e
+pub word_is : {S : Type 0} (view : S → List ℕ) (ws : List S) (k : ℕ) (w : S) → k < length ws → w ≡ get_or ws k w → get_or (map view ws) k [] ≡ view w
+word_is view [] k w l e = absurd (let z : k < 0 = l in omega arith)
+word_is view (x ∷ xs) zero w l e = ap view (sym e)
+word_is view (x ∷ xs) (suc k) w l e = word_is view xs k w (let z : suc k < suc (length xs) = l in omega arith) e
 
 -- the places that a job names are below so many words
 abbrev Within : Job → ℕ → Type 0
@@ -66,7 +65,17 @@ within_all (a ∷ (b ∷ (c ∷ ws))) =
 within : (ws : List (List ℕ)) (j : Job) → job_of ws ≡ Some j → Within j (length ws)
 within ws j e = subst (λ (o : Option Job). WithinAll o (length ws)) e (within_all ws)
 
--- the places of a job over data
+-- the place of its program, and that of its data
+pub file_within : {S : Type 0} (view : S → List ℕ) (ws : List S) (j : Job) → job_of (map view ws) ≡ Some j → file_at j < length ws
+file_within view ws (Check file) job = omega (arith, within (map view ws) (Check file) job, length-map ws view)
+file_within view ws (Lower file) job = omega (arith, within (map view ws) (Lower file) job, length-map ws view)
+file_within view ws (Interpret file data_ steps unchecked) job =
+    let both = within (map view ws) (Interpret file data_ steps unchecked) job in
+    omega (arith, both.0, length-map ws view)
+file_within view ws (Simulate file data_) job =
+    let both = within (map view ws) (Simulate file data_) job in
+    omega (arith, both.0, length-map ws view)
+
 pub data_within : {S : Type 0} (view : S → List ℕ) (ws : List S) (j : Job) (d : ℕ) → job_of (map view ws) ≡ Some j → data_at j ≡ Some d → d < length ws
 data_within view ws (Check file) d job e = cc
 data_within view ws (Lower file) d job e = cc
@@ -78,32 +87,3 @@ data_within view ws (Simulate file data_) d job e =
     let both = within (map view ws) (Simulate file data_) job in
     let same : data_ ≡ d = cc in
     omega (arith, both.1, same, length-map ws view)
-
--- so they are those that are read
-pub names_check : {S : Type 0} (view : S → List ℕ) (ws : List S) (f : ℕ) (w : S) → job_of (map view ws) ≡ Some (Check f) → w ≡ get_or ws f w
-    → NamesCheck (map view ws) (view w)
-names_check view ws f w job e =
-    let there : f < length ws = omega (arith, within (map view ws) (Check f) job, length-map ws view) in
-    record { file_at = f; job = job; file_is = word_at view ws f w there e }
-
-pub names_lower : {S : Type 0} (view : S → List ℕ) (ws : List S) (f : ℕ) (w : S) → job_of (map view ws) ≡ Some (Lower f) → w ≡ get_or ws f w
-    → NamesLower (map view ws) (view w)
-names_lower view ws f w job e =
-    let there : f < length ws = omega (arith, within (map view ws) (Lower f) job, length-map ws view) in
-    record { file_at = f; job = job; file_is = word_at view ws f w there e }
-
-pub names_simulate : {S : Type 0} (view : S → List ℕ) (ws : List S) (f d : ℕ) (v w : S) → job_of (map view ws) ≡ Some (Simulate f d) → v ≡ get_or ws f v → w ≡ get_or ws d w
-    → Names (map view ws) (view v) (view w)
-names_simulate view ws f d v w job e h =
-    let both = within (map view ws) (Simulate f d) job in
-    let first : f < length ws = omega (arith, both.0, length-map ws view) in
-    let second : d < length ws = omega (arith, both.1, length-map ws view) in
-    record { file_at = f; data_at = d; job = job; file_is = word_at view ws f v first e; data_is = word_at view ws d w second h }
-
-pub names_interpret : {S : Type 0} (view : S → List ℕ) (ws : List S) (f d : ℕ) (steps : ℕ) (unchecked : Bool) (v w : S) → job_of (map view ws) ≡ Some (Interpret f d steps unchecked)
-    → v ≡ get_or ws f v → w ≡ get_or ws d w → NamesInterpret (map view ws) (view v) (view w) steps unchecked
-names_interpret view ws f d steps unchecked v w job e h =
-    let both = within (map view ws) (Interpret f d steps unchecked) job in
-    let first : f < length ws = omega (arith, both.0, length-map ws view) in
-    let second : d < length ws = omega (arith, both.1, length-map ws view) in
-    record { file_at = f; data_at = d; job = job; file_is = word_at view ws f v first e; data_is = word_at view ws d w second h }

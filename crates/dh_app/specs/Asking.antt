@@ -1,9 +1,8 @@
 -- What a job is over, and what it asks of the text of its program: which forms may stand in it, and
 -- whether its ports are judged.
-use Rattle.std.specs.Prelude.{◌≡◌, ℕ, Bool, true, false, List, [], Option, Some, None, slice_index_or}
+use Rattle.std.specs.Prelude.{ℕ, Bool, true, false, List, [], Option, Some, None, slice_index_or}
 use Rattle.dh_check.specs.Verdicts.{Asked, asked_of}
 use Rattle.dh_check.specs.declared.checking.Forms.TheVariants.{Unchecked, Checked, Compiled}
-use Rattle.dh_app.specs.Words.{job_of}
 use Rattle.dh_app.specs.declared.words.Job.{Job}
 use Rattle.dh_app.specs.declared.words.Job.TheVariants.{Check, Lower, Interpret, Simulate}
 
@@ -20,6 +19,7 @@ abbrev pub interpreted : (unchecked : Bool) → Asked
 interpreted false = checked
 interpreted true = asked_of Unchecked false
 
+-- what a job asks
 abbrev pub asked_by : Job → Asked
 asked_by (Check file) = checked
 asked_by (Lower file) = compiled
@@ -40,16 +40,6 @@ data_at (Lower file) = None
 data_at (Interpret file data_ steps unchecked) = Some data_
 data_at (Simulate file data_) = Some data_
 
--- the words are a job over the program of this file, of whose text it asks this
-pub record NamesProgram (words : List (List ℕ)) (file : List ℕ) (asked : Asked) : Type 0 where
-  pub job : Job
-  pub job_is : job_of words ≡ Some job
-  pub file_is : slice_index_or words (file_at job) [] ≡ file
-  pub asked_is : asked_by job ≡ asked
-
--- and over the data of another file
-pub record NamesData (words : List (List ℕ)) (file data_ : List ℕ) (asked : Asked) : Type 0 where
-  pub program : NamesProgram words file asked
-  pub place : ℕ
-  pub place_is : data_at program.job ≡ Some place
-  pub data_is : slice_index_or words place [] ≡ data_
+-- the word at a position
+abbrev pub word_at : (words : List (List ℕ)) → ℕ → List ℕ
+word_at words k = slice_index_or words k []

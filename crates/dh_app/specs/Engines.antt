@@ -1,11 +1,24 @@
--- What the answers of an engine are: one for each of the memories that it was given, and for an exact
--- engine each the run of the net from them.
-use Rattle.std.specs.Prelude.{ℕ, List, [], ◌∷◌}
+-- What clauses see of an engine, and what its answers are: one for each of the memories that it was given,
+-- and for an exact engine each the run of the net from them.
+use Rattle.std.specs.Prelude.{◌≡◌, ℕ, Bool, List, [], ◌∷◌}
+use Rattle.dh_base.specs.Outside.{risen}
 use Rattle.dh_tree.specs.Tables.{Fits}
 use Rattle.dh_net.specs.declared.nets.Net.{Net}
 use Rattle.dh_net.specs.Ends.{IsRunOf}
 use Rattle.dh_net.specs.Plays.{IsStuck}
 use Rattle.dh_app.specs.declared.engine.Finish.{Finish}
+
+-- what a clause sees of an engine: whether its answers are the runs of the nets that it is given, how
+-- often it was asked, and its answers, of its last call that succeeded
+pub record EngineSeen : Type 0 where
+  pub exact : Bool
+  pub asked : ℕ
+  pub answers : List Finish
+
+-- what is true of a call that asks: it is counted, and the engine is exact after it where it was so before
+pub record Asks (old new : EngineSeen) : Type 0 where
+  pub exact : new.exact ≡ old.exact
+  pub asked : new.asked ≡ risen old.asked 1
 
 -- an answer for a net: its memories fit the net's table, and it is not stuck
 pub record IsAnswer (net : Net) (f : Finish) : Type 0 where

@@ -1,12 +1,12 @@
 //! What runs nets for the program. The program is generic in its engine: it can't tell a real one
 //! from a test's, so what it reports is what the engine answered.
 
-ghost use Rattle.std.specs.Prelude.{◌≡◌, ◌≤◌, [], IsTrue, OnOk, OnErr, IfOk, vec_len};
+ghost use Rattle.std.specs.Prelude.{◌≡◌, ◌≤◌, [], true, IsTrue, OnOk, OnErr, IfOk, vec_len};
 ghost use Rattle.std.specs.List.{AllByRecursion};
 ghost use Rattle.dh_tree.specs.Tables.{Fits};
 ghost use Rattle.dh_net.specs.Valid.{IsValid};
 ghost use Rattle.dh_net.specs.Ends.{IsRunOf};
-ghost use Rattle.dh_app.specs.Engines.{IsAnswer, AnswersTo, AreRuns};
+ghost use Rattle.dh_app.specs.Engines.{IsAnswer, Asks, AnswersTo, AreRuns};
 
 use dh_base::{NoMemory, Outcome};
 use dh_net::Net;
@@ -30,69 +30,64 @@ pub struct Finish {
 
 /// What runs nets.
 pub trait Engine {
-    ghost use Rattle.std.specs.Prelude.{Bool, List};
-    ghost use Rattle.dh_app.specs.declared.engine.Finish.{Finish};
-    ghost use Rattle.dh_app.specs.Engines.{AnswersTo, AreRuns};
+    ghost use Rattle.dh_app.specs.Engines.{EngineSeen, Asks, AnswersTo, AreRuns};
 
-    /// Whether its answers are the runs of the nets that it is given. No call changes it.
-    ghost exact: { Self → Bool };
+    /// What a clause sees of it.
+    ghost seen: { Self → EngineSeen };
 
-    /// Its answers, of its last call that succeeded.
-    ghost given: { Self → List Finish };
-
-    /// Runs a net from each of these memories, under a limit of clocks. After want of memory the
-    /// engine is as before.
+    /// Runs a net from each of these memories, under a limit of clocks. Each call is counted. After
+    /// want of memory the answers are as before.
     fn finish(&mut self, net: &Net, sets: Vec<Memories>, limit: u64) -> Result<(), NoMemory>
         requires valid { IsValid net.now }
         requires few { vec_len sets ≤ 64 }
         requires fit { AllByRecursion (Fits net.now.table) sets.items }
-        ensures same { exact self.new ≡ exact self.old }
-        ensures answers { OnOk result (AnswersTo net.now sets.items (given self.new)) }
-        ensures right { OnOk result (IsTrue (exact self.old) → AreRuns net.now limit sets.items (given self.new)) }
-        ensures unchanged { OnErr result (given self.new ≡ given self.old) };
+        ensures asks { Asks (seen self.old) (seen self.new) }
+        ensures answers { OnOk result (AnswersTo net.now sets.items (seen self.new).answers) }
+        ensures right { OnOk result (IsTrue (seen self.old).exact → AreRuns net.now limit sets.items (seen self.new).answers) }
+        ensures unchanged { OnErr result ((seen self.new).answers ≡ (seen self.old).answers) };
 
-    /// The answers, one for each of the memories, in their order.
+    /// The answers of the last call that succeeded, one for each of its memories, in their order.
     fn answers(&self) -> &[Finish]
-        ensures { result.now ≡ given self.now };
+        ensures { result.now ≡ (seen self.now).answers };
 }
 
 /// The engine of the program: runs nets by the simulator, one set of memories after the other. It is
-/// exact.
+/// exact. Its count of calls stays at 2^64 - 1 once it is there.
 #[derive(Debug, Drop)]
 pub struct NetEngine {
     alloc: Global,
+    asked: u64,
     answers: Vec<Finish>,
 }
 
 impl Model for NetEngine {
-    ghost use Rattle.std.specs.Prelude.{List};
-    ghost use Rattle.dh_app.specs.declared.engine.Finish.{Finish};
+    ghost use Rattle.std.specs.Prelude.{true};
+    ghost use Rattle.dh_app.specs.Engines.{EngineSeen};
 
-    ghost Value = { List Finish };
+    ghost Value = { EngineSeen };
 
-    ghost view = { λ e. e.answers.items };
+    ghost view = { λ e. record { exact = true; asked = e.asked; answers = e.answers.items } };
 }
 
 impl NetEngine {
-    /// An engine without answers. Takes no memory; `alloc` is kept for the answers.
+    /// An engine that was not asked yet, and has no answers. Takes no memory; `alloc` is kept for the
+    /// answers.
     pub fn new(alloc: Global) -> NetEngine
-        ensures { result ≡ [] }
+        ensures { result ≡ record { exact = true; asked = 0; answers = [] } }
     {
         NetEngine {
             alloc,
+            asked: 0,
             answers: Vec::new(alloc),
         }
     }
 }
 
 impl Engine for NetEngine {
-    ghost use Rattle.std.specs.Prelude.{true};
-
-    ghost exact = { λ _. true };
-
-    ghost given = { λ answers. answers };
+    ghost seen = { λ e. e };
 
     fn finish(&mut self, net: &Net, sets: Vec<Memories>, limit: u64) -> Result<(), NoMemory> {
+        self.asked = self.asked.saturating_add(1);
         let answers = run_all(self.alloc, net, sets, limit)?;
         self.answers = answers;
         Ok(())

@@ -1,18 +1,20 @@
-//! The job that interprets: the checked run of a program for so many steps, and its report.
+//! `interpret FILE DATA`: the checked run of a program for so many steps, and its report.
 
-ghost use Rattle.std.specs.Prelude.{◌≡◌, List, ℕ, Bool, IfOk};
+ghost use Rattle.std.specs.Prelude.{◌≡◌, IfOk};
 ghost use Rattle.dh_base.specs.Outside.{FilesSeen, KeepsFiles};
 ghost use Rattle.dh_tree.specs.Tables.{Fits};
 ghost use Rattle.dh_tree.specs.Memories.{table_of};
 ghost use Rattle.dh_tree.specs.Seen.{program_seen};
 ghost use Rattle.dh_tree.specs.Ready.{IsReady};
 ghost use Rattle.dh_sem.specs.Runs.{StandsAt};
-ghost use Rattle.dh_app.specs.Asking.{interpreted};
-ghost use Rattle.dh_app.specs.Ends.{IsProgram, NamesInterpret};
-ghost use Rattle.dh_app.specs.Replies.{Replies, StandingReplies};
-ghost use Rattle.dh_app.specs.declared.engine.Finish.{Finish};
+ghost use Rattle.dh_app.specs.Engines.{EngineSeen};
+ghost use Rattle.dh_app.specs.Inputs.{HasBegun, inputs_of};
+ghost use Rattle.dh_app.specs.InterpretJob.{IsStandingReport, InterpretsData, InterpretsFiles};
+ghost use Rattle.dh_app.specs.Replies.{Says, reply_seen};
 
-use crate::running::{Reply, read_memories, read_program, read_typed, report_ending};
+use crate::replies::Reply;
+use crate::reporting::report_ending;
+use crate::sources::{read_memories, read_program, read_typed};
 use dh_base::{Files, NoMemory, Outcome};
 use dh_check::{Forms, ready_programs_have_tables};
 use dh_data::Ending;
@@ -32,7 +34,7 @@ pub fn interpret<F: Files>(
     files: &mut F,
 ) -> Reply
     ensures files { KeepsFiles (F.seen files.old) (F.seen files.new) }
-    ensures replies { (words : List (List ℕ)) (exact : Bool) (answers : List Finish) → NamesInterpret words file.now data_.now steps unchecked → Replies words (F.seen files.old) (F.seen files.new) exact answers result }
+    ensures comes { (engine : EngineSeen) → InterpretsFiles (inputs_of (F.seen files.old) engine) (inputs_of (F.seen files.new) engine) file.now data_.now steps unchecked (reply_seen result) }
 {
     if unchecked {
         match read_typed(alloc, file, files) {
@@ -57,9 +59,8 @@ fn interpret_typed<F: Files>(
 ) -> Reply
     requires ready { IsReady (program_seen typed.now) }
     ensures files { KeepsFiles (F.seen files.old) (F.seen files.new) }
-    ensures replies { (first : FilesSeen) (file : List ℕ) (unchecked : Bool) (words : List (List ℕ)) (exact : Bool) (answers : List Finish)
-        → KeepsFiles first (F.seen files.old) → IsProgram first (interpreted unchecked) file (program_seen typed.now) → NamesInterpret words file data_.now steps unchecked
-        → Replies words first (F.seen files.new) exact answers result }
+    ensures comes { (first : FilesSeen) (engine : EngineSeen) → HasBegun first (F.seen files.old)
+        → InterpretsData (inputs_of first engine) (inputs_of (F.seen files.new) engine) data_.now (program_seen typed.now) steps (reply_seen result) }
 {
     ready_programs_have_tables();
     match read_memories(alloc, data_, typed.memories(), files) {
@@ -72,7 +73,7 @@ fn interpret_typed<F: Files>(
 fn report_standing(alloc: Global, typed: &Typed, memories: Memories, steps: u64) -> Reply
     requires ready { IsReady (program_seen typed.now) }
     requires fits { Fits (table_of (program_seen typed.now)) memories }
-    ensures { StandingReplies (program_seen typed.now) memories steps result }
+    ensures { Says (IsStandingReport (program_seen typed.now) memories steps) (reply_seen result) }
 {
     ready_programs_have_tables();
     let Ok(interp) = run_for(alloc, typed, memories, steps) else {

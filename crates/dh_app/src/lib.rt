@@ -2,12 +2,16 @@
 //! Stands on the crates of every stage. docs/ARCHITECTURE.md has the way of a program through them.
 #![tactic(auto)]
 
+mod checking;
 mod engine;
 mod interpreting;
 mod lines;
+mod lowering;
+mod replies;
+mod reporting;
 mod running;
-#[cfg(test)]
-mod tests;
+mod simulating;
+mod sources;
 mod words;
 
 pub use engine::{Engine, Finish, NetEngine};

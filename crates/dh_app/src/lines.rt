@@ -3,7 +3,7 @@
 ghost use Rattle.std.specs.Prelude.{◌≡◌, IfOk, string_bytes};
 ghost use Rattle.dh_data.specs.Reports.{name_at};
 ghost use Rattle.dh_app.specs.Lines as lines;
-ghost use Rattle.dh_app.specs.Replies.{WritesFault};
+ghost use Rattle.dh_app.specs.Parts.{WritesFault};
 
 use dh_base::{Excess, NoMemory, Place, Rule};
 use dh_data::DataFault;

@@ -1,6 +1,7 @@
 //! The words that the program is called with, and the job that they name.
 
-ghost use Rattle.std.specs.Prelude.{◌≡◌, [], ◌∷◌, map, string_bytes};
+ghost use Rattle.std.specs.Prelude.{◌≡◌, ◌<◌, [], ◌∷◌, length, map, string_bytes};
+ghost use Rattle.dh_app.specs.Asking.{word_at};
 ghost use Rattle.dh_app.specs.Words as words;
 ghost use Rattle.dh_app.specs.Words.{job_of, is_file_word};
 
@@ -58,6 +59,14 @@ impl Job {
             _ => None,
         }
     }
+}
+
+/// The word at a position.
+pub fn word(words: &[String], position: u32) -> &str
+    requires { position < length words.now }
+    ensures { result.now ≡ word_at (map string_bytes words.now) position }
+{
+    words[position as usize].as_str()
 }
 
 /// The job of two words.

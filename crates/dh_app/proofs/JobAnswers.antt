@@ -1,0 +1,158 @@
+-- Where it is told what the files of a job hold, and no fault of reading was counted, two replies to the
+-- same words agree; and where the files are there, none of them is that a file could not be read.
+use Rattle.std.proofs.Common.{◌≡◌, ℕ, ◌⊎◌, Bool, List, [], ◌∷◌, Option, Some, None, refl, sym, ap, ◌∙◌, subst, inl, inr}
+use Rattle.dh_base.specs.Outside.{Told, Untold, Absent, Holds, FilesSeen, Rose, IsAbsent}
+use Rattle.dh_base.specs.declared.limits.Limit.{Limit}
+use Rattle.dh_base.specs.declared.statuses.Status.{Status}
+use Rattle.dh_base.specs.declared.statuses.Status.TheVariants as status
+use Rattle.dh_tree.specs.Memories.{table_of}
+use Rattle.dh_tree.specs.PlainTrees.{Program}
+use Rattle.dh_data.specs.Reports.{report_text}
+use Rattle.dh_app.specs.Asking.{checked, compiled, interpreted, word_at}
+use Rattle.dh_app.specs.Engines.{EngineSeen}
+use Rattle.dh_app.specs.Inputs.{InputsSeen}
+use Rattle.dh_app.specs.InterpretJob.{IsStandingReport, InterpretsData}
+use Rattle.dh_app.specs.Jobs.{JobComes, ComesFor}
+use Rattle.dh_app.specs.LowerJob.{LowersProgram}
+use Rattle.dh_app.specs.Promises.{IsTold, IsThere, DataIs, FilesAre, MayDiffer}
+use Rattle.dh_app.specs.Replies.{ReplySeen, replied, unread, no_memory, Says}
+use Rattle.dh_app.specs.Reporting.{status_of}
+use Rattle.dh_app.specs.SimulateJob.{ending_of, IsReport, RunsNet, SimulatesData, SimulatesProgram}
+use Rattle.dh_app.specs.Sources.{FailsToRead, NoFile, ProgramStage, DataStage}
+use Rattle.dh_app.specs.declared.engine.Finish.{Finish}
+use Rattle.dh_app.specs.declared.words.Job.{Job}
+use Rattle.dh_app.specs.declared.words.Job.TheVariants.{Check, Lower, Interpret, Simulate}
+use Rattle.dh_app.proofs.OneAnswer.{Agreement, programs_agree, data_agree}
+
+-- two replies to a job are the same but for want of memory, and for texts that may differ
+abbrev pub Agree : Option Job → ReplySeen → ReplySeen → Type 0
+Agree o no_memory r = Unit {0}
+Agree o (replied s text) (replied t other) = (s ≡ t) × (MayDiffer o s ⊎ (text ≡ other))
+Agree o (replied s text) unread = ⊥
+Agree o (replied s text) no_memory = Unit {0}
+Agree o unread (replied s text) = ⊥
+Agree o unread unread = Unit {0}
+Agree o unread no_memory = Unit {0}
+
+agreement : (o : Option Job) → Agreement (Agree o)
+agreement o = record { same = same; first = λ r. tt; second = second }
+  where
+    same : (r : ReplySeen) → Agree o r r
+    same (replied s text) = (refl, inr refl)
+    same unread = tt
+    same no_memory = tt
+    second : (r : ReplySeen) → Agree o r no_memory
+    second (replied s text) = tt
+    second unread = tt
+    second no_memory = tt
+
+-- what is said agrees where any two things said do
+said : (o : Option Job) (P : Status → List ℕ → Type 0) → ((s t : Status) (text other : List ℕ) → P s text → P t other → (s ≡ t) × (MayDiffer o s ⊎ (text ≡ other)))
+    → (r q : ReplySeen) → Says P r → Says P q → Agree o r q
+said o P f no_memory q h k = tt
+said o P f (replied s text) (replied t other) h k = f s t text other h k
+said o P f (replied s text) unread h k = absurd k
+said o P f (replied s text) no_memory h k = tt
+said o P f unread q h k = absurd h
+
+-- one status and one text are said
+said_one : (o : Option Job) (s : Status) (text : List ℕ) (a b : Status) (x y : List ℕ) → (a ≡ s) × (x ≡ text) → (b ≡ s) × (y ≡ text) → (a ≡ b) × (MayDiffer o a ⊎ (x ≡ y))
+said_one o s text a b x y h k = (h.0 ∙ sym k.0, inr (h.1 ∙ sym k.1))
+
+same_first : (f g : Finish) (fs : List Finish) → fs ≡ f ∷ [] → fs ≡ g ∷ [] → f ≡ g
+same_first f g fs e h = cc
+
+-- the engine's one answer has one report
+runs_agree : (o : Option Job) (e f : EngineSeen) (p : Program) (m : List (List ℕ)) (r q : ReplySeen) → RunsNet e f p m r → RunsNet e f p m q → Agree o r q
+runs_agree o e f p m no_memory q h k = tt
+runs_agree o e f p m (replied s text) (replied t other) h k =
+    let same = same_first h.1.finish k.1.finish f.answers h.1.answered k.1.answered in
+    (h.1.status_is ∙ (ap (λ x. status_of x.outcome) same ∙ sym k.1.status_is),
+     inr (h.1.text_is ∙ (ap (λ x. report_text (table_of p) x.memories (ending_of x)) same ∙ sym k.1.text_is)))
+runs_agree o e f p m (replied s text) unread h k = absurd k
+runs_agree o e f p m (replied s text) no_memory h k = tt
+runs_agree o e f p m unread q h k = absurd h
+
+lowered_agree : (file : ℕ) (old new : InputsSeen) (p : Program) (r q : ReplySeen) → LowersProgram old new p r → LowersProgram old new p q → Agree (Some (Lower file)) r q
+lowered_agree file old new p no_memory q h k = tt
+lowered_agree file old new p (replied s text) (replied t other) (inr (net, (plays, (read, said_)))) (inr (net', (plays', (read', said')))) = (said_.done ∙ sym said'.done, inl said_.done)
+lowered_agree file old new p (replied s text) (replied t other) (inl h) k = absurd h
+lowered_agree file old new p (replied s text) (replied t other) h (inl k) = absurd k
+lowered_agree file old new p (replied s text) no_memory h k = tt
+lowered_agree file old new p (replied s text) unread h (inl k) = absurd k
+lowered_agree file old new p (replied s text) unread h (inr (net, (plays, (read, says)))) = absurd says
+lowered_agree file old new p unread q (inl h) k = absurd h
+lowered_agree file old new p unread q (inr (net, (plays, (read, says)))) k = absurd says
+
+interpreted_agree : (o : Option Job) (old new : InputsSeen) (data_ : List ℕ) (steps : ℕ) → (Rose old.files.faults new.files.faults → ⊥) → IsTold (old.files.told data_)
+    → (p : Program) (r q : ReplySeen) → InterpretsData old new data_ p steps r → InterpretsData old new data_ p steps q → Agree o r q
+interpreted_agree o old new data_ steps calm told p r q h k =
+    data_agree (Agree o) (agreement o) old new data_ (table_of p) _ r q calm told
+    (λ m x y a b. said o (IsStandingReport p m steps) (λ s t text other c d. (c.status_is ∙ sym d.status_is, inr (c.text_is ∙ sym d.text_is))) x y a.1 b.1) h k
+
+simulated_agree : (o : Option Job) (old new : InputsSeen) (data_ : List ℕ) → (Rose old.files.faults new.files.faults → ⊥) → IsTold (old.files.told data_)
+    → (p : Program) (r q : ReplySeen) → SimulatesProgram old new data_ p r → SimulatesProgram old new data_ p q → Agree o r q
+simulated_agree o old new data_ calm told p no_memory q h k = tt
+simulated_agree o old new data_ calm told p (replied s text) q (inl h) k = absurd h
+simulated_agree o old new data_ calm told p unread q (inl h) k = absurd h
+simulated_agree o old new data_ calm told p r no_memory h k = (agreement o).second r
+simulated_agree o old new data_ calm told p r (replied s text) h (inl k) = absurd k
+simulated_agree o old new data_ calm told p r unread h (inl k) = absurd k
+simulated_agree o old new data_ calm told p r q (inr (net, (plays, h))) (inr (net', (plays', k))) =
+    data_agree (Agree o) (agreement o) old new data_ (table_of p) _ r q calm told (λ m x y a b. runs_agree o old.engine new.engine p m x y a.1 b.1) h k
+
+pub all_agree : (words : List (List ℕ)) (old new : InputsSeen) (o : Option Job) (r q : ReplySeen) → (Rose old.files.faults new.files.faults → ⊥) → FilesAre IsTold words old.files o
+    → ComesFor words old new o r → ComesFor words old new o q → Agree o r q
+all_agree words old new None r q calm told h k = said None _ (said_one None _ _) r q h.1 k.1
+all_agree words old new (Some (Check file)) r q calm told h k =
+    programs_agree (Agree (Some (Check file))) (agreement (Some (Check file))) old new checked (word_at words file) _ r q calm told.0
+    (λ p x y a b. said (Some (Check file)) _ (said_one (Some (Check file)) _ _) x y a.1 b.1) h k
+all_agree words old new (Some (Lower file)) r q calm told h k =
+    programs_agree (Agree (Some (Lower file))) (agreement (Some (Lower file))) old new compiled (word_at words file) _ r q calm told.0 (lowered_agree file old new) h k
+all_agree words old new (Some (Interpret file data_ steps unchecked)) r q calm told h k =
+    let o = Some (Interpret file data_ steps unchecked) in
+    programs_agree (Agree o) (agreement o) old new (interpreted unchecked) (word_at words file) _ r q calm told.0
+    (interpreted_agree o old new (word_at words data_) steps calm told.1) h k
+all_agree words old new (Some (Simulate file data_)) r q calm told h k =
+    let o = Some (Simulate file data_) in
+    programs_agree (Agree o) (agreement o) old new compiled (word_at words file) _ r q calm told.0 (simulated_agree o old new (word_at words data_) calm told.1) h k
+
+-- ---- files that are there are read
+
+there : (t : Told) → IsThere t → IsAbsent t → ⊥
+there Untold h a = h
+there Absent h a = h
+there (Holds bytes) h a = a
+
+is_read : (old new : FilesSeen) (name : List ℕ) → (Rose old.faults new.faults → ⊥) → IsThere (old.told name) → FailsToRead old new name → ⊥
+is_read old new name calm h (inl rose) = calm rose
+is_read old new name calm h (inr a) = there (old.told name) h a
+
+program_had : (old new : InputsSeen) (asked : _) (file : List ℕ) (rest : Program → ReplySeen → Type 0) → (Rose old.files.faults new.files.faults → ⊥) → IsThere (old.files.told file)
+    → ((p : Program) → rest p unread → ⊥) → ProgramStage old new asked file rest unread → ⊥
+program_had old new asked file rest calm h f (inl (inl fails, idle)) = is_read old.files new.files file calm h fails.fails
+program_had old new asked file rest calm h f (inl (inr none, idle)) = none
+program_had old new asked file rest calm h f (inr (p, (is, r))) = f p r
+
+data_had : (old new : InputsSeen) (data_ : List ℕ) (table : _) (rest : List (List ℕ) → ReplySeen → Type 0) → (Rose old.files.faults new.files.faults → ⊥) → IsThere (old.files.told data_)
+    → ((m : List (List ℕ)) → rest m unread → ⊥) → DataStage old new data_ table rest unread → ⊥
+data_had old new data_ table rest calm h f (inl (inl fails, idle)) = is_read old.files new.files data_ calm h fails.fails
+data_had old new data_ table rest calm h f (inl (inr none, idle)) = none
+data_had old new data_ table rest calm h f (inr (m, (is, r))) = f m r
+
+lowered_had : (old new : InputsSeen) (p : Program) → LowersProgram old new p unread → ⊥
+lowered_had old new p (inl h) = h
+lowered_had old new p (inr (net, (plays, (read, says)))) = says
+
+simulated_had : (old new : InputsSeen) (data_ : List ℕ) → (Rose old.files.faults new.files.faults → ⊥) → IsThere (old.files.told data_) → (p : Program) → SimulatesProgram old new data_ p unread → ⊥
+simulated_had old new data_ calm h p (inl none) = none
+simulated_had old new data_ calm h p (inr (net, (plays, k))) = data_had old new data_ (table_of p) _ calm h (λ m r. r.1) k
+
+pub all_had : (words : List (List ℕ)) (old new : InputsSeen) (o : Option Job) → (Rose old.files.faults new.files.faults → ⊥) → FilesAre IsThere words old.files o → ComesFor words old new o unread → ⊥
+all_had words old new None calm h k = k.1
+all_had words old new (Some (Check file)) calm h k = program_had old new checked (word_at words file) _ calm h.0 (λ p r. r.1) k
+all_had words old new (Some (Lower file)) calm h k = program_had old new compiled (word_at words file) _ calm h.0 (lowered_had old new) k
+all_had words old new (Some (Interpret file data_ steps unchecked)) calm h k =
+    program_had old new (interpreted unchecked) (word_at words file) _ calm h.0 (λ p r. data_had old new (word_at words data_) (table_of p) _ calm h.1 (λ m x. x.1) r) k
+all_had words old new (Some (Simulate file data_)) calm h k =
+    program_had old new compiled (word_at words file) _ calm h.0 (simulated_had old new (word_at words data_) calm h.1) k

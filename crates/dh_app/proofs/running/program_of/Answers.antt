@@ -1,8 +1,0 @@
--- A text that is not accepted is answered with the line of its verdict.
-use Rattle.std.proofs.Common.{true}
-use Rattle.dh_check.specs.Verdicts.{asked_of}
-use Rattle.dh_app.proofs.Replying.{fault_refuses}
-use Rattle.dh_app.proofs.running.program_of.Goals as goal
-
-pub returns-in-Err-clause-program : goal.returns-in-Err-clause-program
-returns-in-Err-clause-program c = fault_refuses (asked_of c.args.forms true) c.args.text.now c.in-Err.fault c.fault_line.result c.in-Err.ensures.verdict c.fault_line.ensures

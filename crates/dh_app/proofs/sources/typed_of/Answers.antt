@@ -1,0 +1,9 @@
+-- A text that is not accepted is answered with the line of its verdict.
+use Rattle.dh_app.specs.Asking.{interpreted}
+use Rattle.std.proofs.Common.{true}
+use Rattle.dh_app.specs.Replies.{reply_seen}
+use Rattle.dh_app.proofs.Reading.{fault_refuses}
+use Rattle.dh_app.proofs.sources.typed_of.Goals as goal
+
+pub returns-in-Err : goal.returns-in-Err
+returns-in-Err c = fault_refuses (interpreted true) c.args.text.now c.in-Err.fault (reply_seen c.fault_line.result) c.in-Err.ensures c.fault_line.ensures

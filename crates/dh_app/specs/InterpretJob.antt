@@ -1,0 +1,40 @@
+-- `interpret FILE DATA`: how the checked run of a program stands after a number of logical steps.
+use Rattle.std.specs.Prelude.{◌≡◌, ℕ, Bool, List, None}
+use Rattle.dh_base.specs.declared.statuses.Status.{Status}
+use Rattle.dh_tree.specs.Meaning.{meaning_of}
+use Rattle.dh_tree.specs.Memories.{table_of}
+use Rattle.dh_tree.specs.PlainTrees.{Program}
+use Rattle.dh_tree.specs.Steps.{Standing, standing}
+use Rattle.dh_data.specs.Reports.{report_text}
+use Rattle.dh_data.specs.declared.reports.Ending.{Ending}
+use Rattle.dh_app.specs.Asking.{interpreted}
+use Rattle.dh_app.specs.Inputs.{InputsSeen, OnlyReads}
+use Rattle.dh_app.specs.Replies.{ReplySeen, Says}
+use Rattle.dh_app.specs.Reporting.{status_of}
+use Rattle.dh_app.specs.Sources.{ProgramStage, DataStage}
+
+-- the checked run of a program from these memories, after so many steps
+abbrev pub stands_after : Program → (memories : List (List ℕ)) → (steps : ℕ) → Standing
+stands_after p memories steps = standing (meaning_of p) memories steps
+
+-- how it is reported: no net ran, so there are no clocks
+abbrev pub ending_at : Standing → Ending
+ending_at s = record { outcome = s.outcome; steps = s.steps; clocks = None }
+
+abbrev pub standing_text : Program → Standing → List ℕ
+standing_text p s = report_text (table_of p) s.memories (ending_at s)
+
+-- this status and this text report how the run stands after so many steps
+pub record IsStandingReport (p : Program) (memories : List (List ℕ)) (steps : ℕ) (s : Status) (text : List ℕ) : Type 0 where
+  pub status_is : s ≡ status_of (stands_after p memories steps).outcome
+  pub text_is : text ≡ standing_text p (stands_after p memories steps)
+
+-- the data is read, and how the run from it stands is the reply
+abbrev pub InterpretsData : (old new : InputsSeen) → (data_ : List ℕ) → Program → (steps : ℕ) → ReplySeen → Type 0
+InterpretsData old new data_ p steps r =
+    DataStage old new data_ (table_of p) (λ memories answer. OnlyReads old new 2 × Says (IsStandingReport p memories steps) answer) r
+
+-- the file of the program is read, then the file of the data, and how the run stands is the reply
+abbrev pub InterpretsFiles : (old new : InputsSeen) → (file data_ : List ℕ) → (steps : ℕ) → (unchecked : Bool) → ReplySeen → Type 0
+InterpretsFiles old new file data_ steps unchecked r =
+    ProgramStage old new (interpreted unchecked) file (λ p. InterpretsData old new data_ p steps) r

@@ -1,0 +1,55 @@
+//! `lower FILE`.
+
+ghost use Rattle.dh_base.specs.Outside.{KeepsFiles};
+ghost use Rattle.dh_tree.specs.Seen.{program_seen};
+ghost use Rattle.dh_net.specs.Valid.{IsValid, HasReadsZero};
+ghost use Rattle.dh_check.specs.Acceptance.{IsCompilable};
+ghost use Rattle.dh_app.specs.Engines.{EngineSeen};
+ghost use Rattle.dh_app.specs.Inputs.{InputsSeen, OnlyReads, inputs_of};
+ghost use Rattle.dh_app.specs.LowerJob.{IsNetText, LowersFile, LowersProgram};
+ghost use Rattle.dh_app.specs.Replies.{Says, reply_seen};
+
+use crate::replies::{Answer, Reply};
+use crate::sources::read_program;
+use dh_base::{Files, NoMemory, Status};
+use dh_check::{Accepted, Forms};
+use dh_compile::compile;
+use dh_net::Net;
+use std::alloc::Global;
+
+/// Compiles the program of a file, and writes the text of its net.
+pub fn lower<F: Files>(alloc: Global, file: &str, files: &mut F) -> Reply
+    ensures files { KeepsFiles (F.seen files.old) (F.seen files.new) }
+    ensures comes { (engine : EngineSeen) → LowersFile (inputs_of (F.seen files.old) engine) (inputs_of (F.seen files.new) engine) file.now (reply_seen result) }
+{
+    match read_program(alloc, file, files, Forms::Compiled) {
+        Ok(accepted) => lower_program(alloc, &accepted),
+        Err(reply) => reply,
+    }
+}
+
+/// Compiles an accepted program, and writes the text of its net.
+fn lower_program(alloc: Global, accepted: &Accepted) -> Reply
+    requires { IsCompilable (program_seen accepted.now) }
+    ensures { (old new : InputsSeen) → OnlyReads old new 1 → LowersProgram old new (program_seen accepted.now) (reply_seen result) }
+{
+    match compile(alloc, accepted) {
+        Ok(net) => net_text(alloc, &net),
+        Err(NoMemory) => Reply::NoMemory,
+    }
+}
+
+/// The text of a net.
+fn net_text(alloc: Global, net: &Net) -> Reply
+    requires valid { IsValid net.now }
+    requires zero_reads { HasReadsZero net.now }
+    ensures { Says (IsNetText net.now) (reply_seen result) }
+{
+    match dh_verilog::write(alloc, net) {
+        Ok(text) => Reply::Answer(Answer {
+            status: Status::Done,
+            text,
+        }),
+        Err(NoMemory) => Reply::NoMemory,
+    }
+}

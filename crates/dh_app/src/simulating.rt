@@ -1,0 +1,110 @@
+//! `simulate FILE DATA`: what the engine answers of the net of a program, and its report.
+
+ghost use Rattle.std.specs.Prelude.{◌≡◌, [], ◌∷◌, IfOk};
+ghost use Rattle.dh_base.specs.Outside.{FilesSeen, KeepsFiles};
+ghost use Rattle.dh_tree.specs.PlainTrees.{Program};
+ghost use Rattle.dh_tree.specs.Seen.{program_seen};
+ghost use Rattle.dh_tree.specs.Shapes.{IsProgramTable};
+ghost use Rattle.dh_tree.specs.Tables.{Fits};
+ghost use Rattle.dh_net.specs.Valid.{IsValid};
+ghost use Rattle.dh_check.specs.Acceptance.{IsCompilable};
+ghost use Rattle.dh_compile.specs.Compiled.{PlaysProgram};
+ghost use Rattle.dh_app.specs.Inputs.{HasBegun, inputs_of};
+ghost use Rattle.dh_app.specs.Parts.{IsFirstReport};
+ghost use Rattle.dh_app.specs.Replies.{Says, reply_seen};
+ghost use Rattle.dh_app.specs.SimulateJob.{RunsNet, SimulatesProgram, SimulatesFiles};
+ghost use Rattle.dh_app.specs.declared.engine.Finish.{Finish};
+
+use crate::engine::{Engine, Finish};
+use crate::replies::Reply;
+use crate::reporting::report_ending;
+use crate::sources::{read_memories, read_program};
+use dh_base::{Files, NoMemory};
+use dh_check::{Accepted, Forms};
+use dh_compile::compile;
+use dh_data::Ending;
+use dh_net::Net;
+use dh_tree::{MemTable, Memories};
+use std::alloc::Global;
+
+/// The clocks that a run may take.
+const MOST_CLOCKS: u64 = 10_000_000;
+
+/// Compiles the program of the one file, has the engine run its net from the memories of the other,
+/// and reports the engine's answer.
+pub fn simulate<F: Files, E: Engine>(
+    alloc: Global,
+    file: &str,
+    data_: &str,
+    files: &mut F,
+    engine: &mut E,
+) -> Reply
+    ensures files { KeepsFiles (F.seen files.old) (F.seen files.new) }
+    ensures comes { SimulatesFiles (inputs_of (F.seen files.old) (E.seen engine.old)) (inputs_of (F.seen files.new) (E.seen engine.new)) file.now data_.now (reply_seen result) }
+{
+    match read_program(alloc, file, files, Forms::Compiled) {
+        Ok(accepted) => simulate_program(alloc, &accepted, data_, files, engine),
+        Err(reply) => reply,
+    }
+}
+
+/// Compiles an accepted program, and has its net run from the memories of a file.
+fn simulate_program<F: Files, E: Engine>(
+    alloc: Global,
+    accepted: &Accepted,
+    data_: &str,
+    files: &mut F,
+    engine: &mut E,
+) -> Reply
+    requires { IsCompilable (program_seen accepted.now) }
+    ensures files { KeepsFiles (F.seen files.old) (F.seen files.new) }
+    ensures comes { (first : FilesSeen) → HasBegun first (F.seen files.old)
+        → SimulatesProgram (inputs_of first (E.seen engine.old)) (inputs_of (F.seen files.new) (E.seen engine.new)) data_.now (program_seen accepted.now) (reply_seen result) }
+{
+    let Ok(net) = compile(alloc, accepted) else {
+        return Reply::NoMemory;
+    };
+    match read_memories(alloc, data_, &net.table, files) {
+        Ok(memories) => report_run(alloc, &net, memories, engine),
+        Err(reply) => reply,
+    }
+}
+
+/// Has the engine run a net, and reports the engine's answer.
+fn report_run<E: Engine>(alloc: Global, net: &Net, memories: Memories, engine: &mut E) -> Reply
+    requires valid { IsValid net.now }
+    requires fits { Fits net.now.table memories }
+    ensures { (p : Program) → PlaysProgram net.now p → RunsNet (E.seen engine.old) (E.seen engine.new) p memories (reply_seen result) }
+{
+    let Ok(sets) = only(alloc, memories) else {
+        return Reply::NoMemory;
+    };
+    let Ok(()) = engine.finish(net, sets, MOST_CLOCKS) else {
+        return Reply::NoMemory;
+    };
+    report_first(alloc, &net.table, engine.answers())
+}
+
+/// The list of one item.
+fn only(alloc: Global, memories: Memories) -> Result<Vec<Memories>, NoMemory>
+    ensures { IfOk result (λ v. v.items ≡ memories ∷ []) }
+{
+    let mut sets = Vec::with_capacity(alloc, 1)?;
+    sets.push(memories)?;
+    Ok(sets)
+}
+
+/// Reports the first of an engine's answers.
+fn report_first(alloc: Global, table: &MemTable, answers: &[Finish]) -> Reply
+    requires answers { (finish : Finish) × ((answers.now ≡ finish ∷ []) × Fits table.now finish.memories) }
+    requires table { IsProgramTable table.now }
+    ensures { Says (IsFirstReport table.now answers.now) (reply_seen result) }
+{
+    let finish = &answers[0];
+    let ending = Ending {
+        outcome: finish.outcome,
+        steps: finish.steps,
+        clocks: Some(finish.clocks),
+    };
+    report_ending(alloc, table, &finish.memories, &ending)
+}
