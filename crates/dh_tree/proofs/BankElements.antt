@@ -15,25 +15,25 @@ use Rattle.dh_tree.specs.Tables.{elements_of}
 -- numbers
 
 -- row a and column b of h rows of w places
-place_below : (a w b h : ℕ) → a < h → b < w → a * w + b < h * w
+pub place_below : (a w b h : ℕ) → a < h → b < w → a * w + b < h * w
 place_below a w b h p q = subst (λ (n : ℕ). a * w + b < n) (mul_comm w h) (mul-add-lt a w b h p q)
 
-whole : (size m : ℕ) → size % m ≡ 0 → size / m * m ≡ size
+pub whole : (size m : ℕ) → size % m ≡ 0 → size / m * m ≡ size
 whole size m e = let d = div-add-mod' size m in omega arith
 
-quotient_below : (i m size : ℕ) → 1 ≤ m → size % m ≡ 0 → i < size → i / m < size / m
+pub quotient_below : (i m size : ℕ) → 1 ≤ m → size % m ≡ 0 → i < size → i / m < size / m
 quotient_below i m size l e h = (div-lt_iff_lt-mul {k = m} {x = i} {y = size / m} l).1 (subst (λ (n : ℕ). i < n) (sym (whole size m e)) h)
 
-column_exists : (n h w : ℕ) → n < h * w → 1 ≤ w
+pub column_exists : (n h w : ℕ) → n < h * w → 1 ≤ w
 column_exists n h w l = by w l
   where
     by : (w : ℕ) → n < h * w → 1 ≤ w
     by w l = grind arith
 
-row_below : (n h w : ℕ) → n < h * w → n / w < h
+pub row_below : (n h w : ℕ) → n < h * w → n / w < h
 row_below n h w l = (div-lt_iff_lt-mul {k = w} {x = n} {y = h} (column_exists n h w l)).1 l
 
-column_below : (n h w : ℕ) → n < h * w → n % w < w
+pub column_below : (n h w : ℕ) → n < h * w → n % w < w
 column_below n h w l = mod-lt n {m = w} (column_exists n h w l)
 
 -- an index and the others are within their dimensions

@@ -27,6 +27,7 @@ pub mod SuitedSides
 pub mod SuitedActions
 pub mod SuitedPrograms
 pub mod BankElements
+pub mod BankSpread
 pub mod Leasts
 pub mod SeenPhases
 pub mod PhasesNumbered

@@ -1,6 +1,6 @@
 -- Where an element of a memory lies: its bank, its row there, and its place among all elements
 -- (interleaved banks, after Nigam and others, PLDI 2020; the row-major numbers are this project's).
-use Rattle.std.specs.Prelude.{ℕ, ◌+◌, ◌*◌, ◌/◌, ◌%◌, ◌&&◌, nat_lt, Bool, true, false, List, [], ◌∷◌, slice_get, Option, Some, None}
+use Rattle.std.specs.Prelude.{ℕ, ◌≡◌, ◌<◌, ◌+◌, ◌*◌, ◌/◌, ◌%◌, ◌&&◌, nat_lt, Bool, true, false, List, [], ◌∷◌, slice_get, Option, Some, None}
 use Rattle.dh_tree.specs.Tables.{elements_of}
 use Rattle.dh_tree.specs.declared.tables.Dim.{Dim}
 use Rattle.dh_tree.specs.declared.tables.MemEntry.{MemEntry}
@@ -36,6 +36,26 @@ abbrev pub position_in_bank : List Dim → (bank row : ℕ) → ℕ
 position_in_bank [] bank row = 0
 position_in_bank (d ∷ ds) bank row =
     ((row / rows_of ds) * d.banks + bank / banks_of ds) * elements_of ds + position_in_bank ds (bank % banks_of ds) (row % rows_of ds)
+
+-- a row of a bank, by their numbers
+pub record BankRow : Type 0 where
+  pub bank : ℕ
+  pub row : ℕ
+
+-- it is one that a memory of these dimensions has
+pub record IsThere (dims : List Dim) (b : BankRow) : Type 0 where
+  pub bank : b.bank < banks_of dims
+  pub row : b.row < rows_of dims
+
+-- the place of its element among all
+abbrev pub place_at : List Dim → BankRow → ℕ
+place_at dims b = position_in_bank dims b.bank b.row
+
+-- a place among all elements is that of a row of a bank
+pub record LiesIn (dims : List Dim) (position : ℕ) : Type 0 where
+  pub lies : BankRow
+  pub there : IsThere dims lies
+  pub place : place_at dims lies ≡ position
 
 -- as many indices as dimensions, each below its size
 abbrev pub is_within : List Dim → List ℕ → Bool

@@ -10,7 +10,7 @@ ghost use Rattle.dh_tree.specs.declared.trees.commands.Command.{Command};
 ghost use Rattle.dh_tree.specs.declared.trees.commands.CommandForm.TheVariants.{Block};
 ghost use Rattle.dh_tree.specs.declared.breaches.Breach.{Breach};
 ghost use Rattle.dh_tree.specs.declared.tables.Dim.{Dim};
-ghost use Rattle.dh_tree.specs.Elements.{banks_of, rows_of, bank_of, row_of, position_of, position_in_bank, is_within};
+ghost use Rattle.dh_tree.specs.Elements.{banks_of, rows_of, bank_of, row_of, position_of, position_in_bank, is_within, BankRow, IsThere, place_at, LiesIn};
 ghost use Rattle.dh_tree.specs.Shapes.{IsDim};
 ghost use Rattle.dh_tree.specs.Tables.{elements_of, Fits};
 ghost use Rattle.dh_tree.specs.LeastBreach.{IsLeast, least_of};
@@ -82,13 +82,16 @@ pub fn typed_programs_suit()
 {}
 
 /// An element within its dimensions lies in one of the banks, in a row of it, and at a place among all
-/// elements, which its bank and row tell; and so has each row of a bank a place among all elements.
+/// elements, which its bank and row tell; and so has each row of a bank a place among all elements. Each
+/// place is that of one row of one bank: from bank and row to place is onto and one to one.
 pub fn elements_lie_in_banks()
     ensures bank { (dims : List Dim) (indices : List ℕ) → AllByRecursion IsDim dims → is_within dims indices ≡ true → bank_of dims indices < banks_of dims }
     ensures row { (dims : List Dim) (indices : List ℕ) → AllByRecursion IsDim dims → is_within dims indices ≡ true → row_of dims indices < rows_of dims }
     ensures position { (dims : List Dim) (indices : List ℕ) → AllByRecursion IsDim dims → is_within dims indices ≡ true → position_of dims indices < elements_of dims }
     ensures told { (dims : List Dim) (indices : List ℕ) → AllByRecursion IsDim dims → is_within dims indices ≡ true → position_in_bank dims (bank_of dims indices) (row_of dims indices) ≡ position_of dims indices }
     ensures in_bank { (dims : List Dim) (bank row : ℕ) → AllByRecursion IsDim dims → bank < banks_of dims → row < rows_of dims → position_in_bank dims bank row < elements_of dims }
+    ensures onto { (dims : List Dim) (position : ℕ) → AllByRecursion IsDim dims → position < elements_of dims → LiesIn dims position }
+    ensures one { (dims : List Dim) (first other : BankRow) → AllByRecursion IsDim dims → IsThere dims first → IsThere dims other → place_at dims first ≡ place_at dims other → first ≡ other }
 {}
 
 /// The memories of a program that keeps the rules on names, shapes and places and the limits on memories are
