@@ -1,19 +1,22 @@
 -- Memories from outside and functions in text order, and their entities.
-use Rattle.std.proofs.Common.{◌≡◌, ℕ, ◌+◌, ◌<◌, ◌≤◌, true, false, List, [], ◌∷◌, length, map, drop, get_or, Vec, Option, refl, sym, ap, subst, ◌∙◌, arith, if◌then◌else◌, add-one}
+use Rattle.std.proofs.Common.{◌≡◌, ℕ, ◌+◌, ◌<◌, ◌≤◌, true, false, List, [], ◌∷◌, length, map, drop, get_or, Vec, Option, None, refl, sym, ap, subst, ◌∙◌, arith, if◌then◌else◌, add-one}
 use Rattle.std.specs.Global.{Global}
 use Rattle.std.specs.Vec.{with_items}
 use Rattle.std.proofs.Math.Seq.{drop-cons}
 use Rattle.std.proofs.lemmas.List.{length-drop}
+use Rattle.std.specs.Option.{is_some}
+use Rattle.dh_base.specs.declared.rules.Rule.TheVariants.{NameTwice}
 use Rattle.dh_tree.specs.declared.breaches.Breach.{Breach}
+use Rattle.dh_tree.specs.declared.trees.expressions.Ref.{Ref}
 use Rattle.dh_tree.specs.declared.trees.programs.Decl.{Decl}
 use Rattle.dh_tree.specs.declared.trees.programs.Function.{Function}
 use Rattle.dh_tree.specs.PlainTrees.{Declared}
 use Rattle.dh_tree.specs.Seen.{declared_seen, defined_seen}
-use Rattle.dh_tree.specs.LeastBreach.{least_of}
-use Rattle.dh_tree.specs.Scopes.{Binding, bind, Item, memory_items, function_items, merged}
+use Rattle.dh_tree.specs.LeastBreach.{breach, least_of}
+use Rattle.dh_tree.specs.Scopes.{Binding, entity_of, bind, Item, memory_items, function_items, merged}
 use Rattle.dh_tree.specs.Breaches.{twice}
 use Rattle.dh_tree.specs.Resolved.{numbered, resolved_decls}
-use Rattle.dh_names.specs.Programs.{is_function_next, AreLeft, BindsNext}
+use Rattle.dh_names.specs.Programs.{is_function_next, left, AreLeft, BindsNext, LacksNext}
 use Rattle.dh_names.proofs.InPlace.{Unvisited, made, SoFar, finish, written}
 
 abbrev pub decl_step : ℕ → Declared → ℕ
@@ -112,6 +115,17 @@ module _ (decls : List Decl) (functions : List Function) (old : List Binding) (o
         functions_done = omega (arith, within);
       }
 
+  none_twice : (r : Ref) → entity_of old r.name ≡ None → least_of old_least (twice old r) ≡ old_least
+  none_twice r none = ap (λ o. least_of old_least (if is_some o then breach NameTwice r.place ∷ [] else [])) none
+
+  pub function_lacks : (new : List Binding) (new_least : Option Breach) → AreLeft decls functions (m, k) → (d : Function) → is_function_next (map declared_seen (drop m decls)) (map defined_seen (drop k functions)) ≡ true
+      → entity_of old (get_or functions k d).name.name ≡ None → new ≡ old → new_least ≡ least_of old_least (twice old (get_or functions k d).name)
+      → LacksNext decls functions old old_least (m, k) new new_least
+  unfolding function_next
+  function_lacks new new_least a d test none same least =
+      let n = function_next _ _ a d test refl refl in
+      record { item = n.item; more = left decls functions (m, k + 1); next = n.next; unbound = none; visible = same; least = least ∙ none_twice (get_or functions k d).name none }
+
   pub memory_next : (new : List Binding) (new_least : Option Breach) → AreLeft decls functions (m, k) → (d : Decl) → is_function_next (map declared_seen (drop m decls)) (map defined_seen (drop k functions)) ≡ false
       → new ≡ bind old (get_or decls m d).name.name m → new_least ≡ least_of old_least (twice old (get_or decls m d).name)
       → BindsNext decls functions old old_least (m, k) new new_least (m + 1, k)
@@ -129,3 +143,11 @@ module _ (decls : List Decl) (functions : List Function) (old : List Binding) (o
         memories = omega (arith, within);
         functions_done = a.functions_done;
       }
+
+  pub memory_lacks : (new : List Binding) (new_least : Option Breach) → AreLeft decls functions (m, k) → (d : Decl) → is_function_next (map declared_seen (drop m decls)) (map defined_seen (drop k functions)) ≡ false
+      → entity_of old (get_or decls m d).name.name ≡ None → new ≡ old → new_least ≡ least_of old_least (twice old (get_or decls m d).name)
+      → LacksNext decls functions old old_least (m, k) new new_least
+  unfolding memory_next
+  memory_lacks new new_least a d test none same least =
+      let n = memory_next _ _ a d test refl refl in
+      record { item = n.item; more = left decls functions (m + 1, k); next = n.next; unbound = none; visible = same; least = least ∙ none_twice (get_or decls m d).name none }

@@ -13,3 +13,4 @@ pub mod FunctionsDone
 pub mod ItemsDone
 pub mod ProgramsDone
 pub mod EmptyTrees
+pub mod Wanting

@@ -1,5 +1,5 @@
 -- What the walk over a program does before and behind its commands, and what it answers.
-use Rattle.std.specs.Prelude.{ℕ, Bool, true, false, ◌+◌, ◌≡◌, List, [], ◌∷◌, ◌<◌, ◌≤◌, length, map, drop, Option, Result, Ok, Err}
+use Rattle.std.specs.Prelude.{ℕ, Bool, true, false, ◌+◌, ◌≡◌, List, [], ◌∷◌, ◌<◌, ◌≤◌, length, map, drop, Option, None, Result, Ok, Err}
 use Rattle.dh_base.specs.declared.faults.PassFault.{PassFault}
 use Rattle.dh_base.specs.declared.faults.PassFault.TheVariants as fault
 use Rattle.dh_tree.specs.declared.breaches.Breach.{Breach}
@@ -9,9 +9,10 @@ use Rattle.dh_tree.specs.declared.trees.named.Named.{Named}
 use Rattle.dh_tree.specs.PlainTrees.{Declared, Formal, Defined, Program}
 use Rattle.dh_tree.specs.Seen.{declared_seen, defined_seen, program_seen}
 use Rattle.dh_tree.specs.LeastBreach.{is_before, breach, least_of, IsLeast}
-use Rattle.dh_tree.specs.Scopes.{Binding, bind, Item, memory_items, function_items, merged, Scope, after_formals, after_function, after_functions}
+use Rattle.dh_tree.specs.Scopes.{Binding, entity_of, bind, Item, memory_items, function_items, merged, Scope, after_formals, after_function, after_functions}
 use Rattle.dh_tree.specs.Breaches.{breaches_of, KeepsNames, twice, formals_breaches, function_breaches, functions_breaches}
 use Rattle.dh_tree.specs.Resolved.{resolved, resolved_formals, resolved_function, resolved_functions}
+use Rattle.dh_tree.specs.NameCounts.{names_declared}
 use Rattle.dh_names.specs.Walks.{State, walked}
 
 -- a walk over the parameters of a function
@@ -63,9 +64,18 @@ pub record BindsNext (decls : List Decl) (functions : List Function) (old : List
   pub memories : after.0 ≤ length decls
   pub functions_done : after.1 ≤ length functions
 
+-- memory is wanting for the next name of those left, which is not visible yet, and nothing is done
+pub record LacksNext (decls : List Decl) (functions : List Function) (old : List Binding) (old_least : Option Breach) (done : ℕ × ℕ) (new : List Binding) (new_least : Option Breach) : Type 0 where
+  pub item : Item
+  pub more : List Item
+  pub next : left decls functions done ≡ item ∷ more
+  pub unbound : entity_of old item.name.name ≡ None
+  pub visible : new ≡ old
+  pub least : new_least ≡ old_least
+
 -- a program is answered by its tree with entities where no name breaks a rule, and else by the breach
--- that stands first; for want of memory it may have no answer
+-- that stands first; for want of memory it may have no answer, where it declares a name
 abbrev pub Answers : Program → Result Named PassFault → Type 0
 Answers p (Ok named) = (program_seen named ≡ resolved p) × KeepsNames p
 Answers p (Err (fault.Refused rule place)) = IsLeast (breaches_of p) (breach rule place)
-Answers p (Err fault.NoMemory) = Unit {0}
+Answers p (Err fault.NoMemory) = 0 < names_declared p

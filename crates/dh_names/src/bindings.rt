@@ -1,7 +1,8 @@
 //! The names that are visible at a point of the text.
 
-ghost use Rattle.std.specs.Prelude.{◌≡◌, ◌++◌, [], ◌∷◌, None, OnOk, length, take};
-ghost use Rattle.dh_tree.specs.Scopes.{entity_of, binding, bind};
+ghost use Rattle.std.specs.Prelude.{◌≡◌, ◌++◌, [], ◌∷◌, None, is_ok, if◌then◌else◌, length, take};
+ghost use Rattle.dh_tree.specs.Scopes.{entity_of, binding};
+ghost use Rattle.dh_names.specs.Visible.{Binds};
 
 use dh_base::NoMemory;
 use dh_tree::Name;
@@ -42,19 +43,19 @@ impl Bindings {
         self.numbers.get(name.as_str()).copied()
     }
 
-    /// Adds a name that is not there.
+    /// Adds a name that is not there. After want of memory the names are as before.
     pub fn add(&mut self, alloc: Global, name: &Name, entity: u32) -> Result<(), NoMemory>
         requires { entity_of self.old name.now ≡ None }
-        ensures { OnOk result (self.new ≡ self.old ++ binding name.now entity ∷ []) }
+        ensures { self.new ≡ (if is_ok result then self.old ++ binding name.now entity ∷ [] else self.old) }
     {
         let text = String::from_str(alloc, name.as_str())?;
         self.numbers.insert(text, entity)?;
         Ok(())
     }
 
-    /// Adds a name, unless it is there already.
+    /// Adds a name, unless it is there already. After want of memory the names are as before.
     pub fn bind(&mut self, alloc: Global, name: &Name, entity: u32) -> Result<(), NoMemory>
-        ensures { OnOk result (self.new ≡ bind self.old name.now entity) }
+        ensures { Binds self.old self.new name.now entity result }
     {
         if self.find(name).is_some() {
             return Ok(());

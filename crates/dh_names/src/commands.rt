@@ -1,6 +1,6 @@
 //! The names within commands.
 
-ghost use Rattle.std.specs.Prelude.{◌≡◌, OnOk, IfOk, option_map, map};
+ghost use Rattle.std.specs.Prelude.{◌≡◌, ◌<◌, MatchResult, option_map, map};
 ghost use Rattle.dh_tree.specs.PlainTrees.{lets, lets_memory, views};
 ghost use Rattle.dh_tree.specs.Seen.{term_seen, plan_seen, action_seen, action_form_seen, part_seen, maybe_seen};
 ghost use Rattle.dh_tree.specs.NameCounts.{declared_in, declared_in_form, declared_in_other, declared_in_actions};
@@ -16,7 +16,8 @@ impl Walk {
     /// Gives the names of a command their numbers. Names that a block declares stay visible.
     #[cycle(commands)]
     pub fn command(&mut self, alloc: Global, command: &mut Command) -> Result<(), NoMemory>
-        ensures { OnOk result (Room (state_of self.old) (declared_in (action_seen command.old)) → Resolves (state_of self.old) (state_of self.new) (action_seen command.old) (action_seen command.new)) }
+        ensures { MatchResult result (λ _. Room (state_of self.old) (declared_in (action_seen command.old)) → Resolves (state_of self.old) (state_of self.new) (action_seen command.old) (action_seen command.new))
+            (λ _. 0 < declared_in (action_seen command.old)) }
     {
         let blank = CommandForm::Block {
             body: Vec::new(alloc),
@@ -29,7 +30,8 @@ impl Walk {
     // The form with the numbers of its names.
     #[cycle(commands)]
     fn form(&mut self, alloc: Global, form: CommandForm) -> Result<CommandForm, NoMemory>
-        ensures { IfOk result (λ done. Room (state_of self.old) (declared_in_form (action_form_seen form)) → ResolvesForm (state_of self.old) (state_of self.new) (action_form_seen form) (action_form_seen done)) }
+        ensures { MatchResult result (λ done. Room (state_of self.old) (declared_in_form (action_form_seen form)) → ResolvesForm (state_of self.old) (state_of self.new) (action_form_seen form) (action_form_seen done))
+            (λ _. 0 < declared_in_form (action_form_seen form)) }
     {
         match form {
             CommandForm::Let {
@@ -173,7 +175,8 @@ impl Walk {
         alloc: Global,
         block: Option<Box<Command>>,
     ) -> Result<Option<Box<Command>>, NoMemory>
-        ensures { IfOk result (λ done. Room (state_of self.old) (declared_in_other (maybe_seen (option_map (λ b. action_seen b.value) block))) → ResolvesOther (state_of self.old) (state_of self.new) (maybe_seen (option_map (λ b. action_seen b.value) block)) (maybe_seen (option_map (λ b. action_seen b.value) done))) }
+        ensures { MatchResult result (λ done. Room (state_of self.old) (declared_in_other (maybe_seen (option_map (λ b. action_seen b.value) block))) → ResolvesOther (state_of self.old) (state_of self.new) (maybe_seen (option_map (λ b. action_seen b.value) block)) (maybe_seen (option_map (λ b. action_seen b.value) done)))
+            (λ _. 0 < declared_in_other (maybe_seen (option_map (λ b. action_seen b.value) block))) }
     {
         match block {
             Some(mut command) => {
@@ -187,7 +190,8 @@ impl Walk {
     // A command whose names are visible in it alone.
     #[cycle(commands)]
     fn inner(&mut self, alloc: Global, command: &mut Command) -> Result<(), NoMemory>
-        ensures { OnOk result (Room (state_of self.old) (declared_in (action_seen command.old)) → ResolvesInner (state_of self.old) (state_of self.new) (action_seen command.old) (action_seen command.new)) }
+        ensures { MatchResult result (λ _. Room (state_of self.old) (declared_in (action_seen command.old)) → ResolvesInner (state_of self.old) (state_of self.new) (action_seen command.old) (action_seen command.new))
+            (λ _. 0 < declared_in (action_seen command.old)) }
     {
         let start = self.own_names();
         self.command(alloc, command)?;
@@ -198,7 +202,8 @@ impl Walk {
     // A command of a list: what it declares is visible after it, unless it is a block.
     #[cycle(commands)]
     fn next(&mut self, alloc: Global, command: &mut Command) -> Result<(), NoMemory>
-        ensures { OnOk result (Room (state_of self.old) (declared_in (action_seen command.old)) → ResolvesNext (state_of self.old) (state_of self.new) (action_seen command.old) (action_seen command.new)) }
+        ensures { MatchResult result (λ _. Room (state_of self.old) (declared_in (action_seen command.old)) → ResolvesNext (state_of self.old) (state_of self.new) (action_seen command.old) (action_seen command.new))
+            (λ _. 0 < declared_in (action_seen command.old)) }
     {
         if is_block(&command.form) {
             self.inner(alloc, command)
@@ -210,7 +215,8 @@ impl Walk {
     // The commands between two `---`.
     #[cycle(commands)]
     fn part(&mut self, alloc: Global, part: &mut Vec<Command>) -> Result<(), NoMemory>
-        ensures { OnOk result (Room (state_of self.old) (declared_in_actions (part_seen part.old)) → ResolvesActions (state_of self.old) (state_of self.new) (part_seen part.old) (part_seen part.new)) }
+        ensures { MatchResult result (λ _. Room (state_of self.old) (declared_in_actions (part_seen part.old)) → ResolvesActions (state_of self.old) (state_of self.new) (part_seen part.old) (part_seen part.new))
+            (λ _. 0 < declared_in_actions (part_seen part.old)) }
     {
         for command in part.iter_mut() {
             self.next(alloc, command)?;

@@ -1,6 +1,6 @@
 //! The names within functions.
 
-ghost use Rattle.std.specs.Prelude.{◌≡◌, ◌+◌, ◌<◌, ◌^◌, OnOk, length, map};
+ghost use Rattle.std.specs.Prelude.{◌≡◌, ◌+◌, ◌<◌, ◌^◌, OnOk, MatchResult, length, map};
 ghost use Rattle.dh_tree.specs.Scopes.{formal_sort};
 ghost use Rattle.dh_tree.specs.Seen.{action_seen, formal_seen, defined_seen};
 ghost use Rattle.dh_tree.specs.NameCounts.{declared_in, declared_in_functions};
@@ -25,7 +25,9 @@ fn sort_of(parameter: &Parameter) -> Sort
 impl Walk {
     // The parameters in order.
     fn parameters(&mut self, alloc: Global, parameters: &mut Vec<Parameter>) -> Result<(), NoMemory>
-        ensures { OnOk result (Room (state_of self.old) (length parameters.old.items) → ResolvesFormals (state_of self.old) (state_of self.new) (map formal_seen parameters.old.items) (map formal_seen parameters.new.items)) }
+        requires { Room (state_of self.old) (length parameters.old.items) }
+        ensures { MatchResult result (λ _. ResolvesFormals (state_of self.old) (state_of self.new) (map formal_seen parameters.old.items) (map formal_seen parameters.new.items))
+            (λ _. 0 < length parameters.old.items) }
     {
         for parameter in parameters.iter_mut() {
             let sort = sort_of(parameter);
@@ -62,7 +64,8 @@ impl Walk {
         requires outside { IsOutside (state_of self.old) }
         requires few { first + length functions.old.items < 2 ^ 32 }
         requires room { Room (state_of self.old) (declared_in_functions (map defined_seen functions.old.items)) }
-        ensures { OnOk result (ResolvesFunctions first (state_of self.old) (state_of self.new) (map defined_seen functions.old.items) (map defined_seen functions.new.items)) }
+        ensures { MatchResult result (λ _. ResolvesFunctions first (state_of self.old) (state_of self.new) (map defined_seen functions.old.items) (map defined_seen functions.new.items))
+            (λ _. 0 < length functions.old.items) }
     {
         let mut number = first;
         for function in functions.iter_mut() {

@@ -10,8 +10,6 @@ mod functions;
 mod laws;
 mod programs;
 mod scopes;
-#[cfg(test)]
-mod tests;
 mod views;
 mod walks;
 

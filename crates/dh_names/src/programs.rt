@@ -1,6 +1,6 @@
 //! The names of whole programs.
 
-ghost use Rattle.std.specs.Prelude.{◌≡◌, ◌+◌, ◌<◌, ◌^◌, [], ◌++◌, IfOk, OnOk, length, map, drop};
+ghost use Rattle.std.specs.Prelude.{◌≡◌, ◌+◌, ◌<◌, ◌^◌, [], ◌++◌, OnOk, OnErr, MatchResult, length, map, drop};
 ghost use Rattle.dh_tree.specs.declared.trees.programs.Sort.TheVariants as sort;
 ghost use Rattle.dh_tree.specs.LeastBreach.{least_of};
 ghost use Rattle.dh_tree.specs.Scopes.{entity, after_items};
@@ -9,7 +9,7 @@ ghost use Rattle.dh_tree.specs.Resolved.{resolved_decls};
 ghost use Rattle.dh_tree.specs.Seen.{declared_seen, defined_seen, program_seen};
 ghost use Rattle.dh_tree.specs.NameCounts.{HasFewNames};
 ghost use Rattle.dh_names.specs.Visible.{visible};
-ghost use Rattle.dh_names.specs.Programs.{Answers, is_function_next, left, AreLeft, BindsNext};
+ghost use Rattle.dh_names.specs.Programs.{Answers, is_function_next, left, AreLeft, BindsNext, LacksNext};
 
 use crate::bindings::Bindings;
 use crate::scopes::{Names, bind_name};
@@ -24,7 +24,8 @@ fn outer_entities(
     decls: &[Decl],
     functions: &[Function],
 ) -> Result<Vec<Entity>, NoMemory>
-    ensures { IfOk result (λ all. all.items ≡ map (λ d. entity d.name sort.Memory) (map declared_seen decls.now) ++ map (λ f. entity f.name sort.Function) (map defined_seen functions.now)) }
+    ensures { MatchResult result (λ all. all.items ≡ map (λ d. entity d.name sort.Memory) (map declared_seen decls.now) ++ map (λ f. entity f.name sort.Function) (map defined_seen functions.now))
+        (λ _. 0 < length decls.now + length functions.now) }
 {
     let mut entities = Vec::new(alloc);
     for decl in decls {
@@ -81,7 +82,8 @@ fn bind_next(
     requires few { length decls.now + length functions.now < 2 ^ 32 }
     requires left { AreLeft decls.now functions.now done }
     ensures outer { names.new.outer ≡ names.old.outer }
-    ensures next { IfOk result (λ after. BindsNext decls.now functions.now (visible names.old) least.old done (visible names.new) least.new after) }
+    ensures next { MatchResult result (λ after. BindsNext decls.now functions.now (visible names.old) least.old done (visible names.new) least.new after)
+        (λ _. LacksNext decls.now functions.now (visible names.old) least.old done (visible names.new) least.new) }
 {
     let (memory, function) = done;
     if function_is_next(decls, functions, memory, function) {
@@ -106,6 +108,7 @@ fn bind_items(
     ensures outer { names.new.outer ≡ names.old.outer }
     ensures names { OnOk result (visible names.new ≡ after_items (visible names.old) (left decls.now functions.now (0, 0))) }
     ensures least { OnOk result (least.new ≡ least_of least.old (items_breaches (visible names.old) (left decls.now functions.now (0, 0)))) }
+    ensures memory { OnErr result (0 < length decls.now + length functions.now) }
 {
     let mut done = (0, 0);
     for _ in 0..decls.len() + functions.len() {
@@ -131,7 +134,7 @@ fn no_names(alloc: Global) -> Names
 /// # Errors
 ///
 /// `Refused` with `UnknownName` at a name that is not visible, or with `NameTwice` at the name of a
-/// declaration. `NoMemory` where an allocation was refused.
+/// declaration. `NoMemory` where an allocation was refused; a tree that declares no name takes none.
 pub fn resolve(alloc: Global, tree: Tree) -> Result<Named, PassFault>
     requires few { HasFewNames (program_seen tree) }
     ensures { Answers (program_seen tree) result }

@@ -1,11 +1,11 @@
 //! Names where they are used and declared.
 
-ghost use Rattle.std.specs.Prelude.{◌≡◌, OnOk};
-ghost use Rattle.dh_tree.specs.Scopes.{entity_of, bind};
+ghost use Rattle.std.specs.Prelude.{◌≡◌};
+ghost use Rattle.dh_tree.specs.Scopes.{entity_of};
 ghost use Rattle.dh_tree.specs.LeastBreach.{least_of};
 ghost use Rattle.dh_tree.specs.Breaches.{unknown, twice};
 ghost use Rattle.dh_tree.specs.Resolved.{used};
-ghost use Rattle.dh_names.specs.Visible.{visible};
+ghost use Rattle.dh_names.specs.Visible.{visible, Binds};
 
 use crate::bindings::Bindings;
 use dh_base::{NoMemory, Rule};
@@ -52,7 +52,7 @@ pub fn resolve_use(names: &Names, least: &mut Option<Breach>, name: &mut Ref)
 }
 
 /// Makes a name visible that is declared as entity number `entity`, and keeps the breach where it is
-/// visible already.
+/// visible already. After want of memory names and breach are as before.
 pub fn bind_name(
     alloc: Global,
     names: &mut Names,
@@ -61,8 +61,8 @@ pub fn bind_name(
     entity: u32,
 ) -> Result<(), NoMemory>
     ensures outer { names.new.outer ≡ names.old.outer }
-    ensures names { OnOk result (visible names.new ≡ bind (visible names.old) name.now.name entity) }
-    ensures least { OnOk result (least.new ≡ least_of least.old (twice (visible names.old) name.now)) }
+    ensures names { Binds (visible names.old) (visible names.new) name.now.name entity result }
+    ensures least { least.new ≡ least_of least.old (twice (visible names.old) name.now) }
 {
     if names.find(&name.name).is_some() {
         keep_least(

@@ -1,6 +1,6 @@
 //! A walk through the text of a program.
 
-ghost use Rattle.std.specs.Prelude.{◌≡◌, ◌+◌, ◌<◌, ◌^◌, OnOk, option_map, map, length};
+ghost use Rattle.std.specs.Prelude.{◌≡◌, ◌+◌, ◌-◌, ◌^◌, min, OnOk, option_map, map, length};
 ghost use Rattle.dh_tree.specs.Scopes.{declare};
 ghost use Rattle.dh_tree.specs.Seen.{term_seen};
 ghost use Rattle.dh_tree.specs.Breaches.{unknown, twice, term_breaches, value_breaches, list_breaches};
@@ -97,10 +97,11 @@ impl Walk {
 // A count as the number of the next entity; the last number where the count is beyond it, to which
 // no tree with few names comes.
 fn numbered(count: usize) -> u32
-    ensures { count < 2 ^ 32 → result ≡ count }
+    ensures { result ≡ min count (2 ^ 32 - 1) }
 {
-    match u32::try_from(count) {
-        Ok(number) => number,
-        Err(_) => u32::MAX,
+    if count < u32::MAX as usize {
+        count as u32
+    } else {
+        u32::MAX
     }
 }

@@ -14,7 +14,7 @@ use Rattle.dh_tree.specs.PlainTrees.{Term, term, TermForm, number, truth_value, 
 use Rattle.dh_tree.specs.Seen.{form_seen, term_seen, terms}
 use Rattle.dh_tree.specs.Kinds.{Facts, is_bare, is_bare_form, keeps_bare, is_shift, found, form_found, left_want, right_want, for_numbers, typed_term, typed_form}
 use Rattle.dh_tree.proofs.SeenTerms.{access_is, physical_is, binary_is, cast_is}
-use Rattle.dh_types.specs.Bare.{settled, settled_form, AreFilled}
+use Rattle.dh_types.specs.Bare.{settled, settled_form, filled_in, filled_in_form, filled_if_bare}
 use Rattle.dh_types.proofs.Indices.{terms_listed}
 
 -- what is wanted of an operation that is not bare does not matter
@@ -87,12 +87,39 @@ if_false : {A : Type 0} (t : Bool) (x y : A) → t ≡ false → (if t then x el
 if_false true x y e = cc
 if_false false x y e = refl
 
--- what is not bare is not said to be
-pub never_bare : (X : Type 0) (form : ExprForm) (g : TermForm) → form_seen form ≡ g → is_bare_form g ≡ false → is_bare_form (form_seen form) ≡ true → X
-never_bare X form g is fails holds = absurd (clash (sym holds ∙ ap is_bare_form is ∙ fails))
+-- operands of a bare operation are bare
+bare_operands : (facts : Facts) (want : Option Kind) (op : Op) (a b a' b' : Term) → (keeps_bare op && (is_bare a && is_bare b)) ≡ true → (is_bare a ≡ true → a' ≡ typed_term facts (left_want op want true true None) a) → (is_bare b ≡ true → b' ≡ typed_term facts (right_want op want true true None) b)
+    → applied op a' b' ≡ typed_form facts want (applied op a b)
+bare_operands facts want op a b a' b' both one two = by (keeps_bare op) (is_bare a) (is_bare b) refl refl both
   where
-    clash : true ≡ false → ⊥
-    clash z = cc
+    by : (k x y : Bool) → is_bare a ≡ x → is_bare b ≡ y → (k && (x && y)) ≡ true → applied op a' b' ≡ typed_form facts want (applied op a b)
+    by false x y p q e = cc
+    by true false y p q e = cc
+    by true true false p q e = cc
+    by true true true p q e =
+        ap (λ t. applied op t b') (one p) ∙ ap (λ t. applied op (typed_term facts (left_want op want true true None) a) t) (two q)
+        ∙ sym (ap (λ z. applied op (typed_term facts (left_want op want z (is_bare b) (found (typed_term facts None b))) a) (typed_term facts (right_want op want z (is_bare b) (found (typed_term facts None a))) b)) p
+        ∙ ap (λ z. applied op (typed_term facts (left_want op want true z (found (typed_term facts None b))) a) (typed_term facts (right_want op want true z (found (typed_term facts None a))) b)) q)
+
+-- what a bare expression is filled in with are its kinds
+mutual
+  filled_bare : (facts : Facts) (want : Option Kind) (t : Term) → is_bare t ≡ true → filled_in facts want t ≡ typed_term facts want t
+  filled_bare facts want (term place kind form) e = ap (λ g. term place (form_found facts want g) g) (filled_bare_form facts want form e)
+
+  filled_bare_form : (facts : Facts) (want : Option Kind) (f : TermForm) → is_bare_form f ≡ true → filled_in_form facts want f ≡ typed_form facts want f
+  filled_bare_form facts want (number negative n) e = refl
+  filled_bare_form facts want (truth_value value) e = cc
+  filled_bare_form facts want (named r) e = cc
+  filled_bare_form facts want (accessed r indices) e = cc
+  filled_bare_form facts want (in_bank r bank bank_place row) e = cc
+  filled_bare_form facts want (converted inner to) e = cc
+  filled_bare_form facts want (applied o left right) e =
+      bare_operands facts want o left right (filled_in facts (left_want o want true true None) left) (filled_in facts (right_want o want true true None) right) e
+      (λ b. filled_bare facts (left_want o want true true None) left b) (λ b. filled_bare facts (right_want o want true true None) right b)
+
+-- a form that is no operation stays as it is
+pub filled_kept : (facts : Facts) (want : Option Kind) (form g : ExprForm) (p : TermForm) → form ≡ g → form_seen g ≡ p → filled_in_form facts want p ≡ p → form_seen g ≡ filled_in_form facts want (form_seen form)
+filled_kept facts want form g p is seen same = seen ∙ sym same ∙ sym (ap (λ f. filled_in_form facts want f) (ap form_seen is ∙ seen))
 
 module _ (facts : Facts) where
   -- an expression that is settled and not bare
@@ -103,31 +130,22 @@ module _ (facts : Facts) where
   pub settled_bare : (t t' : Term) (bare : Bool) → bare ≡ is_bare t → bare ≡ true → t' ≡ settled facts t → t' ≡ t
   settled_bare t t' bare is holds e = e ∙ if_true (is_bare t) t (typed_term facts None t) (sym is ∙ holds)
 
-  -- the operands of a bare operation, one after the other
+  -- a bare expression that was left for its place
+  pub settled_filled : (want : Option Kind) (t t1 t2 : Term) (bare : Bool) → bare ≡ is_bare t → bare ≡ true → t1 ≡ settled facts t → t2 ≡ filled_in facts want t1 → t2 ≡ typed_term facts want t
+  settled_filled want t t1 t2 bare is holds s f = f ∙ ap (λ x. filled_in facts want x) (settled_bare t t1 bare is holds s) ∙ filled_bare facts want t (sym is ∙ holds)
+
+  -- the operands of an operation, one after the other
   pub filled_binary : (want : Option Kind) (form : ExprForm) (op : Op) (left right : Box Expr) (l l' r r' : Expr) (wl wr : Option Kind) → form ≡ Binary op left right → l ≡ left.value → r ≡ right.value
       → wl ≡ left_want op want true true None → wr ≡ right_want op want true true None
-      → (is_bare (term_seen l) ≡ true → term_seen l' ≡ typed_term facts wl (term_seen l)) → (is_bare (term_seen r) ≡ true → term_seen r' ≡ typed_term facts wr (term_seen r))
-      → is_bare_form (form_seen form) ≡ true → form_seen (Binary op (with_value left l') (with_value right r')) ≡ typed_form facts want (form_seen form)
-  filled_binary want form op left right l l' r r' wl wr is lis ris lwant rwant one two bare =
+      → term_seen l' ≡ filled_in facts wl (term_seen l) → term_seen r' ≡ filled_in facts wr (term_seen r)
+      → form_seen (Binary op (with_value left l') (with_value right r')) ≡ filled_in_form facts want (form_seen form)
+  filled_binary want form op left right l l' r r' wl wr is lis ris lwant rwant one two =
       let seen : form_seen form ≡ applied op (term_seen l) (term_seen r) =
       ap form_seen is ∙ binary_is op left right ∙ ap (λ x. applied op (term_seen x) (term_seen right.value)) (sym lis) ∙ ap (λ x. applied op (term_seen l) (term_seen x)) (sym ris) in
-      let both : (keeps_bare op && (is_bare (term_seen l) && is_bare (term_seen r))) ≡ true = sym (ap is_bare_form seen) ∙ bare in
       binary_is op (with_value left l') (with_value right r')
-      ∙ operands (term_seen l) (term_seen r) (term_seen l') (term_seen r') both (λ b. one b ∙ ap (λ k. typed_term facts k (term_seen l)) lwant) (λ b. two b ∙ ap (λ k. typed_term facts k (term_seen r)) rwant)
-      ∙ sym (ap (typed_form facts want) seen)
-    where
-      operands : (a b a' b' : Term) → (keeps_bare op && (is_bare a && is_bare b)) ≡ true → (is_bare a ≡ true → a' ≡ typed_term facts (left_want op want true true None) a) → (is_bare b ≡ true → b' ≡ typed_term facts (right_want op want true true None) b)
-          → applied op a' b' ≡ typed_form facts want (applied op a b)
-      operands a b a' b' both one two = by (keeps_bare op) (is_bare a) (is_bare b) refl refl both
-        where
-          by : (k x y : Bool) → is_bare a ≡ x → is_bare b ≡ y → (k && (x && y)) ≡ true → applied op a' b' ≡ typed_form facts want (applied op a b)
-          by false x y p q e = cc
-          by true false y p q e = cc
-          by true true false p q e = cc
-          by true true true p q e =
-              ap (λ t. applied op t b') (one p) ∙ ap (λ t. applied op (typed_term facts (left_want op want true true None) a) t) (two q)
-              ∙ sym (ap (λ z. applied op (typed_term facts (left_want op want z (is_bare b) (found (typed_term facts None b))) a) (typed_term facts (right_want op want z (is_bare b) (found (typed_term facts None a))) b)) p
-              ∙ ap (λ z. applied op (typed_term facts (left_want op want true z (found (typed_term facts None b))) a) (typed_term facts (right_want op want true z (found (typed_term facts None a))) b)) q)
+      ∙ ap (λ x. applied op x (term_seen r')) (one ∙ ap (λ k. filled_in facts k (term_seen l)) lwant)
+      ∙ ap (λ x. applied op (filled_in facts (left_want op want true true None) (term_seen l)) x) (two ∙ ap (λ k. filled_in facts k (term_seen r)) rwant)
+      ∙ sym (ap (λ f. filled_in_form facts want f) seen)
 
   pub settled_access : (form : ExprForm) (r : Ref) (v v' : Vec Expr Global) → form ≡ Access r v → map term_seen v'.items ≡ map (typed_term facts None) (map term_seen v.items)
       → form_seen (Access r v') ≡ settled_form facts (form_seen form)
@@ -181,7 +199,11 @@ module _ (facts : Facts) where
       by true = refl
       by false = bare_typed facts None t
 
-  pub operands_settled : (o : Op) (l l1 l2 r r1 r2 : Term) (bl br : Bool) (wl wr : Option Kind)
+  if_filled : (b : Bool) (want : Option Kind) (t : Term) → b ≡ is_bare t → filled_if_bare facts b want t ≡ (if b then typed_term facts want t else t)
+  if_filled true want t e = filled_bare facts want t (sym e)
+  if_filled false want t e = refl
+
+  operands_settled : (o : Op) (l l1 l2 r r1 r2 : Term) (bl br : Bool) (wl wr : Option Kind)
       → bl ≡ is_bare l → l1 ≡ settled facts l → br ≡ is_bare r → r1 ≡ settled facts r → (keeps_bare o && (bl && br)) ≡ false
       → wl ≡ left_want o None true br (found r1) → (bl ≡ is_bare l1 → l2 ≡ (if bl then typed_term facts wl l1 else l1))
       → wr ≡ right_want o None bl true (found l2) → (br ≡ is_bare r1 → r2 ≡ (if br then typed_term facts wr r1 else r1))
@@ -230,11 +252,14 @@ module _ (facts : Facts) where
   pub settled_binary : (form : ExprForm) (op : Op) (left right : Box Expr) (l l1 p l2 r r1 q r2 : Expr) (bl br b : Bool) → form ≡ Binary op left right → l ≡ left.value → r ≡ right.value
       → bl ≡ is_bare (term_seen l) → term_seen l1 ≡ settled facts (term_seen l) → br ≡ is_bare (term_seen r) → term_seen r1 ≡ settled facts (term_seen r)
       → b ≡ (keeps_bare op && (bl && br)) → b ≡ false → p ≡ l1 → q ≡ r1
-      → AreFilled facts op bl br (term_seen p) (term_seen q) (term_seen l2) (term_seen r2)
+      → term_seen l2 ≡ filled_if_bare facts bl (left_want op None true br (found (term_seen q))) (term_seen p)
+      → term_seen r2 ≡ filled_if_bare facts br (right_want op None bl true (found (term_seen l2))) (term_seen q)
       → form_seen (Binary op (with_value left l2) (with_value right r2)) ≡ settled_form facts (form_seen form)
-  settled_binary form op left right l l1 p l2 r r1 q r2 bl br b is lis ris lb ls rb rs test fails ps qs filled =
+  settled_binary form op left right l l1 p l2 r r1 q r2 bl br b is lis ris lb ls rb rs test fails ps qs lf rf =
       let seen : form_seen form ≡ applied op (term_seen l) (term_seen r) =
       ap form_seen is ∙ binary_is op left right ∙ ap (λ x. applied op (term_seen x) (term_seen right.value)) (sym lis) ∙ ap (λ x. applied op (term_seen l) (term_seen x)) (sym ris) in
       binary_is op (with_value left l2) (with_value right r2)
-      ∙ filled (term_seen l) (term_seen r) lb rb (ap term_seen ps ∙ ls) (ap term_seen qs ∙ rs) (sym test ∙ fails)
+      ∙ operands_settled op (term_seen l) (term_seen p) (term_seen l2) (term_seen r) (term_seen q) (term_seen r2) bl br (left_want op None true br (found (term_seen q))) (right_want op None bl true (found (term_seen l2)))
+      lb (ap term_seen ps ∙ ls) rb (ap term_seen qs ∙ rs) (sym test ∙ fails)
+      refl (λ e. lf ∙ if_filled bl (left_want op None true br (found (term_seen q))) (term_seen p) e) refl (λ e. rf ∙ if_filled br (right_want op None bl true (found (term_seen l2))) (term_seen q) e)
       ∙ sym (ap (settled_form facts) seen)

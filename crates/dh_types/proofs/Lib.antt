@@ -7,3 +7,4 @@ pub mod Known
 pub mod FormsDone
 pub mod ListsDone
 pub mod ProgramsDone
+pub mod Wanting

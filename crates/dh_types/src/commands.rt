@@ -1,6 +1,7 @@
 //! The kinds within commands.
 
-ghost use Rattle.std.specs.Prelude.{◌≡◌, OnOk, IfOk, option_map};
+ghost use Rattle.std.specs.Prelude.{◌≡◌, ◌<◌, MatchResult, option_map};
+ghost use Rattle.dh_tree.specs.NameCounts.{declared_in, declared_in_form, declared_in_other, declared_in_actions};
 ghost use Rattle.dh_tree.specs.Seen.{action_seen, action_form_seen, part_seen, maybe_seen};
 ghost use Rattle.dh_tree.specs.Kinds as rules;
 ghost use Rattle.dh_types.specs.Walks.{state_of, Types, TypesForm, TypesOther, TypesActions};
@@ -26,7 +27,8 @@ impl Walk {
     /// Gives the expressions of a command their kinds.
     #[cycle(commands)]
     pub fn command(&mut self, alloc: Global, command: &mut Command) -> Result<(), NoMemory>
-        ensures { OnOk result (Types (state_of self.old) (state_of self.new) (action_seen command.old) (action_seen command.new)) }
+        ensures { MatchResult result (λ _. Types (state_of self.old) (state_of self.new) (action_seen command.old) (action_seen command.new))
+            (λ _. 0 < declared_in (action_seen command.old)) }
     {
         let blank = CommandForm::Block {
             body: Vec::new(alloc),
@@ -39,7 +41,8 @@ impl Walk {
     // The form with the kinds of its expressions.
     #[cycle(commands)]
     fn form(&mut self, alloc: Global, form: CommandForm) -> Result<CommandForm, NoMemory>
-        ensures { IfOk result (λ done. TypesForm (state_of self.old) (state_of self.new) (action_form_seen form) (action_form_seen done)) }
+        ensures { MatchResult result (λ done. TypesForm (state_of self.old) (state_of self.new) (action_form_seen form) (action_form_seen done))
+            (λ _. 0 < declared_in_form (action_form_seen form)) }
     {
         match form {
             CommandForm::Let {
@@ -171,7 +174,8 @@ impl Walk {
         alloc: Global,
         block: Option<Box<Command>>,
     ) -> Result<Option<Box<Command>>, NoMemory>
-        ensures { IfOk result (λ done. TypesOther (state_of self.old) (state_of self.new) (maybe_seen (option_map (λ b. action_seen b.value) block)) (maybe_seen (option_map (λ b. action_seen b.value) done))) }
+        ensures { MatchResult result (λ done. TypesOther (state_of self.old) (state_of self.new) (maybe_seen (option_map (λ b. action_seen b.value) block)) (maybe_seen (option_map (λ b. action_seen b.value) done)))
+            (λ _. 0 < declared_in_other (maybe_seen (option_map (λ b. action_seen b.value) block))) }
     {
         match block {
             Some(mut command) => {
@@ -185,7 +189,8 @@ impl Walk {
     // The commands between two `---`.
     #[cycle(commands)]
     fn part(&mut self, alloc: Global, part: &mut Vec<Command>) -> Result<(), NoMemory>
-        ensures { OnOk result (TypesActions (state_of self.old) (state_of self.new) (part_seen part.old) (part_seen part.new)) }
+        ensures { MatchResult result (λ _. TypesActions (state_of self.old) (state_of self.new) (part_seen part.old) (part_seen part.new))
+            (λ _. 0 < declared_in_actions (part_seen part.old)) }
     {
         for command in part.iter_mut() {
             self.command(alloc, command)?;

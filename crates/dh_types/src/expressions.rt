@@ -1,11 +1,10 @@
 //! The kinds of expressions.
 
-ghost use Rattle.std.specs.Prelude.{◌≡◌, ◌&&◌, true, None, map, if◌then◌else◌};
-ghost use Rattle.dh_tree.specs.PlainTrees.{applied};
+ghost use Rattle.std.specs.Prelude.{◌≡◌, ◌&&◌, true, None, map};
 ghost use Rattle.dh_tree.specs.Seen.{term_seen, form_seen, terms};
 ghost use Rattle.dh_tree.specs.Kinds as rules;
 ghost use Rattle.dh_types.specs.Facts.{facts_seen};
-ghost use Rattle.dh_types.specs.Bare.{settled, settled_form, AreFilled};
+ghost use Rattle.dh_types.specs.Bare.{settled, settled_form, filled_in, filled_in_form, filled_if_bare};
 
 use crate::facts::Fact;
 use crate::finding::kind_found;
@@ -15,10 +14,11 @@ use dh_tree::{Expr, ExprForm, Kind};
 use dh_value::Op;
 use std::mem;
 
-/// Gives a bare expression its kinds: its numbers take the kind that is wanted.
+/// Gives a bare expression its kinds: its numbers take the kind that is wanted. It looks at numbers and
+/// operations alone.
 #[cycle(bare)]
 pub fn fill(facts: &[Fact], want: Option<Kind>, term: &mut Expr)
-    ensures { rules.is_bare (term_seen term.old) ≡ true → term_seen term.new ≡ rules.typed_term (facts_seen facts.now) want (term_seen term.old) }
+    ensures { term_seen term.new ≡ filled_in (facts_seen facts.now) want (term_seen term.old) }
 {
     let form = mem::replace(&mut term.form, ExprForm::Truth { value: false });
     term.form = filled_form(facts, want, form);
@@ -29,7 +29,7 @@ pub fn fill(facts: &[Fact], want: Option<Kind>, term: &mut Expr)
 #[cycle(bare)]
 #[tactic(auto, using(dh_tree::proofs::SeenTerms::terms_are))]
 fn filled_form(facts: &[Fact], want: Option<Kind>, form: ExprForm) -> ExprForm
-    ensures { rules.is_bare_form (form_seen form) ≡ true → form_seen result ≡ rules.typed_form (facts_seen facts.now) want (form_seen form) }
+    ensures { form_seen result ≡ filled_in_form (facts_seen facts.now) want (form_seen form) }
 {
     match form {
         ExprForm::Binary {
@@ -156,7 +156,7 @@ fn is_bare(op: Op, bare_left: bool, bare_right: bool) -> bool
 
 // Gives a bare operand its kinds, and leaves one that has its kinds.
 fn fill_bare(facts: &[Fact], bare: bool, want: Option<Kind>, operand: &mut Expr)
-    ensures { bare ≡ rules.is_bare (term_seen operand.old) → term_seen operand.new ≡ (if bare then rules.typed_term (facts_seen facts.now) want (term_seen operand.old) else term_seen operand.old) }
+    ensures { term_seen operand.new ≡ filled_if_bare (facts_seen facts.now) bare want (term_seen operand.old) }
 {
     if bare {
         fill(facts, want, operand);
@@ -165,7 +165,8 @@ fn fill_bare(facts: &[Fact], bare: bool, want: Option<Kind>, operand: &mut Expr)
 
 // Gives the bare operands of an operation that is not bare their kinds, where the others have theirs.
 fn fill_operands(facts: &[Fact], op: Op, bare: (bool, bool), left: &mut Expr, right: &mut Expr)
-    ensures { AreFilled (facts_seen facts.now) op bare.0 bare.1 (term_seen left.old) (term_seen right.old) (term_seen left.new) (term_seen right.new) }
+    ensures left { term_seen left.new ≡ filled_if_bare (facts_seen facts.now) bare.0 (rules.left_want op None true bare.1 (rules.found (term_seen right.old))) (term_seen left.old) }
+    ensures right { term_seen right.new ≡ filled_if_bare (facts_seen facts.now) bare.1 (rules.right_want op None bare.0 true (rules.found (term_seen left.new))) (term_seen right.old) }
 {
     fill_bare(facts, bare.0, left_want(op, None, bare.1, right.kind), left);
     fill_bare(

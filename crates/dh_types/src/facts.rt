@@ -1,6 +1,6 @@
 //! What is known of entities.
 
-ghost use Rattle.std.specs.Prelude.{◌≡◌, option_map, IfOk, map};
+ghost use Rattle.std.specs.Prelude.{◌≡◌, ◌<◌, option_map, MatchResult, map, length};
 ghost use Rattle.dh_tree.specs.Seen.{term_seen, plan_seen, formal_seen, defined_seen, declared_seen};
 ghost use Rattle.dh_tree.specs.Kinds as rules;
 ghost use Rattle.dh_types.specs.Facts.{fact_seen, facts_seen};
@@ -113,7 +113,7 @@ pub fn parameter_fact(parameter: &Parameter) -> Fact
 
 // The kinds of parameters, in order.
 fn kinds_of(alloc: Global, parameters: &[Parameter]) -> Result<Items<Kind>, NoMemory>
-    ensures { IfOk result (λ kinds. kinds ≡ map (λ m. m.kind) (map formal_seen parameters.now)) }
+    ensures { MatchResult result (λ kinds. kinds ≡ map (λ m. m.kind) (map formal_seen parameters.now)) (λ _. 0 < length parameters.now) }
 {
     let mut kinds = Items::new(alloc);
     for parameter in parameters {
@@ -124,7 +124,7 @@ fn kinds_of(alloc: Global, parameters: &[Parameter]) -> Result<Items<Kind>, NoMe
 
 /// What is known of a function.
 pub fn function_fact(alloc: Global, function: &Function) -> Result<Fact, NoMemory>
-    ensures { IfOk result (λ fact. fact_seen fact ≡ rules.function_fact (defined_seen function.now)) }
+    ensures { MatchResult result (λ fact. fact_seen fact ≡ rules.function_fact (defined_seen function.now)) (λ _. 0 < length function.now.parameters.items) }
 {
     let parameters = kinds_of(alloc, function.parameters.as_slice())?;
     Ok(Fact::Function { parameters })

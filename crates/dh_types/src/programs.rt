@@ -15,7 +15,8 @@ use std::alloc::Global;
 ///
 /// `Refused` with `TypeMismatch` where an operand, a right side, a condition, an index or a name is of
 /// the wrong sort or sign, or with `WidthLost` at a number that is no value of its kind and at a right
-/// side that is wider than its target. `NoMemory` where an allocation was refused.
+/// side that is wider than its target. `NoMemory` where an allocation was refused; a program that declares
+/// no name and breaks a rule takes none.
 pub fn type_program(alloc: Global, named: Named) -> Result<Typed, PassFault>
     ensures { Answers (program_seen named) result }
 {

@@ -1,6 +1,6 @@
 //! A walk through the text of a program.
 
-ghost use Rattle.std.specs.Prelude.{◌≡◌, ◌++◌, None, OnOk, option_map, map};
+ghost use Rattle.std.specs.Prelude.{◌≡◌, ◌++◌, None, is_ok, if◌then◌else◌, option_map, map};
 ghost use Rattle.dh_tree.specs.Seen.{term_seen, plan_seen, placed};
 ghost use Rattle.dh_tree.specs.Kinds as rules;
 ghost use Rattle.dh_tree.specs.KindBreaches as breaches;
@@ -30,9 +30,9 @@ pub struct Walk {
 }
 
 impl Walk {
-    /// Adds what is known of the next entity.
+    /// Adds what is known of the next entity. After want of memory all is as before.
     pub fn learn(&mut self, fact: Fact) -> Result<(), NoMemory>
-        ensures { OnOk result (state_of self.new ≡ learned (state_of self.old) (fact_seen fact)) }
+        ensures { state_of self.new ≡ (if is_ok result then learned (state_of self.old) (fact_seen fact) else state_of self.old) }
     {
         self.facts.push(fact)?;
         Ok(())

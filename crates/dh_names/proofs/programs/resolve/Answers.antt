@@ -4,6 +4,7 @@ use Rattle.dh_names.specs.Visible.{visible}
 use Rattle.dh_names.specs.Walks.{state_of}
 use Rattle.dh_names.proofs.FunctionsDone.{length_map}
 use Rattle.dh_names.proofs.ProgramsDone.{facts, start_scope, nothing_own, no_names_seen, functions_room, program_tree, program_refused, program_keeps, tree_keeps, tree_resolved}
+use Rattle.dh_names.proofs.Wanting.{refused, some_items, some_functions, some_body}
 use Rattle.dh_names.proofs.programs.resolve.Goals as goal
 
 pub functions-requires-clause-few : goal.functions-requires-clause-few
@@ -78,3 +79,15 @@ returns c = (
       c.deref.ensures.value c.deref-2.ensures.value c.deref-3.ensures.value c.deref-4.ensures.value (c.len-count.ensures ∙ sym c.deref.ensures.len ∙ ap (λ l. length l) c.deref.ensures.value)
       c.in_ok-outer_entities.ensures c.in_ok-bind_items.ensures.names c.in_ok-bind_items.ensures.least c.in_ok-functions.ensures c.number_decls.ensures c.in_ok-command.ensures) c.in-None.is,
 )
+
+pub returns-in_err-bind_items : goal.returns-in_err-bind_items
+returns-in_err-bind_items c = refused (program_seen c.args.tree) _ c.from_residual.ensures (some_items c.args.tree c.deref.result.now c.deref-2.result.now c.deref.ensures.value c.deref-2.ensures.value c.in_err-bind_items.ensures.memory)
+
+pub returns-in_err-outer_entities : goal.returns-in_err-outer_entities
+returns-in_err-outer_entities c = refused (program_seen c.args.tree) _ c.from_residual-in_err-outer_entities.ensures (some_items c.args.tree c.deref-3.result.now c.deref-4.result.now c.deref-3.ensures.value c.deref-4.ensures.value c.in_err-outer_entities.ensures)
+
+pub returns-in_err-functions : goal.returns-in_err-functions
+returns-in_err-functions c = refused (program_seen c.args.tree) _ c.from_residual-in_err-functions.ensures (some_functions c.args.tree c.in_err-functions.ensures)
+
+pub returns-in_err-command : goal.returns-in_err-command
+returns-in_err-command c = refused (program_seen c.args.tree) _ c.from_residual-in_err-command.ensures (some_body c.args.tree c.in_err-command.ensures)

@@ -4,7 +4,7 @@ use Rattle.dh_tree.specs.Seen.{term_seen}
 use Rattle.dh_tree.specs.Kinds.{typed_term}
 use Rattle.dh_types.proofs.InPlace.{start, turn, finish, written}
 use Rattle.dh_types.proofs.Lists.{term_step, term_made, terms_made}
-use Rattle.dh_types.proofs.Forms.{settled_access, settled_physical, settled_cast, bare_binary, settled_binary, settled_typed}
+use Rattle.dh_types.proofs.Forms.{settled_access, settled_physical, settled_cast, bare_binary, settled_binary, settled_typed, settled_filled}
 use Rattle.dh_types.proofs.expressions.+expressions.Goals as goal
 
 pub settle_form-returns-in-Access-clause-tree : goal.settle_form-returns-in-Access-clause-tree
@@ -29,7 +29,10 @@ pub settle_form-returns-else-is_bare-clause-tree : goal.settle_form-returns-else
 settle_form-returns-else-is_bare-clause-tree t c =
     settled_binary (facts_seen c.args.facts.now) _ _ _ _ _ _ _ _ _ _ _ _ _ _ _ c.in-Binary.is c.deref_mut-in-Binary.ensures.value c.deref_mut-in-Binary-2.ensures.value
     c.settle-bare_left.ensures.bare c.settle-bare_left.ensures.tree c.settle-bare_right.ensures.bare c.settle-bare_right.ensures.tree c.is_bare.ensures c.if-is_bare.false
-    c.deref_mut-in-Binary-3.ensures.value c.deref_mut-in-Binary-4.ensures.value c.fill_operands.ensures
+    c.deref_mut-in-Binary-3.ensures.value c.deref_mut-in-Binary-4.ensures.value c.fill_operands.ensures.left c.fill_operands.ensures.right
+
+pub type_term-returns-then-settle : goal.type_term-returns-then-settle
+type_term-returns-then-settle t c = settled_filled (facts_seen c.args.facts.now) c.args.want (term_seen c.args.term.now) _ _ _ c.settle.ensures.bare c.if-settle.true c.settle.ensures.tree c.fill.ensures
 
 pub type_term-returns-else-settle : goal.type_term-returns-else-settle
 type_term-returns-else-settle t c = settled_typed (facts_seen c.args.facts.now) c.args.want (term_seen c.args.term.now) _ _ c.settle.ensures.bare c.if-settle.false c.settle.ensures.tree

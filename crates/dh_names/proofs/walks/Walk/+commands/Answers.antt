@@ -1,5 +1,5 @@
-use Rattle.std.proofs.Common.{◌∙◌, ap, sym, map, option_map, arith, ◌^◌}
-use Rattle.std.proofs.lemmas.Result.{on_ok_weaker}
+use Rattle.std.proofs.Common.{◌∙◌, ◌<◌, ap, sym, subst, map, option_map, arith, ◌^◌}
+use Rattle.std.proofs.lemmas.Result.{MatchResult-weaker}
 use Rattle.std.specs.Box.{with_value}
 use Rattle.std.specs.Vec.{with_items}
 use Rattle.dh_tree.specs.Seen.{term_seen, plan_seen, action_seen, action_form_seen, part_seen, groups, maybe_seen, placed, unrolled}
@@ -7,6 +7,7 @@ use Rattle.dh_tree.proofs.SeenActions.{let_is, let_memory_is, view_is, assign_is
 use Rattle.dh_names.specs.Walks.{state_of}
 use Rattle.dh_tree.specs.NameCounts.{declared_in, declared_in_actions}
 use Rattle.dh_names.proofs.InPlace.{turn_fits}
+use Rattle.dh_names.proofs.Wanting.{wanting, counted_as, in_left, in_right, some_command, some_part}
 use Rattle.dh_names.proofs.ListsDone.{entity_count, action_step, action_made, action_grows, part_step, part_made, part_grows, next_turn, part_turn, part_done, parts_done}
 use Rattle.dh_names.proofs.FormsDone.{form_done, lets_done, memory_done, views_done, assigns_done, stores_done, reduces_done, calls_done, blocks_done, repeats_done, decides_done, counts_done, inner_done, next_block, next_other, inner_at, resolves_at}
 use Rattle.dh_names.proofs.walks.Walk.+commands.Goals as goal
@@ -95,15 +96,15 @@ inner-returns t c = inner_done (state_of c.args.self.now) (state_of c.command.ne
 
 pub next-returns-then-is_block : goal.next-returns-then-is_block
 next-returns-then-is_block t c =
-    on_ok_weaker c.inner.result
-    (λ done room. next_block (state_of c.args.self.now) (state_of c.inner.new.self) c.args.command.now.id c.args.command.now.place (action_form_seen c.args.command.now.form) (action_seen c.inner.new.command) (sym c.is_block.ensures ∙ c.if-is_block.true) (done room))
-    c.inner.ensures
+    MatchResult-weaker c.inner.result c.inner.ensures
+    (λ _ done room. next_block (state_of c.args.self.now) (state_of c.inner.new.self) c.args.command.now.id c.args.command.now.place (action_form_seen c.args.command.now.form) (action_seen c.inner.new.command) (sym c.is_block.ensures ∙ c.if-is_block.true) (done room))
+    (λ _ some. some)
 
 pub next-returns-else-is_block : goal.next-returns-else-is_block
 next-returns-else-is_block t c =
-    on_ok_weaker c.command.result
-    (λ done room. next_other (state_of c.args.self.now) (state_of c.command.new.self) c.args.command.now.id c.args.command.now.place (action_form_seen c.args.command.now.form) (action_seen c.command.new.command) (sym c.is_block.ensures ∙ c.if-is_block.false) (done room))
-    c.command.ensures
+    MatchResult-weaker c.command.result c.command.ensures
+    (λ _ done room. next_other (state_of c.args.self.now) (state_of c.command.new.self) c.args.command.now.id c.args.command.now.place (action_form_seen c.args.command.now.form) (action_seen c.command.new.command) (sym c.is_block.ensures ∙ c.if-is_block.false) (done room))
+    (λ _ some. some)
 
 pub part-loop-command-preserved : goal.part-loop-command-preserved
 part-loop-command-preserved t c =
@@ -121,3 +122,69 @@ form-loop-part-preserved t c =
     turn_fits part_seen part_step part_made entity_count declared_in_actions part_grows (2 ^ 32) c.deref_mut-part-items.result.now c.loop-part.part-items c.loop-part.part-index (state_of c.args.self.now) (state_of c.loop-part.self) (state_of c.part.new.self) c.part-item.result c.part.new.part
     (omega (arith, c.loop-part-test.true, c.loop-part.auto.part-items)) c.loop-part.invariant.0 c.loop-part.invariant.1 c.part-item.is
     (part_turn (state_of c.loop-part.self) (state_of c.part.new.self) c.part-item.result _ (part_seen c.part.new.part) c.part-item.is c.in_ok-part-in-Block.ensures)
+
+pub form-returns-in_err-declare-in-Let : goal.form-returns-in_err-declare-in-Let
+form-returns-in_err-declare-in-Let t c =
+    wanting _ _ c.from_residual.ensures
+    (counted_as _ _ _ c.in-Let.is (let_is c.in-Let.name c.in-Let.declared c.in-Let.value) (omega arith))
+
+pub form-returns-in_err-declare-in-LetMemory : goal.form-returns-in_err-declare-in-LetMemory
+form-returns-in_err-declare-in-LetMemory t c =
+    wanting _ _ c.from_residual-in_err-declare-in-LetMemory.ensures
+    (counted_as _ _ _ c.in-LetMemory.is (let_memory_is c.in-LetMemory.name c.in-LetMemory.shape c.in-LetMemory.shape_places c.in-LetMemory.value) (omega arith))
+
+pub form-returns-in_err-declare-in-View : goal.form-returns-in_err-declare-in-View
+form-returns-in_err-declare-in-View t c =
+    wanting _ _ c.from_residual-in_err-declare-in-View.ensures
+    (counted_as _ _ _ c.in-View.is (view_is c.in-View.name c.in-View.parent c.in-View.form) (omega arith))
+
+pub form-returns-in_err-part-in-Block : goal.form-returns-in_err-part-in-Block
+form-returns-in_err-part-in-Block t c =
+    wanting _ _ c.from_residual-in_err-part-in-Block.ensures
+    (counted_as _ _ _ c.in-Block.is (block_is c.in-Block.body)
+    (some_part c.in-Block.body c.deref_mut-part-items.result.now c.loop-part.part-items c.loop-part.part-index c.part-item.result c.deref_mut-part-items.ensures.value
+    (omega (arith, c.loop-part-test.true, c.loop-part.auto.part-items)) c.loop-part.invariant.0 c.in_err-part-in-Block.ensures))
+
+pub form-returns-in_err-inner-in-If : goal.form-returns-in_err-inner-in-If
+form-returns-in_err-inner-in-If t c =
+    wanting _ _ c.from_residual-in_err-inner-in-If.ensures
+    (counted_as _ _ _ c.in-If.is (if_is c.in-If.test c.in-If.then c.in-If.other)
+    (in_left _ _ (subst (λ z. 0 < declared_in (action_seen z)) c.deref_mut.ensures.value c.in_err-inner-in-If.ensures)))
+
+pub form-returns-in_err-other-in-If : goal.form-returns-in_err-other-in-If
+form-returns-in_err-other-in-If t c =
+    wanting _ _ c.from_residual-in_err-other-in-If.ensures
+    (counted_as _ _ _ c.in-If.is (if_is c.in-If.test c.in-If.then c.in-If.other) (in_right (declared_in (action_seen c.in-If.then.value)) _ c.in_err-other-in-If.ensures))
+
+pub form-returns-in_err-inner-in-While : goal.form-returns-in_err-inner-in-While
+form-returns-in_err-inner-in-While t c =
+    wanting _ _ c.from_residual-in_err-inner-in-While.ensures
+    (counted_as _ _ _ c.in-While.is (while_is c.in-While.test c.in-While.body)
+    (subst (λ z. 0 < declared_in (action_seen z)) c.deref_mut-in-While.ensures.value c.in_err-inner-in-While.ensures))
+
+pub form-returns-in_err-declare-in-For : goal.form-returns-in_err-declare-in-For
+form-returns-in_err-declare-in-For t c =
+    wanting _ _ c.from_residual-in_err-declare-in-For.ensures
+    (counted_as _ _ _ c.in-For.is
+    (for_is c.in-For.iterator c.in-For.declared c.in-For.low c.in-For.low_place c.in-For.high c.in-For.high_place c.in-For.factor c.in-For.factor_place c.in-For.unroll_place c.in-For.body c.in-For.combine c.in-For.combine_place)
+    (omega arith))
+
+pub form-returns-in_err-command-in-For : goal.form-returns-in_err-command-in-For
+form-returns-in_err-command-in-For t c =
+    wanting _ _ c.from_residual-in_err-command-in-For.ensures
+    (counted_as _ _ _ c.in-For.is
+    (for_is c.in-For.iterator c.in-For.declared c.in-For.low c.in-For.low_place c.in-For.high c.in-For.high_place c.in-For.factor c.in-For.factor_place c.in-For.unroll_place c.in-For.body c.in-For.combine c.in-For.combine_place)
+    (omega arith))
+
+pub form-returns-in_err-combine-in-For : goal.form-returns-in_err-combine-in-For
+form-returns-in_err-combine-in-For t c =
+    wanting _ _ c.from_residual-in_err-combine-in-For.ensures
+    (counted_as _ _ _ c.in-For.is
+    (for_is c.in-For.iterator c.in-For.declared c.in-For.low c.in-For.low_place c.in-For.high c.in-For.high_place c.in-For.factor c.in-For.factor_place c.in-For.unroll_place c.in-For.body c.in-For.combine c.in-For.combine_place)
+    (omega arith))
+
+pub part-returns-in_err-next : goal.part-returns-in_err-next
+part-returns-in_err-next t c =
+    wanting _ _ c.from_residual.ensures
+    (some_command c.args.part.now c.deref_mut-command-items.result.now c.loop-command.command-items c.loop-command.command-index c.command-item.result c.deref_mut-command-items.ensures.value
+    (omega (arith, c.loop-command-test.true, c.loop-command.auto.command-items)) c.loop-command.invariant.0 c.in_err-next.ensures)

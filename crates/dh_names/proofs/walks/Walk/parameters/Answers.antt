@@ -17,4 +17,4 @@ loop-parameter-preserved c =
 pub returns : goal.returns
 returns c =
     formals_done (state_of c.args.self.now) (state_of c.loop-parameter.self) c.args.parameters.now c.deref_mut-parameter-items.result.now c.loop-parameter.parameter-items c.loop-parameter.parameter-index
-    c.deref_mut-parameter-items.ensures.value c.deref_mut-parameter-items.ensures.len c.loop-parameter-test.false c.loop-parameter.invariant.0 c.loop-parameter.invariant.1
+    c.deref_mut-parameter-items.ensures.value c.deref_mut-parameter-items.ensures.len c.loop-parameter-test.false c.loop-parameter.invariant.0 c.loop-parameter.invariant.1 c.requires

@@ -1,9 +1,11 @@
-use Rattle.std.proofs.Common.{◌∙◌, ap, refl, map, option_map, arith}
+use Rattle.std.proofs.Common.{◌∙◌, ◌<◌, ap, subst, refl, map, option_map, arith}
 use Rattle.std.specs.Box.{with_value}
 use Rattle.std.specs.Vec.{with_items}
 use Rattle.dh_tree.specs.Seen.{term_seen, plan_seen, action_seen, action_form_seen, part_seen, groups, maybe_seen, placed, unrolled}
 use Rattle.dh_tree.proofs.SeenActions.{let_is, let_memory_is, view_is, assign_is, store_is, reduce_is, call_is, block_is, if_is, while_is, for_is}
 use Rattle.dh_tree.specs.Kinds.{of_iterator}
+use Rattle.dh_tree.specs.NameCounts.{declared_in}
+use Rattle.dh_types.proofs.Wanting.{wanting, counted_as, in_left, in_right, some_command, some_part}
 use Rattle.dh_types.specs.Walks.{state_of}
 use Rattle.dh_types.proofs.InPlace.{start, turn}
 use Rattle.dh_types.proofs.ListsDone.{action_step, action_made, part_step, part_made, action_turn, part_turn, part_done, parts_done}
@@ -106,3 +108,69 @@ form-loop-part-preserved t c =
     let made = part_turn (state_of c.loop-part.self) (state_of c.part.new.self) c.part-item.result _ (part_seen c.part.new.part) c.part-item.is c.in_ok-part-in-Block.ensures in
     turn part_seen part_step part_made c.deref_mut-part-items.result.now c.loop-part.part-items c.loop-part.part-index (state_of c.args.self.now) (state_of c.loop-part.self) (state_of c.part.new.self) c.part-item.result c.part.new.part
     (omega (arith, c.loop-part-test.true, c.loop-part.auto.part-items)) c.loop-part.invariant.0 c.loop-part.invariant.1 c.part-item.is made.0 made.1
+
+pub form-returns-in_err-learn-in-Let : goal.form-returns-in_err-learn-in-Let
+form-returns-in_err-learn-in-Let t c =
+    wanting _ _ c.from_residual.ensures
+    (counted_as _ _ _ c.in-Let.is (let_is c.in-Let.name c.in-Let.declared c.in-Let.value) (omega arith))
+
+pub form-returns-in_err-learn-in-LetMemory : goal.form-returns-in_err-learn-in-LetMemory
+form-returns-in_err-learn-in-LetMemory t c =
+    wanting _ _ c.from_residual-in_err-learn-in-LetMemory.ensures
+    (counted_as _ _ _ c.in-LetMemory.is (let_memory_is c.in-LetMemory.name c.in-LetMemory.shape c.in-LetMemory.shape_places c.in-LetMemory.value) (omega arith))
+
+pub form-returns-in_err-learn-in-View : goal.form-returns-in_err-learn-in-View
+form-returns-in_err-learn-in-View t c =
+    wanting _ _ c.from_residual-in_err-learn-in-View.ensures
+    (counted_as _ _ _ c.in-View.is (view_is c.in-View.name c.in-View.parent c.in-View.form) (omega arith))
+
+pub form-returns-in_err-part-in-Block : goal.form-returns-in_err-part-in-Block
+form-returns-in_err-part-in-Block t c =
+    wanting _ _ c.from_residual-in_err-part-in-Block.ensures
+    (counted_as _ _ _ c.in-Block.is (block_is c.in-Block.body)
+    (some_part c.in-Block.body c.deref_mut-part-items.result.now c.loop-part.part-items c.loop-part.part-index c.part-item.result c.deref_mut-part-items.ensures.value
+    (omega (arith, c.loop-part-test.true, c.loop-part.auto.part-items)) c.loop-part.invariant.0 c.in_err-part-in-Block.ensures))
+
+pub form-returns-in_err-command-in-If : goal.form-returns-in_err-command-in-If
+form-returns-in_err-command-in-If t c =
+    wanting _ _ c.from_residual-in_err-command-in-If.ensures
+    (counted_as _ _ _ c.in-If.is (if_is c.in-If.test c.in-If.then c.in-If.other)
+    (in_left _ _ (subst (λ z. 0 < declared_in (action_seen z)) c.deref_mut.ensures.value c.in_err-command-in-If.ensures)))
+
+pub form-returns-in_err-other-in-If : goal.form-returns-in_err-other-in-If
+form-returns-in_err-other-in-If t c =
+    wanting _ _ c.from_residual-in_err-other-in-If.ensures
+    (counted_as _ _ _ c.in-If.is (if_is c.in-If.test c.in-If.then c.in-If.other) (in_right (declared_in (action_seen c.in-If.then.value)) _ c.in_err-other-in-If.ensures))
+
+pub form-returns-in_err-command-in-While : goal.form-returns-in_err-command-in-While
+form-returns-in_err-command-in-While t c =
+    wanting _ _ c.from_residual-in_err-command-in-While.ensures
+    (counted_as _ _ _ c.in-While.is (while_is c.in-While.test c.in-While.body)
+    (subst (λ z. 0 < declared_in (action_seen z)) c.deref_mut-in-While.ensures.value c.in_err-command-in-While.ensures))
+
+pub form-returns-in_err-learn-in-For : goal.form-returns-in_err-learn-in-For
+form-returns-in_err-learn-in-For t c =
+    wanting _ _ c.from_residual-in_err-learn-in-For.ensures
+    (counted_as _ _ _ c.in-For.is
+    (for_is c.in-For.iterator c.in-For.declared c.in-For.low c.in-For.low_place c.in-For.high c.in-For.high_place c.in-For.factor c.in-For.factor_place c.in-For.unroll_place c.in-For.body c.in-For.combine c.in-For.combine_place)
+    (omega arith))
+
+pub form-returns-in_err-command-in-For : goal.form-returns-in_err-command-in-For
+form-returns-in_err-command-in-For t c =
+    wanting _ _ c.from_residual-in_err-command-in-For.ensures
+    (counted_as _ _ _ c.in-For.is
+    (for_is c.in-For.iterator c.in-For.declared c.in-For.low c.in-For.low_place c.in-For.high c.in-For.high_place c.in-For.factor c.in-For.factor_place c.in-For.unroll_place c.in-For.body c.in-For.combine c.in-For.combine_place)
+    (omega arith))
+
+pub form-returns-in_err-combine-in-For : goal.form-returns-in_err-combine-in-For
+form-returns-in_err-combine-in-For t c =
+    wanting _ _ c.from_residual-in_err-combine-in-For.ensures
+    (counted_as _ _ _ c.in-For.is
+    (for_is c.in-For.iterator c.in-For.declared c.in-For.low c.in-For.low_place c.in-For.high c.in-For.high_place c.in-For.factor c.in-For.factor_place c.in-For.unroll_place c.in-For.body c.in-For.combine c.in-For.combine_place)
+    (omega arith))
+
+pub part-returns-in_err-command : goal.part-returns-in_err-command
+part-returns-in_err-command t c =
+    wanting _ _ c.from_residual.ensures
+    (some_command c.args.part.now c.deref_mut-command-items.result.now c.loop-command.command-items c.loop-command.command-index c.command-item.result c.deref_mut-command-items.ensures.value
+    (omega (arith, c.loop-command-test.true, c.loop-command.auto.command-items)) c.loop-command.invariant.0 c.in_err-command.ensures)

@@ -3,6 +3,7 @@ use Rattle.dh_tree.specs.Seen.{defined_seen}
 use Rattle.dh_types.specs.Walks.{state_of}
 use Rattle.dh_types.proofs.InPlace.{start, turn}
 use Rattle.dh_types.proofs.ListsDone.{function_step, function_made, function_turn, functions_done}
+use Rattle.dh_types.proofs.Wanting.{wanting, some_function}
 use Rattle.dh_types.proofs.walks.Walk.functions.Goals as goal
 
 pub loop-function-init : goal.loop-function-init
@@ -18,3 +19,9 @@ pub returns : goal.returns
 returns c =
     functions_done (state_of c.args.self.now) (state_of c.loop-function.self) c.args.functions.now c.deref_mut-function-items.result.now c.loop-function.function-items c.loop-function.function-index
     c.deref_mut-function-items.ensures.value c.deref_mut-function-items.ensures.len c.loop-function-test.false c.loop-function.invariant.0 c.loop-function.invariant.1
+
+pub returns-in_err-function : goal.returns-in_err-function
+returns-in_err-function c =
+    wanting _ _ c.from_residual.ensures
+    (some_function c.args.functions.now c.deref_mut-function-items.result.now c.loop-function.function-items c.loop-function.function-index c.function-item.result c.deref_mut-function-items.ensures.value
+    (omega (arith, c.loop-function-test.true, c.loop-function.auto.function-items)) c.loop-function.invariant.0 c.in_err-function.ensures)

@@ -1,0 +1,101 @@
+-- Want of memory: where a part of a tree declares a name, the whole does, so that what the part answers holds
+-- of the whole.
+use Rattle.std.proofs.Common.{◌≡◌, ℕ, zero, suc, ◌+◌, ◌<◌, List, [], ◌∷◌, length, map, get_or, Result, Ok, Err, IsErr, Vec, inl, sym, ap, subst, refl, ◌∙◌, arith}
+use Rattle.std.specs.Global.{Global}
+use Rattle.std.specs.Result.{MatchResult, IsErrAnd}
+use Rattle.dh_base.specs.declared.lists.NoMemory.{NoMemory}
+use Rattle.dh_base.specs.declared.faults.PassFault.{PassFault}
+use Rattle.dh_base.specs.declared.faults.PassFault.TheVariants as fault
+use Rattle.dh_tree.specs.declared.trees.commands.Command.{Command}
+use Rattle.dh_tree.specs.declared.trees.commands.CommandForm.{CommandForm}
+use Rattle.dh_tree.specs.declared.trees.programs.Decl.{Decl}
+use Rattle.dh_tree.specs.declared.trees.programs.Function.{Function}
+use Rattle.dh_tree.specs.declared.trees.programs.Tree.{Tree}
+use Rattle.dh_tree.specs.declared.trees.typed.Typed.{Typed}
+use Rattle.dh_tree.specs.PlainTrees.{ActionForm, Program}
+use Rattle.dh_tree.specs.Seen.{action_seen, action_form_seen, part_seen, actions, groups, declared_seen, formal_seen, defined_seen, program_seen}
+use Rattle.dh_tree.specs.NameCounts.{declared_in, declared_in_form, declared_in_actions, declared_in_groups, declared_in_functions, names_declared}
+use Rattle.dh_types.specs.Programs.{Answers, TakesMemory}
+use Rattle.dh_types.proofs.InPlace.{Unvisited}
+
+-- what is so where memory is wanting
+pub wanting : {A : Type 0} {Q R : Type 0} (P : A → Type 0) (r : Result A NoMemory) → IsErr r × R → Q → MatchResult r P (λ _. Q)
+wanting P (Ok a) h q = absurd (cc h.0)
+wanting P (Err e) h q = q
+
+length_map : {A B : Type 0} (f : A → B) (l : List A) → length (map f l) ≡ length l
+length_map f [] = refl
+length_map f (x ∷ l) = let e = length_map f l in omega (arith, e)
+
+pub in_left : (m n : ℕ) → 0 < m → 0 < m + n
+in_left m n h = omega (arith, h)
+
+pub in_right : (m n : ℕ) → 0 < n → 0 < m + n
+in_right m n h = omega (arith, h)
+
+-- a form by what it is seen as
+pub counted_as : (f g : CommandForm) (p : ActionForm) → f ≡ g → action_form_seen g ≡ p → 0 < declared_in_form p → 0 < declared_in_form (action_form_seen f)
+counted_as f g p e seen h = subst (λ x. 0 < declared_in_form x) (sym (ap action_form_seen e ∙ seen)) h
+
+some_actions : (cs : List Command) (i : ℕ) (x : Command) → i < length cs → 0 < declared_in (action_seen (get_or cs i x)) → 0 < declared_in_actions (actions (map action_seen cs))
+some_actions [] i x within h = absurd (omega (arith, within))
+some_actions (c ∷ cs) zero x within h = in_left _ _ h
+some_actions (c ∷ cs) (suc i) x within h = in_right (declared_in (action_seen c)) _ (some_actions cs i x (omega (arith, within)) h)
+
+some_groups : (ps : List (Vec Command Global)) (i : ℕ) (x : Vec Command Global) → i < length ps → 0 < declared_in_actions (part_seen (get_or ps i x)) → 0 < declared_in_groups (groups (map part_seen ps))
+some_groups [] i x within h = absurd (omega (arith, within))
+some_groups (p ∷ ps) zero x within h = in_left _ _ h
+some_groups (p ∷ ps) (suc i) x within h = in_right (declared_in_actions (part_seen p)) _ (some_groups ps i x (omega (arith, within)) h)
+
+-- the command at the index of a walk declares a name
+pub some_command : (v : Vec Command Global) (before now : List Command) (i : ℕ) (x : Command) → before ≡ v.items → i < length now → Unvisited before now i → 0 < declared_in (action_seen (get_or now i x))
+    → 0 < declared_in_actions (part_seen v)
+some_command v before now i x value within u h =
+    subst (λ l. 0 < declared_in_actions (actions (map action_seen l))) value
+    (some_actions before i x (omega (arith, within, u.0)) (subst (λ z. 0 < declared_in (action_seen z)) (u.1 i x (omega arith)) h))
+
+-- the part at the index of a walk declares a name
+pub some_part : (v : Vec (Vec Command Global) Global) (before now : List (Vec Command Global)) (i : ℕ) (x : Vec Command Global) → before ≡ v.items → i < length now → Unvisited before now i
+    → 0 < declared_in_actions (part_seen (get_or now i x)) → 0 < declared_in_groups (groups (map part_seen v.items))
+some_part v before now i x value within u h =
+    subst (λ l. 0 < declared_in_groups (groups (map part_seen l))) value
+    (some_groups before i x (omega (arith, within, u.0)) (subst (λ z. 0 < declared_in_actions (part_seen z)) (u.1 i x (omega arith)) h))
+
+some_functions : (fs : List Function) (i : ℕ) (x : Function) → i < length fs → 0 < length (get_or fs i x).parameters.items + declared_in (action_seen (get_or fs i x).body) → 0 < declared_in_functions (map defined_seen fs)
+some_functions [] i x within h = absurd (omega (arith, within))
+some_functions (f ∷ fs) zero x within h =
+    let e = length_map formal_seen f.parameters.items in
+    in_left (length (map formal_seen f.parameters.items) + declared_in (action_seen f.body)) _ (omega (arith, h, e))
+some_functions (f ∷ fs) (suc i) x within h = in_right (length (map formal_seen f.parameters.items) + declared_in (action_seen f.body)) _ (some_functions fs i x (omega (arith, within)) h)
+
+-- the function at the index of a walk declares a name
+pub some_function : (v : Vec Function Global) (before now : List Function) (i : ℕ) (x : Function) → before ≡ v.items → i < length now → Unvisited before now i
+    → 0 < length (get_or now i x).parameters.items + declared_in (action_seen (get_or now i x).body) → 0 < declared_in_functions (map defined_seen v.items)
+some_function v before now i x value within u h =
+    subst (λ l. 0 < declared_in_functions (map defined_seen l)) value
+    (some_functions before i x (omega (arith, within, u.0)) (subst (λ (z : Function). 0 < length z.parameters.items + declared_in (action_seen z.body)) (u.1 i x (omega arith)) h))
+
+-- a program that takes memory may have no answer for want of it
+pub lacking : (p : Program) (r : Result Typed PassFault) → IsErr r × IsErrAnd r (λ e. e ≡ fault.NoMemory) → TakesMemory p → Answers p r
+lacking p (Ok t) h k = absurd (cc h.0)
+lacking p (Err e) h k = rw h.1 k
+
+module _ (n t : Tree) (same : t ≡ n) where
+  at_tree : 0 < names_declared (program_seen t) → TakesMemory (program_seen n)
+  at_tree h = inl (subst (λ x. 0 < names_declared (program_seen x)) same h)
+
+  pub some_memories : (ds : List Decl) → ds ≡ t.decls.items → 0 < length ds → TakesMemory (program_seen n)
+  some_memories ds a h =
+      let d = ap (λ l. length l) a ∙ sym (length_map declared_seen t.decls.items) in
+      at_tree (omega (arith, h, d))
+
+  pub some_learned : (fs : List Function) → fs ≡ t.functions.items → 0 < length fs → TakesMemory (program_seen n)
+  some_learned fs a h =
+      let f = ap (λ l. length l) a ∙ sym (length_map defined_seen t.functions.items) in
+      at_tree (omega (arith, h, f))
+
+  pub some_walked : 0 < declared_in_functions (map defined_seen t.functions.items) → TakesMemory (program_seen n)
+  some_walked h = at_tree (omega (arith, h))
+
+  pub some_body : 0 < declared_in (action_seen t.body) → TakesMemory (program_seen n)
+  some_body h = at_tree (omega (arith, h))
