@@ -122,10 +122,11 @@ fn judged(typed: Typed, first: Result<Option<Breach>, NoMemory>) -> Result<Accep
 /// In no logical step do accesses that may meet take more ports of a bank than it has, where a read that
 /// shares an earlier one takes none; and no read comes behind a write of its bank in its phase.
 ///
-/// Its time is that of three things. For the phases of a command its body is gone through, and again for
-/// each block, arm and loop round it: a command costs as many steps as it stands deep. Keys of reads are as
-/// long as the reads' texts, and are compared as often as the logarithm of their number. Apart from these
-/// the time is in proportion to the number of commands and accesses together.
+/// Its time is in proportion to the commands and accesses of the program together, each counted as often
+/// as it stands deep: the phases of a command are found anew for each block, arm and loop round it, and
+/// what an access takes of its bank is handed on to each block and arm round it. To it come the keys of
+/// reads, which are as long as the reads' texts, and are compared as often as the logarithm of the number
+/// of events.
 ///
 /// # Errors
 ///
