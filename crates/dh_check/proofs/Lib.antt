@@ -7,3 +7,4 @@ pub mod Passing
 pub mod Texts
 pub mod TablesReady
 pub mod Checked
+pub mod Shaped

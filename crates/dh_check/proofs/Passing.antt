@@ -1,12 +1,16 @@
 -- What the passes over a tree tell, one after the other: each keeps its least breach, so that it refuses
 -- the tree or lets the next pass follow.
 use Rattle.std.proofs.Common.{◌≡◌, ℕ, ◌≤◌, nat_lt, inl, inr, Bool, true, false, if◌then◌else◌, List, [], Option, Some, None, Result, Ok, Err, refl, ap, sym, ◌∙◌, subst, arith}
+use Rattle.dh_base.specs.declared.faults.PassFault.{PassFault}
+use Rattle.dh_base.specs.declared.faults.PassFault.TheVariants as pass
 use Rattle.dh_base.specs.declared.limits.Excess.{Excess}
+use Rattle.dh_names.specs.Programs as names
+use Rattle.dh_types.specs.Programs as kinds
 use Rattle.dh_base.specs.declared.places.Place.{Place}
 use Rattle.dh_base.specs.declared.rules.Rule.{Rule}
 use Rattle.dh_tree.specs.declared.breaches.Breach.{Breach}
 use Rattle.dh_tree.specs.declared.trees.typed.Typed.{Typed}
-use Rattle.dh_tree.specs.LeastBreach.{IsLeast, least_of, breach}
+use Rattle.dh_tree.specs.LeastBreach.{IsLeast, breach}
 use Rattle.dh_tree.specs.PlainTrees.{Program}
 use Rattle.dh_tree.specs.Breaches.{breaches_of, KeepsNames}
 use Rattle.dh_tree.specs.Forms.{unbuilt_forms}
@@ -21,7 +25,6 @@ use Rattle.dh_tree.specs.NameCounts.{HasFewNames}
 use Rattle.dh_tree.specs.Resolved.{resolved, HasEntities}
 use Rattle.dh_tree.specs.Seen.{program_seen}
 use Rattle.dh_tree.specs.Written.{IsOfText, IsWritten}
-use Rattle.dh_tree.proofs.FirstBreaches.{none_is_kept, least_is_kept}
 use Rattle.dh_tree.proofs.ResolvedForms as resolving
 use Rattle.dh_tree.proofs.ResolvedTexts as resolving_texts
 use Rattle.dh_tree.proofs.TypedForms as typing
@@ -32,7 +35,7 @@ use Rattle.dh_check.specs.declared.checking.Forms.TheVariants.{Unchecked, Checke
 use Rattle.dh_check.specs.declared.checking.CheckFault.{CheckFault}
 use Rattle.dh_check.specs.declared.checking.CheckFault.TheVariants as fault
 use Rattle.dh_check.specs.Acceptance.{unbuilt_by}
-use Rattle.dh_check.specs.Ready.{GoesOn, Stops, TellsShapes, TellsNamed, TellsTree}
+use Rattle.dh_check.specs.Ready.{of_pass, GoesOn, Stops, TellsShapes, TellsNamed, TellsTree}
 use Rattle.dh_check.specs.Verdicts.{Verdict, refuses, exceeds, Passes, JudgedLast, JudgedLimits, JudgedTyped, JudgedTree, asked_of}
 
 -- a pass that keeps a breach refuses, and one that keeps none lets the next follow
@@ -54,8 +57,9 @@ after_limits ports p v o keeps within e h =
     after_indices ports p v keeps within (subst (λ (x : Option Excess). JudgedLimits ports p x v) (sym e) h)
 
 -- a kind is wrong
-pub kinds_stop : (p : Program) (r : Rule) (place : Place) → IsLeast (kind_breaches (typed p)) (breach r place) → Stops (λ ports v. JudgedTyped ports (typed p) v) (fault.Refused r place)
-kinds_stop p r place h =
+pub kinds_stop : (p : Program) (e : PassFault) → kinds.Answers p (Err e) → Stops (λ ports v. JudgedTyped ports (typed p) v) (of_pass e)
+kinds_stop p pass.NoMemory h = λ ports. tt
+kinds_stop p (pass.Refused r place) h =
     λ ports. refused_at (kind_breaches (typed p)) r place (Passes (index_breaches_of (typed p)) (refuses r place) (JudgedLimits ports (typed p) (first_excess (typed p)) (refuses r place))) h
 
 -- where memories stand
@@ -63,21 +67,23 @@ after_places : (ports : Bool) (p : Program) (v : Verdict) → KeepsKinds p → i
 after_places ports p v keeps within few h = after_limits ports p v None keeps within few h
 
 -- a rule on shapes, indices, bounds or places is broken, or a limit on memories is exceeded
-shapes_stop : (p : Program) (e : CheckFault) → KeepsKinds p → TellsShapes p (Some e) → Stops (λ ports v. JudgedTyped ports p v) e
+shapes_stop : (p : Program) (e : CheckFault) → KeepsKinds p → TellsShapes {A = Unit {0}} p (Err e) → Stops (λ ports v. JudgedTyped ports p v) e
 shapes_stop p (fault.Refused r place) keeps (inl h) =
     λ ports. after_kinds ports p (refuses r place) keeps (refused_at (index_breaches_of p) r place (JudgedLimits ports p (first_excess p) (refuses r place)) h)
 shapes_stop p (fault.Refused r place) keeps (inr h) =
-    λ ports. after_places ports p (refuses r place) keeps h.0 h.1.0 (refused_at (placement_breaches p) r place (JudgedLast ports p (refuses r place)) h.1.1)
-shapes_stop p (fault.TooLarge x) keeps h = λ ports. after_limits ports p (exceeds x) (Some x) keeps h.0 h.1 refl
+    λ ports. after_places ports p (refuses r place) keeps h.indices h.limits (refused_at (placement_breaches p) r place (JudgedLast ports p (refuses r place)) h.least)
+shapes_stop p (fault.TooLarge limit count) keeps h =
+    let x : Excess = record { limit = limit; count = count } in
+    λ ports. after_limits ports p (exceeds x) (Some x) keeps h.0 h.1 refl
 shapes_stop p fault.NoMemory keeps h = absurd h
 
 -- the same of the typed program; `t` and `s` are that program as the code holds it
-pub named_stops : (p t s : Program) (e : CheckFault) → t ≡ typed p → s ≡ t → KeepsKinds t → TellsShapes s (Some e) → Stops (λ ports v. JudgedTyped ports (typed p) v) e
+pub named_stops : (p t s : Program) (e : CheckFault) → t ≡ typed p → s ≡ t → KeepsKinds t → TellsShapes {A = Unit {0}} s (Err e) → Stops (λ ports v. JudgedTyped ports (typed p) v) e
 named_stops p t s e same again keeps h =
-    subst (λ (x : Program). Stops (λ ports v. JudgedTyped ports x v) e) same (shapes_stop t e keeps (subst (λ (x : Program). TellsShapes x (Some e)) again h))
+    subst (λ (x : Program). Stops (λ ports v. JudgedTyped ports x v) e) same (shapes_stop t e keeps (subst (λ (x : Program). TellsShapes {A = Unit {0}} x (Err e)) again h))
 
 -- what has passed them is ready, and goes on to its ports
-is_ready : (p t : Program) → t ≡ typed p → IsOfText most_tokens p → unchecked_forms p ≡ [] → KeepsNames t → HasEntities t → HasKinds t → KeepsKinds t → TellsShapes t None → IsReady t
+is_ready : (p t : Program) → t ≡ typed p → IsOfText most_tokens p → unchecked_forms p ≡ [] → KeepsNames t → HasEntities t → HasKinds t → KeepsKinds t → TellsShapes {A = Unit {0}} t (Ok tt) → IsReady t
 is_ready p t same of_text built names entities kinds suits shapes = record {
   of_text = subst (λ (x : Program). IsOfText most_tokens x) (sym same) (typing.of_text_kept most_tokens p (typing_texts.widths_kept p of_text.widths) of_text);
   built = ap unchecked_forms same ∙ (typing_texts.unchecked_forms_kept p ∙ built);
@@ -90,10 +96,10 @@ is_ready p t same of_text built names entities kinds suits shapes = record {
   placements = shapes.1.1;
 }
 
-pub named_ready : (p t s : Program) → t ≡ typed p → s ≡ t → IsOfText most_tokens p → unchecked_forms p ≡ [] → KeepsNames t → HasEntities t → HasKinds t → KeepsKinds t → TellsShapes s None
+pub named_ready : (p t s : Program) → t ≡ typed p → s ≡ t → IsOfText most_tokens p → unchecked_forms p ≡ [] → KeepsNames t → HasEntities t → HasKinds t → KeepsKinds t → TellsShapes {A = Unit {0}} s (Ok tt)
     → (t ≡ typed p) × (IsReady (typed p) × GoesOn (λ ports v. JudgedTyped ports (typed p) v) (typed p))
 named_ready p t s same again of_text built names entities kinds suits h =
-    let shapes : TellsShapes t None = subst (λ (x : Program). TellsShapes x None) again h in (
+    let shapes : TellsShapes {A = Unit {0}} t (Ok tt) = subst (λ (x : Program). TellsShapes {A = Unit {0}} x (Ok tt)) again h in (
       same,
       subst (λ (x : Program). IsReady x × GoesOn (λ ports v. JudgedTyped ports x v) x) same (
         is_ready p t same of_text built names entities kinds suits shapes,
@@ -102,20 +108,20 @@ named_ready p t s same again of_text built names entities kinds suits h =
     )
 
 -- the passes over a tree
-forms_passed : (forms : Forms) (ports : Bool) (p : Program) (v : Verdict) → least_of None (unbuilt_by forms p) ≡ None → Passes (breaches_of p) v (JudgedTyped ports (typed (resolved p)) v)
+forms_passed : (forms : Forms) (ports : Bool) (p : Program) (v : Verdict) → unbuilt_by forms p ≡ [] → Passes (breaches_of p) v (JudgedTyped ports (typed (resolved p)) v)
     → JudgedTree (asked_of forms ports) p v
-forms_passed forms ports p v e h = passed (unbuilt_by forms p) v (Passes (breaches_of p) v (JudgedTyped ports (typed (resolved p)) v)) (none_is_kept (unbuilt_by forms p) e) h
+forms_passed forms ports p v e h = passed (unbuilt_by forms p) v (Passes (breaches_of p) v (JudgedTyped ports (typed (resolved p)) v)) e h
 
-pub forms_stop : (forms : Forms) (p : Program) (b : Breach) → least_of None (unbuilt_by forms p) ≡ Some b → Stops (λ ports v. JudgedTree (asked_of forms ports) p v) (fault.Refused b.rule b.place)
-forms_stop forms p b e =
-    λ ports. refused_at (unbuilt_by forms p) b.rule b.place (Passes (breaches_of p) (refuses b.rule b.place) (JudgedTyped ports (typed (resolved p)) (refuses b.rule b.place))) (least_is_kept (unbuilt_by forms p) b e)
+pub forms_stop : (forms : Forms) (p : Program) (b : Breach) → IsLeast (unbuilt_by forms p) b → Stops (λ ports v. JudgedTree (asked_of forms ports) p v) (fault.Refused b.rule b.place)
+forms_stop forms p b h =
+    λ ports. refused_at (unbuilt_by forms p) b.rule b.place (Passes (breaches_of p) (refuses b.rule b.place) (JudgedTyped ports (typed (resolved p)) (refuses b.rule b.place))) h
 
-pub names_stop : (forms : Forms) (p : Program) (r : Rule) (place : Place) → least_of None (unbuilt_by forms p) ≡ None → IsLeast (breaches_of p) (breach r place)
-    → Stops (λ ports v. JudgedTree (asked_of forms ports) p v) (fault.Refused r place)
-names_stop forms p r place e h =
-    λ ports. forms_passed forms ports p (refuses r place) e (refused_at (breaches_of p) r place (JudgedTyped ports (typed (resolved p)) (refuses r place)) h)
+pub names_stop : (forms : Forms) (p : Program) (e : PassFault) → unbuilt_by forms p ≡ [] → names.Answers p (Err e) → Stops (λ ports v. JudgedTree (asked_of forms ports) p v) (of_pass e)
+names_stop forms p pass.NoMemory none h = λ ports. tt
+names_stop forms p (pass.Refused r place) none h =
+    λ ports. forms_passed forms ports p (refuses r place) none (refused_at (breaches_of p) r place (JudgedTyped ports (typed (resolved p)) (refuses r place)) h)
 
-tree_named : (forms : Forms) (ports : Bool) (p q : Program) (v : Verdict) → least_of None (unbuilt_by forms p) ≡ None → q ≡ resolved p → KeepsNames p → JudgedTyped ports (typed q) v
+tree_named : (forms : Forms) (ports : Bool) (p q : Program) (v : Verdict) → unbuilt_by forms p ≡ [] → q ≡ resolved p → KeepsNames p → JudgedTyped ports (typed q) v
     → JudgedTree (asked_of forms ports) p v
 tree_named forms ports p q v e same keeps h =
     let P : Program → Type 0 = λ y. JudgedTyped ports (typed y) v in
@@ -138,18 +144,19 @@ written_after p q t same is written built =
     let second : IsWritten most_tokens q = subst (λ (x : Program). IsWritten most_tokens x) (sym same) (resolving.written_kept most_tokens p (resolving_texts.widths_kept p first.of_text.widths) first) in
     subst (λ (x : Program). IsWritten most_tokens x) (sym is) (typing.written_kept most_tokens q (typing_texts.widths_kept q second.of_text.widths) second)
 
-pub tells_tree : (forms : Forms) (p q : Program) (r : Result Typed CheckFault) → least_of None (unbuilt_by forms p) ≡ None → q ≡ resolved p → KeepsNames p
+pub tells_tree : (forms : Forms) (p q : Program) (r : Result Typed CheckFault) → unbuilt_by forms p ≡ [] → q ≡ resolved p → KeepsNames p
     → (unbuilt_forms p ≡ [] → IsWritten most_tokens p) → TellsNamed q r → TellsTree forms p r
 tells_tree forms p q (Ok t) e same keeps written h = (
   record {
     ready = subst (λ (x : Program). IsReady x) (sym h.0) h.1.0;
-    built = ap (unbuilt_by forms) h.0 ∙ (built_typed forms q ∙ (ap (unbuilt_by forms) same ∙ (built_resolved forms p ∙ none_is_kept (unbuilt_by forms p) e)));
+    built = ap (unbuilt_by forms) h.0 ∙ (built_typed forms q ∙ (ap (unbuilt_by forms) same ∙ (built_resolved forms p ∙ e)));
     written = written_after p q (program_seen t) same h.0 written;
   },
   λ ports v j. tree_named forms ports p q v e same keeps (h.1.1 ports v (subst (λ (x : Program). JudgedLast ports x v) h.0 j)),
 )
 tells_tree forms p q (Err (fault.Refused rule place)) e same keeps written h = λ ports. tree_named forms ports p q (refuses rule place) e same keeps (h ports)
-tells_tree forms p q (Err (fault.TooLarge excess)) e same keeps written h = λ ports. tree_named forms ports p q (exceeds excess) e same keeps (h ports)
+tells_tree forms p q (Err (fault.TooLarge limit count)) e same keeps written h =
+    λ ports. tree_named forms ports p q (exceeds (record { limit = limit; count = count })) e same keeps (h ports)
 tells_tree forms p q (Err fault.NoMemory) e same keeps written h = λ ports. tt
 
 -- what names are resolved in
@@ -161,8 +168,8 @@ unchecked_by Unchecked p h = h
 unchecked_by Checked p h = h
 unchecked_by Compiled p h = forms_built p h
 
-pub built_still : (forms : Forms) (p q : Program) → least_of None (unbuilt_by forms p) ≡ None → q ≡ resolved p → unchecked_forms q ≡ []
-built_still forms p q e same = ap unchecked_forms same ∙ (resolving_texts.unchecked_forms_kept p ∙ unchecked_by forms p (none_is_kept (unbuilt_by forms p) e))
+pub built_still : (forms : Forms) (p q : Program) → unbuilt_by forms p ≡ [] → q ≡ resolved p → unchecked_forms q ≡ []
+built_still forms p q e same = ap unchecked_forms same ∙ (resolving_texts.unchecked_forms_kept p ∙ unchecked_by forms p e)
 
 pub few_names : (p : Program) → IsOfText most_tokens p → HasFewNames p
 few_names p h = let w = h.names in omega (arith, w)

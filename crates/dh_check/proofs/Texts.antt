@@ -1,12 +1,13 @@
 -- What checking a text comes to at each pass that can end it.
 use Rattle.std.proofs.Common.{◌≡◌, ℕ, ◌+◌, ◌≤◌, inl, inr, List, [], length, Option, Some, None, Result, Ok, Err, refl, ap, sym, ◌∙◌, subst, arith}
+use Rattle.dh_base.specs.declared.faults.PassFault.{PassFault}
 use Rattle.dh_base.specs.declared.faults.PassFault.TheVariants as pass
 use Rattle.dh_base.specs.declared.limits.Excess.{Excess}
 use Rattle.dh_base.specs.declared.places.Place.{Place}
 use Rattle.dh_base.specs.declared.rules.Rule.{Rule}
 use Rattle.dh_lexer.specs.declared.tokens.Token.{Token}
 use Rattle.dh_lexer.specs.LexedText.{HasTokens, Lexed, AreEnded}
-use Rattle.dh_parser.specs.Programs.{Spells, RefusedAt, rule_at}
+use Rattle.dh_parser.specs.Programs.{Parses, Spells, rule_at}
 use Rattle.dh_parser.proofs.TextsSound.{texts_are_sound}
 use Rattle.dh_parser.proofs.WrittenTexts.{written}
 use Rattle.dh_tree.specs.Forms.{unbuilt_forms}
@@ -17,12 +18,13 @@ use Rattle.dh_check.specs.declared.checking.Forms.{Forms}
 use Rattle.dh_check.specs.declared.checking.CheckFault.{CheckFault}
 use Rattle.dh_check.specs.declared.checking.CheckFault.TheVariants as fault
 use Rattle.dh_tree.specs.Ready.{most_tokens}
-use Rattle.dh_check.specs.Ready.{Stops, TellsTree, TellsText}
+use Rattle.dh_check.specs.Ready.{of_pass, Stops, TellsTree, TellsText}
 use Rattle.dh_check.specs.Verdicts.{Verdict, refuses, exceeds, tokens_excess, JudgedTree, JudgedTokens, IsVerdict, asked_of, Asked}
 use Rattle.dh_check.proofs.OneVerdict.{is_verdict}
 
-pub no_tokens : (forms : Forms) (text : List ℕ) (rule : Rule) (place : Place) → Lexed text (Err (pass.Refused rule place)) → Stops (λ ports v. IsVerdict (asked_of forms ports) text v) (fault.Refused rule place)
-no_tokens forms text rule place h = λ ports. is_verdict (asked_of forms ports) text (refuses rule place) (inl (place, (h.1.0, ap (λ r. refuses r place) h.0)))
+pub no_tokens : (forms : Forms) (text : List ℕ) (e : PassFault) → Lexed text (Err e) → Stops (λ ports v. IsVerdict (asked_of forms ports) text v) (of_pass e)
+no_tokens forms text pass.NoMemory h = λ ports. tt
+no_tokens forms text (pass.Refused rule place) h = λ ports. is_verdict (asked_of forms ports) text (refuses rule place) (inl (place, (h.1.0, ap (λ r. refuses r place) h.0)))
 
 -- the passes over the tokens `ts`; `l` are these as the code holds them
 judged_tokens : (asked : Asked) (text : List ℕ) (ts l : List Token) (o : Option Excess) (v : Verdict) → l ≡ ts → HasTokens text ts → tokens_excess l ≡ o → JudgedTokens asked l o v → IsVerdict asked text v
@@ -31,12 +33,13 @@ judged_tokens asked text ts l o v same has e h =
     is_verdict asked text v (inr (l, (subst (λ (x : List Token). HasTokens text x) (sym same) has, subst P (sym e) h)))
 
 pub tokens_exceed : (forms : Forms) (text : List ℕ) (ts l : List Token) (x : Excess) → l ≡ ts → HasTokens text ts → tokens_excess l ≡ Some x
-    → Stops (λ ports v. IsVerdict (asked_of forms ports) text v) (fault.TooLarge x)
+    → Stops (λ ports v. IsVerdict (asked_of forms ports) text v) (fault.TooLarge x.limit x.count)
 tokens_exceed forms text ts l x same has e = λ ports. judged_tokens (asked_of forms ports) text ts l (Some x) (exceeds x) same has e refl
 
-pub token_refused : (forms : Forms) (text : List ℕ) (ts l : List Token) (rule : Rule) (place : Place) → l ≡ ts → HasTokens text ts → tokens_excess l ≡ None → RefusedAt l rule place
-    → Stops (λ ports v. IsVerdict (asked_of forms ports) text v) (fault.Refused rule place)
-token_refused forms text ts l rule place same has e h =
+pub token_refused : (forms : Forms) (text : List ℕ) (ts l : List Token) (f : PassFault) → l ≡ ts → HasTokens text ts → tokens_excess l ≡ None → Parses l (Err f)
+    → Stops (λ ports v. IsVerdict (asked_of forms ports) text v) (of_pass f)
+token_refused forms text ts l pass.NoMemory same has e h = λ ports. tt
+token_refused forms text ts l (pass.Refused rule place) same has e h =
     λ ports. judged_tokens (asked_of forms ports) text ts l None (refuses rule place) same has e (inl (record {
       before = h.before;
       token = h.token;
@@ -52,7 +55,7 @@ pub tells_text : (forms : Forms) (text : List ℕ) (ts l : List Token) (p : Prog
     → TellsText forms text r
 tells_text forms text ts l p (Ok t) same has e spells h = (h.0, λ ports v j. tree_verdict (asked_of forms ports) text ts l p v same has e spells (h.1 ports v j))
 tells_text forms text ts l p (Err (fault.Refused rule place)) same has e spells h = λ ports. tree_verdict (asked_of forms ports) text ts l p _ same has e spells (h ports)
-tells_text forms text ts l p (Err (fault.TooLarge excess)) same has e spells h = λ ports. tree_verdict (asked_of forms ports) text ts l p _ same has e spells (h ports)
+tells_text forms text ts l p (Err (fault.TooLarge limit count)) same has e spells h = λ ports. tree_verdict (asked_of forms ports) text ts l p _ same has e spells (h ports)
 tells_text forms text ts l p (Err fault.NoMemory) same has e spells h = λ ports. tt
 
 -- a number of tokens within a greater one

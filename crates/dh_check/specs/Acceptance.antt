@@ -1,11 +1,14 @@
 -- Which forms may stand in a program, by the command that asks, and what is known of the programs that are
 -- accepted for the compiler.
-use Rattle.std.specs.Prelude.{◌≡◌, List, []}
+use Rattle.std.specs.Prelude.{◌≡◌, ℕ, List, []}
 use Rattle.dh_tree.specs.declared.breaches.Breach.{Breach}
 use Rattle.dh_tree.specs.PlainTrees.{Program}
 use Rattle.dh_tree.specs.Forms.{unbuilt_forms}
+use Rattle.dh_tree.specs.Memories.{table_of}
 use Rattle.dh_tree.specs.Ports.{KeepsPortRules}
 use Rattle.dh_tree.specs.Ready.{most_tokens, IsReady}
+use Rattle.dh_tree.specs.Spending.{AllCovered, IsNeverStuck}
+use Rattle.dh_tree.specs.Tables.{Fits}
 use Rattle.dh_tree.specs.UncheckedForms.{unchecked_forms}
 use Rattle.dh_tree.specs.Written.{IsWritten}
 use Rattle.dh_check.specs.declared.checking.Forms.{Forms}
@@ -22,8 +25,22 @@ pub record IsCompilable (p : Program) : Type 0 where
   pub built : unbuilt_forms p ≡ []
   pub written : IsWritten most_tokens p
 
+-- where it was asked for to be compiled, it can be
+abbrev pub CompilesBy : Forms → Program → Type 0
+CompilesBy forms p = forms ≡ Compiled → IsCompilable p
+
+-- where all its forms are compiled, it is as a text writes it
+abbrev pub IsWrittenIfBuilt : Program → Type 0
+IsWrittenIfBuilt p = unbuilt_forms p ≡ [] → IsWritten most_tokens p
+
 -- it breaks no rule, exceeds no limit, and is of the forms that are compiled
 pub record IsCompiled (p : Program) : Type 0 where
   pub ready : IsReady p
   pub keeps : KeepsPortRules p
   pub compilable : IsCompilable p
+
+-- run from any fitting memories, no step spends more of a bank than its accesses that may meet charge, and
+-- no run is ever stuck
+pub record IsSound (p : Program) : Type 0 where
+  pub covered : (memories : List (List ℕ)) → Fits (table_of p) memories → AllCovered p memories
+  pub never_stuck : (memories : List (List ℕ)) → Fits (table_of p) memories → IsNeverStuck p memories

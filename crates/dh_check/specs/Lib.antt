@@ -1,3 +1,4 @@
 pub mod Acceptance
 pub mod Verdicts
 pub mod Ready
+pub mod Held

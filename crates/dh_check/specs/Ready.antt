@@ -1,18 +1,19 @@
 -- What the passes before that over ports tell: a fault, or a program that comes to what its ports come
 -- to, where these are asked for.
-use Rattle.std.specs.Prelude.{◌≡◌, ◌⊎◌, ℕ, List, [], Bool, Option, Some, None, Result, Ok, Err}
+use Rattle.std.specs.Prelude.{◌≡◌, ◌⊎◌, ℕ, List, [], Bool, Some, None, Result, Ok, Err}
+use Rattle.dh_base.specs.declared.faults.PassFault.{PassFault}
+use Rattle.dh_base.specs.declared.faults.PassFault.TheVariants as pass
+use Rattle.dh_tree.specs.declared.breaches.Breach.{Breach}
 use Rattle.dh_tree.specs.declared.trees.typed.Typed.{Typed}
 use Rattle.dh_tree.specs.LeastBreach.{IsLeast, breach}
 use Rattle.dh_tree.specs.PlainTrees.{Program}
-use Rattle.dh_tree.specs.Forms.{unbuilt_forms}
 use Rattle.dh_tree.specs.Kinds.{typed}
 use Rattle.dh_tree.specs.Excesses.{first_excess}
 use Rattle.dh_tree.specs.Indices.{index_breaches_of}
 use Rattle.dh_tree.specs.Placements.{placement_breaches}
-use Rattle.dh_tree.specs.Ready.{most_tokens, IsReady}
-use Rattle.dh_tree.specs.Written.{IsWritten}
+use Rattle.dh_tree.specs.Ready.{IsReady}
 use Rattle.dh_tree.specs.Seen.{program_seen}
-use Rattle.dh_check.specs.Acceptance.{unbuilt_by}
+use Rattle.dh_check.specs.Acceptance.{unbuilt_by, IsWrittenIfBuilt}
 use Rattle.dh_check.specs.Verdicts.{Verdict, FaultTells, JudgedLast, JudgedTyped, JudgedTree, IsVerdict, asked_of}
 use Rattle.dh_check.specs.declared.checking.Forms.{Forms}
 use Rattle.dh_check.specs.declared.checking.CheckFault.{CheckFault}
@@ -26,13 +27,30 @@ GoesOn tells p = (ports : Bool) (v : Verdict) → JudgedLast ports p v → tells
 abbrev pub Stops : (Bool → Verdict → Type 0) → CheckFault → Type 0
 Stops tells e = (ports : Bool) → FaultTells (tells ports) e
 
--- the rules on shapes, indices and bounds, then the limits on memories, then the rules on places
-abbrev pub TellsShapes : Program → Option CheckFault → Type 0
-TellsShapes p None = (index_breaches_of p ≡ []) × ((first_excess p ≡ None) × (placement_breaches p ≡ []))
-TellsShapes p (Some (fault.Refused rule place)) =
-    IsLeast (index_breaches_of p) (breach rule place) ⊎ ((index_breaches_of p ≡ []) × ((first_excess p ≡ None) × IsLeast (placement_breaches p) (breach rule place)))
-TellsShapes p (Some (fault.TooLarge excess)) = (index_breaches_of p ≡ []) × (first_excess p ≡ Some excess)
-TellsShapes p (Some fault.NoMemory) = ⊥
+-- how a check ends whose pass ends with this fault
+abbrev pub of_pass : PassFault → CheckFault
+of_pass (pass.Refused rule place) = fault.Refused rule place
+of_pass pass.NoMemory = fault.NoMemory
+
+-- the breach of these that stands first, or that there is none
+abbrev pub TellsBreach : {A : Type 0} → List Breach → Result A Breach → Type 0
+TellsBreach breaches (Ok a) = breaches ≡ []
+TellsBreach breaches (Err b) = IsLeast breaches b
+
+-- the rules on places, of a program that keeps those on shapes, indices and bounds, and the limits on
+-- memories, are broken first here
+pub record BreaksPlaces (p : Program) (b : Breach) : Type 0 where
+  pub indices : index_breaches_of p ≡ []
+  pub limits : first_excess p ≡ None
+  pub least : IsLeast (placement_breaches p) b
+
+-- the rules on shapes, indices and bounds, then the limits on memories, then the rules on places; it takes
+-- no memory, so that none is refused
+abbrev pub TellsShapes : {A : Type 0} → Program → Result A CheckFault → Type 0
+TellsShapes p (Ok a) = (index_breaches_of p ≡ []) × ((first_excess p ≡ None) × (placement_breaches p ≡ []))
+TellsShapes p (Err (fault.Refused rule place)) = IsLeast (index_breaches_of p) (breach rule place) ⊎ BreaksPlaces p (breach rule place)
+TellsShapes p (Err (fault.TooLarge limit count)) = (index_breaches_of p ≡ []) × (first_excess p ≡ Some (record { limit = limit; count = count }))
+TellsShapes p (Err fault.NoMemory) = ⊥
 
 -- of a program whose names are resolved: kinds, shapes, limits and places
 abbrev pub TellsNamed : Program → Result Typed CheckFault → Type 0
@@ -43,7 +61,7 @@ TellsNamed p (Err e) = Stops (λ ports v. JudgedTyped ports (typed p) v) e
 pub record IsReadyBy (forms : Forms) (p : Program) : Type 0 where
   pub ready : IsReady p
   pub built : unbuilt_by forms p ≡ []
-  pub written : unbuilt_forms p ≡ [] → IsWritten most_tokens p
+  pub written : IsWrittenIfBuilt p
 
 -- of a tree: forms, names, and the rest
 abbrev pub TellsReady : Forms → (Bool → Verdict → Type 0) → Result Typed CheckFault → Type 0

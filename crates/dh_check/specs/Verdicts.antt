@@ -36,10 +36,14 @@ pub data Verdict : Type 0 where
   refuses : Rule → Place → Verdict
   exceeds : Excess → Verdict
 
--- the limits on tokens, in order
+-- the limits on tokens in order, by their counts
+abbrev pub counted_excess : ℕ → ℕ → ℕ → Option Excess
+counted_excess brackets operators else_ifs =
+    or_else (excess_at limit.Brackets brackets) (or_else (excess_at limit.Operators operators) (excess_at limit.ElseIfs else_ifs))
+
+-- the first limit on tokens that these exceed
 abbrev pub tokens_excess : List Token → Option Excess
-tokens_excess ts =
-    or_else (excess_at limit.Brackets (most_open 0 ts)) (or_else (excess_at limit.Operators (most_operators 0 ts)) (excess_at limit.ElseIfs (else_ifs_after false ts)))
+tokens_excess ts = counted_excess (most_open 0 ts) (most_operators 0 ts) (else_ifs_after false ts)
 
 -- the program breaks a rule of this pass, at the least place; or it breaks none, and the next pass follows
 abbrev pub Passes : List Breach → Verdict → Type 0 → Type 0
@@ -102,7 +106,7 @@ pub record IsVerdict (asked : Asked) (text : List ℕ) (v : Verdict) : Type 0 wh
 -- a fault that tells what the text comes to, or that memory was refused
 abbrev pub FaultTells : (Verdict → Type 0) → CheckFault → Type 0
 FaultTells tells (fault.Refused rule place) = tells (refuses rule place)
-FaultTells tells (fault.TooLarge excess) = tells (exceeds excess)
+FaultTells tells (fault.TooLarge limit count) = tells (exceeds (record { limit = limit; count = count }))
 FaultTells tells fault.NoMemory = Unit {0}
 
 -- an answer whose verdict is one of these

@@ -1,28 +1,22 @@
 //! The passes over a text, in order.
 
-ghost use Rattle.std.specs.Prelude.{◌≡◌, ◌≤◌, ℕ, List, [], false, length, map, None, IfOk};
-ghost use Rattle.dh_lexer.specs.declared.tokens.Token.{Token as TokenSeen};
-ghost use Rattle.dh_lexer.specs.Counted.{most_open, most_operators, else_ifs_after};
-ghost use Rattle.dh_tree.specs.Forms.{unbuilt_forms};
+ghost use Rattle.std.specs.Prelude.{◌≡◌, ◌≤◌, [], length, None, IfOk};
+ghost use Rattle.dh_shape.specs.Above.{TellsExcess};
 ghost use Rattle.dh_tree.specs.UncheckedForms.{unchecked_forms};
 ghost use Rattle.dh_tree.specs.LeastBreach.{least_of};
 ghost use Rattle.dh_tree.specs.Seen.{program_seen};
-ghost use Rattle.dh_tree.specs.Written.{IsOfText, IsWritten};
+ghost use Rattle.dh_tree.specs.Written.{IsOfText};
 ghost use Rattle.dh_tree.specs.Excesses as excesses;
 ghost use Rattle.dh_tree.specs.Ready.{most_tokens};
-ghost use Rattle.dh_tree.specs.Memories.{table_of};
-ghost use Rattle.dh_tree.specs.Spending.{AllCovered, IsNeverStuck};
-ghost use Rattle.dh_tree.specs.Tables.{Fits};
-ghost use Rattle.dh_check.specs.Acceptance.{unbuilt_by, IsCompilable};
-ghost use Rattle.dh_check.specs.declared.checking.Forms.TheVariants as column;
-ghost use Rattle.dh_check.specs.Ready.{TellsText, TellsTree, TellsNamed, TellsShapes};
-ghost use Rattle.dh_check.specs.Verdicts as verdicts;
-ghost use Rattle.dh_check.specs.Verdicts.{Checks, ChecksWithoutPorts};
+ghost use Rattle.dh_check.specs.Acceptance.{unbuilt_by, CompilesBy, IsWrittenIfBuilt, IsSound};
+ghost use Rattle.dh_check.specs.declared.checking.CheckFault.TheVariants as fault;
+ghost use Rattle.dh_check.specs.Ready.{of_pass, TellsBreach, TellsText, TellsTree, TellsNamed, TellsShapes};
+ghost use Rattle.dh_check.specs.Verdicts.{Checks, ChecksWithoutPorts, counted_excess, tokens_excess};
 
 use crate::forms::first_unbuilt;
 use crate::unchecked_forms::first_unchecked;
 use dh_base::{Excess, Limit, PassFault, Place, Rule};
-use dh_lexer::{Counts, counts, lex};
+use dh_lexer::{Counts, Token, counts, lex};
 use dh_names::resolve;
 use dh_parser::parse;
 use dh_ports::{Accepted, check_ports};
@@ -56,11 +50,42 @@ pub enum CheckFault {
     },
     /// It exceeds a limit.
     TooLarge {
-        /// The limit, and the count above it.
-        excess: Excess,
+        /// The limit that is exceeded.
+        limit: Limit,
+        /// The counted quantity: above the limit, and at most 1,000,000,000.
+        count: u64,
     },
     /// Want of memory: an allocation was refused.
     NoMemory,
+}
+
+impl From<PassFault> for CheckFault {
+    ghost from_gives = { λ pass e. e ≡ of_pass pass };
+
+    fn from(pass: PassFault) -> CheckFault {
+        match pass {
+            PassFault::Refused { rule, place } => CheckFault::Refused { rule, place },
+            PassFault::NoMemory => CheckFault::NoMemory,
+        }
+    }
+}
+
+impl From<Excess> for CheckFault {
+    ghost from_gives = { λ excess e. e ≡ fault.TooLarge excess.limit excess.count };
+
+    fn from(excess: Excess) -> CheckFault {
+        let Excess { limit, count } = excess;
+        CheckFault::TooLarge { limit, count }
+    }
+}
+
+impl From<Breach> for CheckFault {
+    ghost from_gives = { λ breach e. e ≡ fault.Refused breach.rule breach.place };
+
+    fn from(breach: Breach) -> CheckFault {
+        let Breach { rule, place } = breach;
+        CheckFault::Refused { rule, place }
+    }
 }
 
 /// Counts that are reported stop here.
@@ -78,8 +103,8 @@ fn excess_at(limit: Limit, count: u64) -> Option<Excess>
 }
 
 /// The first limit on tokens that these counts exceed.
-fn tokens_excess(counts: Counts) -> Option<Excess>
-    ensures { (ts : List TokenSeen) → counts.brackets ≡ most_open 0 ts → counts.operators ≡ most_operators 0 ts → counts.else_ifs ≡ else_ifs_after false ts → result ≡ verdicts.tokens_excess ts }
+fn first_excess(counts: Counts) -> Option<Excess>
+    ensures { result ≡ counted_excess counts.brackets counts.operators counts.else_ifs }
 {
     excess_at(Limit::Brackets, counts.brackets)
         .or(excess_at(Limit::Operators, counts.operators))
@@ -100,23 +125,19 @@ fn tokens_excess(counts: Counts) -> Option<Excess>
 pub fn check(alloc: Global, text: &[u8], forms: Forms) -> Result<Accepted, CheckFault>
     requires { length text.now ≤ 1048576 }
     ensures verdict { Checks forms text.now result }
-    ensures compilable { forms ≡ column.Compiled → IfOk result (λ a. IsCompilable (program_seen a)) }
-    ensures covered { IfOk result (λ a. (memories : List (List ℕ)) → Fits (table_of (program_seen a)) memories → AllCovered (program_seen a) memories) }
-    ensures never_stuck { IfOk result (λ a. (memories : List (List ℕ)) → Fits (table_of (program_seen a)) memories → IsNeverStuck (program_seen a) memories) }
+    ensures compilable { IfOk result (λ a. CompilesBy forms (program_seen a)) }
+    ensures sound { IfOk result (λ a. IsSound (program_seen a)) }
 {
     let typed = ready(alloc, text, forms)?;
-    match check_ports(alloc, typed) {
-        Ok(accepted) => Ok(accepted),
-        Err(PassFault::Refused { rule, place }) => Err(CheckFault::Refused { rule, place }),
-        Err(PassFault::NoMemory) => Err(CheckFault::NoMemory),
-    }
+    let accepted = check_ports(alloc, typed)?;
+    Ok(accepted)
 }
 
 /// Checks a text as `check` does, but for its ports.
 ///
 /// # Errors
 ///
-/// As `check`, without the rule on ports.
+/// As `check`, without the rules on ports.
 pub fn check_without_ports(alloc: Global, text: &[u8], forms: Forms) -> Result<Typed, CheckFault>
     requires { length text.now ≤ 1048576 }
     ensures { ChecksWithoutPorts forms text.now result }
@@ -129,18 +150,19 @@ fn ready(alloc: Global, text: &[u8], forms: Forms) -> Result<Typed, CheckFault>
     requires { length text.now ≤ 1048576 }
     ensures { TellsText forms text.now result }
 {
-    let tokens = match lex(alloc, text) {
-        Ok(tokens) => tokens,
-        Err(PassFault::Refused { rule, place }) => return Err(CheckFault::Refused { rule, place }),
-        Err(PassFault::NoMemory) => return Err(CheckFault::NoMemory),
-    };
-    if let Some(excess) = tokens_excess(counts(tokens.as_slice())) {
-        return Err(CheckFault::TooLarge { excess });
-    }
-    match parse(alloc, tokens.as_slice()) {
-        Ok(tree) => ready_tree(alloc, tree, forms),
-        Err(PassFault::Refused { rule, place }) => Err(CheckFault::Refused { rule, place }),
-        Err(PassFault::NoMemory) => Err(CheckFault::NoMemory),
+    let tokens = lex(alloc, text)?;
+    within_limits(tokens.as_slice())?;
+    let tree = parse(alloc, tokens.as_slice())?;
+    ready_tree(alloc, tree, forms)
+}
+
+/// The limits on tokens.
+fn within_limits(tokens: &[Token]) -> Result<(), Excess>
+    ensures { TellsExcess (tokens_excess tokens.now) result }
+{
+    match first_excess(counts(tokens)) {
+        Some(excess) => Err(excess),
+        None => Ok(()),
     }
 }
 
@@ -154,20 +176,25 @@ fn first_unbuilt_by(forms: Forms, tree: &Tree) -> Option<Breach>
     }
 }
 
+/// The forms of a program that may stand in it, by the command that asks.
+fn built_for(forms: Forms, tree: &Tree) -> Result<(), Breach>
+    ensures { TellsBreach (unbuilt_by forms (program_seen tree.now)) result }
+{
+    match first_unbuilt_by(forms, tree) {
+        Some(breach) => Err(breach),
+        None => Ok(()),
+    }
+}
+
 /// The passes over a tree before that over ports.
 fn ready_tree(alloc: Global, tree: Tree, forms: Forms) -> Result<Typed, CheckFault>
     requires of_text { IsOfText most_tokens (program_seen tree) }
-    requires written { unbuilt_forms (program_seen tree) ≡ [] → IsWritten most_tokens (program_seen tree) }
+    requires written { IsWrittenIfBuilt (program_seen tree) }
     ensures { TellsTree forms (program_seen tree) result }
 {
-    if let Some(Breach { rule, place }) = first_unbuilt_by(forms, &tree) {
-        return Err(CheckFault::Refused { rule, place });
-    }
-    match resolve(alloc, tree) {
-        Ok(named) => ready_named(alloc, named),
-        Err(PassFault::Refused { rule, place }) => Err(CheckFault::Refused { rule, place }),
-        Err(PassFault::NoMemory) => Err(CheckFault::NoMemory),
-    }
+    built_for(forms, &tree)?;
+    let named = resolve(alloc, tree)?;
+    ready_named(alloc, named)
 }
 
 /// The passes over a tree whose names are resolved, before that over ports.
@@ -176,36 +203,20 @@ fn ready_named(alloc: Global, named: Named) -> Result<Typed, CheckFault>
     requires built { unchecked_forms (program_seen named) ≡ [] }
     ensures { TellsNamed (program_seen named) result }
 {
-    let typed = match type_program(alloc, named) {
-        Ok(typed) => typed,
-        Err(PassFault::Refused { rule, place }) => return Err(CheckFault::Refused { rule, place }),
-        Err(PassFault::NoMemory) => return Err(CheckFault::NoMemory),
-    };
+    let typed = type_program(alloc, named)?;
     // a typed tree keeps the rules on names and kinds
     typed.tree();
-    match shape_fault(&typed) {
-        Some(fault) => Err(fault),
-        None => Ok(typed),
-    }
+    shaped(&typed)?;
+    Ok(typed)
 }
 
-/// The first breach of the rules on shapes, indices and bounds, or else the first excess of a limit on
-/// memories, or else the first breach of the rules on places.
-fn shape_fault(typed: &Typed) -> Option<CheckFault>
+/// The rules on shapes, indices and bounds, then the limits on memories, then the rules on where memories
+/// stand and what is assigned to. Takes no memory.
+fn shaped(typed: &Typed) -> Result<(), CheckFault>
     ensures { TellsShapes (program_seen typed.now) result }
 {
-    match shapes(typed) {
-        Ok(()) => {}
-        Err(PassFault::Refused { rule, place }) => return Some(CheckFault::Refused { rule, place }),
-        Err(PassFault::NoMemory) => return Some(CheckFault::NoMemory),
-    }
-    match within(typed) {
-        Ok(()) => {}
-        Err(excess) => return Some(CheckFault::TooLarge { excess }),
-    }
-    match rules(typed) {
-        Ok(()) => None,
-        Err(PassFault::Refused { rule, place }) => Some(CheckFault::Refused { rule, place }),
-        Err(PassFault::NoMemory) => Some(CheckFault::NoMemory),
-    }
+    shapes(typed)?;
+    within(typed)?;
+    rules(typed)?;
+    Ok(())
 }

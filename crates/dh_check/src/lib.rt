@@ -5,8 +5,6 @@
 mod checking;
 mod forms;
 mod laws;
-#[cfg(test)]
-mod tests;
 mod unchecked_forms;
 
 pub use checking::{CheckFault, Forms, check, check_without_ports};

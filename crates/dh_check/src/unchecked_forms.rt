@@ -1,8 +1,9 @@
 //! Forms that are not built yet for a run without the check of ports.
 
-ghost use Rattle.std.specs.Prelude.{◌≡◌, map, None, option_map};
+ghost use Rattle.std.specs.Prelude.{◌≡◌, None};
 ghost use Rattle.dh_tree.specs.LeastBreach.{least_of};
-ghost use Rattle.dh_tree.specs.Seen.{action_seen, program_seen, groups, part_seen, maybe_seen, unrolled};
+ghost use Rattle.dh_tree.specs.Seen.{action_seen, program_seen, unrolled};
+ghost use Rattle.dh_check.specs.Held.{other_seen, parts_seen};
 ghost use Rattle.dh_tree.specs.Forms.{holds_steps, other_holds, groups_hold};
 ghost use Rattle.dh_tree.specs.UncheckedForms.{unchecked_factor, unchecked_combine, unchecked_action, unchecked_other, unchecked_groups, unchecked_forms};
 
@@ -21,7 +22,7 @@ fn keep_factor(kept: &mut Option<Breach>, factor: u64, place: Place, word: Place
 
 /// The word `combine`.
 fn keep_combine(kept: &mut Option<Breach>, word: Place, combine: &Option<Box<Command>>)
-    ensures { kept.new ≡ least_of kept.old (unchecked_combine word (maybe_seen (option_map (λ b. action_seen b.value) combine.now))) }
+    ensures { kept.new ≡ least_of kept.old (unchecked_combine word (other_seen combine.now)) }
 {
     if combine.is_some() {
         keep_unbuilt(kept, word);
@@ -77,8 +78,8 @@ fn keep_command(kept: &mut Option<Breach>, command: &Command) -> bool
 #[cycle(unbuilt)]
 #[tactic(auto, using(dh_tree::proofs::SeenActions::actions_are, crate::proofs::Leasts::least_append))]
 fn keep_other(kept: &mut Option<Breach>, other: &Option<Box<Command>>) -> bool
-    ensures kept { kept.new ≡ least_of kept.old (unchecked_other (maybe_seen (option_map (λ b. action_seen b.value) other.now))) }
-    ensures steps { result ≡ other_holds (maybe_seen (option_map (λ b. action_seen b.value) other.now)) }
+    ensures kept { kept.new ≡ least_of kept.old (unchecked_other (other_seen other.now)) }
+    ensures steps { result ≡ other_holds (other_seen other.now) }
 {
     match other {
         Some(block) => keep_command(kept, block),
@@ -91,8 +92,8 @@ fn keep_other(kept: &mut Option<Breach>, other: &Option<Box<Command>>) -> bool
 #[cycle(unbuilt)]
 #[tactic(auto, using(dh_tree::proofs::SeenActions::actions_are, crate::proofs::Leasts::least_append))]
 fn keep_groups(kept: &mut Option<Breach>, parts: &[Vec<Command>]) -> bool
-    ensures kept { kept.new ≡ least_of kept.old (unchecked_groups (groups (map part_seen parts.now))) }
-    ensures steps { result ≡ groups_hold (groups (map part_seen parts.now)) }
+    ensures kept { kept.new ≡ least_of kept.old (unchecked_groups (parts_seen parts.now)) }
+    ensures steps { result ≡ groups_hold (parts_seen parts.now) }
 {
     let mut holds = false;
     for part in parts {
