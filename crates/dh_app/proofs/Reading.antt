@@ -26,8 +26,8 @@ use Rattle.dh_app.proofs.Lined.{says_as, none_said}
 pub fault_refuses : (asked : Asked) (text : List ℕ) (f : CheckFault) (r : ReplySeen) → FaultTells (IsVerdict asked text) f → SaysFault f r → Says (RefusesText asked text) r
 fault_refuses asked text (check_fault.Refused rule place) r tells h =
     says_as _ (RefusesText asked text) r (λ s line l. record { verdict = refuses rule place; refuses_it = tt; judged = tells; status_is = l.0; line_is = l.1 }) h
-fault_refuses asked text (check_fault.TooLarge excess) r tells h =
-    says_as _ (RefusesText asked text) r (λ s line l. record { verdict = exceeds excess; refuses_it = tt; judged = tells; status_is = l.0; line_is = l.1 }) h
+fault_refuses asked text (check_fault.TooLarge exceeded count) r tells h =
+    says_as _ (RefusesText asked text) r (λ s line l. record { verdict = exceeds (record { limit = exceeded; count = count }); refuses_it = tt; judged = tells; status_is = l.0; line_is = l.1 }) h
 fault_refuses asked text check_fault.NoMemory r tells h = none_said (RefusesText asked text) r h
 
 refused_file : (old new : FilesSeen) (asked : Asked) (name text : List ℕ) (r : ReplySeen) → MayRead old name limit.Source text → HasRead old new 1 → Says (RefusesText asked text) r

@@ -52,7 +52,7 @@ WritesFault table fault.NoMemory line = IfOk line (λ v. ⊥)
 -- the line of a fault of the check
 abbrev pub SaysFault : CheckFault → ReplySeen → Type 0
 SaysFault (check_fault.Refused rule place) r = Says (Line status.Refused (refused_line rule place)) r
-SaysFault (check_fault.TooLarge excess) r = Says (Line status.TooLarge (too_large_line excess.limit excess.count)) r
+SaysFault (check_fault.TooLarge limit count) r = Says (Line status.TooLarge (too_large_line limit count)) r
 SaysFault check_fault.NoMemory r = r ≡ no_memory
 
 -- ---- files

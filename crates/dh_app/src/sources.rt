@@ -15,7 +15,7 @@ ghost use Rattle.dh_app.specs.Replies.{reply_seen};
 
 use crate::lines::{bad_data_line, refused_line, too_large_line};
 use crate::replies::{Reply, reply_with, too_large};
-use dh_base::{FileFault, Files, Limit, Status};
+use dh_base::{Excess, FileFault, Files, Limit, Status};
 use dh_check::{Accepted, CheckFault, Forms, check, check_without_ports};
 use dh_tree::{MemTable, Memories, Typed};
 use std::alloc::Global;
@@ -93,7 +93,8 @@ fn fault_line(alloc: Global, fault: CheckFault) -> Reply
         CheckFault::Refused { rule, place } => {
             reply_with(Status::Refused, refused_line(alloc, rule, place))
         }
-        CheckFault::TooLarge { excess } => {
+        CheckFault::TooLarge { limit, count } => {
+            let excess = Excess { limit, count };
             reply_with(Status::TooLarge, too_large_line(alloc, excess))
         }
         CheckFault::NoMemory => Reply::NoMemory,

@@ -15,8 +15,8 @@ fn told(alloc: Global, fault: Option<CheckFault>) -> Result<String, AllocError> 
         Some(CheckFault::Refused { rule, place }) => {
             write!(out, "{rule:?} {}:{}", place.line, place.column)?;
         }
-        Some(CheckFault::TooLarge { excess }) => {
-            write!(out, "{:?} {}", excess.limit, excess.count)?;
+        Some(CheckFault::TooLarge { limit, count }) => {
+            write!(out, "{limit:?} {count}")?;
         }
         Some(CheckFault::NoMemory) => out.push_str("no memory")?,
     }
