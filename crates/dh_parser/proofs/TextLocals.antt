@@ -3,13 +3,12 @@ use Rattle.std.proofs.Common.{ℕ, suc, ◌+◌, Bool, true, false, List, [], �
 use Rattle.std.specs.List.{AllByRecursion}
 use Rattle.dh_lexer.specs.declared.tokens.Token.{Token}
 use Rattle.dh_lexer.specs.declared.tokens.TokenKind.TheVariants as kind
-use Rattle.dh_lexer.specs.LexedText.{IsSound}
 use Rattle.dh_tree.specs.Memories.{Memory, locals, form_locals, other_locals, groups_locals, part_locals}
 use Rattle.dh_tree.specs.Names.{IsName}
 use Rattle.dh_parser.specs.Grammar.{NameText, TypeText, ValueText, SimpleText, let_typed, let_value, view, assign, store, reduce, call, BlockText, block, PartsText, last_part, part_then, PartText, end_of_part, last_simple, simple_then, compound_then, semicolon_then, CompoundText, block_alone, if_alone, while_loop, for_loop, IfText, if_else, ElseText, no_else, else_block, else_if, CombineText, no_combine, some_combine}
 use Rattle.dh_parser.specs.Spelling.{put, spell, spell_simple, spell_head, spell_block, spell_parts, spell_part, spell_compound, spell_if, spell_else, spell_combine}
 use Rattle.dh_parser.specs.TreesOfTexts.{is_memory_type, let_of, simple_form, count_block, count_part, count_compound, block_of, parts_of, part_of, compound_of, if_of, else_of, combine_of}
-use Rattle.dh_parser.proofs.Fronts.{Front, front_of, expression_front, simple_front, head_front, block_front, part_front, compound_front}
+use Rattle.dh_parser.proofs.Fronts.{front_of, expression_front, simple_front, head_front, block_front, part_front, compound_front}
 use Rattle.dh_parser.proofs.TextNames.{AreSound, behind}
 
 abbrev AreNamed : List Memory → Type 0

@@ -7,15 +7,11 @@ use Rattle.dh_lexer.specs.declared.tokens.Token.{Token}
 use Rattle.dh_lexer.specs.declared.tokens.TokenKind.TheVariants as kind
 use Rattle.dh_lexer.specs.LexedText.{IsSound, AreEnded}
 use Rattle.dh_tree.specs.NameCounts.{declared_in, declared_in_form, declared_in_groups, declared_in_actions, declared_in_other, declared_in_functions}
-use Rattle.dh_tree.specs.PlainTrees.{Program}
-use Rattle.dh_tree.specs.Written.{IsOneUnless, AreDims, IsDeclared, IsOfText}
-use Rattle.dh_parser.specs.Allowed.{ProgramFits}
-use Rattle.dh_parser.specs.Grammar.{NameText, PortsText, no_ports, some_ports, BanksText, no_banks, some_banks, DimsText, no_dims, dim_then, TypeText, ValueText, SimpleText, let_typed, let_value, view, assign, store, reduce, call, HeadText, BlockText, block, PartsText, last_part, part_then, PartText, end_of_part, last_simple, simple_then, compound_then, semicolon_then, CompoundText, block_alone, if_alone, while_loop, for_loop, IfText, if_else, ElseText, no_else, else_block, else_if, CombineText, no_combine, some_combine, MoreParametersText, no_more_parameters, parameter_then, ParametersText, no_parameters, some_parameters, ItemsText, no_items, decl_then, def_then, ProgramText}
-use Rattle.dh_parser.specs.Programs.{Spells}
-use Rattle.dh_parser.specs.Spelling.{put, put_number, spell_type, spell, spell_value, spell_view, spell_simple, spell_declared, spell_unroll, spell_head, spell_block, spell_parts, spell_part, spell_compound, spell_if, spell_else, spell_combine, spell_more_parameters, spell_parameters, spell_items, spell_program}
-use Rattle.dh_parser.specs.TreesOfTexts.{ports_of, banks_of, word_of, braces_of, dims_of, places_of, kind_place, is_memory_type, let_of, simple_form, count_block, count_part, count_compound, block_of, parts_of, part_of, compound_of, if_of, else_of, combine_of, formals_of, more_formals, decls_of, functions_of, count_items, program_of}
+use Rattle.dh_tree.specs.Written.{IsOneUnless, AreDims, IsDeclared}
+use Rattle.dh_parser.specs.Grammar.{NameText, PortsText, no_ports, some_ports, BanksText, no_banks, some_banks, DimsText, no_dims, dim_then, TypeText, ValueText, SimpleText, let_typed, let_value, view, assign, store, reduce, call, HeadText, BlockText, block, PartsText, last_part, part_then, PartText, end_of_part, last_simple, simple_then, compound_then, semicolon_then, CompoundText, block_alone, if_alone, while_loop, for_loop, IfText, if_else, ElseText, no_else, else_block, else_if, CombineText, no_combine, some_combine, MoreParametersText, no_more_parameters, parameter_then, ParametersText, no_parameters, some_parameters, ItemsText, no_items, decl_then, def_then}
+use Rattle.dh_parser.specs.Spelling.{put, put_number, spell_type, spell, spell_value, spell_view, spell_simple, spell_declared, spell_unroll, spell_head, spell_block, spell_parts, spell_part, spell_compound, spell_if, spell_else, spell_combine, spell_more_parameters, spell_parameters, spell_items}
+use Rattle.dh_parser.specs.TreesOfTexts.{ports_of, banks_of, word_of, braces_of, dims_of, places_of, kind_place, is_memory_type, let_of, simple_form, count_block, count_part, count_compound, block_of, parts_of, part_of, compound_of, if_of, else_of, combine_of, formals_of, more_formals, decls_of, functions_of}
 use Rattle.dh_parser.proofs.Fronts.{Front, front_of, type_front, expression_front, value_front, view_front, simple_front, declared_front, unroll_front, parameters_front, block_front}
-use Rattle.dh_parser.proofs.TextWidths.{program_sized}
 
 -- the tokens of a text are no fewer than those that follow it
 pub longer : {s : List Token → List Token} → Front s → (x : List Token) → length x ≤ length (s x)

@@ -1,5 +1,5 @@
 -- What holds of the tree of any text, from its parts.
-use Rattle.std.proofs.Common.{◌≡◌, ℕ, suc, ◌+◌, List, [], ◌∷◌, length, refl, ap, sym, subst, arith}
+use Rattle.std.proofs.Common.{◌≡◌, suc, List, [], length, refl, ap, sym, subst, arith}
 use Rattle.dh_lexer.specs.declared.tokens.Token.{Token}
 use Rattle.dh_lexer.specs.declared.tokens.TokenKind.TheVariants as kind
 use Rattle.dh_lexer.specs.LexedText.{AreEnded}
