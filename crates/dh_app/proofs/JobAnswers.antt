@@ -7,12 +7,16 @@ use Rattle.dh_base.specs.declared.statuses.Status.{Status}
 use Rattle.dh_base.specs.declared.statuses.Status.TheVariants as status
 use Rattle.dh_tree.specs.Memories.{table_of}
 use Rattle.dh_tree.specs.PlainTrees.{Program}
+use Rattle.dh_tree.specs.declared.tables.MemEntry.{MemEntry}
+use Rattle.dh_check.specs.Verdicts.{Asked}
 use Rattle.dh_data.specs.Reports.{report_text}
 use Rattle.dh_app.specs.Asking.{checked, compiled, interpreted, word_at}
+use Rattle.dh_app.specs.CheckJob.{IsOk}
 use Rattle.dh_app.specs.Engines.{EngineSeen}
-use Rattle.dh_app.specs.Inputs.{InputsSeen}
+use Rattle.dh_app.specs.Inputs.{InputsSeen, HasRead, OnlyReads}
 use Rattle.dh_app.specs.InterpretJob.{IsStandingReport, InterpretsData}
-use Rattle.dh_app.specs.Jobs.{JobComes, ComesFor}
+use Rattle.dh_app.specs.Jobs.{IsUsage, JobComes, ComesFor}
+use Rattle.dh_app.specs.Lines.{ok_line, usage_line}
 use Rattle.dh_app.specs.LowerJob.{LowersProgram}
 use Rattle.dh_app.specs.Promises.{IsTold, IsThere, DataIs, FilesAre, MayDiffer}
 use Rattle.dh_app.specs.Replies.{ReplySeen, replied, unread, no_memory, Says}
@@ -87,8 +91,8 @@ lowered_agree file old new p unread q (inr (net, (plays, (read, says)))) k = abs
 interpreted_agree : (o : Option Job) (old new : InputsSeen) (data_ : List ℕ) (steps : ℕ) → (Rose old.files.faults new.files.faults → ⊥) → IsTold (old.files.told data_)
     → (p : Program) (r q : ReplySeen) → InterpretsData old new data_ p steps r → InterpretsData old new data_ p steps q → Agree o r q
 interpreted_agree o old new data_ steps calm told p r q h k =
-    data_agree (Agree o) (agreement o) old new data_ (table_of p) _ r q calm told
-    (λ m x y a b. said o (IsStandingReport p m steps) (λ s t text other c d. (c.status_is ∙ sym d.status_is, inr (c.text_is ∙ sym d.text_is))) x y a.1 b.1) h k
+    data_agree (Agree o) (agreement o) old new data_ (table_of p) (λ memories answer. OnlyReads old new 2 × Says (IsStandingReport p memories steps) answer) r q calm told
+    (λ m x y (a : OnlyReads old new 2 × Says (IsStandingReport p m steps) x) (b : OnlyReads old new 2 × Says (IsStandingReport p m steps) y). said o (IsStandingReport p m steps) (λ s t text other c d. (c.status_is ∙ sym d.status_is, inr (c.text_is ∙ sym d.text_is))) x y a.1 b.1) h k
 
 simulated_agree : (o : Option Job) (old new : InputsSeen) (data_ : List ℕ) → (Rose old.files.faults new.files.faults → ⊥) → IsTold (old.files.told data_)
     → (p : Program) (r q : ReplySeen) → SimulatesProgram old new data_ p r → SimulatesProgram old new data_ p q → Agree o r q
@@ -99,23 +103,25 @@ simulated_agree o old new data_ calm told p r no_memory h k = (agreement o).seco
 simulated_agree o old new data_ calm told p r (replied s text) h (inl k) = absurd k
 simulated_agree o old new data_ calm told p r unread h (inl k) = absurd k
 simulated_agree o old new data_ calm told p r q (inr (net, (plays, h))) (inr (net', (plays', k))) =
-    data_agree (Agree o) (agreement o) old new data_ (table_of p) _ r q calm told (λ m x y a b. runs_agree o old.engine new.engine p m x y a.1 b.1) h k
+    data_agree (Agree o) (agreement o) old new data_ (table_of p) (λ memories answer. HasRead old.files new.files 2 × RunsNet old.engine new.engine p memories answer) r q calm told
+    (λ m x y (a : HasRead old.files new.files 2 × RunsNet old.engine new.engine p m x) (b : HasRead old.files new.files 2 × RunsNet old.engine new.engine p m y).
+      runs_agree o old.engine new.engine p m x y a.1 b.1) h k
 
 pub all_agree : (words : List (List ℕ)) (old new : InputsSeen) (o : Option Job) (r q : ReplySeen) → (Rose old.files.faults new.files.faults → ⊥) → FilesAre IsTold words old.files o
     → ComesFor words old new o r → ComesFor words old new o q → Agree o r q
-all_agree words old new None r q calm told h k = said None _ (said_one None _ _) r q h.1 k.1
+all_agree words old new None r q calm told h k = said None IsUsage (said_one None status.Usage usage_line) r q h.1 k.1
 all_agree words old new (Some (Check file)) r q calm told h k =
-    programs_agree (Agree (Some (Check file))) (agreement (Some (Check file))) old new checked (word_at words file) _ r q calm told.0
-    (λ p x y a b. said (Some (Check file)) _ (said_one (Some (Check file)) _ _) x y a.1 b.1) h k
+    programs_agree (Agree (Some (Check file))) (agreement (Some (Check file))) old new checked (word_at words file) (λ p answer. OnlyReads old new 1 × Says IsOk answer) r q calm told.0
+    (λ p x y (a : OnlyReads old new 1 × Says IsOk x) (b : OnlyReads old new 1 × Says IsOk y). said (Some (Check file)) IsOk (said_one (Some (Check file)) status.Done ok_line) x y a.1 b.1) h k
 all_agree words old new (Some (Lower file)) r q calm told h k =
-    programs_agree (Agree (Some (Lower file))) (agreement (Some (Lower file))) old new compiled (word_at words file) _ r q calm told.0 (lowered_agree file old new) h k
+    programs_agree (Agree (Some (Lower file))) (agreement (Some (Lower file))) old new compiled (word_at words file) (λ p. LowersProgram old new p) r q calm told.0 (lowered_agree file old new) h k
 all_agree words old new (Some (Interpret file data_ steps unchecked)) r q calm told h k =
     let o = Some (Interpret file data_ steps unchecked) in
-    programs_agree (Agree o) (agreement o) old new (interpreted unchecked) (word_at words file) _ r q calm told.0
+    programs_agree (Agree o) (agreement o) old new (interpreted unchecked) (word_at words file) (λ p. InterpretsData old new (word_at words data_) p steps) r q calm told.0
     (interpreted_agree o old new (word_at words data_) steps calm told.1) h k
 all_agree words old new (Some (Simulate file data_)) r q calm told h k =
     let o = Some (Simulate file data_) in
-    programs_agree (Agree o) (agreement o) old new compiled (word_at words file) _ r q calm told.0 (simulated_agree o old new (word_at words data_) calm told.1) h k
+    programs_agree (Agree o) (agreement o) old new compiled (word_at words file) (λ p. SimulatesProgram old new (word_at words data_) p) r q calm told.0 (simulated_agree o old new (word_at words data_) calm told.1) h k
 
 -- ---- files that are there are read
 
@@ -128,13 +134,13 @@ is_read : (old new : FilesSeen) (name : List ℕ) → (Rose old.faults new.fault
 is_read old new name calm h (inl rose) = calm rose
 is_read old new name calm h (inr a) = there (old.told name) h a
 
-program_had : (old new : InputsSeen) (asked : _) (file : List ℕ) (rest : Program → ReplySeen → Type 0) → (Rose old.files.faults new.files.faults → ⊥) → IsThere (old.files.told file)
+program_had : (old new : InputsSeen) (asked : Asked) (file : List ℕ) (rest : Program → ReplySeen → Type 0) → (Rose old.files.faults new.files.faults → ⊥) → IsThere (old.files.told file)
     → ((p : Program) → rest p unread → ⊥) → ProgramStage old new asked file rest unread → ⊥
 program_had old new asked file rest calm h f (inl (inl fails, idle)) = is_read old.files new.files file calm h fails.fails
 program_had old new asked file rest calm h f (inl (inr none, idle)) = none
 program_had old new asked file rest calm h f (inr (p, (is, r))) = f p r
 
-data_had : (old new : InputsSeen) (data_ : List ℕ) (table : _) (rest : List (List ℕ) → ReplySeen → Type 0) → (Rose old.files.faults new.files.faults → ⊥) → IsThere (old.files.told data_)
+data_had : (old new : InputsSeen) (data_ : List ℕ) (table : List MemEntry) (rest : List (List ℕ) → ReplySeen → Type 0) → (Rose old.files.faults new.files.faults → ⊥) → IsThere (old.files.told data_)
     → ((m : List (List ℕ)) → rest m unread → ⊥) → DataStage old new data_ table rest unread → ⊥
 data_had old new data_ table rest calm h f (inl (inl fails, idle)) = is_read old.files new.files data_ calm h fails.fails
 data_had old new data_ table rest calm h f (inl (inr none, idle)) = none
@@ -146,13 +152,14 @@ lowered_had old new p (inr (net, (plays, (read, says)))) = says
 
 simulated_had : (old new : InputsSeen) (data_ : List ℕ) → (Rose old.files.faults new.files.faults → ⊥) → IsThere (old.files.told data_) → (p : Program) → SimulatesProgram old new data_ p unread → ⊥
 simulated_had old new data_ calm h p (inl none) = none
-simulated_had old new data_ calm h p (inr (net, (plays, k))) = data_had old new data_ (table_of p) _ calm h (λ m r. r.1) k
+simulated_had old new data_ calm h p (inr (net, (plays, k))) = data_had old new data_ (table_of p) (λ memories answer. HasRead old.files new.files 2 × RunsNet old.engine new.engine p memories answer) calm h (λ m (r : HasRead old.files new.files 2 × RunsNet old.engine new.engine p m unread). r.1) k
 
 pub all_had : (words : List (List ℕ)) (old new : InputsSeen) (o : Option Job) → (Rose old.files.faults new.files.faults → ⊥) → FilesAre IsThere words old.files o → ComesFor words old new o unread → ⊥
 all_had words old new None calm h k = k.1
-all_had words old new (Some (Check file)) calm h k = program_had old new checked (word_at words file) _ calm h.0 (λ p r. r.1) k
-all_had words old new (Some (Lower file)) calm h k = program_had old new compiled (word_at words file) _ calm h.0 (lowered_had old new) k
+all_had words old new (Some (Check file)) calm h k = program_had old new checked (word_at words file) (λ p answer. OnlyReads old new 1 × Says IsOk answer) calm h.0 (λ p (r : OnlyReads old new 1 × Says IsOk unread). r.1) k
+all_had words old new (Some (Lower file)) calm h k = program_had old new compiled (word_at words file) (λ p. LowersProgram old new p) calm h.0 (lowered_had old new) k
 all_had words old new (Some (Interpret file data_ steps unchecked)) calm h k =
-    program_had old new (interpreted unchecked) (word_at words file) _ calm h.0 (λ p r. data_had old new (word_at words data_) (table_of p) _ calm h.1 (λ m x. x.1) r) k
+    program_had old new (interpreted unchecked) (word_at words file) (λ p. InterpretsData old new (word_at words data_) p steps) calm h.0
+    (λ p (r : InterpretsData old new (word_at words data_) p steps unread). data_had old new (word_at words data_) (table_of p) (λ memories answer. OnlyReads old new 2 × Says (IsStandingReport p memories steps) answer) calm h.1 (λ m (x : OnlyReads old new 2 × Says (IsStandingReport p m steps) unread). x.1) r) k
 all_had words old new (Some (Simulate file data_)) calm h k =
-    program_had old new compiled (word_at words file) _ calm h.0 (simulated_had old new (word_at words data_) calm h.1) k
+    program_had old new compiled (word_at words file) (λ p. SimulatesProgram old new (word_at words data_) p) calm h.0 (simulated_had old new (word_at words data_) calm h.1) k

@@ -11,7 +11,7 @@ use Rattle.dh_base.specs.declared.statuses.Status.TheVariants as status
 use Rattle.dh_tree.specs.PlainTrees.{Program}
 use Rattle.dh_tree.specs.declared.tables.MemEntry.{MemEntry}
 use Rattle.dh_check.specs.Verdicts.{Asked, Verdict, accepts, refuses, exceeds, IsVerdict}
-use Rattle.dh_data.specs.DataFiles as files
+use Rattle.dh_data.specs.DataFiles as data_files
 use Rattle.dh_data.specs.DataFiles.{Means}
 use Rattle.dh_data.specs.declared.data_files.DataFault.{DataFault}
 use Rattle.dh_app.specs.Inputs.{InputsSeen, IsIdle}
@@ -185,7 +185,7 @@ programs_agree Agree agreement old new asked file rest r s calm told agree h k =
 
 -- what bytes mean for a table, and nothing else
 abbrev MeansAlone : List MemEntry → List ℕ → Result (List (List ℕ)) DataFault → Type 0
-MeansAlone table bytes (Ok m) = files.Holds table bytes m × ((others : List (List ℕ)) → files.Holds table bytes others → others ≡ m)
+MeansAlone table bytes (Ok m) = data_files.Holds table bytes m × ((others : List (List ℕ)) → data_files.Holds table bytes others → others ≡ m)
 MeansAlone table bytes (Err f) = Means table bytes (Err f) × ((other : Result (List (List ℕ)) DataFault) → Means table bytes other → other ≡ Err f)
 
 one_meaning : (table : List MemEntry) (bytes : List ℕ) (v w : Result (List (List ℕ)) DataFault) → MeansAlone table bytes v → MeansAlone table bytes w → v ≡ w

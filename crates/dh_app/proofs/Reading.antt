@@ -14,7 +14,8 @@ use Rattle.dh_check.specs.Verdicts.{Asked, refuses, exceeds, IsVerdict, FaultTel
 use Rattle.dh_check.specs.declared.checking.CheckFault.{CheckFault}
 use Rattle.dh_check.specs.declared.checking.CheckFault.TheVariants as check_fault
 use Rattle.dh_app.specs.Inputs.{HasRead, HasBegun}
-use Rattle.dh_app.specs.Parts.{SaysFault, FileRead, RefusesText, ProgramOf, TypedOf, ProgramRead, TypedRead, BadBytes, DataOf, DataRead}
+use Rattle.dh_app.specs.Lines.{refused_line, too_large_line}
+use Rattle.dh_app.specs.Parts.{Line, SaysFault, FileRead, RefusesText, ProgramOf, TypedOf, ProgramRead, TypedRead, BadBytes, DataOf, DataRead}
 use Rattle.dh_app.specs.Replies.{ReplySeen, replied, unread, no_memory, reply_seen, Says}
 use Rattle.dh_app.specs.Sources.{MayRead, IsTooLong, FailsToRead, NoFile, NotAccepted, NotTaken}
 use Rattle.dh_app.specs.declared.replies.Reply.{Reply}
@@ -25,9 +26,8 @@ use Rattle.dh_app.proofs.Lined.{says_as, none_said}
 -- a text that a fault refuses
 pub fault_refuses : (asked : Asked) (text : List ℕ) (f : CheckFault) (r : ReplySeen) → FaultTells (IsVerdict asked text) f → SaysFault f r → Says (RefusesText asked text) r
 fault_refuses asked text (check_fault.Refused rule place) r tells h =
-    says_as _ (RefusesText asked text) r (λ s line l. record { verdict = refuses rule place; refuses_it = tt; judged = tells; status_is = l.0; line_is = l.1 }) h
 fault_refuses asked text (check_fault.TooLarge exceeded count) r tells h =
-    says_as _ (RefusesText asked text) r (λ s line l. record { verdict = exceeds (record { limit = exceeded; count = count }); refuses_it = tt; judged = tells; status_is = l.0; line_is = l.1 }) h
+    says_as (Line status.TooLarge (too_large_line exceeded count)) (RefusesText asked text) r (λ s line l. record { verdict = exceeds (record { limit = exceeded; count = count }); refuses_it = tt; judged = tells; status_is = l.0; line_is = l.1 }) h
 fault_refuses asked text check_fault.NoMemory r tells h = none_said (RefusesText asked text) r h
 
 refused_file : (old new : FilesSeen) (asked : Asked) (name text : List ℕ) (r : ReplySeen) → MayRead old name limit.Source text → HasRead old new 1 → Says (RefusesText asked text) r

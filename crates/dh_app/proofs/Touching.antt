@@ -1,6 +1,6 @@
 -- What each job leaves of the counts and of the engine, stage by stage, and that a text comes with a
 -- status of texts.
-use Rattle.std.proofs.Common.{◌≡◌, ℕ, ◌⊎◌, List, Option, Some, None, refl, sym, ap, ◌∙◌, subst, inl, inr}
+use Rattle.std.proofs.Common.{◌≡◌, ℕ, ◌⊎◌, Bool, List, Option, Some, None, refl, sym, ap, ◌∙◌, subst, inl, inr}
 use Rattle.dh_base.specs.Outside.{FilesSeen, risen}
 use Rattle.dh_base.specs.declared.limits.Limit.{Limit}
 use Rattle.dh_base.specs.declared.limits.Limit.TheVariants as limit
@@ -13,12 +13,12 @@ use Rattle.dh_tree.specs.PlainTrees.{Program}
 use Rattle.dh_tree.specs.declared.tables.MemEntry.{MemEntry}
 use Rattle.dh_check.specs.Verdicts.{Asked, Verdict, accepts, refuses, exceeds}
 use Rattle.dh_app.specs.Asking.{compiled, checked, interpreted, asked_by, file_at, data_at, word_at}
-use Rattle.dh_app.specs.CheckJob.{ChecksFile}
+use Rattle.dh_app.specs.CheckJob.{IsOk, ChecksFile}
 use Rattle.dh_app.specs.Engines.{EngineSeen, Asks}
 use Rattle.dh_app.specs.Inputs.{InputsSeen, HasRead, IsIdle, OnlyReads}
-use Rattle.dh_app.specs.InterpretJob.{InterpretsData, InterpretsFiles}
-use Rattle.dh_app.specs.Jobs.{JobComes, ComesFor}
-use Rattle.dh_app.specs.LowerJob.{LowersProgram, LowersFile}
+use Rattle.dh_app.specs.InterpretJob.{stands_after, IsStandingReport, InterpretsData, InterpretsFiles}
+use Rattle.dh_app.specs.Jobs.{IsUsage, JobComes, ComesFor}
+use Rattle.dh_app.specs.LowerJob.{IsNetText, LowersProgram, LowersFile}
 use Rattle.dh_app.specs.Promises.{ReadsSecond, ReadsFor, AsksFor}
 use Rattle.dh_app.specs.Replies.{ReplySeen, replied, unread, no_memory, Says}
 use Rattle.dh_app.specs.Reporting.{status_of}
@@ -130,7 +130,7 @@ module _ (words : List (List ℕ)) (old new : InputsSeen) (job : Job) (r : Reply
 check_left : (words : List (List ℕ)) (old new : InputsSeen) (file : ℕ) (r : ReplySeen) → ChecksFile old new (word_at words file) r → JobLeft words old new (Some (Check file)) r
 check_left words old new file r (inl h) = one_left words old new (Check file) r (program_left old.files new.files checked (word_at words file) r h.0) h.1
 check_left words old new file r (inr (p, (is, (only, says)))) =
-    one_left words old new (Check file) r (said_left _ old.files new.files r 1 (λ s text l. shown_as s status.Done l.0 tt) only.read says) only.idle
+    one_left words old new (Check file) r (said_left IsOk old.files new.files r 1 (λ s text l. shown_as s status.Done l.0 tt) only.read says) only.idle
 
 lower_left : (words : List (List ℕ)) (old new : InputsSeen) (file : ℕ) (r : ReplySeen) → LowersFile old new (word_at words file) r → JobLeft words old new (Some (Lower file)) r
 lower_left words old new file r (inl h) = one_left words old new (Lower file) r (program_left old.files new.files compiled (word_at words file) r h.0) h.1
@@ -139,9 +139,9 @@ lower_left words old new file unread (inr (p, (is, inl h))) = absurd h
 lower_left words old new file no_memory (inr (p, (is, inl h))) =
     one_left words old new (Lower file) no_memory (record { reads = h.read.reads; calm = h.read.faults; shows = tt }) h.idle
 lower_left words old new file r (inr (p, (is, inr (net, (plays, (only, says)))))) =
-    one_left words old new (Lower file) r (said_left _ old.files new.files r 1 (λ s text l. shown_as s status.Done l.done tt) only.read says) only.idle
+    one_left words old new (Lower file) r (said_left (IsNetText net) old.files new.files r 1 (λ s text l. shown_as s status.Done l.done tt) only.read says) only.idle
 
-interpret_left : (words : List (List ℕ)) (old new : InputsSeen) (file data_ steps : ℕ) (unchecked : _) (r : ReplySeen) → InterpretsFiles old new (word_at words file) (word_at words data_) steps unchecked r
+interpret_left : (words : List (List ℕ)) (old new : InputsSeen) (file data_ steps : ℕ) (unchecked : Bool) (r : ReplySeen) → InterpretsFiles old new (word_at words file) (word_at words data_) steps unchecked r
     → JobLeft words old new (Some (Interpret file data_ steps unchecked)) r
 interpret_left words old new file data_ steps unchecked r (inl h) =
     one_left words old new (Interpret file data_ steps unchecked) r (program_left old.files new.files (interpreted unchecked) (word_at words file) r h.0) h.1
@@ -149,7 +149,7 @@ interpret_left words old new file data_ steps unchecked r (inr (p, (is, inl h)))
     two_left words old new (Interpret file data_ steps unchecked) r data_ refl p is (data_left old.files new.files (word_at words data_) (table_of p) 2 r h.0) h.1
 interpret_left words old new file data_ steps unchecked r (inr (p, (is, inr (m, (held, (only, says)))))) =
     two_left words old new (Interpret file data_ steps unchecked) r data_ refl p is
-    (said_left _ old.files new.files r 2 (λ s text l. shown_as s _ l.status_is (outcome_shown _)) only.read says) only.idle
+    (said_left (IsStandingReport p m steps) old.files new.files r 2 (λ s text l. shown_as s (status_of (stands_after p m steps).outcome) l.status_is (outcome_shown (stands_after p m steps).outcome)) only.read says) only.idle
 
 simulate_left : (words : List (List ℕ)) (old new : InputsSeen) (file data_ : ℕ) (r : ReplySeen) → SimulatesFiles old new (word_at words file) (word_at words data_) r
     → JobLeft words old new (Some (Simulate file data_)) r
@@ -187,5 +187,5 @@ said_shows P no_memory f h = tt
 
 pub all_left : (words : List (List ℕ)) (old new : InputsSeen) (o : Option Job) (r : ReplySeen) → ComesFor words old new o r → JobLeft words old new o r
 all_left words old new None r h =
-    record { calm = usage_calm old new r h.0; shows = said_shows _ r (λ s text l. shown_as s status.Usage l.0 tt) h.1; reads = ap (λ x. x.files.reads) h.0; asks = ap (λ x. x.engine) h.0 }
+    record { calm = usage_calm old new r h.0; shows = said_shows IsUsage r (λ s text l. shown_as s status.Usage l.0 tt) h.1; reads = ap (λ x. x.files.reads) h.0; asks = ap (λ x. x.engine) h.0 }
 all_left words old new (Some job) r h = job_left words old new job r h

@@ -22,8 +22,11 @@ refused_line rule place =
     codes "refused K" ++ (decimal (number_of rule) ++ (codes " " ++ (name_of rule ++ (codes " " ++ (decimal place.line ++ (codes ":" ++ (decimal place.column ++ codes "\n")))))))
 
 -- `too large Brackets 65`
-abbrev pub too_large_line : Limit → ℕ → List ℕ
-too_large_line limit count = codes "too large " ++ (printed_name limit ++ (codes " " ++ (decimal count ++ codes "\n")))
+abbrev pub excess_line : (name : List ℕ) → (count : ℕ) → List ℕ
+excess_line name count = codes "too large " ++ (name ++ (codes " " ++ (decimal count ++ codes "\n")))
+
+abbrev pub too_large_line : Limit → (count : ℕ) → List ℕ
+too_large_line limit count = excess_line (printed_name limit) count
 
 -- no rule is broken
 abbrev pub ok_line : List ℕ

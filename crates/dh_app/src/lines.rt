@@ -42,14 +42,14 @@ fn refused_text(alloc: Global, rule: Rule, place: Place) -> Result<String, Alloc
 pub fn too_large_line(alloc: Global, excess: Excess) -> Result<Vec<u8>, NoMemory>
     ensures { IfOk result (λ v. v.items ≡ lines.too_large_line excess.limit excess.count) }
 {
-    Ok(too_large_text(alloc, excess)?.into_bytes())
+    let name = excess.limit.name();
+    let text = excess_text(alloc, name, excess.count)?;
+    Ok(text.into_bytes())
 }
 
-fn too_large_text(alloc: Global, excess: Excess) -> Result<String, AllocError>
-    ensures { IfOk result (λ s. string_bytes s ≡ lines.too_large_line excess.limit excess.count) }
+fn excess_text(alloc: Global, name: &str, count: u64) -> Result<String, AllocError>
+    ensures { IfOk result (λ s. string_bytes s ≡ lines.excess_line name.now count) }
 {
-    let name = excess.limit.name();
-    let count = excess.count;
     format!(in alloc; "too large {name} {count}\n")
 }
 

@@ -10,4 +10,4 @@ use Rattle.dh_app.proofs.replies.too_large.Goals as goal
 pub returns : goal.returns
 returns c =
     with_line status.TooLarge (too_large_line c.args.limit (greatest_of c.args.limit + 1)) c.too_large_line-line.result (reply_seen c.reply_with.result)
-    (rw c.greatest.ensures at c.too_large_line-line.ensures) c.reply_with.ensures
+    (rw c.greatest-count.ensures at c.too_large_line-line.ensures) c.reply_with.ensures

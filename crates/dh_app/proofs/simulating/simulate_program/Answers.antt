@@ -24,8 +24,8 @@ returns-in-Ok-read_memories-clause-comes g c =
     let read = subst P plays.table (c.in-Ok-read_memories.ensures.read first begun) in
     inr (c.in-Ok.net, (plays, inr (c.in-Ok-read_memories.memories, (read.0, (read.1, c.report_run.ensures (program_seen c.args.accepted.now) plays)))))
 
-pub returns-in-Err-clause-comes : goal.returns-in-Err-clause-comes
-returns-in-Err-clause-comes g c =
+pub returns-clause-comes : goal.returns-clause-comes
+returns-clause-comes g c =
     λ first begun.
     let plays = c.in-Ok.ensures in
     let P : List MemEntry → Type 0 = λ t. DataRead first (g.F.Files.seen c.read_memories.new.files) c.args.data_.now t (Err c.in-Err.reply) in
