@@ -26,6 +26,7 @@ use Rattle.dh_app.proofs.Lined.{says_as, none_said}
 -- a text that a fault refuses
 pub fault_refuses : (asked : Asked) (text : List ℕ) (f : CheckFault) (r : ReplySeen) → FaultTells (IsVerdict asked text) f → SaysFault f r → Says (RefusesText asked text) r
 fault_refuses asked text (check_fault.Refused rule place) r tells h =
+    says_as (Line status.Refused (refused_line rule place)) (RefusesText asked text) r (λ s line l. record { verdict = refuses rule place; refuses_it = tt; judged = tells; status_is = l.0; line_is = l.1 }) h
 fault_refuses asked text (check_fault.TooLarge exceeded count) r tells h =
     says_as (Line status.TooLarge (too_large_line exceeded count)) (RefusesText asked text) r (λ s line l. record { verdict = exceeds (record { limit = exceeded; count = count }); refuses_it = tt; judged = tells; status_is = l.0; line_is = l.1 }) h
 fault_refuses asked text check_fault.NoMemory r tells h = none_said (RefusesText asked text) r h
