@@ -45,6 +45,7 @@ agreement o = record { same = same; first = λ r. tt; second = second }
     same (replied s text) = (refl, inr refl)
     same unread = tt
     same no_memory = tt
+
     second : (r : ReplySeen) → Agree o r no_memory
     second (replied s text) = tt
     second unread = tt
@@ -70,9 +71,10 @@ same_first f g fs e h = cc
 runs_agree : (o : Option Job) (e f : EngineSeen) (p : Program) (m : List (List ℕ)) (r q : ReplySeen) → RunsNet e f p m r → RunsNet e f p m q → Agree o r q
 runs_agree o e f p m no_memory q h k = tt
 runs_agree o e f p m (replied s text) (replied t other) h k =
-    let same = same_first h.1.finish k.1.finish f.answers h.1.answered k.1.answered in
-    (h.1.status_is ∙ (ap (λ x. status_of x.outcome) same ∙ sym k.1.status_is),
-     inr (h.1.text_is ∙ (ap (λ x. report_text (table_of p) x.memories (ending_of x)) same ∙ sym k.1.text_is)))
+    let same = same_first h.1.finish k.1.finish f.answers h.1.answered k.1.answered in (
+      h.1.status_is ∙ (ap (λ x. status_of x.outcome) same ∙ sym k.1.status_is),
+      inr (h.1.text_is ∙ (ap (λ x. report_text (table_of p) x.memories (ending_of x)) same ∙ sym k.1.text_is)),
+    )
 runs_agree o e f p m (replied s text) unread h k = absurd k
 runs_agree o e f p m (replied s text) no_memory h k = tt
 runs_agree o e f p m unread q h k = absurd h
@@ -105,7 +107,7 @@ simulated_agree o old new data_ calm told p r unread h (inl k) = absurd k
 simulated_agree o old new data_ calm told p r q (inr (net, (plays, h))) (inr (net', (plays', k))) =
     data_agree (Agree o) (agreement o) old new data_ (table_of p) (λ memories answer. HasRead old.files new.files 2 × RunsNet old.engine new.engine p memories answer) r q calm told
     (λ m x y (a : HasRead old.files new.files 2 × RunsNet old.engine new.engine p m x) (b : HasRead old.files new.files 2 × RunsNet old.engine new.engine p m y).
-      runs_agree o old.engine new.engine p m x y a.1 b.1) h k
+    runs_agree o old.engine new.engine p m x y a.1 b.1) h k
 
 pub all_agree : (words : List (List ℕ)) (old new : InputsSeen) (o : Option Job) (r q : ReplySeen) → (Rose old.files.faults new.files.faults → ⊥) → FilesAre IsTold words old.files o
     → ComesFor words old new o r → ComesFor words old new o q → Agree o r q

@@ -176,6 +176,7 @@ programs_agree Agree agreement old new asked file rest r s calm told agree h k =
   where
     one : (bytes : List ℕ) (v w : Verdict) → IsVerdict asked bytes v → IsVerdict asked bytes w → v ≡ w
     one bytes v w a b = b.only v a.judged
+
     by : (v : Verdict) (x y : ReplySeen) → ByVerdict rest v x → ByVerdict rest v y → Agree x y
     by (accepts p) x y a b = agree p x y a b
     by (refuses rule place) x y a b = equal_agree Agree agreement x y (replied (verdict_status (refuses rule place)) (verdict_line (refuses rule place))) a b

@@ -125,9 +125,6 @@ fn memories_of(alloc: Global, table: &MemTable, bytes: &[u8]) -> Result<Memories
 {
     match dh_data::read(alloc, table, bytes) {
         Ok(memories) => Ok(memories),
-        Err(fault) => Err(reply_with(
-            Status::BadData,
-            bad_data_line(alloc, table, &fault),
-        )),
+        Err(fault) => Err(reply_with(Status::BadData, bad_data_line(alloc, table, &fault))),
     }
 }

@@ -29,7 +29,11 @@ fn tells_what_a_file_says_or_its_first_fault(rt: HostRuntime) -> Result<(), Fail
             "Ok(Memories { values: [[128, 127], [9223372036854775808], [0, 0]] })",
         ),
         (SIGNED, "[]", "Err(NotJson)"),
-        (SIGNED, "{\"A\":{\"data\":[1,2]},\"Z\":1}", "Err(Missing { memory: 1 })"),
+        (
+            SIGNED,
+            "{\"A\":{\"data\":[1,2]},\"Z\":1}",
+            "Err(Missing { memory: 1 })",
+        ),
         (
             SIGNED,
             "{\"A\":1,\"B\":1,\"m\":1}",
@@ -40,7 +44,11 @@ fn tells_what_a_file_says_or_its_first_fault(rt: HostRuntime) -> Result<(), Fail
             "{\"A\":{\"data\":[1,2]},\"B\":{\"data\":[3],\"format\":{\"is_signed\":false}}}",
             "Err(Format { memory: 1 })",
         ),
-        (SIGNED, "{\"A\":{\"data\":[999]},\"B\":1}", "Err(Size { memory: 0 })"),
+        (
+            SIGNED,
+            "{\"A\":{\"data\":[999]},\"B\":1}",
+            "Err(Size { memory: 0 })",
+        ),
         (
             SIGNED,
             "{\"A\":{\"data\":[1,-129]},\"B\":1}",
@@ -139,7 +147,11 @@ fn members(alloc: Global, count: u64) -> Result<String, AllocError> {
         if n > 1_000 {
             text.push_str(",")?;
         }
-        write!(text, "\"m{n}\":{{\"data\":[{}],\"format\":{{\"is_signed\":false,\"numeric_type\":\"bitnum\",\"width\":8}}}}", n % 256)?;
+        write!(
+            text,
+            "\"m{n}\":{{\"data\":[{}],\"format\":{{\"is_signed\":false,\"numeric_type\":\"bitnum\",\"width\":8}}}}",
+            n % 256
+        )?;
     }
     Ok(text)
 }

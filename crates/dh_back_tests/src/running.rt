@@ -1,9 +1,7 @@
 //! The top call over files and an output in memory.
 
 use crate::engines::Idle;
-use crate::programs::{
-    OUTSIDE, PROGRAM, READ_AND_WRITTEN, ZERO, ZEROS, stores, zeros,
-};
+use crate::programs::{OUTSIDE, PROGRAM, READ_AND_WRITTEN, ZERO, ZEROS, stores, zeros};
 use dh_app::{Engine, NetEngine, run};
 use dh_base::{MemFiles, MemSink, Status};
 use std::alloc::{AllocError, Global};
@@ -11,7 +9,9 @@ use std::test::Fail;
 
 /// The report of a memory of 32 bits, from its brackets.
 fn reported(alloc: Global, contents: &str) -> Result<String, AllocError> {
-    format!(in alloc; "{{\"data\":{contents},\"format\":{{\"is_signed\":false,\"numeric_type\":\"bitnum\",\"width\":32}}}}")
+    format!(in alloc;
+        "{{\"data\":{contents},\"format\":{{\"is_signed\":false,\"numeric_type\":\"bitnum\",\"width\":32}}}}"
+    )
 }
 
 /// The report of the two memories of the program, behind `head` and before `tail`.
@@ -62,11 +62,27 @@ const UNCHECKED: &[&str] = &["interpret", "a", "b", "--steps", "5", "--unchecked
 #[test]
 fn each_job_ends_with_its_line(rt: HostRuntime) -> Result<(), Fail> {
     let alloc = rt.alloc();
-    let simulated = report_of(alloc, "\"clocks\":3,", ("[7]", "[8]"), "\"outcome\":\"done\",\"steps\":2")?;
-    let interpreted = report_of(alloc, "", ("[7]", "[8]"), "\"outcome\":\"done\",\"steps\":2")?;
+    let simulated = report_of(
+        alloc,
+        "\"clocks\":3,",
+        ("[7]", "[8]"),
+        "\"outcome\":\"done\",\"steps\":2",
+    )?;
+    let interpreted = report_of(
+        alloc,
+        "",
+        ("[7]", "[8]"),
+        "\"outcome\":\"done\",\"steps\":2",
+    )?;
     let one = reported(alloc, "[0]")?;
-    let stuck = format!(in alloc; "{{\"memories\":{{\"A\":{}}},\"outcome\":\"stuck A 0 1:22\",\"steps\":0}}\n", one.as_str())?;
-    let faulted = format!(in alloc; "{{\"memories\":{{\"A\":{}}},\"outcome\":\"fault OutOfRange 1:43\",\"steps\":1}}\n", one.as_str())?;
+    let stuck = format!(in alloc;
+        "{{\"memories\":{{\"A\":{}}},\"outcome\":\"stuck A 0 1:22\",\"steps\":0}}\n",
+        one.as_str()
+    )?;
+    let faulted = format!(in alloc;
+        "{{\"memories\":{{\"A\":{}}},\"outcome\":\"fault OutOfRange 1:43\",\"steps\":1}}\n",
+        one.as_str()
+    )?;
     for (words, program, data, status, want) in [
         (CHECK, PROGRAM, "", Status::Done, "ok\n"),
         (
@@ -91,8 +107,20 @@ fn each_job_ends_with_its_line(rt: HostRuntime) -> Result<(), Fail> {
             "bad data Missing \"B\"\n",
         ),
         (SIMULATE, PROGRAM, ZEROS, Status::Done, simulated.as_str()),
-        (INTERPRET, PROGRAM, ZEROS, Status::Done, interpreted.as_str()),
-        (UNCHECKED, READ_AND_WRITTEN, ZERO, Status::Stuck, stuck.as_str()),
+        (
+            INTERPRET,
+            PROGRAM,
+            ZEROS,
+            Status::Done,
+            interpreted.as_str(),
+        ),
+        (
+            UNCHECKED,
+            READ_AND_WRITTEN,
+            ZERO,
+            Status::Stuck,
+            stuck.as_str(),
+        ),
         (UNCHECKED, OUTSIDE, ZERO, Status::Faulted, faulted.as_str()),
     ] {
         let mut engine = NetEngine::new(alloc);
@@ -134,7 +162,12 @@ fn the_report_is_the_engines_answer(rt: HostRuntime) -> Result<(), Fail> {
     let mut engine = Idle::new(alloc);
     let (ended, out) = call(alloc, SIMULATE, (PROGRAM, ZEROS), (&[], &[]), &mut engine)?;
     assert_eq!(rt; ended, Status::Going);
-    let want = report_of(alloc, "\"clocks\":0,", ("[0]", "[0]"), "\"outcome\":\"going\",\"steps\":0")?;
+    let want = report_of(
+        alloc,
+        "\"clocks\":0,",
+        ("[0]", "[0]"),
+        "\"outcome\":\"going\",\"steps\":0",
+    )?;
     assert_eq!(rt; out.bytes(), want.as_bytes());
     Ok(())
 }
@@ -147,7 +180,11 @@ fn long_programs_end_with_their_reports(rt: HostRuntime) -> Result<(), Fail> {
     for (words, start, long) in [
         (CHECK, "ok\n", 3),
         (LOWER, "// dahlia netlist 1\n", 100_000),
-        (SIMULATE, "{\"clocks\":1100,\"memories\":{\"A\":{\"data\":[0,1,2,3,", 4_000),
+        (
+            SIMULATE,
+            "{\"clocks\":1100,\"memories\":{\"A\":{\"data\":[0,1,2,3,",
+            4_000,
+        ),
         (INTERPRET, "{\"memories\":{\"A\":{\"data\":[0,1,2,3,", 4_000),
     ] {
         let mut engine = NetEngine::new(alloc);

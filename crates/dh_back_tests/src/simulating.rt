@@ -79,10 +79,7 @@ fn a_large_net_runs_to_its_end(rt: HostRuntime) -> Result<(), Fail> {
     let data = zeros(alloc, 1_100)?;
     let net = net_of(alloc, program.as_str())?;
     assert!(rt; net.cells.len() > 2_000);
-    for (limit, outcome, clocks) in [
-        (200, Outcome::Going, 200),
-        (2_000, Outcome::Ended, 1_100),
-    ] {
+    for (limit, outcome, clocks) in [(200, Outcome::Going, 200), (2_000, Outcome::Ended, 1_100)] {
         let memories = memories_of(alloc, &net.table, data.as_str())?;
         let (end, memories) = run_net(alloc, &net, memories, limit)?;
         let steps = clocks;

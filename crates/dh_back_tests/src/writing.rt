@@ -108,7 +108,10 @@ fn writes_the_text_of_a_large_net(rt: HostRuntime) -> Result<(), Fail> {
     let program = programs::stores(alloc, 2_000)?;
     let net = programs::net_of(alloc, program.as_str())?;
     assert!(rt; net.cells.len() > 4_000);
-    assert_eq!(rt; net.drivers.as_slice().first().map(|port| port.len()), Some(2_000));
+    assert_eq!(rt;
+        net.drivers.as_slice().first().map(|port| port.len()),
+        Some(2_000)
+    );
     assert!(rt; valid(&net));
     let text = write(alloc, &net)?;
     let lines = text.as_slice().split(|byte| *byte == b'\n').count();

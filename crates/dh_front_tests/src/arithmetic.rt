@@ -112,7 +112,11 @@ fn integers_wrap(rt: HostRuntime) {
                 (Op::Xor, xor),
             ] {
                 let got = outcome(op, (kind, left), (kind, right));
-                assert_eq!(rt; got, Some((kind, bits)), "{op:?} of {left} and {right} in {kind:?}");
+                assert_eq!(rt;
+                    got,
+                    Some((kind, bits)),
+                    "{op:?} of {left} and {right} in {kind:?}"
+                );
             }
         }
     }
@@ -187,7 +191,11 @@ fn shifts_stop_at_the_width(rt: HostRuntime) {
             (Kind::Signed(width), Op::Shr, signed_right),
         ] {
             let got = outcome(op, (kind, bits), (Kind::Unsigned(64), by));
-            assert_eq!(rt; got, Some((kind, want)), "{op:?} of {bits} by {by} in {kind:?}");
+            assert_eq!(rt;
+                got,
+                Some((kind, want)),
+                "{op:?} of {bits} by {by} in {kind:?}"
+            );
         }
     }
 }
@@ -207,7 +215,11 @@ fn truths_join(rt: HostRuntime) {
             (Op::Ne, 1 - equal),
         ] {
             let got = outcome(op, (Kind::Bool, left), (Kind::Bool, right));
-            assert_eq!(rt; got, Some((Kind::Bool, holds)), "{op:?} of {left} and {right}");
+            assert_eq!(rt;
+                got,
+                Some((Kind::Bool, holds)),
+                "{op:?} of {left} and {right}"
+            );
         }
     }
 }
@@ -220,7 +232,13 @@ fn a_cast_keeps_the_number_modulo_the_width(rt: HostRuntime) {
         (Kind::Signed(1), 1, -1, Kind::Signed(64), 0xffffffffffffffff),
         (Kind::Signed(7), 90, -38, Kind::Unsigned(33), 0x1ffffffda),
         (Kind::Unsigned(8), 255, 255, Kind::Unsigned(64), 255),
-        (Kind::Signed(31), 0x55555555, -715827883, Kind::Signed(7), 85),
+        (
+            Kind::Signed(31),
+            0x55555555,
+            -715827883,
+            Kind::Signed(7),
+            85,
+        ),
         (
             Kind::Unsigned(64),
             0xfffffffffffffffe,
@@ -239,7 +257,14 @@ fn a_cast_keeps_the_number_modulo_the_width(rt: HostRuntime) {
         let a = Word { kind, bits };
         if is_word(a) && is_integer(to) {
             assert_eq!(rt; number(a), of, "of {a:?}");
-            assert_eq!(rt; cast(a, to), Word { kind: to, bits: want }, "of {a:?}");
+            assert_eq!(rt;
+                cast(a, to),
+                Word {
+                    kind: to,
+                    bits: want
+                },
+                "of {a:?}"
+            );
         } else {
             assert!(rt; false, "no word {a:?}, or no integer kind {to:?}");
         }

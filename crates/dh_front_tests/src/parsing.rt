@@ -1,7 +1,7 @@
 //! The trees of texts. Texts that are refused are tried by `conformance/`.
 
 use crate::texts::{stores, tree_of};
-use dh_tree::{CommandForm, Expr, ExprForm, Tree};
+use dh_tree::{Command, CommandForm, Expr, ExprForm, Tree};
 use std::alloc::{AllocError, Global};
 use std::test::Fail;
 
@@ -21,21 +21,32 @@ fn prefixed(out: &mut String, e: &Expr) -> Result<(), AllocError> {
     }
 }
 
-/// The right side of each `let` of a program.
-fn right_sides(alloc: Global, tree: &Tree) -> Result<String, AllocError> {
-    let mut out = String::new(alloc);
-    let CommandForm::Block { body } = &tree.body.form else {
-        return Ok(out);
-    };
-    for part in body {
+/// The right side of a `let` that has one.
+fn right_side(command: &Command) -> Option<&Expr> {
+    match &command.form {
+        CommandForm::Let { value, .. } => value.as_ref(),
+        _ => None,
+    }
+}
+
+/// The right sides of the commands between `---`.
+fn prefixed_parts(out: &mut String, parts: &[Vec<Command>]) -> Result<(), AllocError> {
+    for part in parts {
         for command in part {
-            if let CommandForm::Let {
-                value: Some(value), ..
-            } = &command.form
-            {
-                prefixed(&mut out, value)?;
+            if let Some(value) = right_side(command) {
+                prefixed(out, value)?;
             }
         }
+    }
+    Ok(())
+}
+
+/// The right sides of a program.
+fn right_sides(alloc: Global, tree: &Tree) -> Result<String, AllocError> {
+    let mut out = String::new(alloc);
+    match &tree.body.form {
+        CommandForm::Block { body } => prefixed_parts(&mut out, body.as_slice())?,
+        form => write!(out, "{form:?}")?,
     }
     Ok(out)
 }
@@ -58,7 +69,8 @@ fn operators_bind_by_their_level_and_from_the_left(rt: HostRuntime) -> Result<()
         ),
         ("let x = (a << b) << (c << d)", "(Shl (Shl a b) (Shl c d))"),
     ] {
-        let got = right_sides(alloc, &tree_of(alloc, text)?)?;
+        let tree = tree_of(alloc, text)?;
+        let got = right_sides(alloc, &tree)?;
         assert_eq!(rt; got.as_str(), want, "at {text}");
     }
     Ok(())
@@ -95,24 +107,29 @@ fn trees_have_all_that_is_written(rt: HostRuntime) -> Result<(), Fail> {
         ),
     ] {
         let tree = tree_of(alloc, text)?;
-        let got =
-            format!(in alloc; "{:?} {:?} {:?}", tree.decls, tree.functions, tree.body.form)?;
+        let got = format!(in alloc;
+            "{:?} {:?} {:?}",
+            tree.decls, tree.functions, tree.body.form
+        )?;
         assert_eq!(rt; got.as_str(), want, "at {text}");
     }
     Ok(())
 }
 
-/// The program, a part for each store, and an empty part behind the last `---`.
+/// How many parts a program has between `---`.
+fn parts_in(tree: &Tree) -> usize {
+    match &tree.body.form {
+        CommandForm::Block { body } => body.len(),
+        _ => 0,
+    }
+}
+
+/// A part for each store, and an empty one behind the last `---`.
 #[test]
 fn parses_a_long_text(rt: HostRuntime) -> Result<(), Fail> {
     let alloc = rt.alloc();
     let text = stores(alloc, 40_000)?;
     let tree = tree_of(alloc, text.as_str())?;
-    let CommandForm::Block { body } = &tree.body.form else {
-        return Err("no block")?;
-    };
-    assert_eq!(rt; body.len(), 40_001);
-    let last = body.get(39_999).and_then(|part| part.first()).map(|c| c.id);
-    assert_eq!(rt; last, Some(40_000));
+    assert_eq!(rt; parts_in(&tree), 40_001);
     Ok(())
 }

@@ -4,7 +4,7 @@ use crate::texts::{named_of, repeated, typed_of};
 use dh_base::{Excess, Limit, PassFault, Place, Rule};
 use dh_rules::rules;
 use dh_shape::within;
-use dh_tree::{CommandForm, Entity, Tree};
+use dh_tree::{Command, CommandForm, Entity, Expr, Tree};
 use dh_views::shapes;
 use std::alloc::{AllocError, Global};
 use std::test::Fail;
@@ -33,26 +33,40 @@ fn names_have_their_entities(rt: HostRuntime) -> Result<(), Fail> {
         ";
     let named = named_of(alloc, text)?;
     let got = listed(alloc, named.tree().entities.as_slice())?;
-    assert_eq!(rt; got.as_str(), "Memory A 1:6; Variable x 2:15; Memory x 2:31; Iterator i 3:18; View v 3:35; ");
+    assert_eq!(rt;
+        got.as_str(),
+        "Memory A 1:6; Variable x 2:15; Memory x 2:31; Iterator i 3:18; View v 3:35; "
+    );
+    Ok(())
+}
+
+/// The right side of a command that has one.
+fn right_side(command: &Command) -> Option<&Expr> {
+    match &command.form {
+        CommandForm::Let { value, .. } => value.as_ref(),
+        CommandForm::Store { value, .. } => Some(value),
+        _ => None,
+    }
+}
+
+/// The kinds of the right sides of the commands between `---`.
+fn kinds_of_parts(out: &mut String, parts: &[Vec<Command>]) -> Result<(), AllocError> {
+    for part in parts {
+        for command in part {
+            if let Some(value) = right_side(command) {
+                write!(out, "{:?} ", value.kind)?;
+            }
+        }
+    }
     Ok(())
 }
 
 /// The kinds of the right sides of a program.
 fn right_kinds(alloc: Global, tree: &Tree) -> Result<String, AllocError> {
     let mut out = String::new(alloc);
-    let CommandForm::Block { body } = &tree.body.form else {
-        return Ok(out);
-    };
-    for part in body {
-        for command in part {
-            match &command.form {
-                CommandForm::Let {
-                    value: Some(value), ..
-                } => write!(out, "{:?} ", value.kind)?,
-                CommandForm::Store { value, .. } => write!(out, "{:?} ", value.kind)?,
-                _ => {}
-            }
-        }
+    match &tree.body.form {
+        CommandForm::Block { body } => kinds_of_parts(&mut out, body.as_slice())?,
+        form => write!(out, "{form:?}")?,
     }
     Ok(out)
 }
@@ -83,7 +97,10 @@ fn names_and_kinds_of_a_long_text(rt: HostRuntime) -> Result<(), Fail> {
     assert_eq!(rt; typed.tree().entities.len(), 30_000);
     assert_eq!(rt; typed.memories().len(), 10_000);
     assert_eq!(rt; typed.memory_number(29_997), Some(9_999));
-    assert_eq!(rt; typed.counter(29_998).map(|c| (c.low, c.high)), Some((0, 3)));
+    assert_eq!(rt;
+        typed.counter(29_998).map(|c| (c.low, c.high)),
+        Some((0, 3))
+    );
     assert!(rt; shapes(&typed).is_ok());
     assert_eq!(rt; within(&typed), Ok(()));
     Ok(())
@@ -101,12 +118,37 @@ fn shapes_limits_and_places_are_judged(rt: HostRuntime) -> Result<(), Fail> {
         count: 9,
     };
     for (text, shape, excess, placement) in [
-        ("decl A: ubit<8>{8}[4 bank 2]; let x = A[3];", Ok(()), Ok(()), Ok(())),
-        ("decl A: ubit<8>[4 bank 3];", refused(Rule::BankDivides, 24), Ok(()), Ok(())),
-        ("decl A: ubit<8>[4]; let x = A[4];", refused(Rule::ConstantRange, 31), Ok(()), Ok(())),
+        (
+            "decl A: ubit<8>{8}[4 bank 2]; let x = A[3];",
+            Ok(()),
+            Ok(()),
+            Ok(()),
+        ),
+        (
+            "decl A: ubit<8>[4 bank 3];",
+            refused(Rule::BankDivides, 24),
+            Ok(()),
+            Ok(()),
+        ),
+        (
+            "decl A: ubit<8>[4]; let x = A[4];",
+            refused(Rule::ConstantRange, 31),
+            Ok(()),
+            Ok(()),
+        ),
         ("decl A: ubit<8>{9}[4];", Ok(()), Err(ports), Ok(())),
-        ("decl A: bool[1];", Ok(()), Ok(()), refused(Rule::MemoryPlace, 6)),
-        ("for (let i = 0..2) { i := 1; }", Ok(()), Ok(()), refused(Rule::OuterWrite, 22)),
+        (
+            "decl A: bool[1];",
+            Ok(()),
+            Ok(()),
+            refused(Rule::MemoryPlace, 6),
+        ),
+        (
+            "for (let i = 0..2) { i := 1; }",
+            Ok(()),
+            Ok(()),
+            refused(Rule::OuterWrite, 22),
+        ),
     ] {
         let typed = typed_of(alloc, text)?;
         assert_eq!(rt; shapes(&typed), shape, "shapes of {text}");

@@ -23,7 +23,10 @@ fn straight_commands_join_and_others_do_not(rt: HostRuntime) -> Result<(), Fail>
     let alloc = rt.alloc();
     for (text, want) in [
         ("", "[]"),
-        ("let x = 1; { let y = 2 } --- let z = 3", "[Straight { commands: [1, 3] }, Straight { commands: [4] }]"),
+        (
+            "let x = 1; { let y = 2 } --- let z = 3",
+            "[Straight { commands: [1, 3] }, Straight { commands: [4] }]",
+        ),
         (
             "let x = 1 --- for (let i = 0..4) { x := 1 --- x := 2 }",
             "[Straight { commands: [1] }, Turns { command: 2, count: 4, body: [Straight { commands: [4] }, Straight { commands: [5] }] }]",
@@ -33,7 +36,10 @@ fn straight_commands_join_and_others_do_not(rt: HostRuntime) -> Result<(), Fail>
             "let x = 1 --- if (x == 1) { while (x < 3) { x := x + 1 } } else { x := 5 }",
             "[Straight { commands: [1] }, Choice { command: 2, then: [Loop { command: 4, body: [Straight { commands: [6] }] }], other: [Straight { commands: [8] }] }]",
         ),
-        ("if (true) { let x = 1 }; let y = 2", "[Straight { commands: [1, 4] }]"),
+        (
+            "if (true) { let x = 1 }; let y = 2",
+            "[Straight { commands: [1, 4] }]",
+        ),
     ] {
         let got = format!(in alloc; "{:?}", phases_of(alloc, text)?)?;
         assert_eq!(rt; got.as_str(), want, "at {text}");

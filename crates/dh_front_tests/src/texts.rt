@@ -17,12 +17,7 @@ use std::test::Fail;
 pub const LONGEST: usize = 1_048_576;
 
 /// A piece of text, and behind it another so many times.
-pub fn repeated(
-    alloc: Global,
-    first: &str,
-    piece: &str,
-    times: u64,
-) -> Result<String, AllocError> {
+pub fn repeated(alloc: Global, first: &str, piece: &str, times: u64) -> Result<String, AllocError> {
     let mut text = String::from_str(alloc, first)?;
     for _ in 0..times {
         text.push_str(piece)?;
