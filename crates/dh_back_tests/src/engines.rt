@@ -30,9 +30,7 @@ impl Idle {
 impl Engine for Idle {
     ghost use Rattle.std.specs.Prelude.{false};
 
-    ghost exact = { λ _. false };
-
-    ghost given = { λ e. e.inner };
+    ghost seen = { λ e. record { exact = false; asked = e.inner.asked; answers = e.inner.answers } };
 
     fn finish(&mut self, net: &Net, sets: Vec<Memories>, _limit: u64) -> Result<(), NoMemory> {
         self.inner.finish(net, sets, 0)

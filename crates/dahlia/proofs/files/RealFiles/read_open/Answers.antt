@@ -4,7 +4,7 @@ use Rattle.dahlia.proofs.Readings.{met_ends, too_long, whole}
 use Rattle.dahlia.proofs.files.RealFiles.read_open.Goals as goal
 
 pub returns-in-Err-clause-answer : goal.returns-in-Err-clause-answer
-returns-in-Err-clause-answer g c = met_ends _ [] _ _ _ _ _ (ap (λ s. s.faults) c.self.view_is) c.met.ensures.answer
+returns-in-Err-clause-answer g c = met_ends _ [] c.args.limit c.args.self.now _ c.met.new.self c.met.result (ap (λ s. s.faults) c.self.view_is) c.met.ensures.answer
 
 pub returns-in-Ok-clause-answer : goal.returns-in-Ok-clause-answer
 returns-in-Ok-clause-answer g c =
