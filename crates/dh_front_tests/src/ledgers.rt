@@ -8,7 +8,7 @@ ghost use Rattle.dh_tree.specs.Shapes.{IsDim, most_banks};
 ghost use Rattle.dh_tree.specs.Tables.{elements_of, most_elements};
 
 use dh_base::{Items, NoMemory};
-use dh_ledger::{CountLedger, Full, Ledger, grant};
+use dh_ledger::{CountLedger, Full, Ledger};
 use dh_shape::bank_row;
 use dh_tree::{Dim, Kind, Shape};
 use std::alloc::Global;
@@ -55,23 +55,6 @@ fn spends_goes_back_and_joins(rt: HostRuntime) {
         (full(1, 0), [2, 0, 2, 1]),
     ];
     assert_eq!(rt; walk(&mut l), wanted);
-}
-
-#[test]
-fn tokens_tell_their_ports(rt: HostRuntime) {
-    let mut l = CountLedger::new(4, 4);
-    let wanted = [
-        (3, Ok((7, 1, 0, 3))),
-        (2, Err(Full { bank: 1, spent: 3 })),
-        (1, Ok((7, 1, 3, 1))),
-    ];
-    for (count, want) in wanted {
-        let got = match grant(&mut l, 7, 1, count) {
-            Ok(token) => Ok(token.end()),
-            Err(full) => Err(full),
-        };
-        assert_eq!(rt; got, want, "{count}");
-    }
 }
 
 /// The place of an element among these dimensions.

@@ -19,6 +19,4 @@ mod parsing;
 #[cfg(test)]
 mod passes;
 #[cfg(test)]
-mod phasing;
-#[cfg(test)]
 mod texts;
