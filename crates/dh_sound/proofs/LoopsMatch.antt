@@ -81,7 +81,7 @@ match_depth known l c r m same = m.depth ∙ ap (λ n. depth_bound (binding_in k
 
 -- a loop comes to those round it where it is unrolled
 loop_matches : (known : Known) (r : Around) (c : Counter) (ts : List Turning) (own : Turning) → LoopMatches known own c → EachMatches known ts r.loops
-  → EachMatches known (ts ++ unrolled (own ∷ [])) (in_loop r c).loops
+    → EachMatches known (ts ++ unrolled (own ∷ [])) (in_loop r c).loops
 loop_matches known r c ts own m h =
     subst (λ (n : ℕ). EachMatches known (ts ++ (if nat_lt 1 n then own ∷ [] else [])) (in_loop r c).loops) (sym m.factor) (by (nat_lt 1 c.factor))
   where
@@ -105,9 +105,13 @@ each_both known ts (c ∷ cs) ds h g = (h.0, each_both known ts cs ds h.1 g)
 module _ (known : Known) where
   -- a `for` that is run is that of the source
   own_matches : (iterator : Ref) (declared : Option Kind) (low high : Placed) (factor : Unrolled) (body : Action) (combine : MaybeAction) (at : Place) → Stands iterator
-    → LoopMatches known (turning_of known (turn_count low.value high.value factor.value) (counts iterator declared low high factor body combine at)) (loop_of iterator low high factor)
+      → LoopMatches known (turning_of known (turn_count low.value high.value factor.value) (counts iterator declared low high factor body combine at)) (loop_of iterator low high factor)
   own_matches iterator declared low high factor body combine at (e, is) = record {
-    iterator = is ∙ ap Some (sym (ap entity_number is)); depth = refl; low = refl; factor = refl; count = refl;
+    iterator = is ∙ ap Some (sym (ap entity_number is));
+    depth = refl;
+    low = refl;
+    factor = refl;
+    count = refl;
   }
 
   -- phases inside these unrolled loops: the commands of straight phases and of tests have loops round them that match,
@@ -166,7 +170,7 @@ module _ (known : Known) where
   folded_inside ts (p ∷ q ∷ ps) fold h g = (h.0, folded_inside ts (q ∷ ps) fold h.1 g)
 
   turn_inside : (ts : List Turning) (loop : Located) (count : ℕ) (turn : List Phase) → ListInside (ts ++ unrolled (turning_of known count (form_of loop.command) ∷ [])) turn
-    → ListInside ts (turn_phases loop count turn)
+      → ListInside ts (turn_phases loop count turn)
   turn_inside ts loop count [] h = tt
   turn_inside ts loop count (p ∷ ps) h = by (count == 0)
     where
@@ -175,7 +179,7 @@ module _ (known : Known) where
       by false = (listed (ts ++ unrolled (turning_of known count (form_of loop.command) ∷ [])) (p ∷ ps) h, tt)
 
   choice_inside : (ts : List Turning) (choice : Located) (chosen other : List Phase) → EachMatches known ts choice.around.loops → ListInside ts chosen → ListInside ts other
-    → ListInside ts (choice_phases choice chosen other)
+      → ListInside ts (choice_phases choice chosen other)
   choice_inside ts choice chosen other e h g = by (are_straight chosen && are_straight other)
     where
       by : (z : Bool) → ListInside ts (if z then one_command choice else decided choice (of_list chosen) (of_list other) ∷ [])
@@ -234,17 +238,17 @@ module _ (known : Known) where
   Found S T loops b = FoundStraight S loops b ⊎ FoundTest T loops b
 
   found_more : (S S2 : List Located → Type 0) (T T2 : Located → Type 0) (loops : List Turning) (b : Block) → ((cs : List Located) → S cs → S2 cs) → ((c : Located) → T c → T2 c)
-    → Found S T loops b → Found S2 T2 loops b
+      → Found S T loops b → Found S2 T2 loops b
   found_more S S2 T T2 loops b s t (inl (cs, (is, (has, inside)))) = inl (cs, (is, (s cs has, inside)))
   found_more S S2 T T2 loops b s t (inr (c, (is, (has, inside)))) = inr (c, (is, (t c has, inside)))
 
   found_test : (T : Located → Type 0) (S : List Located → Type 0) (round loops : List Turning) (b : Block) (c : Located) → T c → EachMatches known (unrolled round) c.around.loops
-    → (loops ≡ round) × (b ≡ tests (core_test known c)) → Found S T loops b
+      → (loops ≡ round) × (b ≡ tests (core_test known c)) → Found S T loops b
   found_test T S round loops b c t e s = inr (c, (s.1, (t, subst (λ (l : List Turning). EachMatches known (unrolled l) c.around.loops) (sym s.0) e)))
 
   mutual
     find_in : (p : Phase) (round loops : List Turning) (b : Block) → IsInside (unrolled round) p → StandsInPhase round (core_phase known p) loops b
-      → Found (HasStraightIn p) (HasTestIn p) loops b
+        → Found (HasStraightIn p) (HasTestIn p) loops b
     find_in (straight cs) round loops b i s = inl (cs, (s.1, (refl, subst (λ (l : List Turning). EachInside known (unrolled l) cs) (sym s.0) i)))
     find_in (turns loop count body) round loops b i s =
         let own : Turning = turning_of known count (form_of loop.command) in
@@ -263,7 +267,7 @@ module _ (known : Known) where
         (λ cs h. inr h) (λ c h. inr (inr h)) (find other round loops b i.1.1 s)
 
     find : (ps : Phases) (round loops : List Turning) (b : Block) → AreInside (unrolled round) ps → StandsIn round (core_phases known ps) loops b
-      → Found (HaveStraight ps) (HaveTest ps) loops b
+        → Found (HaveStraight ps) (HaveTest ps) loops b
     find no_phases round loops b i s = elim s [ ]
     find (phase p ps) round loops b i (inl s) =
         found_more (HasStraightIn p) (HaveStraight (phase p ps)) (HasTestIn p) (HaveTest (phase p ps)) loops b (λ cs h. inl h) (λ c h. inl h) (find_in p round loops b i.0 s)
@@ -271,7 +275,7 @@ module _ (known : Known) where
         found_more (HaveStraight ps) (HaveStraight (phase p ps)) (HaveTest ps) (HaveTest (phase p ps)) loops b (λ cs h. inr h) (λ c h. inr h) (find ps round loops b i.1 s)
 
   find_listed : (ps : List Phase) (round loops : List Turning) (b : Block) → ListInside (unrolled round) ps → StandsIn round (core_phases known (of_list ps)) loops b
-    → Found (HasStraight ps) (HasTest ps) loops b
+      → Found (HasStraight ps) (HasTest ps) loops b
   find_listed [] round loops b i s = elim s [ ]
   find_listed (p ∷ ps) round loops b i (inl s) =
       found_more (HasStraightIn p) (HasStraight (p ∷ ps)) (HasTestIn p) (HasTest (p ∷ ps)) loops b (λ cs h. inl h) (λ c h. inl h) (find_in p round loops b i.0 s)
@@ -280,7 +284,7 @@ module _ (known : Known) where
 
   -- commands along the trace, with the loops round them
   same_loops : (before part : List SourceEvent) (ts : List Turning) (cs : List Located) → Along before part cs → EachInside known ts cs
-    → (r : Around) × (Follows r before part cs × EachMatches known ts r.loops)
+      → (r : Around) × (Follows r before part cs × EachMatches known ts r.loops)
   same_loops before part ts [] f i = (record { arms = []; loops = i.0 }, (tt, i.1))
   same_loops before part ts (c ∷ cs) (r, f) i = (r, (f, subst (λ (x : Around). EachMatches known ts x.loops) f.1.1.1.0.around i.0))
 
@@ -296,7 +300,7 @@ pub record TestMatches (p : Program) (loops : List Turning) (block : Block) : Ty
 
 -- each block of a program is that of a phase, in loops that match
 pub block_matches : (p : Program) (first : ℕ) (loops : List Turning) (block : Block) → IsNumbered first p.body → IsNamedAction p.body
-  → StandsIn [] (core_of p).phases loops block → StraightMatches p loops block ⊎ TestMatches p loops block
+    → StandsIn [] (core_of p).phases loops block → StraightMatches p loops block ⊎ TestMatches p loops block
 block_matches p first loops block numbered names s =
     by (find_listed (known_of p) (phases_of p) [] loops block (action_inside (known_of p) nothing_around [] 0 p.body names tt) s)
   where
@@ -315,5 +319,5 @@ block_matches p first loops block numbered names s =
 
 -- so are those of a ready program
 pub ready_match : (p : Program) → IsReady p → StoresToAccesses p → (loops : List Turning) (block : Block)
-  → StandsIn [] (core_of p).phases loops block → StraightMatches p loops block ⊎ TestMatches p loops block
+    → StandsIn [] (core_of p).phases loops block → StraightMatches p loops block ⊎ TestMatches p loops block
 ready_match p r t loops block s = block_matches p r.of_text.first loops block r.of_text.numbered (ready_named p r t) s

@@ -56,7 +56,7 @@ none_more n = omega arith
 module _ (known : Known) (v0 : Variables) (touched : ℕ → Bool) (path : Path) (paths : List Path) (here : IsPath path paths) where
   -- the loop at a level among those round a block, of which so many unrolled ones stand in front
   loop_at : (round loops : List Turning) (cs : List Counter) (n k : ℕ) (c : Counter) → n ≡ length (factors round) → TurnsAt loops v0 paths → HaveDepths round loops → AreSpared touched loops
-    → EachMatches known (unrolled loops) cs → slice_get cs k ≡ Some c → LoopInTurn known v0 touched path (n + k) c
+      → EachMatches known (unrolled loops) cs → slice_get cs k ≡ Some c → LoopInTurn known v0 touched path (n + k) c
   loop_at round [] [] n k c e t d s m f = absurd cc
   loop_at round [] (x ∷ cs) n k c e t d s m f = elim m [ ]
   loop_at round (loop ∷ loops) cs n k c e t d s m f =
@@ -64,16 +64,21 @@ module _ (known : Known) (v0 : Variables) (touched : ℕ → Bool) (path : Path)
       (λ ds j i x g. loop_at (round ++ loop ∷ []) loops ds i j c x t.1 d.1 s.1 g)
     where
       by : (b : Bool) (cs : List Counter) (k : ℕ) → length (factors (round ++ loop ∷ [])) ≡ n + length (if b then loop.factor ∷ [] else [])
-        → EachMatches known (if b then loop ∷ unrolled loops else unrolled loops) cs → slice_get cs k ≡ Some c
-        → ((ds : List Counter) (j i : ℕ) → i ≡ length (factors (round ++ loop ∷ [])) → EachMatches known (unrolled loops) ds → slice_get ds j ≡ Some c → LoopInTurn known v0 touched path (i + j) c)
-        → LoopInTurn known v0 touched path (n + k) c
+          → EachMatches known (if b then loop ∷ unrolled loops else unrolled loops) cs → slice_get cs k ≡ Some c
+          → ((ds : List Counter) (j i : ℕ) → i ≡ length (factors (round ++ loop ∷ [])) → EachMatches known (unrolled loops) ds → slice_get ds j ≡ Some c → LoopInTurn known v0 touched path (i + j) c)
+          → LoopInTurn known v0 touched path (n + k) c
       by true [] k l m f rest = elim m [ ]
       by true (x ∷ cs) zero l m f rest =
           let same : x ≡ c = cc in
           let depth : loop.depth ≡ length (factors (round ++ loop ∷ [])) = d.0 in
           record {
-            loop = loop; matches = subst (λ (y : Counter). LoopMatches known loop y) same m.0; deep = omega (arith, depth, l); left = s.0;
-            turn = t.0.turn; below = t.0.below; seen = t.0.each path here;
+            loop = loop;
+            matches = subst (λ (y : Counter). LoopMatches known loop y) same m.0;
+            deep = omega (arith, depth, l);
+            left = s.0;
+            turn = t.0.turn;
+            below = t.0.below;
+            seen = t.0.each path here;
           }
       by true (x ∷ cs) (suc k) l m f rest = subst (λ (j : ℕ). LoopInTurn known v0 touched path j c) (moved n k) (rest cs k (suc n) (omega (arith, l)) m.1 f)
       by false cs k l m f rest = rest cs k n (omega (arith, l)) m f
@@ -81,21 +86,21 @@ module _ (known : Known) (v0 : Variables) (touched : ℕ → Bool) (path : Path)
 -- Names.
 
 module _ (known : Known) (cs round : List Counter) (v0 v : Variables) (touched : ℕ → Bool) (path : Path) (near : IsNearTo v0 touched v)
-  (found : (level : ℕ) (c : Counter) → slice_get round level ≡ Some c → LoopInTurn known v0 touched path level c) where
+    (found : (level : ℕ) (c : Counter) → slice_get round level ≡ Some c → LoopInTurn known v0 touched path level c) where
   -- a name of the iterator of a loop that is found
   turned : (r : Ref) (c : Counter) → r.entity ≡ c.entity → IsUnrolled c → LoopInTurn known v0 touched path (level_of_loop round c.entity) c
-    → IsInTurn round path c (name_value known v path r)
+      → IsInTurn round path c (name_value known v path r)
   turned r c same u l = record {
     turn = l.turn;
     below = subst (λ (n : ℕ). l.turn < n) l.matches.count l.below;
     copy = subst (λ (x : ℕ). x < c.factor) last_is (subst (λ (n : ℕ). last_copy l.loop path < n) l.matches.factor (l.seen.copy (subst (λ (n : ℕ). 1 ≤ n) (sym l.matches.factor) some)));
     is = ap (λ (o : Option ℕ). v (entity_number o) (take (depth_bound (binding_in known.bindings (entity_number o))) path)) (same ∙ l.matches.iterator)
-      ∙ (ap (λ (d : ℕ). v l.loop.iterator (take d path)) (sym l.matches.depth)
-      ∙ (near l.loop.iterator (take l.loop.depth path) l.left
-      ∙ (l.seen.value
-      ∙ (ap (λ (n : ℕ). pos (n + l.turn * l.loop.factor + last_copy l.loop path)) l.matches.low
-      ∙ (ap (λ (n : ℕ). pos (c.low + l.turn * n + last_copy l.loop path)) l.matches.factor
-      ∙ ap (λ (n : ℕ). pos (c.low + l.turn * c.factor + n)) last_is)))));
+        ∙ (ap (λ (d : ℕ). v l.loop.iterator (take d path)) (sym l.matches.depth)
+        ∙ (near l.loop.iterator (take l.loop.depth path) l.left
+        ∙ (l.seen.value
+        ∙ (ap (λ (n : ℕ). pos (n + l.turn * l.loop.factor + last_copy l.loop path)) l.matches.low
+        ∙ (ap (λ (n : ℕ). pos (c.low + l.turn * n + last_copy l.loop path)) l.matches.factor
+        ∙ ap (λ (n : ℕ). pos (c.low + l.turn * c.factor + n)) last_is)))));
   }
     where
       level : l.loop.depth - 1 ≡ level_of_loop round c.entity
@@ -143,12 +148,12 @@ module _ (known : Known) (cs round : List Counter) (v0 v : Variables) (touched :
 
 -- the indices of an element find the iterators of unrolled loops in turns, at a path inside loops that match
 pub element_in_turn : (known : Known) (cs round : List Counter) (loops : List Turning) (v0 v : Variables) (touched : ℕ → Bool) (path : Path)
-  → TurnsAt loops v0 (paths_inside loops) → HaveDepths [] loops → LoopsMatch known loops round → AreSpared touched loops → IsNearTo v0 touched v → IsPath path (paths_inside loops)
-  → (e : Element) → ElementRound cs round e → ElementInTurn known cs round path v e
+    → TurnsAt loops v0 (paths_inside loops) → HaveDepths [] loops → LoopsMatch known loops round → AreSpared touched loops → IsNearTo v0 touched v → IsPath path (paths_inside loops)
+    → (e : Element) → ElementRound cs round e → ElementInTurn known cs round path v e
 element_in_turn known cs round loops v0 v touched path turns depths matches spared near here =
     element_found known cs round v0 v touched path near
     (λ level c f. subst (λ (j : ℕ). LoopInTurn known v0 touched path j c) (none_more level)
-      (loop_at known v0 touched path (paths_inside loops) here [] loops round 0 level c refl turns depths spared matches f))
+    (loop_at known v0 touched path (paths_inside loops) here [] loops round 0 level c refl turns depths spared matches f))
 
 -- Blocks of a program.
 
@@ -164,21 +169,22 @@ spared_test (loop ∷ loops) = (refl, spared_test loops)
 
 -- the elements of straight commands in a turn of their loops
 pub straight_in_turn : (p : Program) → IsReady p → (loops : List Turning) (block : Block) → StandsIn [] (core_of p).phases loops block → (m : StraightMatches p loops block)
-  → (v0 v : Variables) (path : Path) → AreInTurn [] loops v0 → IsNearTo v0 (λ e. any_assigns e (core_commands (known_of p) m.of.done)) v → IsPath path (paths_inside loops)
-  → (e : Element) → ElementRound (counters_of p) m.of.round.loops e → ElementInTurn (known_of p) (counters_of p) m.of.round.loops path v e
+    → (v0 v : Variables) (path : Path) → AreInTurn [] loops v0 → IsNearTo v0 (λ e. any_assigns e (core_commands (known_of p) m.of.done)) v → IsPath path (paths_inside loops)
+    → (e : Element) → ElementRound (counters_of p) m.of.round.loops e → ElementInTurn (known_of p) (counters_of p) m.of.round.loops path v e
 straight_in_turn p r loops block s m v0 v path turns near here =
     element_in_turn (known_of p) (counters_of p) m.of.round.loops loops v0 v (λ e. any_assigns e done) path (turns_at loops v0 turns depths) depths m.loops_match
     (spared_commands done loops ((ready_keeps p r).keeps loops done (subst (λ (b : Block). StandsIn [] (core_of p).phases loops b) m.of.is s))) near here
   where
     done : CoreCommands
     done = core_commands (known_of p) m.of.done
+
     depths : HaveDepths [] loops
     depths = (ready_deep p r).depths loops block s
 
 -- and those of a test
 pub test_in_turn : (p : Program) → IsReady p → (loops : List Turning) (block : Block) → StandsIn [] (core_of p).phases loops block → (m : TestMatches p loops block)
-  → (v0 : Variables) (path : Path) → AreInTurn [] loops v0 → IsPath path (paths_inside loops)
-  → (e : Element) → ElementRound (counters_of p) m.of.tested.around.loops e → ElementInTurn (known_of p) (counters_of p) m.of.tested.around.loops path v0 e
+    → (v0 : Variables) (path : Path) → AreInTurn [] loops v0 → IsPath path (paths_inside loops)
+    → (e : Element) → ElementRound (counters_of p) m.of.tested.around.loops e → ElementInTurn (known_of p) (counters_of p) m.of.tested.around.loops path v0 e
 test_in_turn p r loops block s m v0 path turns here =
     element_in_turn (known_of p) (counters_of p) m.of.tested.around.loops loops v0 v0 (λ e. false) path (turns_at loops v0 turns depths) depths m.loops_match
     (spared_test loops) (λ e q u. refl) here
@@ -188,15 +194,15 @@ test_in_turn p r loops block s m v0 path turns here =
 
 -- the same for accesses in these loops
 pub straight_access : (p : Program) → IsReady p → (loops : List Turning) (block : Block) → StandsIn [] (core_of p).phases loops block → (m : StraightMatches p loops block)
-  → (v0 v : Variables) (path : Path) → AreInTurn [] loops v0 → IsNearTo v0 (λ e. any_assigns e (core_commands (known_of p) m.of.done)) v → IsPath path (paths_inside loops)
-  → (a : SourceAccess) → a.site.loops ≡ m.of.round.loops → ElementRound (counters_of p) a.site.loops a.element → ElementInTurn (known_of p) (counters_of p) a.site.loops path v a.element
+    → (v0 v : Variables) (path : Path) → AreInTurn [] loops v0 → IsNearTo v0 (λ e. any_assigns e (core_commands (known_of p) m.of.done)) v → IsPath path (paths_inside loops)
+    → (a : SourceAccess) → a.site.loops ≡ m.of.round.loops → ElementRound (counters_of p) a.site.loops a.element → ElementInTurn (known_of p) (counters_of p) a.site.loops path v a.element
 straight_access p r loops block s m v0 v path turns near here a same h =
     subst (λ (ls : List Counter). ElementInTurn (known_of p) (counters_of p) ls path v a.element) (sym same)
     (straight_in_turn p r loops block s m v0 v path turns near here a.element (subst (λ (ls : List Counter). ElementRound (counters_of p) ls a.element) same h))
 
 pub test_access : (p : Program) → IsReady p → (loops : List Turning) (block : Block) → StandsIn [] (core_of p).phases loops block → (m : TestMatches p loops block)
-  → (v0 : Variables) (path : Path) → AreInTurn [] loops v0 → IsPath path (paths_inside loops)
-  → (a : SourceAccess) → a.site.loops ≡ m.of.tested.around.loops → ElementRound (counters_of p) a.site.loops a.element → ElementInTurn (known_of p) (counters_of p) a.site.loops path v0 a.element
+    → (v0 : Variables) (path : Path) → AreInTurn [] loops v0 → IsPath path (paths_inside loops)
+    → (a : SourceAccess) → a.site.loops ≡ m.of.tested.around.loops → ElementRound (counters_of p) a.site.loops a.element → ElementInTurn (known_of p) (counters_of p) a.site.loops path v0 a.element
 test_access p r loops block s m v0 path turns here a same h =
     subst (λ (ls : List Counter). ElementInTurn (known_of p) (counters_of p) ls path v0 a.element) (sym same)
     (test_in_turn p r loops block s m v0 path turns here a.element (subst (λ (ls : List Counter). ElementRound (counters_of p) ls a.element) same h))
