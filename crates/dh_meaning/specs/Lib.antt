@@ -1,0 +1,11 @@
+pub mod Paths
+pub mod Bindings
+pub mod AccessNumbers
+pub mod Sites
+pub mod Phases
+pub mod OnePhase
+pub mod Core
+pub mod CoreOf
+pub mod Effects
+pub mod Runs
+pub mod Levels

@@ -1,0 +1,5 @@
+pub mod SourceEvents
+pub mod MayMeet
+pub mod Sharing
+pub mod Charges
+pub mod Ports

@@ -1,0 +1,323 @@
+-- The loops round a block of the core program are those of the source round its commands, one by one. A `for` that is
+-- run has the bounds, the factor, the number of turns and the depth of the `for` of the source from which it comes,
+-- and its iterator's number; both come to the loops round them just where they are unrolled. So one walk along the
+-- commands keeps the match, and a second along the phases finds it at each block. Where a straight phase has no command,
+-- the loops of the source are those round the place where it stands.
+use Rattle.std.proofs.Common.{◌≡◌, ◌⊎◌, inl, inr, ℕ, ◌+◌, ◌==◌, ◌&&◌, nat_lt, Bool, true, false, if◌then◌else◌, List, [], ◌∷◌, ◌++◌, Some, refl, sym, ◌∙◌, ap, subst}
+use Rattle.std.specs.Prelude.{Option}
+use Rattle.std.proofs.lemmas.List.{append-nil}
+use Rattle.dh_base.specs.declared.places.Place.{Place}
+use Rattle.dh_value.specs.declared.kinds.Kind.{Kind}
+use Rattle.dh_tree.specs.declared.trees.counters.Counter.{Counter}
+use Rattle.dh_tree.specs.declared.trees.expressions.Ref.{Ref}
+use Rattle.dh_tree.specs.Numbers.{IsNumbered}
+use Rattle.dh_tree.specs.PlainTrees.{Placed, Unrolled, Action, action, ActionForm, lets, lets_memory, views, assigns, stores, reduces, calls, blocks, decides, repeats, counts, MaybeAction, no_action, one_action, Actions, no_actions, action_then, Groups, no_groups, group_then, Program}
+use Rattle.dh_tree.specs.Ready.{IsReady}
+use Rattle.dh_meaning.specs.AccessNumbers.{term_accesses, accesses_of, part_accesses}
+use Rattle.dh_meaning.specs.Bindings.{binding_in, depth_bound}
+use Rattle.dh_meaning.specs.Paths.{paths_in}
+use Rattle.dh_meaning.specs.Phases.{Located, Phase, straight, turns, repeated, decided, Phases, no_phases, phase, of_list, one_straight, joined, are_straight, one_command, folded, turn_count, turn_phases, choice_phases, phases, form_phases, other_phases, groups_phases, parts_phases, phases_of}
+use Rattle.dh_meaning.specs.Sites.{Around, nothing_around, in_arm, in_loop, loop_of}
+use Rattle.dh_meaning.specs.Core.{Turning}
+use Rattle.dh_meaning.specs.CoreOf.{Known, known_of, entity_number, depth_of, form_of, turning_of, core_commands, core_test, core_phase, core_phases, core_of}
+use Rattle.dh_meaning.specs.Effects.{Block, commands, tests}
+use Rattle.dh_meets.specs.Charges.{factors_of}
+use Rattle.dh_meets.specs.SourceEvents.{SourceEvent, trace}
+use Rattle.dh_sound.specs.Blocks.{factors, StandsIn, StandsInPhase}
+use Rattle.dh_sound.specs.LoopsMatch.{unrolled, LoopMatches, EachMatches, LoopsMatch}
+use Rattle.dh_sound.specs.NamedPrograms.{StoresToAccesses}
+use Rattle.dh_sound.specs.PhaseFacts.{HasStraightIn, HaveStraight, HasStraight, HasTestIn, HaveTest, HasTest}
+use Rattle.dh_sound.specs.Straight.{Stands, IsNamedAction, IsNamedForm, IsNamedOther, AreNamedGroups, AreNamedActions}
+use Rattle.dh_sound.proofs.BlocksOfPhases.{Along, straight_along, tested_along, own_around, phases_follow}
+use Rattle.dh_sound.proofs.NamedPrograms.{ready_named}
+use Rattle.dh_sound.proofs.Trails.{Tops}
+use Rattle.dh_sound.specs.BlocksOfPhases.{OfStraight, OfTest}
+use Rattle.dh_sound.specs.Trails.{Follows}
+
+-- Unrolled loops.
+
+pub unrolled_both : (a b : List Turning) → unrolled (a ++ b) ≡ unrolled a ++ unrolled b
+unrolled_both [] b = refl
+unrolled_both (l ∷ ls) b = by (nat_lt 1 l.factor) _ _ _ (unrolled_both ls b)
+  where
+    by : (t : Bool) (xs ys zs : List Turning) → xs ≡ ys ++ zs → (if t then l ∷ xs else xs) ≡ (if t then l ∷ ys else ys) ++ zs
+    by true xs ys zs e = ap (λ x. l ∷ x) e
+    by false xs ys zs e = e
+
+abbrev turning_factors : List Turning → List ℕ
+turning_factors [] = []
+turning_factors (l ∷ ls) = l.factor ∷ turning_factors ls
+
+unrolled_factors : (loops : List Turning) → factors loops ≡ turning_factors (unrolled loops)
+unrolled_factors [] = refl
+unrolled_factors (l ∷ ls) = by (nat_lt 1 l.factor) _ _ (unrolled_factors ls)
+  where
+    by : (t : Bool) (fs : List ℕ) (xs : List Turning) → fs ≡ turning_factors xs → (if t then l.factor ∷ fs else fs) ≡ turning_factors (if t then l ∷ xs else xs)
+    by true fs xs e = ap (λ x. l.factor ∷ x) e
+    by false fs xs e = e
+
+both_match : (known : Known) (ls ms : List Turning) (cs ds : List Counter) → EachMatches known ls cs → EachMatches known ms ds → EachMatches known (ls ++ ms) (cs ++ ds)
+both_match known [] ms [] ds h g = g
+both_match known [] ms (c ∷ cs) ds h g = elim h [ ]
+both_match known (l ∷ ls) ms [] ds h g = elim h [ ]
+both_match known (l ∷ ls) ms (c ∷ cs) ds h g = (h.0, both_match known ls ms cs ds h.1 g)
+
+matched_factors : (known : Known) (ls : List Turning) (cs : List Counter) → EachMatches known ls cs → turning_factors ls ≡ factors_of cs
+matched_factors known [] [] h = refl
+matched_factors known [] (c ∷ cs) h = elim h [ ]
+matched_factors known (l ∷ ls) [] h = elim h [ ]
+matched_factors known (l ∷ ls) (c ∷ cs) h = ap (λ n. n ∷ turning_factors ls) h.0.factor ∙ ap (λ x. c.factor ∷ x) (matched_factors known ls cs h.1)
+
+-- loops that match have the same factors
+pub match_factors : (known : Known) (loops : List Turning) (cs : List Counter) → LoopsMatch known loops cs → factors loops ≡ factors_of cs
+match_factors known loops cs h = unrolled_factors loops ∙ matched_factors known (unrolled loops) cs h
+
+-- the number of the iterator, and the depth of each name that stands for it
+pub match_number : (known : Known) (l : Turning) (c : Counter) → LoopMatches known l c → l.iterator ≡ entity_number c.entity
+match_number known l c m = sym (ap entity_number m.iterator)
+
+pub match_depth : (known : Known) (l : Turning) (c : Counter) (r : Ref) → LoopMatches known l c → r.entity ≡ c.entity → l.depth ≡ depth_of known r
+match_depth known l c r m same = m.depth ∙ ap (λ n. depth_bound (binding_in known.bindings n)) (match_number known l c m ∙ ap entity_number (sym same))
+
+-- a loop comes to those round it where it is unrolled
+loop_matches : (known : Known) (r : Around) (c : Counter) (ts : List Turning) (own : Turning) → LoopMatches known own c → EachMatches known ts r.loops
+    → EachMatches known (ts ++ unrolled (own ∷ [])) (in_loop r c).loops
+loop_matches known r c ts own m h =
+    subst (λ (n : ℕ). EachMatches known (ts ++ (if nat_lt 1 n then own ∷ [] else [])) (in_loop r c).loops) (sym m.factor) (by (nat_lt 1 c.factor))
+  where
+    by : (b : Bool) → EachMatches known (ts ++ (if b then own ∷ [] else [])) (if b then record { arms = r.arms; loops = r.loops ++ c ∷ [] } else r).loops
+    by true = both_match known ts (own ∷ []) r.loops (c ∷ []) h (m, tt)
+    by false = subst (λ (x : List Turning). EachMatches known x r.loops) (sym (append-nil ts)) h
+
+-- each of these commands has loops round it that match, and there are such loops
+abbrev EachInside : Known → (ts : List Turning) → List Located → Type 0
+EachInside known ts [] = (loops : List Counter) × EachMatches known ts loops
+EachInside known ts (c ∷ cs) = EachMatches known ts c.around.loops × EachInside known ts cs
+
+inside_some : (known : Known) (ts : List Turning) (cs : List Located) → EachInside known ts cs → EachInside known ts []
+inside_some known ts [] h = h
+inside_some known ts (c ∷ cs) h = inside_some known ts cs h.1
+
+each_both : (known : Known) (ts : List Turning) (cs ds : List Located) → EachInside known ts cs → EachInside known ts ds → EachInside known ts (cs ++ ds)
+each_both known ts [] ds h g = g
+each_both known ts (c ∷ cs) ds h g = (h.0, each_both known ts cs ds h.1 g)
+
+module _ (known : Known) where
+  -- a `for` that is run is that of the source
+  own_matches : (iterator : Ref) (declared : Option Kind) (low high : Placed) (factor : Unrolled) (body : Action) (combine : MaybeAction) (at : Place) → Stands iterator
+      → LoopMatches known (turning_of known (turn_count low.value high.value factor.value) (counts iterator declared low high factor body combine at)) (loop_of iterator low high factor)
+  own_matches iterator declared low high factor body combine at (e, is) = record {
+    iterator = is ∙ ap Some (sym (ap entity_number is));
+    depth = refl;
+    low = refl;
+    factor = refl;
+    count = refl;
+  }
+
+  -- phases inside these unrolled loops: the commands of straight phases and of tests have loops round them that match,
+  -- and inside a `for` that is unrolled it stands behind these
+  abbrev mutual
+    IsInside : (ts : List Turning) → Phase → Type 0
+    IsInside ts (straight cs) = EachInside known ts cs
+    IsInside ts (turns loop count body) = AreInside (ts ++ unrolled (turning_of known count (form_of loop.command) ∷ [])) body
+    IsInside ts (repeated loop body) = EachMatches known ts loop.around.loops × AreInside ts body
+    IsInside ts (decided choice chosen other) = EachMatches known ts choice.around.loops × (AreInside ts chosen × AreInside ts other)
+
+    AreInside : (ts : List Turning) → Phases → Type 0
+    AreInside ts no_phases = Unit {0}
+    AreInside ts (phase p ps) = IsInside ts p × AreInside ts ps
+
+  abbrev ListInside : (ts : List Turning) → List Phase → Type 0
+  ListInside ts [] = Unit {0}
+  ListInside ts (p ∷ ps) = IsInside ts p × ListInside ts ps
+
+  abbrev PartsInside : (ts : List Turning) → List (List Phase) → Type 0
+  PartsInside ts [] = Unit {0}
+  PartsInside ts (ps ∷ parts) = ListInside ts ps × PartsInside ts parts
+
+  listed : (ts : List Turning) (ps : List Phase) → ListInside ts ps → AreInside ts (of_list ps)
+  listed ts [] h = tt
+  listed ts (p ∷ ps) h = (h.0, listed ts ps h.1)
+
+  list_both : (ts : List Turning) (ps qs : List Phase) → ListInside ts ps → ListInside ts qs → ListInside ts (ps ++ qs)
+  list_both ts [] qs h g = g
+  list_both ts (p ∷ ps) qs h g = (h.0, list_both ts ps qs h.1 g)
+
+  one_inside : (ts : List Turning) (cs : List Located) → EachInside known ts cs → ListInside ts (one_straight cs)
+  one_inside ts [] h = tt
+  one_inside ts (c ∷ cs) h = (h, tt)
+
+  joined_inside : (ts : List Turning) (cs : List Located) (parts : List (List Phase)) → EachInside known ts cs → PartsInside ts parts → ListInside ts (joined cs parts)
+  joined_inside ts cs [] h g = one_inside ts cs h
+  joined_inside ts cs ([] ∷ parts) h g = joined_inside ts cs parts h g.1
+  joined_inside ts cs ((straight ds ∷ []) ∷ parts) h g = joined_inside ts (cs ++ ds) parts (each_both known ts cs ds h g.0.0) g.1
+  joined_inside ts cs ((turns loop count body ∷ []) ∷ parts) h g =
+      list_both ts (one_straight cs) (turns loop count body ∷ joined [] parts) (one_inside ts cs h) (g.0.0, joined_inside ts [] parts (inside_some known ts cs h) g.1)
+  joined_inside ts cs ((repeated loop body ∷ []) ∷ parts) h g =
+      list_both ts (one_straight cs) (repeated loop body ∷ joined [] parts) (one_inside ts cs h) (g.0.0, joined_inside ts [] parts (inside_some known ts cs h) g.1)
+  joined_inside ts cs ((decided choice chosen other ∷ []) ∷ parts) h g =
+      list_both ts (one_straight cs) (decided choice chosen other ∷ joined [] parts) (one_inside ts cs h) (g.0.0, joined_inside ts [] parts (inside_some known ts cs h) g.1)
+  joined_inside ts cs ((p ∷ q ∷ ps) ∷ parts) h g =
+      list_both ts (one_straight cs) ((p ∷ q ∷ ps) ++ joined [] parts) (one_inside ts cs h)
+      (list_both ts (p ∷ q ∷ ps) (joined [] parts) g.0 (joined_inside ts [] parts (inside_some known ts cs h) g.1))
+
+  folded_inside : (ts : List Turning) (body fold : List Phase) → ListInside ts body → ListInside ts fold → ListInside ts (folded body fold)
+  folded_inside ts [] fold h g = g
+  folded_inside ts (straight cs ∷ []) fold h g = joined_inside ts cs (fold ∷ []) h.0 (g, tt)
+  folded_inside ts (turns loop count body ∷ []) fold h g = (h.0, g)
+  folded_inside ts (repeated loop body ∷ []) fold h g = (h.0, g)
+  folded_inside ts (decided choice chosen other ∷ []) fold h g = (h.0, g)
+  folded_inside ts (p ∷ q ∷ ps) fold h g = (h.0, folded_inside ts (q ∷ ps) fold h.1 g)
+
+  turn_inside : (ts : List Turning) (loop : Located) (count : ℕ) (turn : List Phase) → ListInside (ts ++ unrolled (turning_of known count (form_of loop.command) ∷ [])) turn
+      → ListInside ts (turn_phases loop count turn)
+  turn_inside ts loop count [] h = tt
+  turn_inside ts loop count (p ∷ ps) h = by (count == 0)
+    where
+      by : (z : Bool) → ListInside ts (if z then [] else turns loop count (of_list (p ∷ ps)) ∷ [])
+      by true = tt
+      by false = (listed (ts ++ unrolled (turning_of known count (form_of loop.command) ∷ [])) (p ∷ ps) h, tt)
+
+  choice_inside : (ts : List Turning) (choice : Located) (chosen other : List Phase) → EachMatches known ts choice.around.loops → ListInside ts chosen → ListInside ts other
+      → ListInside ts (choice_phases choice chosen other)
+  choice_inside ts choice chosen other e h g = by (are_straight chosen && are_straight other)
+    where
+      by : (z : Bool) → ListInside ts (if z then one_command choice else decided choice (of_list chosen) (of_list other) ∷ [])
+      by true = ((e, (choice.around.loops, e)), tt)
+      by false = ((e, (listed ts chosen h, listed ts other g)), tt)
+
+  -- the phases of a command with this round it
+  mutual
+    action_inside : (r : Around) (ts : List Turning) (n : ℕ) (a : Action) → IsNamedAction a → EachMatches known ts r.loops → ListInside ts (phases r n a)
+    action_inside r ts n (action id place form) names e = form_inside r ts n id place form names e
+
+    form_inside : (r : Around) (ts : List Turning) (n id : ℕ) (place : Place) (f : ActionForm) → IsNamedForm f → EachMatches known ts r.loops → ListInside ts (form_phases r n id place f)
+    form_inside r ts n id place (lets name declared value) names e = ((e, (r.loops, e)), tt)
+    form_inside r ts n id place (assigns target value) names e = ((e, (r.loops, e)), tt)
+    form_inside r ts n id place (stores target value) names e = ((e, (r.loops, e)), tt)
+    form_inside r ts n id place (reduces target op value) names e = ((e, (r.loops, e)), tt)
+    form_inside r ts n id place (decides test chosen other) names e =
+        choice_inside ts _ _ _ e (action_inside (in_arm r id true) ts (n + term_accesses test) chosen names.1.0 e)
+        (other_inside (in_arm r id false) ts (n + term_accesses test + accesses_of chosen) other names.1.1 e)
+    form_inside r ts n id place (repeats test body) names e = ((e, listed ts _ (action_inside r ts (n + term_accesses test) body names.1 e)), tt)
+    form_inside r ts n id place (counts iterator declared low high factor body combine combine_place) names e =
+        let c = loop_of iterator low high factor in
+        let own : Turning = turning_of known (turn_count low.value high.value factor.value) (counts iterator declared low high factor body combine combine_place) in
+        let inner : List Turning = ts ++ unrolled (own ∷ []) in
+        let more : EachMatches known inner (in_loop r c).loops = loop_matches known r c ts own (own_matches iterator declared low high factor body combine combine_place names.0) e in
+        turn_inside ts _ _ _
+        (folded_inside inner _ _ (action_inside (in_loop r c) inner n body names.1.0 more) (other_inside (in_loop r c) inner (n + accesses_of body) combine names.1.1 more))
+    form_inside r ts n id place (blocks body) names e = groups_inside r ts n body names e
+    form_inside r ts n id place (lets_memory name shape shape_places value) names e = tt
+    form_inside r ts n id place (views name parent form) names e = tt
+    form_inside r ts n id place (calls function arguments) names e = tt
+
+    other_inside : (r : Around) (ts : List Turning) (n : ℕ) (o : MaybeAction) → IsNamedOther o → EachMatches known ts r.loops → ListInside ts (other_phases r n o)
+    other_inside r ts n no_action names e = tt
+    other_inside r ts n (one_action a) names e = action_inside r ts n a names e
+
+    groups_inside : (r : Around) (ts : List Turning) (n : ℕ) (gs : Groups) → AreNamedGroups gs → EachMatches known ts r.loops → ListInside ts (groups_phases r n gs)
+    groups_inside r ts n no_groups names e = tt
+    groups_inside r ts n (group_then part rest) names e =
+        list_both ts (joined [] (parts_phases r n part)) (groups_phases r (n + part_accesses part) rest)
+        (joined_inside ts [] (parts_phases r n part) (r.loops, e) (parts_inside r ts n part names.0 e)) (groups_inside r ts (n + part_accesses part) rest names.1 e)
+
+    parts_inside : (r : Around) (ts : List Turning) (n : ℕ) (q : Actions) → AreNamedActions q → EachMatches known ts r.loops → PartsInside ts (parts_phases r n q)
+    parts_inside r ts n no_actions names e = tt
+    parts_inside r ts n (action_then a rest) names e = (action_inside r ts n a names.0 e, parts_inside r ts (n + accesses_of a) rest names.1 e)
+
+  -- What is found of a block in loops: the straight commands or the command with the test that it is made of, which
+  -- have loops round them that match these.
+  abbrev FoundStraight : (List Located → Type 0) → (loops : List Turning) → Block → Type 0
+  FoundStraight S loops b = (cs : List Located) × ((b ≡ commands (core_commands known cs)) × (S cs × EachInside known (unrolled loops) cs))
+
+  abbrev FoundTest : (Located → Type 0) → (loops : List Turning) → Block → Type 0
+  FoundTest T loops b = (c : Located) × ((b ≡ tests (core_test known c)) × (T c × EachMatches known (unrolled loops) c.around.loops))
+
+  abbrev Found : (S : List Located → Type 0) (T : Located → Type 0) → (loops : List Turning) → Block → Type 0
+  Found S T loops b = FoundStraight S loops b ⊎ FoundTest T loops b
+
+  found_more : (S S2 : List Located → Type 0) (T T2 : Located → Type 0) (loops : List Turning) (b : Block) → ((cs : List Located) → S cs → S2 cs) → ((c : Located) → T c → T2 c)
+      → Found S T loops b → Found S2 T2 loops b
+  found_more S S2 T T2 loops b s t (inl (cs, (is, (has, inside)))) = inl (cs, (is, (s cs has, inside)))
+  found_more S S2 T T2 loops b s t (inr (c, (is, (has, inside)))) = inr (c, (is, (t c has, inside)))
+
+  found_test : (T : Located → Type 0) (S : List Located → Type 0) (round loops : List Turning) (b : Block) (c : Located) → T c → EachMatches known (unrolled round) c.around.loops
+      → (loops ≡ round) × (b ≡ tests (core_test known c)) → Found S T loops b
+  found_test T S round loops b c t e s = inr (c, (s.1, (t, subst (λ (l : List Turning). EachMatches known (unrolled l) c.around.loops) (sym s.0) e)))
+
+  mutual
+    find_in : (p : Phase) (round loops : List Turning) (b : Block) → IsInside (unrolled round) p → StandsInPhase round (core_phase known p) loops b
+        → Found (HasStraightIn p) (HasTestIn p) loops b
+    find_in (straight cs) round loops b i s = inl (cs, (s.1, (refl, subst (λ (l : List Turning). EachInside known (unrolled l) cs) (sym s.0) i)))
+    find_in (turns loop count body) round loops b i s =
+        let own : Turning = turning_of known count (form_of loop.command) in
+        find body (round ++ own ∷ []) loops b (subst (λ (ts : List Turning). AreInside ts body) (sym (unrolled_both round (own ∷ []))) i) s
+    find_in (repeated loop body) round loops b i (inl s) = found_test (HasTestIn (repeated loop body)) (HasStraightIn (repeated loop body)) round loops b loop (inl refl) i.0 s
+    find_in (repeated loop body) round loops b i (inr s) =
+        found_more (HaveStraight body) (HasStraightIn (repeated loop body)) (HaveTest body) (HasTestIn (repeated loop body)) loops b (λ cs h. h) (λ c h. inr h)
+        (find body round loops b i.1 s)
+    find_in (decided choice chosen other) round loops b i (inl s) =
+        found_test (HasTestIn (decided choice chosen other)) (HasStraightIn (decided choice chosen other)) round loops b choice (inl refl) i.0 s
+    find_in (decided choice chosen other) round loops b i (inr (inl s)) =
+        found_more (HaveStraight chosen) (HasStraightIn (decided choice chosen other)) (HaveTest chosen) (HasTestIn (decided choice chosen other)) loops b
+        (λ cs h. inl h) (λ c h. inr (inl h)) (find chosen round loops b i.1.0 s)
+    find_in (decided choice chosen other) round loops b i (inr (inr s)) =
+        found_more (HaveStraight other) (HasStraightIn (decided choice chosen other)) (HaveTest other) (HasTestIn (decided choice chosen other)) loops b
+        (λ cs h. inr h) (λ c h. inr (inr h)) (find other round loops b i.1.1 s)
+
+    find : (ps : Phases) (round loops : List Turning) (b : Block) → AreInside (unrolled round) ps → StandsIn round (core_phases known ps) loops b
+        → Found (HaveStraight ps) (HaveTest ps) loops b
+    find no_phases round loops b i s = elim s [ ]
+    find (phase p ps) round loops b i (inl s) =
+        found_more (HasStraightIn p) (HaveStraight (phase p ps)) (HasTestIn p) (HaveTest (phase p ps)) loops b (λ cs h. inl h) (λ c h. inl h) (find_in p round loops b i.0 s)
+    find (phase p ps) round loops b i (inr s) =
+        found_more (HaveStraight ps) (HaveStraight (phase p ps)) (HaveTest ps) (HaveTest (phase p ps)) loops b (λ cs h. inr h) (λ c h. inr h) (find ps round loops b i.1 s)
+
+  find_listed : (ps : List Phase) (round loops : List Turning) (b : Block) → ListInside (unrolled round) ps → StandsIn round (core_phases known (of_list ps)) loops b
+      → Found (HasStraight ps) (HasTest ps) loops b
+  find_listed [] round loops b i s = elim s [ ]
+  find_listed (p ∷ ps) round loops b i (inl s) =
+      found_more (HasStraightIn p) (HasStraight (p ∷ ps)) (HasTestIn p) (HasTest (p ∷ ps)) loops b (λ cs h. inl h) (λ c h. inl h) (find_in p round loops b i.0 s)
+  find_listed (p ∷ ps) round loops b i (inr s) =
+      found_more (HasStraight ps) (HasStraight (p ∷ ps)) (HasTest ps) (HasTest (p ∷ ps)) loops b (λ cs h. inr h) (λ c h. inr h) (find_listed ps round loops b i.1 s)
+
+  -- commands along the trace, with the loops round them
+  same_loops : (before part : List SourceEvent) (ts : List Turning) (cs : List Located) → Along before part cs → EachInside known ts cs
+      → (r : Around) × (Follows r before part cs × EachMatches known ts r.loops)
+  same_loops before part ts [] f i = (record { arms = []; loops = i.0 }, (tt, i.1))
+  same_loops before part ts (c ∷ cs) (r, f) i = (r, (f, subst (λ (x : Around). EachMatches known ts x.loops) f.1.1.1.0.around i.0))
+
+-- A block is that of straight commands, whose loops match those round the block.
+pub record StraightMatches (p : Program) (loops : List Turning) (block : Block) : Type 0 where
+  pub of : OfStraight p loops block
+  pub loops_match : LoopsMatch (known_of p) loops of.round.loops
+
+-- A block is that of the test of a command, whose loops match those round the block.
+pub record TestMatches (p : Program) (loops : List Turning) (block : Block) : Type 0 where
+  pub of : OfTest p loops block
+  pub loops_match : LoopsMatch (known_of p) loops of.tested.around.loops
+
+-- each block of a program is that of a phase, in loops that match
+pub block_matches : (p : Program) (first : ℕ) (loops : List Turning) (block : Block) → IsNumbered first p.body → IsNamedAction p.body
+    → StandsIn [] (core_of p).phases loops block → StraightMatches p loops block ⊎ TestMatches p loops block
+block_matches p first loops block numbered names s =
+    by (find_listed (known_of p) (phases_of p) [] loops block (action_inside (known_of p) nothing_around [] 0 p.body names tt) s)
+  where
+    tops : Tops nothing_around [] (trace p) (phases_of p)
+    tops = phases_follow p first numbered names
+
+    by : Found (known_of p) (HasStraight (phases_of p)) (HasTest (phases_of p)) loops block → StraightMatches p loops block ⊎ TestMatches p loops block
+    by (inl (cs, (is, (has, inside)))) =
+        let w = same_loops (known_of p) [] (trace p) (unrolled loops) cs (straight_along [] (trace p) nothing_around (phases_of p) cs tops has) inside in
+        let same : factors loops ≡ factors_of w.0.loops = match_factors (known_of p) loops w.0.loops w.1.1 in
+        inl (record { of = record { done = cs; is = is; has = has; round = w.0; follows = w.1.0; inside = same; paths = ap paths_in same }; loops_match = w.1.1 })
+    by (inr (c, (is, (has, inside)))) =
+        let f = own_around [] (trace p) c (tested_along [] (trace p) nothing_around (phases_of p) c tops has) in
+        let same : factors loops ≡ factors_of c.around.loops = match_factors (known_of p) loops c.around.loops inside in
+        inr (record { of = record { tested = c; is = is; has = has; follows = f; inside = same; paths = ap paths_in same }; loops_match = inside })
+
+-- so are those of a ready program
+pub ready_match : (p : Program) → IsReady p → StoresToAccesses p → (loops : List Turning) (block : Block)
+    → StandsIn [] (core_of p).phases loops block → StraightMatches p loops block ⊎ TestMatches p loops block
+ready_match p r t loops block s = block_matches p r.of_text.first loops block r.of_text.numbered (ready_named p r t) s

@@ -1,0 +1,70 @@
+-- What is asked of straight commands so that a walk along the trace can follow them: names that are used as
+-- variables stand for something, and a store's target is an access. All of it holds of a resolved program of a
+-- text.
+use Rattle.std.specs.Prelude.{◌≡◌, ℕ, Option, Some, None}
+use Rattle.dh_tree.specs.declared.trees.expressions.Ref.{Ref}
+use Rattle.dh_tree.specs.PlainTrees.{Term, term, TermForm, number, truth_value, named, accessed, in_bank, applied, converted, Terms, no_terms, term_then, Action, action, ActionForm, lets, lets_memory, views, assigns, stores, reduces, calls, blocks, decides, repeats, counts, MaybeAction, no_action, one_action, Actions, no_actions, action_then, Groups, no_groups, group_then}
+
+-- a name stands for something
+abbrev pub Stands : Ref → Type 0
+Stands r = (e : ℕ) × (r.entity ≡ Some e)
+
+abbrev mutual
+  pub IsNamedTerm : Term → Type 0
+  IsNamedTerm (term place k f) = IsNamedTermForm f
+
+  pub IsNamedTermForm : TermForm → Type 0
+  IsNamedTermForm (number negative x) = Unit {0}
+  IsNamedTermForm (truth_value x) = Unit {0}
+  IsNamedTermForm (named r) = Stands r
+  IsNamedTermForm (accessed r ts) = AreNamedTerms ts
+  IsNamedTermForm (in_bank r bank at t) = IsNamedTerm t
+  IsNamedTermForm (applied o l r) = IsNamedTerm l × IsNamedTerm r
+  IsNamedTermForm (converted t to) = IsNamedTerm t
+
+  pub AreNamedTerms : Terms → Type 0
+  AreNamedTerms no_terms = Unit {0}
+  AreNamedTerms (term_then t ts) = IsNamedTerm t × AreNamedTerms ts
+
+abbrev pub MaybeNamed : Option Term → Type 0
+MaybeNamed None = Unit {0}
+MaybeNamed (Some t) = IsNamedTerm t
+
+-- the target of a store
+abbrev pub IsTarget : Term → Type 0
+IsTarget (term place k (accessed r ts)) = AreNamedTerms ts
+IsTarget (term place k (in_bank r bank at t)) = IsNamedTerm t
+IsTarget (term place k (number negative x)) = ⊥
+IsTarget (term place k (truth_value x)) = ⊥
+IsTarget (term place k (named r)) = ⊥
+IsTarget (term place k (applied o l r)) = ⊥
+IsTarget (term place k (converted t to)) = ⊥
+
+abbrev mutual
+  pub IsNamedAction : Action → Type 0
+  IsNamedAction (action id place f) = IsNamedForm f
+
+  pub IsNamedForm : ActionForm → Type 0
+  IsNamedForm (lets name declared value) = Stands name × MaybeNamed value
+  IsNamedForm (lets_memory name shape shape_places value) = Unit {0}
+  IsNamedForm (views name parent form) = Unit {0}
+  IsNamedForm (assigns target value) = Stands target × IsNamedTerm value
+  IsNamedForm (stores target value) = IsTarget target × IsNamedTerm value
+  IsNamedForm (reduces target op value) = Stands target × IsNamedTerm value
+  IsNamedForm (calls function arguments) = Unit {0}
+  IsNamedForm (blocks body) = AreNamedGroups body
+  IsNamedForm (decides test chosen other) = IsNamedTerm test × (IsNamedAction chosen × IsNamedOther other)
+  IsNamedForm (repeats test body) = IsNamedTerm test × IsNamedAction body
+  IsNamedForm (counts iterator declared low high factor body combine combine_place) = Stands iterator × (IsNamedAction body × IsNamedOther combine)
+
+  pub IsNamedOther : MaybeAction → Type 0
+  IsNamedOther no_action = Unit {0}
+  IsNamedOther (one_action a) = IsNamedAction a
+
+  pub AreNamedGroups : Groups → Type 0
+  AreNamedGroups no_groups = Unit {0}
+  AreNamedGroups (group_then part rest) = AreNamedActions part × AreNamedGroups rest
+
+  pub AreNamedActions : Actions → Type 0
+  AreNamedActions no_actions = Unit {0}
+  AreNamedActions (action_then a rest) = IsNamedAction a × AreNamedActions rest

@@ -1,0 +1,59 @@
+-- What is told of the events of a step, as the rules on ports see them: of which access each is, and with which key.
+use Rattle.std.specs.Prelude.{◌≡◌, ◌⊎◌, ℕ, ◌<◌, Bool, true, false, List, [], ◌∷◌, Option, Some, None, slice_get}
+use Rattle.std.specs.Set.{is_member}
+use Rattle.dh_base.specs.declared.places.Place.{Place}
+use Rattle.dh_tree.specs.Elements.{Spot}
+use Rattle.dh_tree.specs.PlainTrees.{Program}
+use Rattle.dh_meaning.specs.Bindings.{bindings_of}
+use Rattle.dh_meaning.specs.Effects.{Event, reads, writes, is_at}
+use Rattle.dh_meaning.specs.Paths.{Path, same_path}
+use Rattle.dh_meets.specs.Charges.{key_of, keys_reaching}
+use Rattle.dh_meets.specs.Sharing.{shared}
+use Rattle.dh_meets.specs.SourceEvents.{SourceAccess, accesses_in, trace}
+
+-- the key of an access at a path, by its number
+abbrev pub key_from : Program → Option SourceAccess → Path → List ℕ
+key_from p None path = []
+key_from p (Some a) path = key_of (bindings_of p) a path
+
+abbrev pub access_at : Program → ℕ → Option SourceAccess
+access_at p n = slice_get (accesses_in (trace p)) n
+
+abbrev pub key_at : Program → ℕ → Path → List ℕ
+key_at p n path = key_from p (access_at p n) path
+
+-- the keys with which an access reaches a bank, by its number
+abbrev pub keys_from : Program → (memory bank : ℕ) → Option SourceAccess → List (List ℕ)
+keys_from p memory bank None = []
+keys_from p memory bank (Some a) = keys_reaching p a memory bank
+
+abbrev pub keys_at : Program → (memory bank : ℕ) → ℕ → List (List ℕ)
+keys_at p memory bank n = keys_from p memory bank (access_at p n)
+
+abbrev pub IsAmong : Event → List Event → Type 0
+IsAmong ev [] = ⊥
+IsAmong ev (e ∷ es) = (ev ≡ e) ⊎ IsAmong ev es
+
+-- a read of an access that shares an earlier one has led where that one led, which was made at the same path
+pub record SharedRead (p : Program) (es : List Event) (n : ℕ) (path : Path) (s : Spot) (earlier : ℕ) : Type 0 where
+  pub before : earlier < n
+  pub place : Place
+  pub made : IsAmong (reads earlier place path s) es
+
+-- the access of an event
+pub record IsOfAccess (p : Program) (n : ℕ) (writing : Bool) : Type 0 where
+  pub of : SourceAccess
+  pub listed : access_at p n ≡ Some of
+  pub writes_it : of.writes ≡ writing
+
+-- What is told of the events that a block makes and that reach a bank of the memory that is an entity, whose number
+-- in the table is `memory`.
+pub record AreTold (p : Program) (entity memory bank : ℕ) (es : List Event) : Type 0 where
+  pub read_of : (n : ℕ) (place : Place) (path : Path) (s : Spot) → IsAmong (reads n place path s) es → IsOfAccess p n false
+  pub write_of : (n : ℕ) (place : Place) (path : Path) (s : Spot) (value : ℕ) → IsAmong (writes n place path s value) es → IsOfAccess p n true
+  pub read_shares : (n : ℕ) (place : Place) (path : Path) (s : Spot) (earlier : ℕ) → IsAmong (reads n place path s) es → shared p n ≡ Some earlier → SharedRead p es n path s earlier
+  -- the key is one with which the access reaches the bank
+  pub read_reaches : (n : ℕ) (place : Place) (path : Path) (s : Spot) → IsAmong (reads n place path s) es → is_at s memory bank ≡ true → is_member same_path (keys_at p entity bank n) (key_at p n path) ≡ true
+  pub write_reaches : (n : ℕ) (place : Place) (path : Path) (s : Spot) (value : ℕ) → IsAmong (writes n place path s value) es → is_at s memory bank ≡ true → is_member same_path (keys_at p entity bank n) (key_at p n path) ≡ true
+  -- reads of one access with one key lead to one element
+  pub one_element : (n : ℕ) (place later : Place) (path other : Path) (s t : Spot) → IsAmong (reads n place path s) es → IsAmong (reads n later other t) es → key_at p n path ≡ key_at p n other → s ≡ t
