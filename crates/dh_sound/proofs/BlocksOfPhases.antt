@@ -281,7 +281,7 @@ module _ (before part : List SourceEvent) where
   any_factors (n ∷ fs) = ap (λ l. n ∷ l) (any_factors fs)
 
   -- commands along the trace, with the loops round them
-  same_loops : (fs : List ℕ) (cs : List Located) → Along cs → EachInside fs cs → (r : Around) × (Follows r before part cs × (fs ≡ factors_of r.loops))
+  pub same_loops : (fs : List ℕ) (cs : List Located) → Along cs → EachInside fs cs → (r : Around) × (Follows r before part cs × (fs ≡ factors_of r.loops))
   same_loops fs [] f i = (record { arms = []; loops = any_loops fs }, (tt, any_factors fs))
   same_loops fs (c ∷ cs) (r, f) i = (r, (f, sym i.0 ∙ ap (λ (x : Around). factors_of x.loops) f.1.1.1.0.around))
 

@@ -30,15 +30,15 @@ use Rattle.dh_sound.proofs.PhasesHold.{Facts, PhaseHolds, PhasesHold, ListHolds,
 
 -- Variables by their numbers.
 
-abbrev size : Scope → ℕ
+abbrev pub size : Scope → ℕ
 size s = length s.entities
 
 -- a variable has one of so many numbers
-abbrev IsBelow : ℕ → Option ℕ → Type 0
+abbrev pub IsBelow : ℕ → Option ℕ → Type 0
 IsBelow k None = Unit {0}
 IsBelow k (Some n) = n < k
 
-abbrev AllBelow : ℕ → List Binding → Type 0
+abbrev pub AllBelow : ℕ → List Binding → Type 0
 AllBelow k [] = Unit {0}
 AllBelow k (b ∷ bs) = IsBelow k b.entity × AllBelow k bs
 
@@ -46,7 +46,7 @@ below_more : (j k : ℕ) (e : Option ℕ) → j ≤ k → IsBelow j e → IsBelo
 below_more j k None l h = tt
 below_more j k (Some n) l h = omega (arith, l, h)
 
-all_more : (j k : ℕ) (bs : List Binding) → j ≤ k → AllBelow j bs → AllBelow k bs
+pub all_more : (j k : ℕ) (bs : List Binding) → j ≤ k → AllBelow j bs → AllBelow k bs
 all_more j k [] l h = tt
 all_more j k (b ∷ bs) l h = (below_more j k b.entity l h.0, all_more j k bs l h.1)
 
@@ -54,16 +54,16 @@ all_both : (k : ℕ) (bs cs : List Binding) → AllBelow k bs → AllBelow k cs 
 all_both k [] cs h i = i
 all_both k (b ∷ bs) cs h i = (h.0, all_both k bs cs h.1 i)
 
-two_below : (j k : ℕ) (bs cs : List Binding) → j ≤ k → AllBelow j bs → AllBelow k cs → AllBelow k (bs ++ cs)
+pub two_below : (j k : ℕ) (bs cs : List Binding) → j ≤ k → AllBelow j bs → AllBelow k cs → AllBelow k (bs ++ cs)
 two_below j k bs cs l h i = all_both k bs cs (all_more j k bs l h) i
 
 -- a declaration takes the next number
-next_below : (s : Scope) (r : Ref) (sort : Sort) (e : Option ℕ) → Some (size s) ≡ e → IsBelow (size (declare s r sort)) e
+pub next_below : (s : Scope) (r : Ref) (sort : Sort) (e : Option ℕ) → Some (size s) ≡ e → IsBelow (size (declare s r sort)) e
 next_below s r sort e h = let g = length-append s.entities (entity r sort ∷ []) in subst (IsBelow (size (declare s r sort))) h (omega (arith, g))
 
 -- the variables of a command are numbered by its end
 mutual
-  all_below : (a : Action) (s : Scope) (d : ℕ) → resolved_action s a ≡ a → AllBelow (size (at_end s a)) (bindings d a)
+  pub all_below : (a : Action) (s : Scope) (d : ℕ) → resolved_action s a ≡ a → AllBelow (size (at_end s a)) (bindings d a)
   all_below (action id place form) s d e = let same : resolved_form s form ≡ form = cc in form_below form s d same
 
   form_below : (f : ActionForm) (s : Scope) (d : ℕ) → resolved_form s f ≡ f → AllBelow (size (form_at_end s f)) (form_bindings d f)
@@ -98,7 +98,7 @@ mutual
   other_below no_action s d e = tt
   other_below (one_action a) s d e = let same : resolved_action s a ≡ a = cc in all_below a s d same
 
-  part_below : (part : Actions) (s : Scope) (d : ℕ) → resolved_actions s part ≡ part → AllBelow (size (actions_at_end s part)) (part_bindings d part)
+  pub part_below : (part : Actions) (s : Scope) (d : ℕ) → resolved_actions s part ≡ part → AllBelow (size (actions_at_end s part)) (part_bindings d part)
   part_below no_actions s d e = tt
   part_below (action_then a rest) s d e =
       let after : Scope = past s a (at_end s a) in
@@ -120,7 +120,7 @@ mutual
 
 -- Iterators by their numbers.
 
-is_absent : (n : ℕ) (e : Option ℕ) → IsBelow n e → same_entity e (Some n) ≡ false
+pub is_absent : (n : ℕ) (e : Option ℕ) → IsBelow n e → same_entity e (Some n) ≡ false
 is_absent n None h = refl
 is_absent n (Some m) h = grind (arith, nat_tests, h)
 
@@ -128,16 +128,16 @@ is_there : (n : ℕ) → same_entity (Some n) (Some n) ≡ true
 is_there n = grind (arith, nat_tests)
 
 -- the first variable with a number, behind those with smaller ones
-first_found : (before : List Binding) (b : Binding) (rest : List Binding) (n : ℕ) → Some n ≡ b.entity → AllBelow n before → binding_in (before ++ b ∷ rest) n ≡ Some b
+pub first_found : (before : List Binding) (b : Binding) (rest : List Binding) (n : ℕ) → Some n ≡ b.entity → AllBelow n before → binding_in (before ++ b ∷ rest) n ≡ Some b
 first_found [] b rest n e h =
     ap (λ t. if t then Some b else binding_in rest n) (subst (λ (o : Option ℕ). same_entity o (Some n) ≡ true) e (is_there n))
 first_found (c ∷ before) b rest n e h =
     ap (λ t. if t then Some c else binding_in (before ++ b ∷ rest) n) (is_absent n c.entity h.0) ∙ first_found before b rest n e h.1
 
-split_first : (bs before b c after : List Binding) → bs ≡ before ++ ((b ++ c) ++ after) → bs ≡ before ++ (b ++ (c ++ after))
+pub split_first : (bs before b c after : List Binding) → bs ≡ before ++ ((b ++ c) ++ after) → bs ≡ before ++ (b ++ (c ++ after))
 split_first bs before b c after e = e ∙ ap (λ x. before ++ x) (append_assoc b c after)
 
-split_second : (bs before b c after : List Binding) → bs ≡ before ++ ((b ++ c) ++ after) → bs ≡ (before ++ b) ++ (c ++ after)
+pub split_second : (bs before b c after : List Binding) → bs ≡ before ++ ((b ++ c) ++ after) → bs ≡ (before ++ b) ++ (c ++ after)
 split_second bs before b c after e = split_first bs before b c after e ∙ sym (append_assoc before b (c ++ after))
 
 module _ (bs : List Binding) where

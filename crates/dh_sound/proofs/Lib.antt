@@ -63,3 +63,6 @@ pub mod PortsOfBlocks
 pub mod PortsKept
 pub mod LoopsMatch
 pub mod TurnsOfIndices
+pub mod NamesScoped
+pub mod NamesOfEvents
+pub mod NamesInScope

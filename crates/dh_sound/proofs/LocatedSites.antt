@@ -16,14 +16,14 @@ use Rattle.dh_sound.proofs.Sited.{At, at_left, at_right, at_slice, term_site, ar
 
 module _ (k : ℕ) (a : SourceAccess) where
   -- an access with a number of a command is one of its events
-  located_at : (es : List SourceEvent) (c : Located) → StandsAmong 0 es c → Within k c.first (accesses_of c.command) → slice_get (accesses_in es) k ≡ Some a
+  pub located_at : (es : List SourceEvent) (c : Located) → StandsAmong 0 es c → Within k c.first (accesses_of c.command) → slice_get (accesses_in es) k ≡ Some a
       → At c.first k (events c.around c.command) a
   located_at es c s w e =
       at_left k a c.first (c.first + accesses_of c.command) (events c.around c.command) s.after (ap (λ x. c.first + x) (events_counted c.around c.command)) w.1
       (at_right k a 0 c.first s.before (events c.around c.command ++ s.after) s.counted w.0
       (subst (λ (x : List SourceEvent). At 0 k x a) s.all (at_slice k a 0 k es (omega arith) e)))
 
-  test_first : (n : ℕ) (c : Action) → tests_make k n c ≡ true → Within k n (accesses_of c)
+  pub test_first : (n : ℕ) (c : Action) → tests_make k n c ≡ true → Within k n (accesses_of c)
   test_first n (action id place (decides test arm other)) e = let (l, h) = within_span k n (term_accesses test) e in (l, omega (arith, h))
   test_first n (action id place (repeats test body)) e = let (l, h) = within_span k n (term_accesses test) e in (l, omega (arith, h))
   test_first n (action id place (lets name declared value)) e = cc

@@ -192,23 +192,23 @@ pub other_makes_within : (k n : ℕ) (o : MaybeAction) → other_makes k n o ≡
 other_makes_within k n no_action e = cc
 other_makes_within k n (one_action x) e = makes_within k n x e
 
-part_makes_within : (k n : ℕ) (xs : Actions) → part_makes k n xs ≡ true → Within k n (part_accesses xs)
+pub part_makes_within : (k n : ℕ) (xs : Actions) → part_makes k n xs ≡ true → Within k n (part_accesses xs)
 part_makes_within k n xs e =
     let b = bit_true (part_makes k n xs) e in
     let m = part_times k nothing_around n xs in
     within_times k n (part_accesses xs) (times_parts k (parts_phases nothing_around n xs)) _ (part_within k nothing_around n xs) (omega (arith, b, m))
 
-groups_make_within : (k n : ℕ) (gs : Groups) → groups_make k n gs ≡ true → Within k n (groups_accesses gs)
+pub groups_make_within : (k n : ℕ) (gs : Groups) → groups_make k n gs ≡ true → Within k n (groups_accesses gs)
 groups_make_within k n gs e =
     let b = bit_true (groups_make k n gs) e in
     let m = groups_times k nothing_around n gs in
     within_times k n (groups_accesses gs) (times k (groups_phases nothing_around n gs)) _ (groups_within k nothing_around n gs) (omega (arith, b, m))
 
 module _ (k : ℕ) (a : SourceAccess) where
-  first_of : (n c : ℕ) (es fs : List SourceEvent) → count_in es ≡ c → Within k n c → At n k (es ++ fs) a → At n k es a
+  pub first_of : (n c : ℕ) (es fs : List SourceEvent) → count_in es ≡ c → Within k n c → At n k (es ++ fs) a → At n k es a
   first_of n c es fs e w h = at_left k a n (n + c) es fs (ap (λ x. n + x) e) w.1 h
 
-  second_of : (n c : ℕ) (es fs : List SourceEvent) → count_in es ≡ c → n + c ≤ k → At n k (es ++ fs) a → At (n + c) k fs a
+  pub second_of : (n c : ℕ) (es fs : List SourceEvent) → count_in es ≡ c → n + c ≤ k → At n k (es ++ fs) a → At (n + c) k fs a
   second_of n c es fs e l h = at_right k a n (n + c) es fs (ap (λ x. n + x) e) l h
 
   site_loops : (r : Around) (id : ℕ) → a.site ≡ site_of r id → a.site.loops ≡ r.loops

@@ -16,7 +16,7 @@ use Rattle.dh_sound.proofs.KnownReads.{count_joined}
 use Rattle.dh_sound.proofs.Makes.{action_counted, part_counted}
 use Rattle.dh_sound.proofs.Sites.{each_both, each_so, arms_within, StandsWithin, action_stands, part_stands, term_stands}
 use Rattle.dh_sound.proofs.TermWalks.{term_counted}
-use Rattle.dh_sound.specs.Trails.{count, EachAccess, Below, AllBelow, StandsBehind, of_located, Follows, ArmsWithin}
+use Rattle.dh_sound.specs.Trails.{count, EachAccess, Below, AllBelow, StandsBehind, of_located, Follows}
 
 pub below_up : (m k : ℕ) (arms : List Arm) → m ≤ k → Below m arms → Below k arms
 below_up m k arms l a = arms_within 0 m 0 k arms (omega arith) l a

@@ -19,3 +19,4 @@ pub mod BlocksOfPhases
 pub mod KeptPorts
 pub mod Unmet
 pub mod LoopsMatch
+pub mod NamesInScope
