@@ -5,18 +5,8 @@
 #![tactic(auto)]
 
 #[cfg(test)]
-mod arithmetic;
-#[cfg(test)]
-mod checking;
-#[cfg(test)]
-mod ledgers;
-#[cfg(test)]
 mod lexing;
 #[cfg(test)]
 mod outside;
-#[cfg(test)]
-mod parsing;
-#[cfg(test)]
-mod passes;
 #[cfg(test)]
 mod texts;
