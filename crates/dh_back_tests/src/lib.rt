@@ -5,18 +5,8 @@
 #![tactic(auto)]
 
 #[cfg(test)]
-mod data;
-#[cfg(test)]
 mod engines;
-#[cfg(test)]
-mod interpreting;
-#[cfg(test)]
-mod nets;
 #[cfg(test)]
 mod programs;
 #[cfg(test)]
 mod running;
-#[cfg(test)]
-mod simulating;
-#[cfg(test)]
-mod writing;
