@@ -10,7 +10,8 @@ use Rattle.dh_tree.specs.LeastBreach.{least_of}
 use Rattle.dh_tree.specs.Seen.{action_seen, action_form_seen, actions, groups, part_seen}
 use Rattle.dh_tree.specs.Forms.{unbuilt, form_holds}
 use Rattle.dh_tree.specs.UncheckedForms.{unchecked_form, unchecked_part, unchecked_groups}
-use Rattle.dh_check.proofs.Leasts.{least_append, at_item}
+use Rattle.dh_tree.proofs.Leasts.{least_append}
+use Rattle.dh_base.proofs.Items.{at_item}
 use Rattle.dh_check.proofs.KeptForms.{in_turn}
 
 -- the least of what is kept, of the rest of a part, and of the parts from a place on

@@ -1,4 +1,3 @@
-pub mod Leasts
 pub mod StepsHeld
 pub mod KeptForms
 pub mod KeptUnchecked

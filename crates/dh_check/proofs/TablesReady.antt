@@ -15,7 +15,7 @@ use Rattle.dh_tree.specs.Ready.{IsReady}
 use Rattle.dh_tree.specs.Shapes.{IsDim, IsMemory, outside_of, IsProgramTable}
 use Rattle.dh_tree.specs.Tables.{line_of, HasDistinctNames, IsEntry, IsTable}
 use Rattle.dh_tree.specs.Written.{IsOneUnless, AreDims, IsDeclared}
-use Rattle.dh_ports.proofs.OuterNames.{no_rest}
+use Rattle.dh_tree.proofs.OuterNames.{no_rest}
 
 nowhere : (place : Option Place) → unbuilt_where place ≡ [] → place ≡ None
 nowhere None e = refl

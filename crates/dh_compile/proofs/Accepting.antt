@@ -26,7 +26,7 @@ use Rattle.dh_compile.specs.Grouped.{IsLineEntry, IsGroup, IsGrouped, phases_fro
 use Rattle.dh_compile.specs.Timetable.{any_read, is_read, total_length}
 use Rattle.dh_compile.specs.Reading.{action_read, phase_read, store_phases, program_read}
 use Rattle.dh_compile.proofs.Groups.{at_place}
-use Rattle.dh_compile.proofs.OuterNames.{no_rest, no_functions, items_are, visible_declared}
+use Rattle.dh_tree.proofs.OuterNames.{no_rest, no_functions, items_are, visible_declared}
 use Rattle.dh_compile.proofs.Plain.{Known, CommandFits, PhasesFit, entity_element, body_fits}
 use Rattle.dh_compile.proofs.DeclaredTables.{entry_of, few_elements, AreFirst, memories_are, table_is, are_first, number_of, memory_at}
 use Rattle.dh_compile.proofs.Declarations.{IsLineDecl, distinct_names, decls_are, lines_are, entries_are}

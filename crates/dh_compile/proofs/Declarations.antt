@@ -26,7 +26,7 @@ use Rattle.dh_tree.specs.Written.{IsOneUnless, AreDims, IsDeclared}
 use Rattle.dh_compile.proofs.DeclaredTables.{entry_of}
 use Rattle.dh_tree.specs.Forms.{is_word, unbuilt_where, further_dims, unbuilt_dims, unbuilt_decl, unbuilt_decls}
 use Rattle.dh_compile.specs.Grouped as grouped
-use Rattle.dh_compile.proofs.OuterNames.{no_rest, if_none}
+use Rattle.dh_tree.proofs.OuterNames.{no_rest, if_none}
 use Rattle.dh_compile.proofs.Plain.{LineFits}
 
 same_name : (name : List ℕ) → bytes_eq name name ≡ true

@@ -17,7 +17,7 @@ use Rattle.dh_tree.specs.Excesses.{or_else, first_above, first_excess}
 use Rattle.dh_tree.specs.Tables.{elements_in, most_elements}
 use Rattle.dh_tree.specs.Resolved.{resolved_decls}
 use Rattle.dh_tree.specs.Forms.{unbuilt, form_holds, unbuilt_action, unbuilt_form, unbuilt_groups, unbuilt_part}
-use Rattle.dh_compile.proofs.OuterNames.{no_rest}
+use Rattle.dh_tree.proofs.OuterNames.{no_rest}
 
 -- the entry of a declaration
 abbrev pub entry_of : Declared → MemEntry

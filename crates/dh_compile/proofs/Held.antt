@@ -9,7 +9,7 @@ use Rattle.dh_tree.specs.Phases.{Phase, straight, turns, repeated, decided, phas
 use Rattle.dh_tree.specs.Forms.{unbuilt, form_holds, unbuilt_action, unbuilt_form, unbuilt_groups, unbuilt_part}
 use Rattle.dh_tree.specs.Kinds.{Facts, facts_after_form, facts_after_actions, facts_after_groups, typed_action, typed_action_form, typed_actions, typed_groups}
 use Rattle.dh_tree.specs.KindBreaches.{action_kind_breaches, action_form_kind_breaches, actions_kind_breaches, groups_kind_breaches}
-use Rattle.dh_compile.proofs.OuterNames.{no_rest}
+use Rattle.dh_tree.proofs.OuterNames.{no_rest}
 use Rattle.dh_compile.proofs.Listing.{all_append}
 use Rattle.dh_compile.proofs.Plain.{action_form, block_body, first_part, other_parts, first_action, other_actions}
 

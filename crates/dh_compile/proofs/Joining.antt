@@ -1,6 +1,5 @@
 -- The groups of a list, from those of its commands.
-use Rattle.std.proofs.Common.{◌≡◌, ℕ, suc, ◌+◌, ◌<◌, List, [], ◌∷◌, ◌++◌, length, ◌≤◌, get_or, drop, map, refl, ap, sym, ◌∙◌, add-one, append_assoc}
-use Rattle.std.proofs.Math.Seq.{drop-cons}
+use Rattle.std.proofs.Common.{◌≡◌, ℕ, ◌+◌, ◌<◌, List, [], ◌∷◌, ◌++◌, length, ◌≤◌, get_or, drop, map, refl, ap, sym, ◌∙◌, append_assoc}
 use Rattle.std.proofs.lemmas.List.{drop_all}
 use Rattle.std.specs.List.{AllByRecursion}
 use Rattle.dh_base.specs.declared.places.Place.{Place}
@@ -16,6 +15,7 @@ use Rattle.dh_tree.specs.Seen.{actions, groups, action_seen, action_form_seen, p
 use Rattle.dh_tree.specs.declared.trees.commands.Command.{Command}
 use Rattle.dh_compile.specs.declared.stores.Store.{Store}
 use Rattle.dh_compile.specs.Reading.{action_read, phase_read, form_store_phases, groups_store_phases, parts_store_phases, groups_read, one_group, done_by, current_after, gathered, part_read, parts_read}
+use Rattle.dh_base.proofs.Items.{at_item}
 
 map_append : {A B : Type 0} (f : A → B) (xs ys : List A) → map f (xs ++ ys) ≡ map f xs ++ map f ys
 map_append f [] ys = refl
@@ -105,10 +105,6 @@ pub block_is : (gs : plain.Groups) → map phase_read (groups_store_phases gs) �
 block_is plain.no_groups = refl
 block_is (plain.group_then part rest) =
     map_append phase_read (joined [] (parts_store_phases part)) (groups_store_phases rest) ∙ ap (λ l. part_read part ++ l) (block_is rest)
-
--- what is left of a list is its next item and what is left behind that
-at_item : {A : Type 0} (xs : List A) (i : ℕ) (x : A) → i < length xs → x ≡ get_or xs i x → drop i xs ≡ x ∷ drop (i + 1) xs
-at_item xs i x within is = drop-cons xs i x within ∙ (ap (λ y. y ∷ drop (suc i) xs) (sym is) ∙ ap (λ n. x ∷ drop n xs) (sym (add-one i)))
 
 -- what the parts from one on give is what its commands give, and then the parts behind it
 pub part_begin : (ps : List (Vec Command Global)) (i : ℕ) (p : Vec Command Global) (done all : List (List Store)) (open_group : List Store) (cs : List Command) → i < length ps → p ≡ get_or ps i p → cs ≡ p.items

@@ -19,7 +19,7 @@ use Rattle.dh_compile.proofs.DeclaredTables.{entry_of}
 use Rattle.dh_tree.specs.Kinds.{of_memory, Facts, fact_at, fact_of, signed_number, is_value, number_kind, number_found, number_breaches, index_breaches, access_breaches, access_found, applied_breaches, for_numbers, found, declared_facts, typed_term, typed_terms}
 use Rattle.dh_tree.specs.KindBreaches.{form_kind_breaches, indices_kind_breaches, assigned_breaches, right_side_breaches}
 use Rattle.dh_compile.specs.Grouped as grouped
-use Rattle.dh_compile.proofs.OuterNames.{no_rest}
+use Rattle.dh_tree.proofs.OuterNames.{no_rest}
 use Rattle.dh_compile.proofs.Plain.{PlainNumber, OneIndex, EntityFits, ElementFits, IsSmall, IsSum, ValueFits, StoreFits, CommandFits, PhasesFit, entity_element}
 use Rattle.dh_compile.proofs.Declarations.{IsLineDecl}
 use Rattle.dh_compile.proofs.Held.{FormHeld, CommandHeld, PhasesHeld}

@@ -9,7 +9,6 @@ pub mod Kinded
 pub mod Held
 pub mod Declarations
 pub mod Plain
-pub mod OuterNames
 pub mod DeclaredTables
 pub mod StorePhases
 pub mod Meeting

@@ -30,7 +30,7 @@ use Rattle.dh_tree.specs.Meaning.{entity_number}
 use Rattle.dh_compile.proofs.DeclaredTables.{entry_of}
 use Rattle.dh_tree.specs.Tables.{line_of}
 use Rattle.dh_tree.specs.Forms.{unbuilt, plain_number, is_small, is_element, further_indices, unbuilt_index, unbuilt_indices, unbuilt_element, unbuilt_access, is_sum_of, unbuilt_stored, unbuilt_value, form_holds, unbuilt_action, unbuilt_form, unbuilt_groups, unbuilt_part}
-use Rattle.dh_compile.proofs.OuterNames.{no_rest, if_none}
+use Rattle.dh_tree.proofs.OuterNames.{no_rest, if_none}
 use Rattle.dh_compile.specs.Grouped as grouped
 use Rattle.dh_compile.specs.Reading.{number_read, index_read}
 use Rattle.dh_compile.proofs.Listing.{all_append, both}

@@ -6,7 +6,7 @@ use Rattle.dh_tree.specs.PlainTrees.{Action, action, ActionForm, lets, lets_memo
 use Rattle.dh_tree.specs.Phases.{phases, form_phases, joined, parts_phases, groups_phases}
 use Rattle.dh_tree.specs.Forms.{unbuilt, form_holds, unbuilt_action, unbuilt_form, unbuilt_groups, unbuilt_part}
 use Rattle.dh_compile.specs.Reading.{store_phases, form_store_phases, groups_store_phases, parts_store_phases}
-use Rattle.dh_compile.proofs.OuterNames.{no_rest}
+use Rattle.dh_tree.proofs.OuterNames.{no_rest}
 
 mutual
   -- no other command is of the built forms

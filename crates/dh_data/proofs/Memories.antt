@@ -1,8 +1,8 @@
 -- The loop over the memories of a table: from its place on, what is still to be added is one memory
 -- and what is to be added from the next place on.
-use Rattle.std.proofs.Common.{◌≡◌, ℕ, zero, suc, ◌+◌, ◌<◌, ◌≤◌, List, [], ◌∷◌, ◌++◌, length, get_or, map, drop, codes, Vec, Global, false, subst, refl, sym, ap, ◌∙◌, arith, add-one}
+use Rattle.std.proofs.Common.{◌≡◌, ℕ, zero, suc, ◌+◌, ◌<◌, ◌≤◌, List, [], ◌∷◌, ◌++◌, length, get_or, map, drop, codes, Vec, Global, false, subst, refl, sym, ap, ◌∙◌, arith}
 use Rattle.std.specs.List.{AllByRecursion}
-use Rattle.std.proofs.Math.Seq.{drop-cons, drop-nil}
+use Rattle.std.proofs.Math.Seq.{drop-nil}
 use Rattle.std.proofs.Math.ListN.{drop_of_length-le}
 use Rattle.std.proofs.lemmas.List.{length-map, get_or-map}
 use Rattle.serde_json.specs.Data.{Data, Members}
@@ -11,6 +11,7 @@ use Rattle.dh_tree.specs.Tables.{FitsEntry, Fits}
 use Rattle.dh_tree.specs.declared.tables.MemEntry.{MemEntry}
 use Rattle.dh_data.specs.Reading.{IsHeld}
 use Rattle.dh_data.specs.Reports.{outside_data, with_outside}
+use Rattle.dh_base.proofs.Items.{at_item}
 
 -- what a turn has and leaves
 pub record Turn (es rest : List MemEntry) (ms more : List (List ℕ)) (e : MemEntry) (m : List ℕ) : Type 0 where
@@ -28,9 +29,6 @@ is_turn es rest ms more e m first list table fits =
     let table' : AllByRecursion IsHeld (e ∷ rest) = subst (λ (x : List MemEntry). AllByRecursion IsHeld x) first table in
     let fits' : Fits (e ∷ rest) (m ∷ more) = subst (λ (x : List MemEntry). Fits x (m ∷ more)) first (subst (λ (x : List (List ℕ)). Fits es x) list fits) in
     subst (λ (x : List MemEntry). Turn x rest ms more e m) (sym first) (subst (λ (x : List (List ℕ)). Turn (e ∷ rest) rest x more e m) (sym list) (cons_turn rest more e m table' fits'))
-
-pub at_item : {X : Type 0} (xs : List X) (i : ℕ) (x : X) → i < length xs → x ≡ get_or xs i x → drop i xs ≡ x ∷ drop (i + 1) xs
-at_item xs i x within is = drop-cons xs i x within ∙ (ap (λ y. y ∷ drop (suc i) xs) (sym is) ∙ ap (λ n. x ∷ drop n xs) (sym (add-one i)))
 
 -- there is a list for each memory
 fits_there : (es : List MemEntry) (ms : List (List ℕ)) (i : ℕ) → i < length es → Fits (drop i es) (drop i ms) → i < length ms

@@ -1,11 +1,12 @@
 -- A turn of the loops that look for a greatest number: the greatest so far is raised to the next one,
 -- which the greatest of the rest holds already.
-use Rattle.std.proofs.Common.{◌≡◌, ℕ, suc, ◌+◌, ◌<◌, ◌≤◌, List, [], ◌∷◌, length, get_or, drop, max, ap, sym, ◌∙◌, subst, arith, drop-cons, add-one}
+use Rattle.std.proofs.Common.{◌≡◌, ℕ, ◌+◌, ◌<◌, ◌≤◌, List, [], ◌∷◌, length, get_or, drop, max, ap, ◌∙◌, subst, arith}
 use Rattle.std.proofs.lemmas.Bool.{cond_both}
 use Rattle.dh_lexer.specs.Counted.{open_after, most_open, operators_after, most_operators, is_separator, is_operator}
 use Rattle.dh_lexer.specs.declared.tokens.Token.{Token}
 use Rattle.dh_lexer.specs.declared.tokens.TokenKind.{TokenKind}
 use Rattle.dh_lexer.specs.declared.tokens.TokenKind.TheVariants as kind
+use Rattle.dh_base.proofs.Items.{at_item}
 
 open_least : (n : ℕ) (ts : List Token) → n ≤ most_open n ts
 open_least n [] = omega arith
@@ -45,9 +46,6 @@ seen_turn most now after rest total index next raised seen e one least is = reco
   few = omega (arith, one, seen.few);
   reached = omega (arith, is);
 }
-
-at_item : (tokens : List Token) (i : ℕ) (t : Token) → i < length tokens → t ≡ get_or tokens i t → drop i tokens ≡ t ∷ drop (i + 1) tokens
-at_item tokens i t early at = rw add-one (drop-cons tokens i t early ∙ ap (λ x. x ∷ drop (suc i) tokens) (sym at))
 
 pub open_turn : (tokens : List Token) (i most now total next raised : ℕ) (t : Token) → i < length tokens → t ≡ get_or tokens i t
     → Seen most now (most_open now (drop i tokens)) total i → next ≡ open_after now t.kind → raised ≡ max next most

@@ -18,7 +18,7 @@ use Rattle.dh_tree.specs.Breaches.{unknown, twice, term_breaches, list_breaches,
 use Rattle.dh_tree.specs.Resolved.{used, declares, resolved_term, resolved_plan, resolved_action, resolved_other}
 use Rattle.dh_tree.specs.NameCounts.{declared_in, declared_in_form, declared_in_other, declared_in_groups}
 use Rattle.dh_names.specs.Walks.{State, walked, cut, Room, Resolves, ResolvesForm, ResolvesOther, ResolvesInner, ResolvesNext, ResolvesGroups, is_blocks}
-use Rattle.dh_names.proofs.Keeping.{least_then}
+use Rattle.dh_tree.proofs.Leasts.{least_append}
 use Rattle.dh_names.proofs.Extended.{Further, further, other_further, declare_further, onward, counted, declare_counted}
 
 -- two steps, one after the other
@@ -26,7 +26,7 @@ pub next_step : (s0 s1 s2 : State) (xs : List Breach) (p : Scope) (ys : State �
     → s2 ≡ walked s0 (xs ++ ys (walked s0 xs p)) (t (walked s0 xs p))
 next_step s0 s1 s2 xs p ys t one two =
     two ∙ ap (λ s. walked s (ys s) (t s)) one
-    ∙ ap (λ l. record { outer = s0.outer; scope = t (walked s0 xs p); least = l }) (sym (least_then s0.least xs (ys (walked s0 xs p))))
+    ∙ ap (λ l. record { outer = s0.outer; scope = t (walked s0 xs p); least = l }) (sym (least_append s0.least xs (ys (walked s0 xs p))))
 
 pub room_at : (s0 s1 : State) (xs : List Breach) (t : Scope) (n : ℕ) → s1 ≡ walked s0 xs t → length t.entities + n ≤ 2 ^ 32 → Room s1 n
 room_at s0 s1 xs t n is room = subst (λ s. Room s n) (sym is) room

@@ -16,8 +16,8 @@ use Rattle.dh_tree.specs.Resolved.{declares, numbered, resolved_action, resolved
 use Rattle.dh_tree.specs.NameCounts.{declared_in, declared_in_functions}
 use Rattle.dh_names.specs.Walks.{State, walked, Room, Resolves}
 use Rattle.dh_names.specs.Programs.{IsOutside, between, ResolvesFormals, ResolvesFunction, ResolvesFunctions}
-use Rattle.dh_names.proofs.InPlace.{Unvisited, run, made, sum, Fits, FitsSoFar, finish, written}
-use Rattle.dh_names.proofs.Keeping.{least_then}
+use Rattle.dh_base.proofs.InPlace.{Unvisited, run, made, sum, Fits, FitsSoFar, finish, written}
+use Rattle.dh_tree.proofs.Leasts.{least_append}
 use Rattle.dh_names.proofs.Extended.{Further, same, onward, declare_further, counted, declare_counted}
 use Rattle.dh_names.proofs.FormsDone.{next_step, room_at, first_room, next_room}
 use Rattle.dh_names.proofs.ListsDone.{entity_count}
@@ -146,7 +146,7 @@ functions_run : (p : ℕ × State) (list : List Defined) → IsOutside p.1
 functions_run p [] outside = ap (λ o. record { outer = o; scope = p.1.scope; least = p.1.least }) (sym outside)
 functions_run p (f ∷ rest) outside =
     functions_run (function_step p f) rest refl
-    ∙ ap (λ l. between p.1 (after_functions (p.0 + 1) (after_function p.0 p.1.scope f) rest) l) (sym (least_then p.1.least (function_breaches p.1.scope f) (functions_breaches (p.0 + 1) (after_function p.0 p.1.scope f) rest)))
+    ∙ ap (λ l. between p.1 (after_functions (p.0 + 1) (after_function p.0 p.1.scope f) rest) l) (sym (least_append p.1.least (function_breaches p.1.scope f) (functions_breaches (p.0 + 1) (after_function p.0 p.1.scope f) rest)))
 
 functions_sum : (list : List Defined) → sum defined_seen function_step function_made state_size function_cost function_grows (2 ^ 32) list ≡ declared_in_functions list
 functions_sum [] = refl

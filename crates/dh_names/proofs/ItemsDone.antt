@@ -17,7 +17,7 @@ use Rattle.dh_tree.specs.Scopes.{Binding, entity_of, bind, Item, memory_items, f
 use Rattle.dh_tree.specs.Breaches.{twice}
 use Rattle.dh_tree.specs.Resolved.{numbered, resolved_decls}
 use Rattle.dh_names.specs.Programs.{is_function_next, left, AreLeft, BindsNext, LacksNext}
-use Rattle.dh_names.proofs.InPlace.{Unvisited, made, SoFar, finish, written}
+use Rattle.dh_base.proofs.InPlace.{Unvisited, made, SoFar, finish, written}
 
 abbrev pub decl_step : ℕ → Declared → ℕ
 decl_step n d = n + 1

@@ -2,17 +2,11 @@
 use Rattle.std.proofs.Common.{◌≡◌, ℕ, Bool, true, false, List, [], ◌∷◌, ◌++◌, map, Option, Some, None, refl, ap, if◌then◌else◌}
 use Rattle.std.specs.Option.{is_some}
 use Rattle.std.specs.Str.{bytes_eq}
-use Rattle.dh_tree.specs.declared.breaches.Breach.{Breach}
 use Rattle.dh_tree.specs.PlainTrees.{Term, term_then}
 use Rattle.dh_tree.specs.Seen.{terms}
-use Rattle.dh_tree.specs.LeastBreach.{least_of, lesser}
 use Rattle.dh_tree.specs.Scopes.{Binding, entity_of}
 use Rattle.dh_tree.specs.Breaches.{term_breaches, terms_breaches, list_breaches}
 use Rattle.dh_tree.specs.Resolved.{resolved_term, resolved_terms}
-
-pub least_then : (kept : Option Breach) (xs ys : List Breach) → least_of kept (xs ++ ys) ≡ least_of (least_of kept xs) ys
-least_then kept [] ys = refl
-least_then kept (x ∷ xs) ys = least_then (lesser kept x) xs ys
 
 -- the first list is looked into first
 pub found_first : (xs ys : List Binding) (name : List ℕ) (n : ℕ) → entity_of xs name ≡ Some n → entity_of (xs ++ ys) name ≡ Some n

@@ -10,7 +10,7 @@ use Rattle.dh_tree.specs.Breaches.{breaches, actions_breaches, groups_breaches}
 use Rattle.dh_tree.specs.Resolved.{resolved_action, resolved_actions, resolved_groups}
 use Rattle.dh_tree.specs.NameCounts.{declared_in, declared_in_actions, declared_in_groups}
 use Rattle.dh_names.specs.Walks.{State, walked, Room, ResolvesNext, ResolvesActions, ResolvesGroups}
-use Rattle.dh_names.proofs.InPlace.{Unvisited, run, made, sum, Fits, FitsSoFar, finish, written}
+use Rattle.dh_base.proofs.InPlace.{Unvisited, run, made, sum, Fits, FitsSoFar, finish, written}
 use Rattle.dh_names.proofs.Extended.{past_entities, counted, actions_counted}
 use Rattle.dh_names.proofs.FormsDone.{next_step}
 

@@ -6,7 +6,7 @@ use Rattle.dh_tree.specs.Seen.{term_seen, factor_seen}
 use Rattle.dh_tree.specs.Breaches.{term_breaches, offsets_breaches}
 use Rattle.dh_tree.specs.Resolved.{resolved_term, resolved_offset}
 use Rattle.dh_names.specs.Walks.{State, walked}
-use Rattle.dh_names.proofs.InPlace.{run, made}
+use Rattle.dh_base.proofs.InPlace.{run, made}
 use Rattle.dh_names.proofs.FormsDone.{next_step}
 
 abbrev pub offset_step : State → Suffixed → State

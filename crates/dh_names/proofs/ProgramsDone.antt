@@ -16,7 +16,7 @@ use Rattle.dh_tree.specs.Resolved.{resolved_action, resolved_decls, resolved_fun
 use Rattle.dh_tree.specs.NameCounts.{declared_in, declared_in_functions, HasFewNames}
 use Rattle.dh_names.specs.Walks.{State, Room, Resolves}
 use Rattle.dh_names.specs.Programs.{ResolvesFunctions, left}
-use Rattle.dh_names.proofs.Keeping.{least_then}
+use Rattle.dh_tree.proofs.Leasts.{least_append}
 use Rattle.dh_names.proofs.LeastKept.{none_kept, least_kept}
 use Rattle.dh_names.proofs.AgainPrograms.{breaches_again, resolved_again}
 use Rattle.dh_names.proofs.FunctionsDone.{length_map, function_counted}
@@ -137,9 +137,9 @@ module _ (p : Program) (s0 s1 s3 : State) (outer top : List Binding) (ds' : List
       ap (λ s. s.least) done.state
       ∙ ap (λ y. least_of s1.least (breaches y p.body)) body_then
       ∙ ap (λ k. least_of k b) (ap (λ s. s.least) x.functions.state ∙ ap (λ y. least_of s0.least (functions_breaches count y p.functions)) x.scope)
-      ∙ sym (least_then s0.least f b)
+      ∙ sym (least_append s0.least f b)
       ∙ ap (λ k. least_of k (f ++ b)) x.items
-      ∙ sym (least_then None (items_breaches [] (items_of p)) (f ++ b))
+      ∙ sym (least_append None (items_breaches [] (items_of p)) (f ++ b))
 
   pub program_refused : (b : Breach) → s3.least ≡ Some b → IsLeast (breaches_of p) b
   program_refused b is = least_kept (breaches_of p) b (sym program_least ∙ is)

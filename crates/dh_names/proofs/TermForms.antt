@@ -17,8 +17,9 @@ use Rattle.dh_tree.specs.Scopes.{Binding}
 use Rattle.dh_tree.specs.Breaches.{unknown, term_breaches, term_form_breaches, list_breaches}
 use Rattle.dh_tree.specs.Resolved.{used, resolved_term, resolved_term_form}
 use Rattle.dh_tree.proofs.SeenTerms.{access_is, physical_is, binary_is, cast_is}
-use Rattle.dh_names.proofs.Keeping.{least_then, terms_listed, breaches_listed}
-use Rattle.dh_names.proofs.InPlace.{run, made}
+use Rattle.dh_names.proofs.Keeping.{terms_listed, breaches_listed}
+use Rattle.dh_tree.proofs.Leasts.{least_append}
+use Rattle.dh_base.proofs.InPlace.{run, made}
 
 module _ (bs : List Binding) where
   pub access_done : (form : ExprForm) (r r' : Ref) (v v' : Vec Expr Global) → form ≡ Access r v → r' ≡ used bs r → map term_seen v'.items ≡ map (resolved_term bs) (map term_seen v.items)
@@ -34,7 +35,7 @@ module _ (bs : List Binding) where
       → m ≡ least_of k (term_form_breaches bs (form_seen form))
   access_least form r v k l m is first next =
       next ∙ ap (λ x. least_of x (list_breaches bs (map term_seen v.items))) first
-      ∙ sym (least_then k (unknown bs r) (list_breaches bs (map term_seen v.items)))
+      ∙ sym (least_append k (unknown bs r) (list_breaches bs (map term_seen v.items)))
       ∙ ap (λ b. least_of k (unknown bs r ++ b)) (sym (breaches_listed bs (map term_seen v.items)))
       ∙ sym (ap (λ g. least_of k (term_form_breaches bs g)) (ap form_seen is ∙ access_is r v))
 
@@ -74,4 +75,4 @@ module _ (bs : List Binding) where
 
   pub terms_run : (kept : Option Breach) (ts : List Term) → run term_seen term_step term_made kept ts ≡ least_of kept (list_breaches bs ts)
   terms_run kept [] = refl
-  terms_run kept (t ∷ ts) = terms_run (term_step kept t) ts ∙ sym (least_then kept (term_breaches bs t) (list_breaches bs ts))
+  terms_run kept (t ∷ ts) = terms_run (term_step kept t) ts ∙ sym (least_append kept (term_breaches bs t) (list_breaches bs ts))

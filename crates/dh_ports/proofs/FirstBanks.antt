@@ -17,7 +17,7 @@ use Rattle.dh_tree.specs.FirstForms.{IsBuilt, IsBuiltForm, AreBuiltGroups, AreBu
 use Rattle.dh_tree.specs.Ports.{memory_ports}
 use Rattle.dh_tree.specs.Resolved.{resolved_decls}
 use Rattle.dh_tree.specs.Written.{IsOneUnless, AreDims, IsDeclared}
-use Rattle.dh_ports.proofs.OuterNames.{no_rest}
+use Rattle.dh_tree.proofs.OuterNames.{no_rest}
 
 mutual
   -- commands of the first forms declare no memory

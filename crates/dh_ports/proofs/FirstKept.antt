@@ -30,7 +30,7 @@ use Rattle.dh_ports.proofs.FirstBanks.{memory_at, same_ports, first_of_banks}
 use Rattle.dh_ports.proofs.FirstPrograms.{first_forms}
 use Rattle.dh_ports.proofs.FirstReads.{IsPlain, all_plain, taken_plain, one_plain, shared_both}
 use Rattle.dh_ports.proofs.FirstTrees.{widened, as_happening, all_seen, meets_same, with_before, occurs_same}
-use Rattle.dh_ports.proofs.OuterNames.{no_rest}
+use Rattle.dh_tree.proofs.OuterNames.{no_rest}
 
 -- larger charges have a larger sum
 total_more : (c d : ℕ → ℕ) (chosen : ℕ → Bool) (t : Meets) → ((k : ℕ) → c k ≤ d k) → total c chosen t ≤ total d chosen t

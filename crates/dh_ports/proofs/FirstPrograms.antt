@@ -13,7 +13,7 @@ use Rattle.dh_tree.specs.Resolved.{resolved_term, resolved_term_form, resolved_a
 use Rattle.dh_tree.specs.Forms.{unbuilt, is_stored, is_element, further_indices, unbuilt_index, unbuilt_indices, unbuilt_element, unbuilt_access, is_sum_of, unbuilt_stored, unbuilt_value, form_holds, unbuilt_action, unbuilt_form, unbuilt_groups, unbuilt_part, unbuilt_decls, unbuilt_functions, unbuilt_forms}
 use Rattle.dh_tree.specs.FirstForms.{IsNumber, IsOneNumber, IsMemory, IsElement, IsRightSide, IsBuilt, IsBuiltForm, AreBuilt, AreBuiltGroups, HasFirstForms}
 use Rattle.dh_tree.specs.Written.{IsWritten}
-use Rattle.dh_ports.proofs.OuterNames.{no_rest, if_none, visible_declared}
+use Rattle.dh_tree.proofs.OuterNames.{no_rest, if_none, visible_declared}
 
 -- the visible names are those of so many memories
 abbrev Sees : ℕ → List Binding → Type 0

@@ -14,7 +14,6 @@ pub mod ClassFacts
 pub mod ReadsBehind
 pub mod SpendingFacts
 pub mod TouchedSame
-pub mod OuterNames
 pub mod FirstPrograms
 pub mod FirstTrees
 pub mod FirstPhases

@@ -1,6 +1,5 @@
 -- The phases of a list, from those of its commands.
-use Rattle.std.proofs.Common.{◌≡◌, ℕ, suc, ◌+◌, ◌<◌, ◌≤◌, List, [], ◌∷◌, ◌++◌, length, get_or, drop, map, refl, ap, sym, ◌∙◌, subst, add-one, append_assoc, append-nil}
-use Rattle.std.proofs.Math.Seq.{drop-cons}
+use Rattle.std.proofs.Common.{◌≡◌, ℕ, ◌+◌, ◌<◌, ◌≤◌, List, [], ◌∷◌, ◌++◌, length, get_or, drop, map, refl, ap, sym, ◌∙◌, subst, append_assoc, append-nil}
 use Rattle.std.proofs.lemmas.List.{drop_all}
 use Rattle.std.specs.Prelude.{Vec}
 use Rattle.std.specs.Global.{Global}
@@ -17,6 +16,7 @@ use Rattle.dh_sem.specs.declared.courses.Form.{Form}
 use Rattle.dh_sem.specs.declared.courses.Node.{Node}
 use Rattle.dh_sem.specs.Courses.{forms_seen, commands_seen, lists_of, IsFormed, IsCourse, Extends, Gathers, done_by, open_after}
 use Rattle.dh_sem.proofs.CourseLists.{lists_extend, lists_long, forms_kept, all_formed, extends_long, extends_none, extends_then}
+use Rattle.dh_base.proofs.Items.{at_item}
 
 -- the phases of the first command of a list, and those of the others
 joined_first : (cs : List Action) (ps : List source.Phase) (parts : List (List source.Phase)) → joined cs (ps ∷ parts) ≡ done_by cs ps ++ joined (open_after cs ps) parts
@@ -33,10 +33,6 @@ command_phases c = phases (action_seen c)
 parts_are : (cs : List Command) → parts_phases (actions (map action_seen cs)) ≡ map command_phases cs
 parts_are [] = refl
 parts_are (c ∷ cs) = ap (λ l. command_phases c ∷ l) (parts_are cs)
-
--- what is left of a list is its next item and what is left behind that
-at_item : {A : Type 0} (xs : List A) (i : ℕ) (x : A) → i < length xs → x ≡ get_or xs i x → drop i xs ≡ x ∷ drop (i + 1) xs
-at_item xs i x within is = drop-cons xs i x within ∙ (ap (λ y. y ∷ drop (suc i) xs) (sym is) ∙ ap (λ n. x ∷ drop n xs) (sym (add-one i)))
 
 -- the phases that are done, in front of the rest of all
 pub record PartsTo (old now : List Node) (done : List Form) (rest all : List source.Phase) : Type 0 where

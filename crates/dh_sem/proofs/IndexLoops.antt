@@ -1,7 +1,6 @@
 -- The loop over the indices of an access.
-use Rattle.std.proofs.Common.{◌≡◌, ℕ, suc, ◌+◌, ◌<◌, ◌≤◌, List, [], ◌∷◌, ◌++◌, length, map, drop, get_or, Err, ℤ, refl, ap, sym, ◌∙◌, subst, arith, append_assoc, append-nil, add-one}
+use Rattle.std.proofs.Common.{◌≡◌, ℕ, ◌+◌, ◌<◌, ◌≤◌, List, [], ◌∷◌, ◌++◌, length, map, drop, get_or, Err, ℤ, refl, ap, sym, ◌∙◌, subst, arith, append_assoc, append-nil}
 use Rattle.std.specs.Prelude.{Result}
-use Rattle.std.proofs.Math.Seq.{drop-cons}
 use Rattle.std.proofs.lemmas.List.{drop_all}
 use Rattle.dh_value.specs.declared.words.Word.{Word}
 use Rattle.dh_value.specs.Words as words
@@ -20,10 +19,7 @@ use Rattle.dh_sem.specs.Spent.{HaveSpent}
 use Rattle.dh_sem.specs.Scenes.{Spends}
 use Rattle.dh_sem.specs.Weights.{term_weight, terms_weight}
 use Rattle.dh_sem.proofs.Evaluated.{stops_first, stops_second, spent_second}
-
--- what is left of a list is its next item and what is left behind that
-pub at_item : {A : Type 0} (xs : List A) (i : ℕ) (x : A) → i < length xs → x ≡ get_or xs i x → drop i xs ≡ x ∷ drop (i + 1) xs
-at_item xs i x within is = drop-cons xs i x within ∙ (ap (λ y. y ∷ drop (suc i) xs) (sym is) ∙ ap (λ n. x ∷ drop n xs) (sym (add-one i)))
+use Rattle.dh_base.proofs.Items.{at_item}
 
 abbrev pub meant : List Memory → List Expr → Terms
 meant ms xs = terms_meant ms (terms (map term_seen xs))

@@ -1,22 +1,18 @@
 -- The least of breaches that are kept one after the other, while the code's lists are walked over.
-use Rattle.std.proofs.Common.{◌≡◌, ℕ, suc, ◌+◌, ◌<◌, List, [], ◌∷◌, ◌++◌, length, get_or, drop, map, Option, refl, ap, sym, ◌∙◌, add-one}
+use Rattle.std.proofs.Common.{◌≡◌, ℕ, ◌+◌, ◌<◌, List, [], ◌∷◌, ◌++◌, length, get_or, drop, map, Option, refl, ap, sym, ◌∙◌}
 use Rattle.std.specs.Prelude.{Vec}
 use Rattle.std.specs.Global.{Global}
-use Rattle.std.proofs.Math.Seq.{drop-cons}
 use Rattle.std.proofs.lemmas.List.{append_assoc}
 use Rattle.dh_tree.specs.declared.breaches.Breach.{Breach}
 use Rattle.dh_tree.specs.declared.trees.commands.Command.{Command}
 use Rattle.dh_tree.specs.LeastBreach.{lesser, least_of}
 use Rattle.dh_tree.specs.PlainTrees.{Action, Actions, Groups, action_then}
 use Rattle.dh_tree.specs.Seen.{action_seen, actions, groups, part_seen}
+use Rattle.dh_base.proofs.Items.{at_item}
 
 pub least_append : (kept : Option Breach) (bs cs : List Breach) → least_of kept (bs ++ cs) ≡ least_of (least_of kept bs) cs
 least_append kept [] cs = refl
 least_append kept (b ∷ bs) cs = least_append (lesser kept b) bs cs
-
--- what is left of a list is its next item and what is left behind that
-pub at_item : {A : Type 0} (xs : List A) (i : ℕ) (x : A) → i < length xs → x ≡ get_or xs i x → drop i xs ≡ x ∷ drop (i + 1) xs
-at_item xs i x within is = drop-cons xs i x within ∙ (ap (λ y. y ∷ drop (suc i) xs) (sym is) ∙ ap (λ n. x ∷ drop n xs) (sym (add-one i)))
 
 -- one turn of a loop that keeps the least breach of a list's items
 pub keep_turn : {A B : Type 0} (see : A → B) (one : B → List Breach) (all : List B → List Breach)

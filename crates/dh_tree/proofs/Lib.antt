@@ -59,3 +59,5 @@ pub mod SpentHeard
 pub mod SpentGrows
 pub mod SpentWalk
 pub mod SpentPrograms
+pub mod OuterNames
+pub mod DeclaringParts

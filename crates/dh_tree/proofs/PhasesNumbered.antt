@@ -1,6 +1,5 @@
 -- The numbered phases of a loop, an `if` and a list, from those of their parts.
-use Rattle.std.proofs.Common.{◌≡◌, ℕ, suc, ◌+◌, ◌-◌, ◌<◌, ◌≤◌, ◌==◌, ◌&&◌, Bool, true, false, if◌then◌else◌, List, [], ◌∷◌, ◌++◌, length, get_or, drop, map, Option, option_map, Box, refl, ap, sym, ◌∙◌, add-one, append_assoc, append-nil}
-use Rattle.std.proofs.Math.Seq.{drop-cons}
+use Rattle.std.proofs.Common.{◌≡◌, ℕ, ◌+◌, ◌-◌, ◌<◌, ◌≤◌, ◌==◌, ◌&&◌, Bool, true, false, if◌then◌else◌, List, [], ◌∷◌, ◌++◌, length, get_or, drop, map, Option, option_map, Box, refl, ap, sym, ◌∙◌, append_assoc, append-nil}
 use Rattle.std.proofs.lemmas.List.{drop_all, map-append}
 use Rattle.std.specs.Prelude.{Vec}
 use Rattle.std.specs.Global.{Global}
@@ -18,6 +17,7 @@ use Rattle.dh_tree.specs.Phases.{Phase, straight, turns, repeated, decided, of_l
 use Rattle.dh_tree.specs.Seen.{term_seen, placed, unrolled, action_form_seen, actions, groups, action_seen, part_seen, maybe_seen}
 use Rattle.dh_tree.specs.NumberedPhases.{Numbered, in_turns, in_loop, by_choice, at_once, numbered_then, all_numbered, phase_numbered, phases_numbered, numbered}
 use Rattle.dh_tree.specs.Phasing.{phases_in, phases_in_groups, phases_in_other, one_phase, are_straight, turn_phases, choice_phases, done_by, current_after, gathered}
+use Rattle.dh_base.proofs.Items.{at_item}
 
 list_is : (ps : List Phase) → phases_numbered (of_list ps) ≡ all_numbered (numbered ps)
 list_is [] = refl
@@ -90,10 +90,6 @@ group_is : (cs : List Command) (rest : tree.Groups) → phases_in_groups (tree.g
 group_is cs rest =
     map-append phase_numbered (joined [] (parts_phases (actions (map action_seen cs)))) (groups_phases rest)
     ∙ ap (λ l. l ++ phases_in_groups rest) (joined_is [] (parts_phases (actions (map action_seen cs))) ∙ ap (λ l. gathered [] l) (parts_are cs))
-
--- what is left of a list is its next item and what is left behind that
-at_item : {A : Type 0} (xs : List A) (i : ℕ) (x : A) → i < length xs → x ≡ get_or xs i x → drop i xs ≡ x ∷ drop (i + 1) xs
-at_item xs i x within is = drop-cons xs i x within ∙ (ap (λ y. y ∷ drop (suc i) xs) (sym is) ∙ ap (λ n. x ∷ drop n xs) (sym (add-one i)))
 
 -- what the parts from one on give is what its commands give, and then the parts behind it
 pub part_begin : (ps : List (Vec Command Global)) (i : ℕ) (p : Vec Command Global) (done all : List Numbered) (current : List ℕ) (cs : List Command) → i < length ps → p ≡ get_or ps i p → cs ≡ p.items

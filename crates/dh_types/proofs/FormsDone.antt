@@ -14,7 +14,7 @@ use Rattle.dh_tree.specs.PlainTrees.{Term, ViewPlan, Placed, Unrolled, Action, A
 use Rattle.dh_tree.specs.Kinds.{Fact, of_iterator, Facts, fact_of, found, for_numbers, parameters_of, target_kind, variable_fact, parameter_fact, view_fact, iterator_kind, facts_after, facts_after_other, typed_term, typed_maybe, typed_plan, typed_arguments, typed_action, typed_other}
 use Rattle.dh_tree.specs.KindBreaches.{term_kind_breaches, right_side_breaches, maybe_breaches, condition_breaches, plan_breaches, target_breaches, parent_breaches, reducer_breaches, arguments_breaches, iterator_breaches, low_breaches, high_breaches, action_kind_breaches, other_kind_breaches}
 use Rattle.dh_types.specs.Walks.{State, walked, noted, learned, Types, TypesForm, TypesOther, TypesGroups}
-use Rattle.dh_types.proofs.LeastKept.{least_then}
+use Rattle.dh_tree.proofs.Leasts.{least_append}
 
 abbrev state_with : Facts → Option Breach → State
 state_with facts l = record { facts = facts; least = l }
@@ -23,7 +23,7 @@ state_with facts l = record { facts = facts; least = l }
 pub next_step : (s0 s1 s2 : State) (xs : List Breach) (p : Facts) (ys : Facts → List Breach) (t : Facts → Facts) → s1 ≡ walked s0 xs p → s2 ≡ walked s1 (ys s1.facts) (t s1.facts)
     → s2 ≡ walked s0 (xs ++ ys p) (t p)
 next_step s0 s1 s2 xs p ys t one two =
-    two ∙ ap (λ s. walked s (ys s.facts) (t s.facts)) one ∙ ap (state_with (t p)) (sym (least_then s0.least xs (ys p)))
+    two ∙ ap (λ s. walked s (ys s.facts) (t s.facts)) one ∙ ap (state_with (t p)) (sym (least_append s0.least xs (ys p)))
 
 pub form_done : (s s' : State) (a a' b b' : ActionForm) → a ≡ a' → b ≡ b' → TypesForm s s' a' b' → TypesForm s s' a b
 form_done s s' a a' b b' p q done = subst (λ x. TypesForm s s' x b) (sym p) (subst (λ y. TypesForm s s' a' y) (sym q) done)

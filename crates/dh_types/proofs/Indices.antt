@@ -10,8 +10,8 @@ use Rattle.dh_tree.specs.Seen.{term_seen, terms}
 use Rattle.dh_tree.specs.Kinds.{Facts, found, place_of, all_found, all_integer, count_of, index_breaches, typed_term, typed_terms}
 use Rattle.dh_tree.specs.KindBreaches.{term_kind_breaches, indices_kind_breaches}
 use Rattle.dh_types.specs.Facts.{has_integer}
-use Rattle.dh_types.proofs.InPlace.{at_item}
-use Rattle.dh_types.proofs.LeastKept.{least_then}
+use Rattle.dh_base.proofs.Items.{at_item}
+use Rattle.dh_tree.proofs.Leasts.{least_append}
 
 integer_first : (t : Term) (rest : Terms) → all_integer (term_then t rest) ≡ (has_integer (found t) && all_integer rest)
 integer_first (term place None form) rest = refl
@@ -74,7 +74,7 @@ pub kept_next : (facts : Facts) (xs : List Expr) (i : ℕ) (x : Expr) (first a b
 kept_next facts xs i x first a b c within is one two so =
     let rest = indices_kind_breaches facts (terms (map term_seen (drop (i + 1) xs))) in
     ap (λ k. least_of k rest) (two ∙ ap (λ k. least_of k (term_kind_breaches facts (term_seen x))) one)
-    ∙ sym (least_then (least_of a (index_breaches (found (term_seen x)) (place_of (term_seen x)))) (term_kind_breaches facts (term_seen x)) rest)
-    ∙ sym (least_then a (index_breaches (found (term_seen x)) (place_of (term_seen x))) (term_kind_breaches facts (term_seen x) ++ rest))
+    ∙ sym (least_append (least_of a (index_breaches (found (term_seen x)) (place_of (term_seen x)))) (term_kind_breaches facts (term_seen x)) rest)
+    ∙ sym (least_append a (index_breaches (found (term_seen x)) (place_of (term_seen x))) (term_kind_breaches facts (term_seen x) ++ rest))
     ∙ sym (ap (λ l. least_of a (indices_kind_breaches facts (terms (map term_seen l)))) (at_item xs i x within is))
     ∙ so

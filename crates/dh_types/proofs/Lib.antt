@@ -1,4 +1,3 @@
-pub mod InPlace
 pub mod LeastKept
 pub mod Indices
 pub mod Forms

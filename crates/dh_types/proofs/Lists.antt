@@ -11,8 +11,8 @@ use Rattle.dh_tree.specs.LeastBreach.{least_of}
 use Rattle.dh_tree.specs.Kinds.{Facts, for_numbers, typed_term, typed_offset, typed_arguments}
 use Rattle.dh_tree.specs.KindBreaches.{argument_breaches, arguments_breaches, offset_breaches, shifts_breaches, suffixes_breaches}
 use Rattle.dh_types.specs.Walks.{State, noted, first_of, others_of}
-use Rattle.dh_types.proofs.InPlace.{Unvisited, SoFar, made, run, finish, written}
-use Rattle.dh_types.proofs.LeastKept.{least_then}
+use Rattle.dh_base.proofs.InPlace.{Unvisited, SoFar, made, run, finish, written}
+use Rattle.dh_tree.proofs.Leasts.{least_append}
 
 abbrev walked_to : State → Option Breach → State
 walked_to s l = record { facts = s.facts; least = l }
@@ -44,10 +44,10 @@ pub arguments_run : (facts : Facts) (ks : List Kind) (k : Option Breach) (ts : L
 arguments_run facts ks k [] = refl
 arguments_run facts [] k (t ∷ ts) =
     let b = argument_breaches facts (typed_term facts None t) in
-    arguments_run facts [] (least_of k b) ts ∙ sym (least_then k b (arguments_breaches facts (typed_arguments facts [] ts)))
+    arguments_run facts [] (least_of k b) ts ∙ sym (least_append k b (arguments_breaches facts (typed_arguments facts [] ts)))
 arguments_run facts (x ∷ ks) k (t ∷ ts) =
     let b = argument_breaches facts (typed_term facts (for_numbers (Some x)) t) in
-    arguments_run facts ks (least_of k b) ts ∙ sym (least_then k b (arguments_breaches facts (typed_arguments facts ks ts)))
+    arguments_run facts ks (least_of k b) ts ∙ sym (least_append k b (arguments_breaches facts (typed_arguments facts ks ts)))
 
 -- one turn over an argument as it stands in the list, and as it was taken
 pub argument_turn : (facts : Facts) (ks ks' : List Kind) (k k' : Option Breach) (kind want : Option Kind) (x y e' : Expr) → x ≡ y → kind ≡ first_of ks → ks' ≡ others_of ks → want ≡ for_numbers kind
@@ -76,7 +76,7 @@ pub shifts_run : (s : State) (ts : List Term) → run term_seen shift_step shift
 shifts_run s [] = refl
 shifts_run s (t ∷ ts) =
     let b = offset_breaches s.facts (typed_term s.facts None t) in
-    shifts_run (shift_step s t) ts ∙ ap (λ l. walked_to s l) (sym (least_then s.least b (shifts_breaches s.facts (map (typed_term s.facts None) ts))))
+    shifts_run (shift_step s t) ts ∙ ap (λ l. walked_to s l) (sym (least_append s.least b (shifts_breaches s.facts (map (typed_term s.facts None) ts))))
 
 pub shift_turn : (s s' : State) (x y e' : Expr) → x ≡ y → term_seen e' ≡ typed_term s.facts None (term_seen y) → s' ≡ noted s (offset_breaches s.facts (term_seen e'))
     → (term_seen e' ≡ shift_made s (term_seen x)) × (s' ≡ shift_step s (term_seen x))
@@ -98,7 +98,7 @@ pub suffixes_run : (s : State) (xs : List Suffixed) → run factor_seen suffix_s
 suffixes_run s [] = refl
 suffixes_run s (x ∷ xs) =
     let b = offset_breaches s.facts (typed_term s.facts None x.offset) in
-    suffixes_run (suffix_step s x) xs ∙ ap (λ l. walked_to s l) (sym (least_then s.least b (suffixes_breaches s.facts (map (typed_offset s.facts) xs))))
+    suffixes_run (suffix_step s x) xs ∙ ap (λ l. walked_to s l) (sym (least_append s.least b (suffixes_breaches s.facts (map (typed_offset s.facts) xs))))
 
 pub suffix_turn : (s s' : State) (x y : ℕ × Expr) (e' : Expr) → x ≡ y → term_seen e' ≡ typed_term s.facts None (term_seen y.1) → s' ≡ noted s (offset_breaches s.facts (term_seen e'))
     → (factor_seen (y.0, e') ≡ suffix_made s (factor_seen x)) × (s' ≡ suffix_step s (factor_seen x))

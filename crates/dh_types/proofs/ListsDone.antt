@@ -9,7 +9,7 @@ use Rattle.dh_tree.specs.Seen.{action_seen, part_seen, actions, groups, defined_
 use Rattle.dh_tree.specs.Kinds.{facts_after, facts_after_actions, facts_after_groups, facts_after_function, facts_after_functions, typed_action, typed_actions, typed_groups, typed_function, typed_functions}
 use Rattle.dh_tree.specs.KindBreaches.{action_kind_breaches, actions_kind_breaches, groups_kind_breaches, function_kind_breaches, functions_kind_breaches}
 use Rattle.dh_types.specs.Walks.{State, walked, Types, TypesActions, TypesGroups, TypesFunction, TypesFunctions}
-use Rattle.dh_types.proofs.InPlace.{Unvisited, SoFar, run, made, finish, written}
+use Rattle.dh_base.proofs.InPlace.{Unvisited, SoFar, run, made, finish, written}
 use Rattle.dh_types.proofs.FormsDone.{next_step}
 
 abbrev pub action_made : State → Action → Action

@@ -1,15 +1,12 @@
 -- One turn of a loop over a table of memories: the text of the first port that is left, then the rest.
-use Rattle.std.proofs.Common.{◌≡◌, ℕ, ◌+◌, ◌<◌, List, ◌∷◌, [], ◌++◌, ◌∙◌, ap, sym, append_assoc, length, drop, drop-cons, get_or, add-one, suc, refl}
+use Rattle.std.proofs.Common.{◌≡◌, ℕ, ◌+◌, ◌<◌, List, ◌∷◌, [], ◌++◌, ◌∙◌, ap, sym, append_assoc, length, drop, get_or, suc, refl}
 use Rattle.std.specs.Prelude.{slice_get, Some}
 use Rattle.std.specs.List.{AllByRecursion}
 use Rattle.dh_tree.specs.declared.tables.MemEntry.{MemEntry}
 use Rattle.dh_verilog.specs.Listed.{each}
 use Rattle.dh_verilog.specs.Head.{port_of, ports_of}
 use Rattle.dh_verilog.specs.declared.ports.Port.{Port}
-
--- the rest of a list begins with its item
-pub at_item : {A : Type 0} (xs : List A) (i : ℕ) (x : A) → i < length xs → x ≡ get_or xs i x → drop i xs ≡ x ∷ drop (i + 1) xs
-at_item xs i x h e = rw (add-one, drop-cons xs i x) (ap (λ y. y ∷ drop (suc i) xs) (sym e))
+use Rattle.dh_base.proofs.Items.{at_item}
 
 pub turn : (text : Port → List ℕ) (table : List MemEntry) (i : ℕ) (e : MemEntry) (p : Port) (out new whole : List ℕ) → i < length table → e ≡ get_or table i e → p ≡ port_of i e → new ≡ out ++ text p
     → out ++ each text (ports_of i (drop i table)) ≡ whole → new ++ each text (ports_of (i + 1) (drop (i + 1) table)) ≡ whole

@@ -1,7 +1,7 @@
 use Rattle.std.proofs.Common.{refl, ◌∙◌}
 use Rattle.dh_tree.specs.Seen.{declared_seen}
 use Rattle.dh_tree.specs.Forms.{unbuilt_decl, unbuilt_decls}
-use Rattle.dh_check.proofs.Leasts.{keep_turn}
+use Rattle.dh_tree.proofs.Leasts.{keep_turn}
 use Rattle.dh_check.proofs.forms.keep_decls.Goals as goal
 
 pub loop-decl-preserved : goal.loop-decl-preserved

@@ -1,6 +1,6 @@
 use Rattle.dh_tree.specs.Seen.{term_seen}
 use Rattle.dh_names.specs.Visible.{visible}
-use Rattle.dh_names.proofs.InPlace.{SoFar}
+use Rattle.dh_base.proofs.InPlace.{SoFar}
 use Rattle.dh_names.proofs.TermForms.{term_step, term_made}
 use Rattle.dh_names.proofs.expressions.+expressions.Given as goal
 

@@ -1,6 +1,6 @@
 use Rattle.std.proofs.Common.{◌∙◌, sym}
 use Rattle.dh_names.specs.Visible.{visible}
-use Rattle.dh_names.proofs.Wanting.{wanting}
+use Rattle.dh_tree.proofs.DeclaringParts.{wanting}
 use Rattle.dh_names.proofs.ItemsDone.{memory_within, function_next, memory_next, function_lacks, memory_lacks}
 use Rattle.dh_names.proofs.programs.bind_next.Goals as goal
 

@@ -1,6 +1,6 @@
 use Rattle.std.proofs.Common.{◌+◌, sym, ap, get_or, refl, arith, Some}
 use Rattle.dh_tree.specs.Seen.{declared_seen}
-use Rattle.dh_names.proofs.InPlace.{turn}
+use Rattle.dh_base.proofs.InPlace.{turn}
 use Rattle.dh_names.proofs.ItemsDone.{decl_step, decl_made, decls_done}
 use Rattle.dh_names.proofs.programs.number_decls.Goals as goal
 

@@ -1,6 +1,6 @@
 use Rattle.std.specs.Prelude.{◌≡◌}
 use Rattle.dh_tree.specs.Seen.{declared_seen}
-use Rattle.dh_names.proofs.InPlace.{Unvisited, SoFar}
+use Rattle.dh_base.proofs.InPlace.{Unvisited, SoFar}
 use Rattle.dh_names.proofs.ItemsDone.{decl_step, decl_made}
 use Rattle.dh_names.proofs.programs.number_decls.Given as goal
 

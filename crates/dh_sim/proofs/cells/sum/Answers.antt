@@ -1,5 +1,5 @@
 use Rattle.std.proofs.Common.{◌∙◌}
-use Rattle.dh_sim.proofs.Words.{cut_first}
+use Rattle.dh_value.proofs.Masks.{cut_first}
 use Rattle.dh_sim.proofs.cells.sum.Goals as goal
 
 pub returns : goal.returns

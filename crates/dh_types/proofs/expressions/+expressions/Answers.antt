@@ -2,7 +2,7 @@ use Rattle.std.proofs.Common.{◌∙◌, ap, sym, refl, map, length, arith, None
 use Rattle.dh_types.specs.Facts.{facts_seen}
 use Rattle.dh_tree.specs.Seen.{term_seen}
 use Rattle.dh_tree.specs.Kinds.{typed_term}
-use Rattle.dh_types.proofs.InPlace.{start, turn, finish, written}
+use Rattle.dh_base.proofs.InPlace.{start, turn, finish, written}
 use Rattle.dh_types.proofs.Lists.{term_step, term_made, terms_made}
 use Rattle.dh_types.proofs.Forms.{settled_access, settled_physical, settled_cast, bare_binary, settled_binary, settled_typed, settled_filled}
 use Rattle.dh_types.proofs.expressions.+expressions.Goals as goal

@@ -1,6 +1,6 @@
 use Rattle.dh_tree.specs.Seen.{term_seen}
 use Rattle.dh_types.specs.Facts.{facts_seen}
-use Rattle.dh_types.proofs.InPlace.{SoFar}
+use Rattle.dh_base.proofs.InPlace.{SoFar}
 use Rattle.dh_types.proofs.Lists.{term_step, term_made}
 use Rattle.dh_types.proofs.expressions.+expressions.Given as goal
 

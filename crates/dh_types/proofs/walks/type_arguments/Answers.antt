@@ -1,7 +1,7 @@
 use Rattle.std.proofs.Common.{refl, arith}
 use Rattle.dh_tree.specs.Seen.{term_seen}
 use Rattle.dh_types.specs.Facts.{facts_seen}
-use Rattle.dh_types.proofs.InPlace.{start, turn}
+use Rattle.dh_base.proofs.InPlace.{start, turn}
 use Rattle.dh_types.proofs.Lists.{argument_step, argument_made, argument_turn, arguments_typed, arguments_kept}
 use Rattle.dh_types.proofs.walks.type_arguments.Goals as goal
 

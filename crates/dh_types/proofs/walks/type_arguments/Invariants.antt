@@ -1,6 +1,6 @@
 use Rattle.dh_tree.specs.Seen.{term_seen}
 use Rattle.dh_types.specs.Facts.{facts_seen}
-use Rattle.dh_types.proofs.InPlace.{Unvisited, SoFar}
+use Rattle.dh_base.proofs.InPlace.{Unvisited, SoFar}
 use Rattle.dh_types.proofs.Lists.{argument_step, argument_made}
 use Rattle.dh_types.proofs.walks.type_arguments.Given as goal
 

@@ -6,8 +6,8 @@ use Rattle.dh_tree.specs.Seen.{term_seen, plan_seen, action_seen, action_form_se
 use Rattle.dh_tree.proofs.SeenActions.{let_is, let_memory_is, view_is, assign_is, store_is, reduce_is, call_is, block_is, if_is, while_is, for_is}
 use Rattle.dh_names.specs.Walks.{state_of}
 use Rattle.dh_tree.specs.NameCounts.{declared_in, declared_in_actions}
-use Rattle.dh_names.proofs.InPlace.{turn_fits}
-use Rattle.dh_names.proofs.Wanting.{wanting, counted_as, in_left, in_right, some_command, some_part}
+use Rattle.dh_base.proofs.InPlace.{turn_fits}
+use Rattle.dh_tree.proofs.DeclaringParts.{wanting, counted_as, in_left, in_right, some_command, some_part}
 use Rattle.dh_names.proofs.ListsDone.{entity_count, action_step, action_made, action_grows, part_step, part_made, part_grows, next_turn, part_turn, part_done, parts_done}
 use Rattle.dh_names.proofs.FormsDone.{form_done, lets_done, memory_done, views_done, assigns_done, stores_done, reduces_done, calls_done, blocks_done, repeats_done, decides_done, counts_done, inner_done, next_block, next_other, inner_at, resolves_at}
 use Rattle.dh_names.proofs.walks.Walk.+commands.Goals as goal

@@ -2,7 +2,7 @@ use Rattle.std.specs.Prelude.{◌^◌, map}
 use Rattle.dh_tree.specs.Seen.{action_seen, part_seen}
 use Rattle.dh_tree.specs.NameCounts.{declared_in, declared_in_actions}
 use Rattle.dh_names.specs.Walks.{state_of}
-use Rattle.dh_names.proofs.InPlace.{Fits, FitsSoFar}
+use Rattle.dh_base.proofs.InPlace.{Fits, FitsSoFar}
 use Rattle.dh_names.proofs.ListsDone.{entity_count, action_step, action_made, action_grows, part_step, part_made, part_grows}
 use Rattle.dh_names.proofs.walks.Walk.+commands.Given as goal
 

@@ -4,7 +4,7 @@ use Rattle.dh_tree.specs.Seen.{defined_seen}
 use Rattle.dh_tree.specs.NameCounts.{declared_in, declared_in_functions}
 use Rattle.dh_tree.specs.Seen.{action_seen, formal_seen}
 use Rattle.dh_names.specs.Walks.{Room, state_of}
-use Rattle.dh_names.proofs.InPlace.{start_fits, turn_fits, item_fits}
+use Rattle.dh_base.proofs.InPlace.{start_fits, turn_fits, item_fits}
 use Rattle.dh_names.proofs.FunctionsDone.{function_step, function_made, state_size, function_cost, function_grows, functions_start, function_turn, functions_done, length_map}
 use Rattle.dh_names.proofs.walks.Walk.functions.Goals as goal
 

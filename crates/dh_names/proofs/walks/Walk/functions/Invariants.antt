@@ -2,7 +2,7 @@ use Rattle.std.specs.Prelude.{◌^◌, ◌+◌, ◌≡◌}
 use Rattle.dh_tree.specs.Seen.{defined_seen}
 use Rattle.dh_names.specs.Walks.{state_of}
 use Rattle.dh_names.specs.Programs.{IsOutside}
-use Rattle.dh_names.proofs.InPlace.{Unvisited, FitsSoFar}
+use Rattle.dh_base.proofs.InPlace.{Unvisited, FitsSoFar}
 use Rattle.dh_names.proofs.FunctionsDone.{function_step, function_made, state_size, function_cost, function_grows}
 use Rattle.dh_names.proofs.walks.Walk.functions.Given as goal
 

@@ -3,7 +3,7 @@ use Rattle.dh_tree.specs.Seen.{factor_seen}
 use Rattle.dh_tree.specs.Breaches.{offsets_breaches}
 use Rattle.dh_tree.specs.Resolved.{resolved_offset}
 use Rattle.dh_names.specs.Walks.{state_of, walked}
-use Rattle.dh_names.proofs.InPlace.{start, turn, finish, written}
+use Rattle.dh_base.proofs.InPlace.{start, turn, finish, written}
 use Rattle.dh_names.proofs.OffsetsDone.{offset_step, offset_made, offsets_made, offsets_run, offset_turn}
 use Rattle.dh_names.proofs.walks.Walk.offsets.Goals as goal
 

@@ -1,6 +1,6 @@
 use Rattle.dh_tree.specs.Seen.{factor_seen}
 use Rattle.dh_names.specs.Walks.{state_of}
-use Rattle.dh_names.proofs.InPlace.{Unvisited, SoFar}
+use Rattle.dh_base.proofs.InPlace.{Unvisited, SoFar}
 use Rattle.dh_names.proofs.OffsetsDone.{offset_step, offset_made}
 use Rattle.dh_names.proofs.walks.Walk.offsets.Given as goal
 

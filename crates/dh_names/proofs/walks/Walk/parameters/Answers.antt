@@ -1,7 +1,7 @@
 use Rattle.std.proofs.Common.{get_or, ◌^◌, arith}
 use Rattle.dh_tree.specs.Seen.{formal_seen}
 use Rattle.dh_names.specs.Walks.{state_of}
-use Rattle.dh_names.proofs.InPlace.{turn_fits}
+use Rattle.dh_base.proofs.InPlace.{turn_fits}
 use Rattle.dh_names.proofs.ListsDone.{entity_count}
 use Rattle.dh_names.proofs.FunctionsDone.{formal_step, formal_made, one_name, formal_grows, formal_turn, formals_done}
 use Rattle.dh_names.proofs.walks.Walk.parameters.Goals as goal

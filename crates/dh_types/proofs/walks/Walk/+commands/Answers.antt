@@ -5,9 +5,9 @@ use Rattle.dh_tree.specs.Seen.{term_seen, plan_seen, action_seen, action_form_se
 use Rattle.dh_tree.proofs.SeenActions.{let_is, let_memory_is, view_is, assign_is, store_is, reduce_is, call_is, block_is, if_is, while_is, for_is}
 use Rattle.dh_tree.specs.Kinds.{of_iterator}
 use Rattle.dh_tree.specs.NameCounts.{declared_in}
-use Rattle.dh_types.proofs.Wanting.{wanting, counted_as, in_left, in_right, some_command, some_part}
+use Rattle.dh_tree.proofs.DeclaringParts.{wanting, counted_as, in_left, in_right, some_command, some_part}
 use Rattle.dh_types.specs.Walks.{state_of}
-use Rattle.dh_types.proofs.InPlace.{start, turn}
+use Rattle.dh_base.proofs.InPlace.{start, turn}
 use Rattle.dh_types.proofs.ListsDone.{action_step, action_made, part_step, part_made, action_turn, part_turn, part_done, parts_done}
 use Rattle.dh_types.proofs.FormsDone.{form_done, lets_done, memory_done, views_done, assigns_done, stores_done, reduces_done, calls_done, blocks_done, repeats_done, decides_done, counts_done, types_at}
 use Rattle.dh_types.proofs.walks.Walk.+commands.Goals as goal

@@ -1,6 +1,6 @@
 use Rattle.dh_tree.specs.Seen.{action_seen, part_seen}
 use Rattle.dh_types.specs.Walks.{state_of}
-use Rattle.dh_types.proofs.InPlace.{SoFar}
+use Rattle.dh_base.proofs.InPlace.{SoFar}
 use Rattle.dh_types.proofs.ListsDone.{action_step, action_made, part_step, part_made}
 use Rattle.dh_types.proofs.walks.Walk.+commands.Given as goal
 

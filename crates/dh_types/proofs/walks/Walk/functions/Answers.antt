@@ -1,9 +1,10 @@
 use Rattle.std.proofs.Common.{refl, arith}
 use Rattle.dh_tree.specs.Seen.{defined_seen}
 use Rattle.dh_types.specs.Walks.{state_of}
-use Rattle.dh_types.proofs.InPlace.{start, turn}
+use Rattle.dh_base.proofs.InPlace.{start, turn}
 use Rattle.dh_types.proofs.ListsDone.{function_step, function_made, function_turn, functions_done}
-use Rattle.dh_types.proofs.Wanting.{wanting, some_function}
+use Rattle.dh_types.proofs.Wanting.{some_function}
+use Rattle.dh_tree.proofs.DeclaringParts.{wanting}
 use Rattle.dh_types.proofs.walks.Walk.functions.Goals as goal
 
 pub loop-function-init : goal.loop-function-init

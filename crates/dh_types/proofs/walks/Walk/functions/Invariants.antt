@@ -1,6 +1,6 @@
 use Rattle.dh_tree.specs.Seen.{defined_seen}
 use Rattle.dh_types.specs.Walks.{state_of}
-use Rattle.dh_types.proofs.InPlace.{Unvisited, SoFar}
+use Rattle.dh_base.proofs.InPlace.{Unvisited, SoFar}
 use Rattle.dh_types.proofs.ListsDone.{function_step, function_made}
 use Rattle.dh_types.proofs.walks.Walk.functions.Given as goal
 

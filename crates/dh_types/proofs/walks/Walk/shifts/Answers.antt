@@ -2,7 +2,7 @@ use Rattle.std.proofs.Common.{refl, arith}
 use Rattle.dh_tree.specs.Seen.{term_seen}
 use Rattle.dh_tree.specs.KindBreaches.{shifts_breaches}
 use Rattle.dh_types.specs.Walks.{state_of, noted}
-use Rattle.dh_types.proofs.InPlace.{start, turn}
+use Rattle.dh_base.proofs.InPlace.{start, turn}
 use Rattle.dh_types.proofs.Lists.{shift_step, shift_made, shifts_made, shifts_run, shift_turn, items_made, items_noted}
 use Rattle.dh_types.proofs.walks.Walk.shifts.Goals as goal
 

@@ -2,7 +2,7 @@ use Rattle.std.proofs.Common.{refl, get_or, arith}
 use Rattle.dh_tree.specs.Seen.{factor_seen}
 use Rattle.dh_tree.specs.KindBreaches.{suffixes_breaches}
 use Rattle.dh_types.specs.Walks.{state_of, noted}
-use Rattle.dh_types.proofs.InPlace.{start, turn}
+use Rattle.dh_base.proofs.InPlace.{start, turn}
 use Rattle.dh_types.proofs.Lists.{suffix_step, suffix_made, suffixes_made, suffixes_run, suffix_turn, items_made, items_noted}
 use Rattle.dh_types.proofs.walks.Walk.suffixes.Goals as goal
 

@@ -1,5 +1,5 @@
 -- What is visible in the body of a program without functions: the memories that are declared, which are
--- the first entities.
+-- the first entities. Shared by the crates above.
 use Rattle.std.proofs.Common.{◌≡◌, ℕ, ◌+◌, ◌≤◌, ◌<◌, Option, Some, List, [], ◌∷◌, ◌++◌, length, refl, ap, sym, ◌∙◌, arith}
 use Rattle.std.specs.Prelude.{Bool, true, false, if◌then◌else◌}
 use Rattle.std.specs.List.{AllByRecursion}
@@ -53,7 +53,7 @@ merged_none [] = refl
 merged_none (i ∷ items) = refl
 
 -- a program whose forms are all built has no functions
-no_functions : (fs : List Defined) → unbuilt_functions fs ≡ [] → fs ≡ []
+pub no_functions : (fs : List Defined) → unbuilt_functions fs ≡ [] → fs ≡ []
 no_functions [] e = refl
 no_functions (f ∷ fs) e = absurd (cc)
 

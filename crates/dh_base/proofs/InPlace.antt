@@ -1,14 +1,12 @@
--- A walk over a list in place: each item is made anew, and each leads from a state to the next.
-use Rattle.std.proofs.Common.{◌≡◌, ℕ, suc, ◌+◌, ◌<◌, ◌≤◌, List, [], ◌∷◌, ◌++◌, length, map, take, drop, get_or, slice_index_or, slice_set, refl, sym, ap, subst, ◌∙◌, arith, add-one}
-use Rattle.std.proofs.Math.Seq.{drop-cons}
+-- A walk over a list in place: each item is made anew, and each leads from a state to the next. Shared by
+-- the crates above that change a tree in place.
+use Rattle.std.proofs.Common.{◌≡◌, ℕ, ◌+◌, ◌<◌, ◌≤◌, List, [], ◌∷◌, ◌++◌, length, map, take, drop, get_or, slice_index_or, slice_set, refl, sym, ap, subst, ◌∙◌, arith}
 use Rattle.std.proofs.lemmas.List.{get_or-set_other, length-set, append-nil, append_assoc, map-append, take_more_set, take_all, drop_all}
+use Rattle.dh_base.proofs.Items.{at_item}
 
 -- items from the index on are as they were
 abbrev pub Unvisited : {C : Type 0} → List C → List C → ℕ → Type 0
 Unvisited {C} before now index = (length now ≡ length before) × ((k : ℕ) → (d : C) → index ≤ k → slice_index_or now k d ≡ slice_index_or before k d)
-
-pub at_item : {C : Type 0} (xs : List C) (i : ℕ) (x : C) → i < length xs → x ≡ get_or xs i x → drop i xs ≡ x ∷ drop (i + 1) xs
-at_item xs i x within is = drop-cons xs i x within ∙ (ap (λ y. y ∷ drop (suc i) xs) (sym is) ∙ ap (λ n. x ∷ drop n xs) (sym (add-one i)))
 
 unvisited : {C : Type 0} (before now : List C) (index : ℕ) (e' : C) → Unvisited before now index → Unvisited before (slice_set now index e') (index + 1)
 unvisited before now index e' u =
