@@ -1,7 +1,7 @@
 -- Each way that a call of a store ends, from the facts of its body. The body computes on the fields
 -- of the state before the call, which clauses see as `old`; the new fields are equal, one by one, to
 -- those that the relation names, so putting equals for equals shows the two states equal.
-use Rattle.std.proofs.Common.{ℕ, ◌≤◌, ◌≡◌, Bool, true, false, List, ◌++◌, take, length, refl, sym, ◌∙◌, ap, subst, nat_eq, Result, Ok, Err, Vec, MatchResult}
+use Rattle.std.proofs.Common.{ℕ, ◌≤◌, ◌≡◌, Bool, true, false, List, length, refl, sym, subst, nat_eq, Result, Ok, Err, Vec, MatchResult}
 use Rattle.std.specs.List.{list_any}
 use Rattle.std.specs.declared.alloc.Global.{Global}
 use Rattle.dh_base.specs.declared.outside.FileFault.{FileFault}

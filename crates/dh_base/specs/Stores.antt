@@ -1,7 +1,8 @@
 -- Files and an output in memory: their states, and exactly what one call answers and leaves.
-use Rattle.std.specs.Prelude.{ℕ, ◌+◌, ◌-◌, ◌^◌, ◌<◌, ◌≤◌, ◌≡◌, ◌==◌, ◌⊎◌, Bool, IsTrue, IsFalse, if◌then◌else◌, min, List, [], ◌∷◌, ◌++◌, length, take, bytes_eq, string_bytes, Some, Result, Ok, Err, String, Vec}
+use Rattle.std.specs.Prelude.{ℕ, ◌+◌, ◌<◌, ◌≤◌, ◌≡◌, ◌==◌, ◌⊎◌, Bool, IsTrue, IsFalse, if◌then◌else◌, List, [], ◌∷◌, ◌++◌, map, length, take, bytes_eq, string_bytes, Option, Some, MatchOption, Result, Ok, Err, String, Vec}
 use Rattle.std.specs.List.{list_any}
 use Rattle.std.specs.declared.alloc.Global.{Global}
+use denote.Ref.{Bor}
 use Rattle.dh_base.specs.declared.outside.FileFault.{FileFault}
 use Rattle.dh_base.specs.declared.outside.FileFault.TheVariants as file
 use Rattle.dh_base.specs.declared.outside.SinkFault.{SinkFault}
@@ -35,6 +36,18 @@ stored entry = (string_bytes entry.0, entry.1.items)
 abbrev pub told_of : List (List ℕ × List ℕ) → List ℕ → Told
 told_of [] name = Absent
 told_of (entry ∷ rest) name = (if bytes_eq entry.0 name then Holds entry.1 else told_of rest name)
+
+-- what is found under a name: the contents of the first entry with it, or that there is no such entry
+abbrev pub FindsContents : List (String Global × Vec ℕ Global) → List ℕ → Option (Bor (List ℕ)) → Type 0
+FindsContents entries name result = MatchOption result (told_of (map stored entries) name ≡ Absent) (λ b. told_of (map stored entries) name ≡ Holds b.now)
+
+-- files of which no call was counted yet
+abbrev pub uncalled_files : (entries : List (List ℕ × List ℕ)) → (failing : List ℕ) → FileStore
+uncalled_files entries failing = record { entries = entries; failing = failing; calls = 0; faults = 0; taken = 0 }
+
+-- an output with no bytes, of which no call was counted yet
+abbrev pub uncalled_sink : (failing : List ℕ) → (part : ℕ) → SinkStore
+uncalled_sink failing part = record { bytes = []; failing = failing; part = part; calls = 0; faults = 0; refusals = 0 }
 
 -- what clauses on files see of the store
 abbrev pub files_seen : FileStore → FilesSeen

@@ -1,9 +1,9 @@
 //! Files in memory, which fail at the calls they are told to: for tests, and to state what a run
 //! does when the outside is known.
 
-ghost use Rattle.std.specs.Prelude.{◌≡◌, [], map, MatchOption, MatchResult};
-ghost use Rattle.dh_base.specs.Outside.{Absent, Holds, KeepsFiles, CountsRead, Reads};
-ghost use Rattle.dh_base.specs.Stores.{FileStore, stored, told_of, files_seen, StoreReads};
+ghost use Rattle.std.specs.Prelude.{◌≡◌, map, MatchResult};
+ghost use Rattle.dh_base.specs.Outside.{KeepsFiles, CountsRead, Reads};
+ghost use Rattle.dh_base.specs.Stores.{FindsContents, stored, files_seen, uncalled_files, StoreReads};
 
 use crate::outside::{FileFault, Files};
 use std::alloc::Global;
@@ -33,7 +33,7 @@ impl MemFiles {
     /// The calls of `read` whose numbers, from 1, are in `failing` fail and count as faults.
     /// No call and no fault was counted yet.
     pub fn new(entries: Vec<(String, Vec<u8>)>, failing: Vec<u64>) -> MemFiles
-        ensures { result ≡ record { entries = map stored entries.items; failing = failing.items; calls = 0; faults = 0; taken = 0 } }
+        ensures { result ≡ uncalled_files (map stored entries.items) failing.items }
     {
         MemFiles {
             entries,
@@ -88,7 +88,7 @@ fn copied(alloc: Global, bytes: &[u8]) -> Result<Vec<u8>, FileFault>
 
 /// The contents of the first entry with this name.
 fn contents<'a>(entries: &'a [(String, Vec<u8>)], name: &str) -> Option<&'a [u8]>
-    ensures { MatchOption result (told_of (map stored entries.now) name.now ≡ Absent) (λ b. told_of (map stored entries.now) name.now ≡ Holds b.now) }
+    ensures { FindsContents entries.now name.now result }
 {
     for entry in entries {
         if entry.0.as_str() == name {

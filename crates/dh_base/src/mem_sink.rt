@@ -1,9 +1,9 @@
 //! An output in memory, which fails at the calls it is told to: for tests, and to state what a run
 //! does when the outside is known.
 
-ghost use Rattle.std.specs.Prelude.{◌≡◌, [], take};
+ghost use Rattle.std.specs.Prelude.{◌≡◌, take};
 ghost use Rattle.dh_base.specs.Outside.{KeepsSink, CountsWrite, Writes};
-ghost use Rattle.dh_base.specs.Stores.{SinkStore, sink_seen, Appends, StoreWrites};
+ghost use Rattle.dh_base.specs.Stores.{sink_seen, uncalled_sink, Appends, StoreWrites};
 
 use crate::outside::{Sink, SinkFault};
 use std::alloc::Global;
@@ -34,7 +34,7 @@ impl MemSink {
     /// shorter one. No call, fault or refusal was counted yet. Takes no memory itself; `alloc` is
     /// kept for the bytes.
     pub fn new(alloc: Global, failing: Vec<u64>, part: u64) -> MemSink
-        ensures { result ≡ record { bytes = []; failing = failing.items; part = part; calls = 0; faults = 0; refusals = 0 } }
+        ensures { result ≡ uncalled_sink failing.items part }
     {
         MemSink {
             bytes: Vec::new(alloc),

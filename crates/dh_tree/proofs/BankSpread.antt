@@ -1,11 +1,11 @@
 -- Bank and row to place is onto and one to one: each place is that of one row of one bank. By induction
 -- over the dimensions. A place is taken apart into an index and the place among the other dimensions; an
 -- index i into i div m and i mod m; these are the first parts of row and bank.
-use Rattle.std.proofs.Common.{◌≡◌, ℕ, ◌+◌, ◌*◌, ◌/◌, ◌%◌, ◌<◌, ◌≤◌, List, [], ◌∷◌, refl, sym, ap, ◌∙◌, subst, arith}
+use Rattle.std.proofs.Common.{◌≡◌, ℕ, ◌+◌, ◌*◌, ◌/◌, ◌%◌, ◌<◌, List, [], ◌∷◌, sym, ap, ◌∙◌, arith}
 use Rattle.std.specs.List.{AllByRecursion}
-use Rattle.std.proofs.lemmas.Nat.{mul-add-lt, div-mul-add, mod-mul-add, div-add-mod'}
+use Rattle.std.proofs.lemmas.Nat.{div-mul-add, mod-mul-add, div-add-mod'}
 use Rattle.std.proofs.Math.Nat.{mod-lt}
-use Rattle.dh_tree.proofs.BankElements.{column_exists, row_below, column_below, place_below, whole, quotient_below, in_bank_below}
+use Rattle.dh_tree.proofs.BankElements.{row_below, column_below, place_below, quotient_below, in_bank_below}
 use Rattle.dh_tree.specs.declared.tables.Dim.{Dim}
 use Rattle.dh_tree.specs.Elements.{banks_of, rows_of, position_in_bank, BankRow, IsThere, place_at, LiesIn}
 use Rattle.dh_tree.specs.Shapes.{IsDim}

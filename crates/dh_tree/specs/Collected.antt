@@ -1,16 +1,34 @@
 -- What is kept of the memories of a program: their table, and their numbers by entity.
-use Rattle.std.specs.Prelude.{◌≡◌, ℕ, ◌<◌, List, length, map, get_or, Option, Some, None}
+use Rattle.std.specs.Prelude.{◌≡◌, ℕ, ◌<◌, List, [], ◌∷◌, ◌++◌, length, map, get_or, Option, Some, None, Result, OnOk, Vec}
+use Rattle.std.specs.Global.{Global}
 use Rattle.dh_tree.specs.declared.tables.MemEntry.{MemEntry}
+use Rattle.dh_tree.specs.declared.trees.commands.Command.{Command}
 use Rattle.dh_tree.specs.declared.trees.counters.Counter.{Counter}
+use Rattle.dh_tree.specs.declared.trees.memories.Collected.{Collected}
 use Rattle.dh_tree.specs.declared.trees.memories.Found.{Found}
-use Rattle.dh_tree.specs.Counters.{counter_in}
-use Rattle.dh_tree.specs.Memories.{Memory, number_in, entry_of}
+use Rattle.dh_tree.specs.declared.trees.programs.Decl.{Decl}
+use Rattle.dh_tree.specs.declared.trees.programs.Tree.{Tree}
+use Rattle.dh_tree.specs.Counters.{counters, counter_in}
+use Rattle.dh_tree.specs.Memories.{Memory, outside_memory, memories_of, number_in, entry_of}
+use Rattle.dh_tree.specs.Seen.{declared_seen, action_seen, program_seen}
 
 abbrev pub memory_found : Found → Memory
 memory_found f = record { name = f.name.now; shape = f.shape.now; shape_places = f.shape_places.now; outside = f.outside }
 
 abbrev pub all_found : List Found → List Memory
 all_found fs = map memory_found fs
+
+-- these memories are found behind those that were found before, where no memory was refused
+abbrev pub FindsMemories : {E : Type 0} → Result (Unit {0}) E → (old new : Vec Found Global) → List Memory → Type 0
+FindsMemories result old new memories = OnOk result (all_found new.items ≡ all_found old.items ++ memories)
+
+-- and so these loops
+abbrev pub FindsLoops : {E : Type 0} → Result (Unit {0}) E → (old new : Vec Counter Global) → List Counter → Type 0
+FindsLoops result old new loops = OnOk result (new.items ≡ old.items ++ loops)
+
+-- the memories from outside that are declared so
+abbrev pub outside_memories : List Decl → List Memory
+outside_memories decls = map outside_memory (map declared_seen decls)
 
 -- for each entity what is looked up of it
 abbrev pub AreKept : {A : Type 0} → (ℕ → Option A) → List (Option A) → Type 0
@@ -29,3 +47,24 @@ pub record HasTable (ms : List Memory) (entities : ℕ) (table : List MemEntry) 
   pub entries : table ≡ map entry_of ms
   pub long : length numbers ≡ entities
   pub numbered : AreNumbered ms numbers
+
+-- so many numbers, of each entity that of the memory that it is
+abbrev pub AreNumbersOf : List Memory → (entities : ℕ) → List (Option ℕ) → Type 0
+AreNumbersOf ms entities numbers = (length numbers ≡ entities) × AreNumbered ms numbers
+
+-- so many loops, of each entity that of which it is the iterator
+abbrev pub AreLoopsOf : Command → (entities : ℕ) → List (Option Counter) → Type 0
+AreLoopsOf body entities slots = (length slots ≡ entities) × AreCounted (counters (action_seen body)) slots
+
+-- where an entity is the next memory behind those that are numbered, and this is its number, it is numbered too
+abbrev pub NumbersNext : (entity : Option ℕ) → (number : ℕ) → (old new : List (Option ℕ)) → Type 0
+NumbersNext entity number old new =
+    (ms : List Memory) (m : Memory) → AreNumbered ms old → number ≡ length ms → entity ≡ m.name.entity → AreNumbered (ms ++ m ∷ []) new
+
+-- a loop is noted behind those that are noted
+abbrev pub CountsNext : Counter → (old new : List (Option Counter)) → Type 0
+CountsNext counter old new = (cs : List Counter) → AreCounted cs old → AreCounted (cs ++ counter ∷ []) new
+
+-- the memories of a tree are collected
+abbrev pub IsCollected : Tree → Collected → Type 0
+IsCollected t c = HasTable (memories_of (program_seen t)) (length t.entities.items) c.table c.numbers.items

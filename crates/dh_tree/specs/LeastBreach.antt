@@ -40,3 +40,11 @@ lesser (Some a) b = if precedes b a then Some b else Some a
 abbrev pub least_of : Option Breach → List Breach → Option Breach
 least_of kept [] = kept
 least_of kept (b ∷ bs) = least_of (lesser kept b) bs
+
+-- the breach that is kept when these are gone through is the least of them
+abbrev pub KeepsLeast : List Breach → Type 0
+KeepsLeast breaches = (one : Breach) → least_of None breaches ≡ Some one → IsLeast breaches one
+
+-- no two breaches are each the least of these
+abbrev pub HasAtMostOneLeast : List Breach → Type 0
+HasAtMostOneLeast breaches = (one other : Breach) → IsLeast breaches one → IsLeast breaches other → one ≡ other

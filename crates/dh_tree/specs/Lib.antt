@@ -23,6 +23,7 @@ pub mod Meaning
 pub mod Kinds
 pub mod KindBreaches
 pub mod Elements
+pub mod ElementPlaces
 pub mod Effects
 pub mod Steps
 pub mod LeastBreach

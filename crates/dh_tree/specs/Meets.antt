@@ -85,3 +85,11 @@ pub record IsLargest (charge : ℕ → ℕ) (t : Meets) (n : ℕ) : Type 0 where
 pub record IsLargestUpto (charge : ℕ → ℕ) (t : Meets) (a n : ℕ) : Type 0 where
   pub most : (chosen : ℕ → Bool) → Completes t a chosen → total charge chosen t ≤ n
   pub attained : (chosen : ℕ → Bool) × (Completes t a chosen × (total charge chosen t ≡ n))
+
+-- the load of a tree in which no access stands twice is the largest sum
+abbrev pub LoadIsLargest : (charge : ℕ → ℕ) → Meets → Type 0
+LoadIsLargest charge t = Distinct t → IsLargest charge t (load charge t)
+
+-- the load up to each access of such a tree is the largest sum up to it
+abbrev pub EachUptoIsLargest : (charge : ℕ → ℕ) → Meets → Type 0
+EachUptoIsLargest charge t = (a : ℕ) → Distinct t → In a t → IsLargestUpto charge t a (upto charge a t)

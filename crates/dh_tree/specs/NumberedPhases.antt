@@ -1,6 +1,7 @@
 -- The phases of a command by the numbers of its commands, what is seen so of phases of the code, and the
 -- command that has a number.
-use Rattle.std.specs.Prelude.{◌≡◌, ◌⊎◌, ℕ, List, [], ◌∷◌, map}
+use Rattle.std.specs.Prelude.{◌≡◌, ◌⊎◌, ℕ, List, [], ◌∷◌, ◌++◌, map, Result, IfOk, OnOk, Vec}
+use Rattle.std.specs.Global.{Global}
 use Rattle.dh_tree.specs.PlainTrees.{Action, action, ActionForm, blocks, decides, repeats, counts, MaybeAction, no_action, one_action, Actions, no_actions, action_then, Groups, no_groups, group_then}
 use Rattle.dh_tree.specs.Phases.{straight, turns, repeated, decided, no_phases, phase, id_of}
 use Rattle.dh_tree.specs.Phases as plain
@@ -55,6 +56,18 @@ unfoldable mutual
 abbrev pub phases_seen : List Phase → List Numbered
 phases_seen ps = map phase_seen ps
 
+-- such phases, in a list of the code
+abbrev pub phase_list : Vec Phase Global → List Numbered
+phase_list ps = phases_seen ps.items
+
+-- these phases are given, where no memory was refused
+abbrev pub GivesPhases : {E : Type 0} → Result (Vec Phase Global) E → List Numbered → Type 0
+GivesPhases result given = IfOk result (λ ps. phase_list ps ≡ given)
+
+-- these phases are put behind those that are done, where no memory was refused
+abbrev pub AddsPhases : {E : Type 0} → Result (Unit {0}) E → (old new : Vec Phase Global) → List Numbered → Type 0
+AddsPhases result old new added = OnOk result (phase_list new ≡ phase_list old ++ added)
+
 abbrev mutual
   -- a command is this one or one inside it, and has this number
   pub Holds : Action → ℕ → Action → Type 0
@@ -82,3 +95,7 @@ abbrev mutual
 -- a command of this number is this one or one inside it
 abbrev pub HasCommand : Action → ℕ → Type 0
 HasCommand body n = (a : Action) × Holds body n a
+
+-- the phases of each command of this number that is this one or one inside it are given, where no memory was refused
+abbrev pub GivesPhasesOf : {E : Type 0} → Result (Vec Phase Global) E → Action → ℕ → Type 0
+GivesPhasesOf result body n = IfOk result (λ ps. (a : Action) → Holds body n a → phase_list ps ≡ numbered (plain.phases a))

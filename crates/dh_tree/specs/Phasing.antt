@@ -1,10 +1,15 @@
 -- What the walk that gathers numbered phases does in each of its steps, and the first command that has a
 -- number.
-use Rattle.std.specs.Prelude.{ℕ, ◌==◌, ◌&&◌, Bool, if◌then◌else◌, List, [], ◌∷◌, ◌++◌, Option, Some, None}
+use Rattle.std.specs.Prelude.{ℕ, ◌==◌, ◌&&◌, Bool, if◌then◌else◌, List, [], ◌∷◌, ◌++◌, Option, Some, None, option_map, Vec}
+use Rattle.std.specs.Global.{Global}
+use denote.Ref.{Bor}
 use Rattle.std.specs.Option.{is_some}
 use Rattle.dh_tree.specs.PlainTrees.{Action, action, ActionForm, blocks, decides, repeats, counts, MaybeAction, no_action, one_action, Actions, no_actions, action_then, Groups, no_groups, group_then}
+use Rattle.dh_tree.specs.declared.trees.commands.Command.{Command}
+use Rattle.dh_tree.specs.declared.trees.phasing.Phase.{Phase}
 use Rattle.dh_tree.specs.Phases.{phases, groups_phases, other_phases}
-use Rattle.dh_tree.specs.NumberedPhases.{Numbered, at_once, in_turns, in_loop, by_choice, all_numbered, numbered}
+use Rattle.dh_tree.specs.NumberedPhases.{Numbered, at_once, in_turns, in_loop, by_choice, all_numbered, numbered, phase_list}
+use Rattle.dh_tree.specs.Seen.{action_seen}
 
 -- the phases of a command, of those of parts and of a block that may lack
 abbrev pub phases_in : Action → List Numbered
@@ -61,10 +66,21 @@ done_by current ps = ended_by current ps (straight_part ps)
 abbrev pub current_after : List ℕ → List Numbered → List ℕ
 current_after current ps = left_by current (straight_part ps)
 
+-- both of lists of the code
+abbrev pub done_behind : (current : Vec ℕ Global) → (next : Vec Phase Global) → List Numbered
+done_behind current next = done_by current.items (phase_list next)
+
+abbrev pub open_behind : (current : Vec ℕ Global) → (next : Vec Phase Global) → List ℕ
+open_behind current next = current_after current.items (phase_list next)
+
 -- the phases of the rest of a list, from those of its commands, behind commands that stand open
 abbrev pub gathered : List ℕ → List (List Numbered) → List Numbered
 gathered current [] = one_phase current
 gathered current (ps ∷ rest) = done_by current ps ++ gathered (current_after current ps) rest
+
+-- the command that is found, where one is
+abbrev pub found_seen : Option (Bor Command) → Option Action
+found_seen found = option_map (λ c. action_seen c.now) found
 
 -- the first that is there
 abbrev pub found_or : Option Action → Option Action → Option Action

@@ -104,3 +104,7 @@ pub record Program : Type 0 where
   pub functions : List Defined
   pub body : Action
   pub entities : List Entity
+
+-- what holds of a program holds still when it is changed so
+abbrev pub StaysAfter : (Program → Program) → (Program → Type 0) → Type 0
+StaysAfter change fact = (p : Program) → fact p → fact (change p)

@@ -1,14 +1,15 @@
 -- What clauses see of a tree of the code: the plain tree that it stands for.
-use Rattle.std.specs.Prelude.{ℕ, List, [], ◌∷◌, map, Option, Some, None, option_map, Vec}
+use Rattle.std.specs.Prelude.{◌≡◌, ℕ, List, [], ◌∷◌, map, Option, Some, None, option_map, Vec, Box}
 use Rattle.std.specs.Global.{Global}
 use Rattle.dh_base.specs.declared.places.Place.{Place}
+use Rattle.dh_tree.specs.declared.trees.expressions.Ref.{Ref}
 use Rattle.dh_tree.specs.declared.trees.expressions.Expr.{Expr}
 use Rattle.dh_tree.specs.declared.trees.expressions.ExprForm.{ExprForm}
-use Rattle.dh_tree.specs.declared.trees.expressions.ExprForm.TheVariants.{Number, Truth, Variable, Access', Physical', Binary', Cast'}
+use Rattle.dh_tree.specs.declared.trees.expressions.ExprForm.TheVariants.{Number, Truth, Variable, Access, Access', Physical', Binary', Cast'}
 use Rattle.dh_tree.specs.declared.trees.expressions.ExprForm.TheBlock.{Row_of-Expr, end_of-Expr, more_of-Expr}
 use Rattle.dh_tree.specs.declared.trees.commands.Command.{Command}
 use Rattle.dh_tree.specs.declared.trees.commands.CommandForm.{CommandForm}
-use Rattle.dh_tree.specs.declared.trees.commands.CommandForm.TheVariants.{Let, LetMemory, View, Assign, Store, Reduce, Call, Block', If', While', For'}
+use Rattle.dh_tree.specs.declared.trees.commands.CommandForm.TheVariants.{Let, LetMemory, View, Assign, Store, Reduce, Call, Block, Block', If', While', For'}
 use Rattle.dh_tree.specs.declared.trees.commands.CommandForm.TheBlock as block
 use Rattle.dh_tree.specs.declared.trees.commands.ViewForm.{ViewForm}
 use Rattle.dh_tree.specs.declared.trees.commands.ViewForm.TheVariants.{Shrink, Split, Suffix, Shift}
@@ -39,6 +40,10 @@ term_seen e = term e.place e.kind (form_seen e.form)
 abbrev pub terms : List Term → Terms
 terms [] = no_terms
 terms (t ∷ ts) = term_then t (terms ts)
+
+-- the plain tree of an access has those of its indices, in order
+abbrev pub SeesIndices : Ref → Vec Expr Global → Type 0
+SeesIndices of indices = form_seen (Access of indices) ≡ accessed of (terms (map term_seen indices.items))
 
 abbrev pub factor_seen : ℕ × Expr → Suffixed
 factor_seen (n, e) = record { factor = n; offset = term_seen e }
@@ -100,10 +105,22 @@ abbrev pub groups : List Actions → Groups
 groups [] = no_groups
 groups (g ∷ rest) = group_then g (groups rest)
 
+-- the parts of a block
+abbrev pub all_parts_seen : List (Vec Command Global) → Groups
+all_parts_seen parts = groups (map part_seen parts)
+
+-- the plain tree of a block has those of its parts, in order
+abbrev pub SeesParts : Vec (Vec Command Global) Global → Type 0
+SeesParts body = action_form_seen (Block body) ≡ blocks (groups (map part_seen body.items))
+
 -- a block that may lack
 abbrev pub maybe_seen : Option Action → MaybeAction
 maybe_seen None = no_action
 maybe_seen (Some a) = one_action a
+
+-- a block that may lack, as the code holds it
+abbrev pub maybe_block_seen : Option (Box Command Global) → MaybeAction
+maybe_block_seen held = maybe_seen (option_map (λ b. action_seen b.value) held)
 
 abbrev pub declared_seen : Decl → Declared
 declared_seen d = record { name = d.name; shape = d.shape; shape_places = d.shape_places }

@@ -11,6 +11,7 @@ use Rattle.dh_tree.specs.Memories.{memories_of, number_in, table_of}
 use Rattle.dh_tree.specs.PlainTrees.{Program}
 use Rattle.dh_tree.specs.Ports.{charge, meets_in}
 use Rattle.dh_tree.specs.Steps.{step_effect, standing}
+use Rattle.dh_tree.specs.Tables.{Fits}
 
 -- what a bank of the memory of this number would spend in the step that follows n steps
 abbrev pub step_spends : Program → List (List ℕ) → (n number bank : ℕ) → ℕ
@@ -29,3 +30,7 @@ AllCovered p memories = (n entity number bank : ℕ) → number_in (memories_of 
 -- no step is stuck
 abbrev pub IsNeverStuck : Program → List (List ℕ) → Type 0
 IsNeverStuck p memories = (n memory bank : ℕ) (place : Place) → (standing (meaning_of p) memories n).outcome ≡ Stuck memory bank place → ⊥
+
+-- so it is of each run of a program, from whatever memories that fit its table
+abbrev pub OfEachRun : Program → (List (List ℕ) → Type 0) → Type 0
+OfEachRun p fact = (memories : List (List ℕ)) → Fits (table_of p) memories → fact memories

@@ -4,14 +4,14 @@ ghost use Rattle.dh_base.specs.declared.places.Place.{Place};
 ghost use Rattle.dh_tree.specs.Accesses.{KeepsPorts, PortsSpent};
 ghost use Rattle.dh_tree.specs.PlainTrees.{Program};
 ghost use Rattle.std.specs.Prelude.{◌≡◌, ℕ};
-ghost use Rattle.dh_tree.specs.Meets.{Meets, In, Distinct, load, upto, IsLargest, IsLargestUpto};
+ghost use Rattle.dh_tree.specs.Meets.{Meets, LoadIsLargest, EachUptoIsLargest};
 
 /// For any charges, and every tree in which no access stands twice: its load is the largest sum of
 /// charges over a set of accesses of which any two may meet, and its load up to an access is the
 /// largest such sum over the sets that this access completes.
 pub fn loads_are_largest_sums()
-    ensures whole { (charge : ℕ → ℕ) (t : Meets) → Distinct t → IsLargest charge t (load charge t) }
-    ensures upto_one { (charge : ℕ → ℕ) (t : Meets) (a : ℕ) → Distinct t → In a t → IsLargestUpto charge t a (upto charge a t) }
+    ensures whole { (charge : ℕ → ℕ) (t : Meets) → LoadIsLargest charge t }
+    ensures upto_one { (charge : ℕ → ℕ) (t : Meets) → EachUptoIsLargest charge t }
 {}
 
 /// Ports are spent at one place at most, and at none where they are kept.

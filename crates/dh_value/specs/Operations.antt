@@ -7,7 +7,7 @@ use Rattle.dh_value.specs.declared.kinds.Kind.TheVariants as kind
 use Rattle.dh_value.specs.declared.words.Word.{Word}
 use Rattle.dh_value.specs.declared.operators.Op.{Op}
 use Rattle.dh_value.specs.declared.operators.Op.TheVariants as op
-use Rattle.dh_value.specs.Words.{value_of, with_bits, word_of}
+use Rattle.dh_value.specs.Words.{IsWord, value_of, with_bits, word_of}
 
 -- one integer kind twice
 abbrev pub AreIntegers : Kind → Kind → Type 0
@@ -93,3 +93,7 @@ binary_of op.Eq a b = truth (are_equal a b)
 binary_of op.Ne a b = truth (not (are_equal a b))
 binary_of op.Both a b = truth (is_true a && is_true b)
 binary_of op.Either a b = truth (is_true a || is_true b)
+
+-- of words of kinds that suit it the operation gives a word
+abbrev pub GivesWords : Op → Type 0
+GivesWords o = (a b : Word) → IsWord a → IsWord b → Suits o a.kind b.kind → IsWord (binary_of o a b)

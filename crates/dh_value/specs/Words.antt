@@ -1,5 +1,5 @@
 -- Words, and the whole numbers that they stand for.
-use Rattle.std.specs.Prelude.{ℕ, ◌-◌, ◌^◌, ◌<◌, ◌≤◌, nat_lt, if◌then◌else◌, ℤ, pos, neg_ℤ, ◌-ℤ◌, ◌≤ℤ◌, ◌<ℤ◌, unsigned_abs}
+use Rattle.std.specs.Prelude.{◌≡◌, ℕ, ◌-◌, ◌^◌, ◌<◌, ◌≤◌, nat_lt, if◌then◌else◌, ℤ, pos, neg_ℤ, ◌-ℤ◌, ◌≤ℤ◌, ◌<ℤ◌, unsigned_abs}
 use Rattle.std.specs.Int.{int_rem_euclid}
 use Rattle.dh_value.specs.declared.kinds.Kind.{Kind}
 use Rattle.dh_value.specs.declared.kinds.Kind.TheVariants as kind
@@ -66,3 +66,11 @@ abbrev pub Widens : (narrow wide : Kind) → Type 0
 Widens (kind.Unsigned m) (kind.Unsigned n) = m ≤ n
 Widens (kind.Signed m) (kind.Signed n) = m ≤ n
 Widens _ _ = ⊥
+
+-- words of one kind with one value are one word
+abbrev pub ValueTellsWord : Word → Word → Type 0
+ValueTellsWord a b = IsWord a → IsWord b → a.kind ≡ b.kind → value_of a ≡ value_of b → a ≡ b
+
+-- a kind that widens another has every value of it
+abbrev pub ValuesWiden : (narrow wide : Kind) → Type 0
+ValuesWiden narrow wide = (z : ℤ) → Widens narrow wide → IsValue narrow z → IsValue wide z

@@ -4,13 +4,13 @@ ghost use Rattle.std.specs.Prelude.{◌≡◌, ℤ};
 ghost use Rattle.dh_value.specs.declared.kinds.Kind.{Kind};
 ghost use Rattle.dh_value.specs.declared.operators.Op.{Op};
 ghost use Rattle.dh_value.specs.declared.words.Word.{Word};
-ghost use Rattle.dh_value.specs.Operations.{Suits, binary_of, result_of};
-ghost use Rattle.dh_value.specs.Words.{IsKind, IsInteger, IsWord, IsValue, Widens, value_of, word_of};
+ghost use Rattle.dh_value.specs.Operations.{GivesWords, binary_of, result_of};
+ghost use Rattle.dh_value.specs.Words.{IsKind, IsInteger, IsWord, IsValue, ValueTellsWord, ValuesWiden, value_of, word_of};
 
 /// An operation on words of kinds that suit it gives a word, whose kind is that of the left operand
 /// or Bool. So does a cast.
 pub fn operations_give_words()
-    ensures word { (op : Op) (a b : Word) → IsWord a → IsWord b → Suits op a.kind b.kind → IsWord (binary_of op a b) }
+    ensures word { (op : Op) → GivesWords op }
     ensures kind { (op : Op) (a b : Word) → (binary_of op a b).kind ≡ result_of op a.kind }
     ensures cast { (k : Kind) (z : ℤ) → IsKind k → IsWord (word_of k z) }
 {}
@@ -22,6 +22,6 @@ pub fn values_stay_in_words()
     ensures within { (a : Word) → IsWord a → IsInteger a.kind → IsValue a.kind (value_of a) }
     ensures kept { (k : Kind) (z : ℤ) → IsInteger k → IsValue k z → value_of (word_of k z) ≡ z }
     ensures again { (a : Word) → IsWord a → word_of a.kind (value_of a) ≡ a }
-    ensures distinct { (a b : Word) → IsWord a → IsWord b → a.kind ≡ b.kind → value_of a ≡ value_of b → a ≡ b }
-    ensures widened { (narrow wide : Kind) (z : ℤ) → Widens narrow wide → IsValue narrow z → IsValue wide z }
+    ensures distinct { (a b : Word) → ValueTellsWord a b }
+    ensures widened { (narrow wide : Kind) → ValuesWiden narrow wide }
 {}

@@ -64,8 +64,7 @@ fn has_no_name(name: &str, entries: &[MemEntry]) -> bool
     true
 }
 
-// Whether all names differ. Compares each two, so it takes a time that is quadratic in the number
-// of memories.
+// Whether all names differ. Compares each two.
 fn has_distinct_names(entries: &[MemEntry]) -> bool
     ensures { IsTrue result ↔ HasDistinctNames entries.now }
 {

@@ -1,9 +1,9 @@
 //! The loops of a program, by the entities of their iterators.
 
-ghost use Rattle.std.specs.Prelude.{◌≡◌, ◌++◌, List, [], ◌∷◌, Option, Some, None, option_map, length, map, replicate, IfOk, OnOk};
-ghost use Rattle.dh_tree.specs.Seen.{action_seen, part_seen, groups, maybe_seen};
+ghost use Rattle.std.specs.Prelude.{◌≡◌, [], None, length, replicate, IfOk};
+ghost use Rattle.dh_tree.specs.Seen.{action_seen, all_parts_seen, maybe_block_seen};
 ghost use Rattle.dh_tree.specs.Counters.{counters, other_counters, groups_counters};
-ghost use Rattle.dh_tree.specs.Collected.{AreCounted};
+ghost use Rattle.dh_tree.specs.Collected.{AreCounted, AreLoopsOf, CountsNext, FindsLoops};
 
 use crate::trees::{Command, CommandForm};
 use dh_base::NoMemory;
@@ -27,7 +27,7 @@ pub struct Counter {
 #[cycle(finding_loops)]
 #[tactic(auto, using(crate::proofs::SeenActions::actions_are, crate::proofs::Collecting::found_none, crate::proofs::Collecting::found_both))]
 fn find_loops(found: &mut Vec<Counter>, command: &Command) -> Result<(), NoMemory>
-    ensures { OnOk result (found.new.items ≡ found.old.items ++ counters (action_seen command.now)) }
+    ensures { FindsLoops result found.old found.new (counters (action_seen command.now)) }
 {
     match &command.form {
         CommandForm::Block { body } => find_loops_in_parts(found, body.as_slice()),
@@ -70,7 +70,7 @@ fn find_loops_in_other(
     found: &mut Vec<Counter>,
     other: &Option<Box<Command>>,
 ) -> Result<(), NoMemory>
-    ensures { OnOk result (found.new.items ≡ found.old.items ++ other_counters (maybe_seen (option_map (λ b. action_seen b.value) other.now))) }
+    ensures { FindsLoops result found.old found.new (other_counters (maybe_block_seen other.now)) }
 {
     match other {
         Some(block) => find_loops(found, block),
@@ -81,7 +81,7 @@ fn find_loops_in_other(
 /// Finds those of parts.
 #[cycle(finding_loops)]
 fn find_loops_in_parts(found: &mut Vec<Counter>, parts: &[Vec<Command>]) -> Result<(), NoMemory>
-    ensures { OnOk result (found.new.items ≡ found.old.items ++ groups_counters (groups (map part_seen parts.now))) }
+    ensures { FindsLoops result found.old found.new (groups_counters (all_parts_seen parts.now)) }
 {
     for part in parts {
         for command in part {
@@ -94,7 +94,7 @@ fn find_loops_in_parts(found: &mut Vec<Counter>, parts: &[Vec<Command>]) -> Resu
 /// Notes the loop of an iterator, where none is noted yet.
 fn note_loop(slots: &mut [Option<Counter>], counter: Counter)
     ensures long { length slots.new ≡ length slots.old }
-    ensures counted { (cs : List Counter) → AreCounted cs slots.old → AreCounted (cs ++ counter ∷ []) slots.new }
+    ensures counted { CountsNext counter slots.old slots.new }
 {
     if let Some(entity) = counter.entity {
         let entity = entity as usize;
@@ -131,7 +131,7 @@ pub fn loops_of(
     body: &Command,
     entities: usize,
 ) -> Result<Vec<Option<Counter>>, NoMemory>
-    ensures { IfOk result (λ slots. (length slots.items ≡ entities) × AreCounted (counters (action_seen body.now)) slots.items) }
+    ensures { IfOk result (λ slots. AreLoopsOf body.now entities slots.items) }
 {
     let mut found = Vec::new(alloc);
     find_loops(&mut found, body)?;

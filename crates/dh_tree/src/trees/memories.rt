@@ -1,9 +1,9 @@
 //! The memories of a program: their table, and their numbers by entity.
 
-ghost use Rattle.std.specs.Prelude.{◌≡◌, ◌++◌, List, [], ◌∷◌, Option, Some, None, option_map, length, map, replicate, IfOk, OnOk};
-ghost use Rattle.dh_tree.specs.Seen.{declared_seen, action_seen, part_seen, groups, maybe_seen, program_seen};
-ghost use Rattle.dh_tree.specs.Memories.{Memory, outside_memory, locals, other_locals, groups_locals, memories_of, entry_of};
-ghost use Rattle.dh_tree.specs.Collected.{memory_found, all_found, AreNumbered, HasTable};
+ghost use Rattle.std.specs.Prelude.{◌≡◌, None, length, map, replicate, IfOk};
+ghost use Rattle.dh_tree.specs.Seen.{action_seen, all_parts_seen, maybe_block_seen};
+ghost use Rattle.dh_tree.specs.Memories.{locals, other_locals, groups_locals, entry_of};
+ghost use Rattle.dh_tree.specs.Collected.{memory_found, all_found, outside_memories, FindsMemories, NumbersNext, AreNumbersOf, IsCollected};
 
 use crate::tables::{MemEntry, MemTable, Shape};
 use crate::trees::{Command, CommandForm, Decl, Ref, ShapePlaces, Tree};
@@ -32,7 +32,7 @@ pub struct Collected {
 #[cycle(finding)]
 #[tactic(auto, using(crate::proofs::SeenActions::actions_are, crate::proofs::Collecting::found_none, crate::proofs::Collecting::found_both))]
 fn find_locals<'a>(found: &mut Vec<Found<'a>>, command: &'a Command) -> Result<(), NoMemory>
-    ensures { OnOk result (all_found found.new.items ≡ all_found found.old.items ++ locals (action_seen command.now)) }
+    ensures { FindsMemories result found.old found.new (locals (action_seen command.now)) }
 {
     match &command.form {
         CommandForm::LetMemory {
@@ -71,7 +71,7 @@ fn find_in_other<'a>(
     found: &mut Vec<Found<'a>>,
     other: &'a Option<Box<Command>>,
 ) -> Result<(), NoMemory>
-    ensures { OnOk result (all_found found.new.items ≡ all_found found.old.items ++ other_locals (maybe_seen (option_map (λ b. action_seen b.value) other.now))) }
+    ensures { FindsMemories result found.old found.new (other_locals (maybe_block_seen other.now)) }
 {
     match other {
         Some(block) => find_locals(found, block),
@@ -82,7 +82,7 @@ fn find_in_other<'a>(
 /// Finds those of parts.
 #[cycle(finding)]
 fn find_in_parts<'a>(found: &mut Vec<Found<'a>>, parts: &'a [Vec<Command>]) -> Result<(), NoMemory>
-    ensures { OnOk result (all_found found.new.items ≡ all_found found.old.items ++ groups_locals (groups (map part_seen parts.now))) }
+    ensures { FindsMemories result found.old found.new (groups_locals (all_parts_seen parts.now)) }
 {
     for part in parts {
         for command in part {
@@ -94,7 +94,7 @@ fn find_in_parts<'a>(found: &mut Vec<Found<'a>>, parts: &'a [Vec<Command>]) -> R
 
 /// Finds the memories from outside, in text order.
 fn find_decls<'a>(alloc: Global, decls: &'a [Decl]) -> Result<Vec<Found<'a>>, NoMemory>
-    ensures { IfOk result (λ found. all_found found.items ≡ map outside_memory (map declared_seen decls.now)) }
+    ensures { IfOk result (λ found. all_found found.items ≡ outside_memories decls.now) }
 {
     let mut found = Vec::new(alloc);
     for decl in decls {
@@ -134,7 +134,7 @@ fn entries(alloc: Global, found: &[Found<'_>]) -> Result<MemTable, NoMemory>
 /// would stand for its first memory.
 fn note_number(numbers: &mut [Option<usize>], entity: Option<u32>, number: usize)
     ensures long { length numbers.new ≡ length numbers.old }
-    ensures numbered { (ms : List Memory) (m : Memory) → AreNumbered ms numbers.old → number ≡ length ms → entity ≡ m.name.entity → AreNumbered (ms ++ m ∷ []) numbers.new }
+    ensures numbered { NumbersNext entity number numbers.old numbers.new }
 {
     if let Some(entity) = entity {
         let entity = entity as usize;
@@ -161,7 +161,7 @@ fn numbers(
     found: &[Found<'_>],
     entities: usize,
 ) -> Result<Vec<Option<usize>>, NoMemory>
-    ensures { IfOk result (λ numbers. (length numbers.items ≡ entities) × AreNumbered (all_found found.now) numbers.items) }
+    ensures { IfOk result (λ numbers. AreNumbersOf (all_found found.now) entities numbers.items) }
 {
     let mut numbers = no_numbers(alloc, entities)?;
     for (number, memory) in found.iter().enumerate() {
@@ -172,7 +172,7 @@ fn numbers(
 
 /// The memories of a tree.
 pub fn collect(alloc: Global, tree: &Tree) -> Result<Collected, NoMemory>
-    ensures { IfOk result (λ c. HasTable (memories_of (program_seen tree.now)) (length tree.now.entities.items) c.table c.numbers.items) }
+    ensures { IfOk result (λ c. IsCollected tree.now c) }
 {
     let mut found = find_decls(alloc, tree.decls.as_slice())?;
     find_locals(&mut found, &tree.body)?;

@@ -1,13 +1,11 @@
 //! The phases of a command, by the numbers of its commands.
 
-ghost use Rattle.std.specs.Prelude.{◌≡◌, ◌++◌, ℕ, [], ◌∷◌, map, option_map, IfOk, OnOk};
-ghost use Rattle.dh_tree.specs.PlainTrees.{Action};
-ghost use Rattle.dh_tree.specs.Seen.{action_seen, part_seen, groups, maybe_seen, program_seen};
+ghost use Rattle.std.specs.Prelude.{◌≡◌, ℕ, [], ◌∷◌, option_map, IfOk, OnOk};
+ghost use Rattle.dh_tree.specs.Seen.{action_seen, all_parts_seen, maybe_block_seen, program_seen};
 ghost use Rattle.dh_tree.specs.Numbers.{IsNumbered};
-ghost use Rattle.dh_tree.specs.Phases as plain;
-ghost use Rattle.dh_tree.specs.NumberedPhases.{at_once, in_loop, all_numbered, numbered, phase_seen, phases_seen, Holds, HasCommand};
+ghost use Rattle.dh_tree.specs.NumberedPhases.{at_once, in_loop, all_numbered, phase_seen, phases_seen, phase_list, GivesPhases, AddsPhases, GivesPhasesOf, HasCommand};
 ghost use Rattle.dh_tree.specs.Phasing as walk;
-ghost use Rattle.dh_tree.specs.Phasing.{phases_in, phases_in_other, phases_in_groups, one_phase, turn_phases, choice_phases, done_by, current_after, first_of, first_in_other, first_in_groups};
+ghost use Rattle.dh_tree.specs.Phasing.{phases_in, phases_in_other, phases_in_groups, one_phase, turn_phases, choice_phases, done_behind, open_behind, found_seen, first_of, first_in_other, first_in_groups};
 
 use crate::trees::{Command, CommandForm, Typed};
 use dh_base::NoMemory;
@@ -61,7 +59,7 @@ fn alone(alloc: Global, phase: Phase) -> Result<Vec<Phase>, NoMemory>
 /// The phase of a straight command alone.
 #[tactic(auto, using(crate::proofs::SeenPhases::phases_are))]
 fn one_command(alloc: Global, command: u32) -> Result<Vec<Phase>, NoMemory>
-    ensures { IfOk result (λ ps. phases_seen ps.items ≡ at_once (command ∷ []) ∷ []) }
+    ensures { GivesPhases result (at_once (command ∷ []) ∷ []) }
 {
     let mut commands = Vec::new(alloc);
     commands.push(command)?;
@@ -95,7 +93,7 @@ fn straight_part(phases: &[Phase]) -> Option<&[u32]>
 /// The phases of a `for`: none where it has no turn, or its body no phase.
 #[tactic(auto, using(crate::proofs::SeenPhases::phases_are))]
 fn turns(alloc: Global, command: u32, count: u64, body: Vec<Phase>) -> Result<Vec<Phase>, NoMemory>
-    ensures { IfOk result (λ ps. phases_seen ps.items ≡ turn_phases command count (phases_seen body.items)) }
+    ensures { GivesPhases result (turn_phases command count (phase_list body)) }
 {
     if body.is_empty() || count == 0 {
         Ok(Vec::new(alloc))
@@ -114,7 +112,7 @@ fn turns(alloc: Global, command: u32, count: u64, body: Vec<Phase>) -> Result<Ve
 /// The phase of a `while`.
 #[tactic(auto, using(crate::proofs::SeenPhases::phases_are))]
 fn repeated(alloc: Global, command: u32, body: Vec<Phase>) -> Result<Vec<Phase>, NoMemory>
-    ensures { IfOk result (λ ps. phases_seen ps.items ≡ in_loop command (all_numbered (phases_seen body.items)) ∷ []) }
+    ensures { GivesPhases result (in_loop command (all_numbered (phase_list body)) ∷ []) }
 {
     alone(alloc, Phase::Loop { command, body })
 }
@@ -127,7 +125,7 @@ fn choice(
     then: Vec<Phase>,
     other: Vec<Phase>,
 ) -> Result<Vec<Phase>, NoMemory>
-    ensures { IfOk result (λ ps. phases_seen ps.items ≡ choice_phases command (phases_seen «then».items) (phases_seen other.items)) }
+    ensures { GivesPhases result (choice_phases command (phase_list «then») (phase_list other)) }
 {
     if straight_part(then.as_slice()).is_some() && straight_part(other.as_slice()).is_some() {
         one_command(alloc, command)
@@ -146,7 +144,7 @@ fn choice(
 /// Ends the straight commands that stand open, where there is one.
 #[tactic(auto, using(crate::proofs::SeenPhases::phases_are))]
 fn end_phase(alloc: Global, done: &mut Vec<Phase>, current: &mut Vec<u32>) -> Result<(), NoMemory>
-    ensures done { OnOk result (phases_seen done.new.items ≡ phases_seen done.old.items ++ one_phase current.old.items) }
+    ensures done { AddsPhases result done.old done.new (one_phase current.old.items) }
     ensures current { OnOk result (current.new.items ≡ []) }
 {
     if !current.is_empty() {
@@ -165,8 +163,8 @@ fn join(
     current: &mut Vec<u32>,
     mut next: Vec<Phase>,
 ) -> Result<(), NoMemory>
-    ensures done { OnOk result (phases_seen done.new.items ≡ phases_seen done.old.items ++ done_by current.old.items (phases_seen next.items)) }
-    ensures current { OnOk result (current.new.items ≡ current_after current.old.items (phases_seen next.items)) }
+    ensures done { AddsPhases result done.old done.new (done_behind current.old next) }
+    ensures current { OnOk result (current.new.items ≡ open_behind current.old next) }
 {
     match straight_part(next.as_slice()) {
         Some(commands) => current.extend_from_slice(commands)?,
@@ -182,7 +180,7 @@ fn join(
 #[cycle(phasing)]
 #[tactic(auto, using(crate::proofs::SeenActions::actions_are))]
 fn phases_of(alloc: Global, command: &Command) -> Result<Vec<Phase>, NoMemory>
-    ensures { IfOk result (λ ps. phases_seen ps.items ≡ phases_in (action_seen command.now)) }
+    ensures { GivesPhases result (phases_in (action_seen command.now)) }
 {
     match &command.form {
         CommandForm::Let { .. } => one_command(alloc, command.id),
@@ -217,7 +215,7 @@ fn phases_of(alloc: Global, command: &Command) -> Result<Vec<Phase>, NoMemory>
 /// Those of a block that may lack.
 #[cycle(phasing)]
 fn phases_of_other(alloc: Global, other: &Option<Box<Command>>) -> Result<Vec<Phase>, NoMemory>
-    ensures { IfOk result (λ ps. phases_seen ps.items ≡ phases_in_other (maybe_seen (option_map (λ b. action_seen b.value) other.now))) }
+    ensures { GivesPhases result (phases_in_other (maybe_block_seen other.now)) }
 {
     match other {
         Some(block) => phases_of(alloc, block),
@@ -228,7 +226,7 @@ fn phases_of_other(alloc: Global, other: &Option<Box<Command>>) -> Result<Vec<Ph
 /// Those of the parts between `---`, one part after the other.
 #[cycle(phasing)]
 fn phases_of_parts(alloc: Global, parts: &[Vec<Command>]) -> Result<Vec<Phase>, NoMemory>
-    ensures { IfOk result (λ ps. phases_seen ps.items ≡ phases_in_groups (groups (map part_seen parts.now))) }
+    ensures { GivesPhases result (phases_in_groups (all_parts_seen parts.now)) }
 {
     let mut done = Vec::new(alloc);
     let mut current = Vec::new(alloc);
@@ -246,7 +244,7 @@ fn phases_of_parts(alloc: Global, parts: &[Vec<Command>]) -> Result<Vec<Phase>, 
 #[cycle(seeking)]
 #[tactic(auto, using(crate::proofs::SeenActions::actions_are))]
 fn find(command: &Command, number: u32) -> Option<&Command>
-    ensures { option_map (λ c. action_seen c.now) result ≡ first_of number (action_seen command.now) }
+    ensures { found_seen result ≡ first_of number (action_seen command.now) }
 {
     if command.id == number {
         return Some(command);
@@ -275,7 +273,7 @@ fn find(command: &Command, number: u32) -> Option<&Command>
 /// Finds it in a block that may lack.
 #[cycle(seeking)]
 fn find_in_other(other: &Option<Box<Command>>, number: u32) -> Option<&Command>
-    ensures { option_map (λ c. action_seen c.now) result ≡ first_in_other number (maybe_seen (option_map (λ b. action_seen b.value) other.now)) }
+    ensures { found_seen result ≡ first_in_other number (maybe_block_seen other.now) }
 {
     match other {
         Some(block) => find(block, number),
@@ -286,7 +284,7 @@ fn find_in_other(other: &Option<Box<Command>>, number: u32) -> Option<&Command>
 /// Finds it in parts.
 #[cycle(seeking)]
 fn find_in_parts(parts: &[Vec<Command>], number: u32) -> Option<&Command>
-    ensures { option_map (λ c. action_seen c.now) result ≡ first_in_groups number (groups (map part_seen parts.now)) }
+    ensures { found_seen result ≡ first_in_groups number (all_parts_seen parts.now) }
 {
     for part in parts {
         for command in part {
@@ -298,8 +296,8 @@ fn find_in_parts(parts: &[Vec<Command>], number: u32) -> Option<&Command>
     None
 }
 
-/// The phases of the command of a number: what it does in each of its logical steps. Commands of forms
-/// that are not built have no phase; those of threads and calls come with their forms.
+/// The phases of the command of a number, their commands by their numbers. Declarations of memories,
+/// views, reducers and calls have no phase.
 ///
 /// # Errors
 ///
@@ -307,7 +305,7 @@ fn find_in_parts(parts: &[Vec<Command>], number: u32) -> Option<&Command>
 pub fn phases(alloc: Global, typed: &Typed, command: u32) -> Result<Vec<Phase>, NoMemory>
     requires there { HasCommand (program_seen typed.now).body command }
     requires numbered { (first : ℕ) × IsNumbered first (program_seen typed.now).body }
-    ensures { IfOk result (λ ps. (a : Action) → Holds (program_seen typed.now).body command a → phases_seen ps.items ≡ numbered (plain.phases a)) }
+    ensures { GivesPhasesOf result (program_seen typed.now).body command }
 {
     match find(&typed.tree().body, command) {
         Some(found) => phases_of(alloc, found),
