@@ -2,7 +2,7 @@
 -- the crates above that change a tree in place.
 use Rattle.std.proofs.Common.{◌≡◌, ℕ, ◌+◌, ◌<◌, ◌≤◌, List, [], ◌∷◌, ◌++◌, length, map, take, drop, get_or, slice_index_or, slice_set, refl, sym, ap, subst, ◌∙◌, arith}
 use Rattle.std.proofs.lemmas.List.{get_or-set_other, length-set, append-nil, append_assoc, map-append, take_more_set, take_all, drop_all}
-use Rattle.dh_base.proofs.Items.{at_item}
+use Rattle.dh_base.proofs.ListItems.{at_item}
 
 -- items from the index on are as they were
 abbrev pub Unvisited : {C : Type 0} → List C → List C → ℕ → Type 0

@@ -1,3 +1,3 @@
-pub mod Items
+pub mod ListItems
 pub mod InPlace
 pub mod StoreCalls

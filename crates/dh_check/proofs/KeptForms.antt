@@ -10,7 +10,7 @@ use Rattle.dh_tree.specs.LeastBreach.{least_of}
 use Rattle.dh_tree.specs.Seen.{action_seen, action_form_seen, actions, groups, part_seen}
 use Rattle.dh_tree.specs.Forms.{unbuilt, unbuilt_form, unbuilt_part, unbuilt_groups, form_holds, part_holds, groups_hold}
 use Rattle.dh_tree.proofs.Leasts.{least_append}
-use Rattle.dh_base.proofs.Items.{at_item}
+use Rattle.dh_base.proofs.ListItems.{at_item}
 use Rattle.dh_check.proofs.StepsHeld.{all_hold}
 
 -- the least of what is kept, of the rest of a part, and of the parts from a place on

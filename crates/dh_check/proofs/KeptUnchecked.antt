@@ -11,7 +11,7 @@ use Rattle.dh_tree.specs.Seen.{action_seen, action_form_seen, actions, groups, p
 use Rattle.dh_tree.specs.Forms.{unbuilt, form_holds}
 use Rattle.dh_tree.specs.UncheckedForms.{unchecked_form, unchecked_part, unchecked_groups}
 use Rattle.dh_tree.proofs.Leasts.{least_append}
-use Rattle.dh_base.proofs.Items.{at_item}
+use Rattle.dh_base.proofs.ListItems.{at_item}
 use Rattle.dh_check.proofs.KeptForms.{in_turn}
 
 -- the least of what is kept, of the rest of a part, and of the parts from a place on

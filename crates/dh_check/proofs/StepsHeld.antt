@@ -7,7 +7,7 @@ use Rattle.std.proofs.lemmas.List.{drop_all}
 use Rattle.dh_tree.specs.declared.trees.commands.Command.{Command}
 use Rattle.dh_tree.specs.Seen.{action_seen, action_form_seen, actions, groups, part_seen}
 use Rattle.dh_tree.specs.Forms.{form_holds, part_holds, groups_hold}
-use Rattle.dh_base.proofs.Items.{at_item}
+use Rattle.dh_base.proofs.ListItems.{at_item}
 
 -- what is left of a part, or the parts from a place on
 abbrev pub left_holds : List Command → ℕ → List (Vec Command Global) → ℕ → Bool

@@ -15,7 +15,7 @@ use Rattle.dh_tree.specs.Seen.{actions, groups, action_seen, action_form_seen, p
 use Rattle.dh_tree.specs.declared.trees.commands.Command.{Command}
 use Rattle.dh_compile.specs.declared.stores.Store.{Store}
 use Rattle.dh_compile.specs.Reading.{action_read, phase_read, form_store_phases, groups_store_phases, parts_store_phases, groups_read, one_group, done_by, current_after, gathered, part_read, parts_read}
-use Rattle.dh_base.proofs.Items.{at_item}
+use Rattle.dh_base.proofs.ListItems.{at_item}
 
 map_append : {A B : Type 0} (f : A → B) (xs ys : List A) → map f (xs ++ ys) ≡ map f xs ++ map f ys
 map_append f [] ys = refl

@@ -11,7 +11,7 @@ use Rattle.dh_tree.specs.Tables.{FitsEntry, Fits}
 use Rattle.dh_tree.specs.declared.tables.MemEntry.{MemEntry}
 use Rattle.dh_data.specs.Reading.{IsHeld}
 use Rattle.dh_data.specs.Reports.{outside_data, with_outside}
-use Rattle.dh_base.proofs.Items.{at_item}
+use Rattle.dh_base.proofs.ListItems.{at_item}
 
 -- what a turn has and leaves
 pub record Turn (es rest : List MemEntry) (ms more : List (List ℕ)) (e : MemEntry) (m : List ℕ) : Type 0 where

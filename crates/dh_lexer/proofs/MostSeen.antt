@@ -6,7 +6,7 @@ use Rattle.dh_lexer.specs.Counted.{open_after, most_open, operators_after, most_
 use Rattle.dh_lexer.specs.declared.tokens.Token.{Token}
 use Rattle.dh_lexer.specs.declared.tokens.TokenKind.{TokenKind}
 use Rattle.dh_lexer.specs.declared.tokens.TokenKind.TheVariants as kind
-use Rattle.dh_base.proofs.Items.{at_item}
+use Rattle.dh_base.proofs.ListItems.{at_item}
 
 open_least : (n : ℕ) (ts : List Token) → n ≤ most_open n ts
 open_least n [] = omega arith

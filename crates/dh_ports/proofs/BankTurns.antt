@@ -12,7 +12,7 @@ use Rattle.dh_tree.specs.Seen.{term_seen, terms}
 use Rattle.dh_tree.specs.Shapes.{IsDim}
 use Rattle.dh_ports.proofs.ReachFacts.{no_bank, told_below}
 use Rattle.dh_ports.proofs.Turns.{at_place}
-use Rattle.dh_base.proofs.Items.{at_item}
+use Rattle.dh_base.proofs.ListItems.{at_item}
 
 abbrev bank_at : List Dim → List Expr → ℕ
 bank_at ds es = bank_of ds (literals (terms (map term_seen es)))

@@ -11,7 +11,7 @@ use denote.Ref.{Bor}
 use Rattle.dh_tree.proofs.Collecting.{one_more}
 use Rattle.dh_ports.specs.Classes.{first_place, keys_seen}
 use Rattle.dh_ports.proofs.LogFacts.{take_more}
-use Rattle.dh_base.proofs.Items.{at_item}
+use Rattle.dh_base.proofs.ListItems.{at_item}
 
 -- the place of the first key that is equal, if one is
 abbrev pub place_in : List ℕ → List (List ℕ) → Option ℕ

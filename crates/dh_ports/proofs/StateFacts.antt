@@ -11,7 +11,7 @@ use Rattle.dh_ports.specs.declared.held.Held.{Held}
 use Rattle.dh_ports.specs.Logs.{at_begin, least, marks_now}
 use Rattle.dh_ports.specs.Purses.{left_on}
 use Rattle.dh_ports.specs.States.{lefts_on, mark_on, marks_on, Shape, shape, shapes, AreOf}
-use Rattle.dh_base.proofs.Items.{at_item}
+use Rattle.dh_base.proofs.ListItems.{at_item}
 use Rattle.dh_ports.proofs.LogFacts.{mark, index_set, undo_turn, least_min, logged_turn, any_default}
 
 pub alike_shape : (a b : Spending) → AreAlike a b → shape b ≡ shape a

@@ -16,7 +16,7 @@ use Rattle.dh_sem.specs.declared.courses.Form.{Form}
 use Rattle.dh_sem.specs.declared.courses.Node.{Node}
 use Rattle.dh_sem.specs.Courses.{forms_seen, commands_seen, lists_of, IsFormed, IsCourse, Extends, Gathers, done_by, open_after}
 use Rattle.dh_sem.proofs.CourseLists.{lists_extend, lists_long, forms_kept, all_formed, extends_long, extends_none, extends_then}
-use Rattle.dh_base.proofs.Items.{at_item}
+use Rattle.dh_base.proofs.ListItems.{at_item}
 
 -- the phases of the first command of a list, and those of the others
 joined_first : (cs : List Action) (ps : List source.Phase) (parts : List (List source.Phase)) → joined cs (ps ∷ parts) ≡ done_by cs ps ++ joined (open_after cs ps) parts

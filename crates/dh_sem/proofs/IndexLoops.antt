@@ -19,7 +19,7 @@ use Rattle.dh_sem.specs.Spent.{HaveSpent}
 use Rattle.dh_sem.specs.Scenes.{Spends}
 use Rattle.dh_sem.specs.Weights.{term_weight, terms_weight}
 use Rattle.dh_sem.proofs.Evaluated.{stops_first, stops_second, spent_second}
-use Rattle.dh_base.proofs.Items.{at_item}
+use Rattle.dh_base.proofs.ListItems.{at_item}
 
 abbrev pub meant : List Memory → List Expr → Terms
 meant ms xs = terms_meant ms (terms (map term_seen xs))

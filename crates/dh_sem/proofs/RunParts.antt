@@ -30,7 +30,7 @@ use Rattle.dh_sem.specs.Spent.{HaveSpent}
 use Rattle.dh_sem.specs.Scenes.{variables_of, unset_word}
 use Rattle.dh_sem.specs.States.{AreRunnable, IsReady, KeepsBack, Keeps, Ends}
 use Rattle.dh_sem.specs.Weights.{action_weight, groups_weight, part_weight}
-use Rattle.dh_base.proofs.Items.{at_item}
+use Rattle.dh_base.proofs.ListItems.{at_item}
 use Rattle.dh_sem.proofs.Ran.{variables_set, same_writes, no_writes}
 use Rattle.dh_sem.proofs.RunLoops.{run_then, part_then, ends_then}
 

@@ -8,7 +8,7 @@ use Rattle.dh_tree.specs.declared.trees.commands.Command.{Command}
 use Rattle.dh_tree.specs.LeastBreach.{lesser, least_of}
 use Rattle.dh_tree.specs.PlainTrees.{Action, Actions, Groups, action_then}
 use Rattle.dh_tree.specs.Seen.{action_seen, actions, groups, part_seen}
-use Rattle.dh_base.proofs.Items.{at_item}
+use Rattle.dh_base.proofs.ListItems.{at_item}
 
 pub least_append : (kept : Option Breach) (bs cs : List Breach) → least_of kept (bs ++ cs) ≡ least_of (least_of kept bs) cs
 least_append kept [] cs = refl

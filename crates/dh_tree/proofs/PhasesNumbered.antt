@@ -17,7 +17,7 @@ use Rattle.dh_tree.specs.Phases.{Phase, straight, turns, repeated, decided, of_l
 use Rattle.dh_tree.specs.Seen.{term_seen, placed, unrolled, action_form_seen, actions, groups, action_seen, part_seen, maybe_seen}
 use Rattle.dh_tree.specs.NumberedPhases.{Numbered, in_turns, in_loop, by_choice, at_once, numbered_then, all_numbered, phase_numbered, phases_numbered, numbered}
 use Rattle.dh_tree.specs.Phasing.{phases_in, phases_in_groups, phases_in_other, one_phase, are_straight, turn_phases, choice_phases, done_by, current_after, gathered}
-use Rattle.dh_base.proofs.Items.{at_item}
+use Rattle.dh_base.proofs.ListItems.{at_item}
 
 list_is : (ps : List Phase) → phases_numbered (of_list ps) ≡ all_numbered (numbered ps)
 list_is [] = refl

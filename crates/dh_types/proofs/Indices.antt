@@ -10,7 +10,7 @@ use Rattle.dh_tree.specs.Seen.{term_seen, terms}
 use Rattle.dh_tree.specs.Kinds.{Facts, found, place_of, all_found, all_integer, count_of, index_breaches, typed_term, typed_terms}
 use Rattle.dh_tree.specs.KindBreaches.{term_kind_breaches, indices_kind_breaches}
 use Rattle.dh_types.specs.Facts.{has_integer}
-use Rattle.dh_base.proofs.Items.{at_item}
+use Rattle.dh_base.proofs.ListItems.{at_item}
 use Rattle.dh_tree.proofs.Leasts.{least_append}
 
 integer_first : (t : Term) (rest : Terms) → all_integer (term_then t rest) ≡ (has_integer (found t) && all_integer rest)

@@ -3,7 +3,7 @@ use Rattle.std.proofs.Common.{◌≡◌, ℕ, ◌+◌, ◌<◌, ◌≤◌, List,
 use Rattle.std.proofs.lemmas.List.{append-nil, append_assoc, drop_all}
 use Rattle.dh_tree.specs.Kinds.{Fact, Facts}
 use Rattle.dh_types.specs.Walks.{State, learned, knows}
-use Rattle.dh_base.proofs.Items.{at_item}
+use Rattle.dh_base.proofs.ListItems.{at_item}
 
 abbrev with_facts : State → Facts → State
 with_facts s l = record { facts = l; least = s.least }

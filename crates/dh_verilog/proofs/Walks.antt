@@ -6,7 +6,7 @@ use Rattle.dh_tree.specs.declared.tables.MemEntry.{MemEntry}
 use Rattle.dh_verilog.specs.Listed.{each}
 use Rattle.dh_verilog.specs.Head.{port_of, ports_of}
 use Rattle.dh_verilog.specs.declared.ports.Port.{Port}
-use Rattle.dh_base.proofs.Items.{at_item}
+use Rattle.dh_base.proofs.ListItems.{at_item}
 
 pub turn : (text : Port → List ℕ) (table : List MemEntry) (i : ℕ) (e : MemEntry) (p : Port) (out new whole : List ℕ) → i < length table → e ≡ get_or table i e → p ≡ port_of i e → new ≡ out ++ text p
     → out ++ each text (ports_of i (drop i table)) ≡ whole → new ++ each text (ports_of (i + 1) (drop (i + 1) table)) ≡ whole

@@ -2,7 +2,7 @@ use Rattle.std.proofs.Common.{◌+◌, ◌∙◌, drop, ap, sym, true≢false}
 use Rattle.std.proofs.lemmas.List.{drop_all}
 use Rattle.serde_json.specs.Find.{get_member}
 use Rattle.serde_json.specs.View.{view, members_view}
-use Rattle.dh_base.proofs.Items.{at_item}
+use Rattle.dh_base.proofs.ListItems.{at_item}
 use Rattle.dh_data.proofs.Names.{leads_on, leads_here, leads_end, none_found, some_found}
 use Rattle.dh_data.proofs.data_files.first_missing.Goals as goal
 use Rattle.dh_data.proofs.data_files.first_missing.Goals.{else-entry-via-then-entry+else-is_none, else-entry-via-else-entry}

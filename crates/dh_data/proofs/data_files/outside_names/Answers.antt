@@ -3,7 +3,7 @@ use Rattle.std.specs.Set.{is_member}
 use Rattle.std.specs.BTreeSet.{contains_by}
 use Rattle.std.specs.Cmp.Lexicographic.{slice_cmp}
 use Rattle.dh_data.specs.DataFiles.{outside_names}
-use Rattle.dh_base.proofs.Items.{at_item}
+use Rattle.dh_base.proofs.ListItems.{at_item}
 use Rattle.dh_data.proofs.Names.{set_more, known_more, known_same}
 use Rattle.dh_data.proofs.data_files.outside_names.Goals as goal
 use Rattle.dh_data.proofs.data_files.outside_names.Goals.{then-entry+in_ok-insert, else-entry}

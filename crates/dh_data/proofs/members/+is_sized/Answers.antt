@@ -2,7 +2,7 @@ use Rattle.std.proofs.Common.{◌+◌, ◌∙◌, drop, subst, sym, true≢false
 use Rattle.std.proofs.lemmas.List.{drop_all}
 use Rattle.serde_json.specs.View.{items_view}
 use Rattle.dh_data.specs.DataFiles.{IsSized, EachItem}
-use Rattle.dh_base.proofs.Items.{at_item}
+use Rattle.dh_base.proofs.ListItems.{at_item}
 use Rattle.dh_data.proofs.Elements.{not_sized, sized_from, sized_items, sizes_on, sizes_stop, sizes_end}
 use Rattle.dh_data.proofs.members.+is_sized.Goals as goal
 

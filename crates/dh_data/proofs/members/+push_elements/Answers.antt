@@ -4,7 +4,7 @@ use Rattle.serde_json.specs.Data.{Data}
 use Rattle.serde_json.specs.View.{view, items_view}
 use Rattle.dh_data.specs.DataFiles.{joined, in_order}
 use Rattle.dh_data.specs.Reading.{Pushes}
-use Rattle.dh_base.proofs.Items.{at_item}
+use Rattle.dh_base.proofs.ListItems.{at_item}
 use Rattle.dh_data.proofs.Elements.{order_of, pushes_item, pushes_stopped, pushes_all}
 use Rattle.dh_data.proofs.members.+push_elements.Goals as goal
 

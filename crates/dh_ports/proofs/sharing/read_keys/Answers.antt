@@ -2,7 +2,7 @@ use Rattle.std.proofs.Common.{ap, ◌∙◌, map, drop, ◌+◌, ◌++◌, ◌�
 use Rattle.std.proofs.lemmas.List.{map-append}
 use Rattle.dh_ports.specs.Classes.{keys_seen}
 use Rattle.dh_ports.specs.Noted.{event_seen}
-use Rattle.dh_base.proofs.Items.{at_item}
+use Rattle.dh_base.proofs.ListItems.{at_item}
 use Rattle.dh_ports.proofs.KeyTurns.{keys_turn}
 use Rattle.dh_ports.proofs.sharing.read_keys.Goals as goal
 

@@ -1,7 +1,7 @@
 use Rattle.std.proofs.Common.{ap, ◌∙◌, map, drop, ◌+◌, ◌++◌, ◌∷◌, [], ◌<◌, ℕ, subst, sym}
 use Rattle.dh_ports.specs.Noted.{event_seen}
 use Rattle.dh_ports.proofs.Turns.{at_place}
-use Rattle.dh_base.proofs.Items.{at_item}
+use Rattle.dh_base.proofs.ListItems.{at_item}
 use Rattle.dh_ports.proofs.SpendingFacts.{spending_turn}
 use Rattle.dh_ports.proofs.spending.all_spending.Goals as goal
 
