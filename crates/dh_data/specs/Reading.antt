@@ -8,12 +8,12 @@ use Rattle.std.specs.Set.{is_member}
 use Rattle.std.specs.BTreeSet.{BTreeSet, contains_by}
 use Rattle.std.specs.declared.alloc.Global.{Global}
 use denote.Ref.{Bor}
-use Rattle.serde_json.specs.Data.{Data, object, Members}
+use Rattle.serde_json.specs.Data.{Data, number, unsigned, object, Members}
 use Rattle.serde_json.specs.Find.{get_member}
 use Rattle.serde_json.specs.View.{view}
 use Rattle.serde_json.specs.declared.value.Value.{Value as JsonValue}
 use Rattle.dh_value.specs.declared.kinds.Kind.{Kind}
-use Rattle.dh_value.specs.Words.{IsInteger}
+use Rattle.dh_value.specs.Words.{IsInteger, width_of}
 use Rattle.dh_tree.specs.Tables.{elements_of, most_elements}
 use Rattle.dh_tree.specs.declared.tables.Dim.{Dim}
 use Rattle.dh_tree.specs.declared.tables.MemEntry.{MemEntry}
@@ -113,6 +113,18 @@ pub record Pushes (k : Kind) (ds : List Data) (old new : List ℕ) (all : Bool) 
 -- the elements of nested lists were added so
 abbrev pub PushesAll : Kind → List Dim → Data → (old new : List ℕ) → Bool → Type 0
 PushesAll k dims d old new all = Pushes k (in_order dims d) old new all
+
+-- the elements of nested lists were added so behind the values of a memory
+abbrev pub PushesBehind : Kind → List Dim → Data → (old new : Vec ℕ Global) → Bool → Type 0
+PushesBehind k dims d old new all = PushesAll k dims d old.items new.items all
+
+-- so it is where memory was refused
+abbrev pub IfRefused : {A : Type 0} → Result A DataFault → Type 0 → Type 0
+IfRefused result fact = result ≡ Err NoMemory → fact
+
+-- the width of a kind, as a number of a data file
+abbrev pub width_number : Kind → Data
+width_number k = number (unsigned (width_of k))
 
 -- the first of these names that is not one of the others
 abbrev pub first_other : (others names : List (List ℕ)) → Option (List ℕ)

@@ -1,13 +1,12 @@
 //! Reads a data file: the initial contents of the memories of a table, as JSON.
 
-ghost use Rattle.std.specs.Prelude.{◌≡◌, ◌<◌, ◌^◌, length, map, Err, IfOk};
+ghost use Rattle.std.specs.Prelude.{◌≡◌, ◌<◌, ◌^◌, length, map, IfOk};
 ghost use Rattle.std.specs.List.{AllByRecursion};
 ghost use Rattle.serde_json.specs.View.{view, members_view};
 ghost use Rattle.dh_tree.specs.Shapes.{IsProgramTable};
 ghost use Rattle.dh_tree.specs.Tables.{Fits};
 ghost use Rattle.dh_data.specs.DataFiles.{Reads, IfTold, Says, HasAll, IsOnlyMeaning};
-ghost use Rattle.dh_data.specs.declared.data_files.DataFault.TheVariants as fault;
-ghost use Rattle.dh_data.specs.Reading.{IsHeld, Shows, FindsMissing, FindsUnknown, KnowsNames, SaysLists};
+ghost use Rattle.dh_data.specs.Reading.{IfRefused, IsHeld, Shows, FindsMissing, FindsUnknown, KnowsNames, SaysLists};
 
 use crate::members::{contents_of, member};
 use dh_tree::{MemEntry, MemTable, Memories, Name};
@@ -115,7 +114,7 @@ fn contents_by(
     requires entries { AllByRecursion IsHeld entries.now }
     requires few { length entries.now < 2 ^ 32 }
     ensures says { IfTold result (Says entries.now (members_view members.now.entries) result) }
-    ensures refused { result ≡ Err fault.NoMemory → HasAll entries.now (members_view members.now.entries) }
+    ensures refused { IfRefused result (HasAll entries.now (members_view members.now.entries)) }
 {
     if let Some(memory) = first_missing(entries, members) {
         return Err(DataFault::Missing { memory });

@@ -1,13 +1,13 @@
 //! Reads the member that a data file has for a memory.
 
 ghost use Rattle.std.specs.Prelude.{◌≡◌, ◌↔◌, [], IfOk, IsOk, IsTrue};
-ghost use Rattle.serde_json.specs.Data.{boolean, number, string, unsigned};
+ghost use Rattle.serde_json.specs.Data.{boolean, string};
 ghost use Rattle.serde_json.specs.Find.{get_member};
 ghost use Rattle.serde_json.specs.View.{view, members_view};
-ghost use Rattle.dh_value.specs.Words.{IsInteger, IsValue, width_of, word_of};
+ghost use Rattle.dh_value.specs.Words.{IsInteger, IsValue, word_of};
 ghost use Rattle.dh_data.specs.Reports.{is_signed as sign_of};
 ghost use Rattle.dh_data.specs.DataFiles.{IsThisIfThere, IsFormat, Agrees, IsSized as SizedBy, IsNoElement};
-ghost use Rattle.dh_data.specs.Reading.{IsHeld, SaysContents, FindsData, FindsElement, PushesAll, bitnum, found_data};
+ghost use Rattle.dh_data.specs.Reading.{IsHeld, SaysContents, FindsData, FindsElement, PushesBehind, bitnum, found_data, width_number};
 
 use crate::data_files::DataFault;
 use crate::reports::{elements, signed};
@@ -107,7 +107,7 @@ fn is_bitnum(found: Option<&Value>) -> bool
 }
 
 fn is_width(kind: Kind, found: Option<&Value>) -> bool
-    ensures { IsTrue result ↔ IsThisIfThere (found_data found.entry) (number (unsigned (width_of kind))) }
+    ensures { IsTrue result ↔ IsThisIfThere (found_data found.entry) (width_number kind) }
 {
     match found {
         Some(value) => value.as_u64() == Some(u64::from(width(kind))),
@@ -145,7 +145,7 @@ fn push_elements(
     value: &Value,
 ) -> Result<bool, AllocError>
     requires { IsInteger kind }
-    ensures { IfOk result (PushesAll kind dims.now (view value.now) values.old.items values.new.items) }
+    ensures { IfOk result (PushesBehind kind dims.now (view value.now) values.old values.new) }
 {
     let Some((_, rest)) = dims.split_first() else {
         return push_element(values, kind, value);
@@ -165,7 +165,7 @@ fn push_elements(
 /// none takes no memory.
 fn push_element(values: &mut Vec<u64>, kind: Kind, value: &Value) -> Result<bool, AllocError>
     requires { IsInteger kind }
-    ensures pushes { IfOk result (PushesAll kind [] (view value.now) values.old.items values.new.items) }
+    ensures pushes { IfOk result (PushesBehind kind [] (view value.now) values.old values.new) }
     ensures none { IsNoElement kind (view value.now) → IsOk result }
 {
     match element_of(kind, value) {
