@@ -1,12 +1,26 @@
 -- What the code's walk over a tree keeps, as the definitions see it, and what each part of the walk does.
-use Rattle.std.specs.Prelude.{◌≡◌, List, [], ◌∷◌, ◌++◌, Option, Some, None}
+use Rattle.std.specs.Prelude.{◌≡◌, ℕ, ◌+◌, List, [], ◌∷◌, ◌++◌, length, map, Option, Some, None, Result, is_ok, if◌then◌else◌, Vec, Box}
+use Rattle.std.specs.Global.{Global}
+use Rattle.dh_base.specs.declared.lists.NoMemory.{NoMemory}
 use Rattle.dh_value.specs.declared.kinds.Kind.{Kind}
 use Rattle.dh_tree.specs.declared.breaches.Breach.{Breach}
+use Rattle.dh_tree.specs.declared.trees.expressions.Expr.{Expr}
+use Rattle.dh_tree.specs.declared.trees.expressions.Ref.{Ref}
+use Rattle.dh_tree.specs.declared.trees.commands.Command.{Command}
+use Rattle.dh_tree.specs.declared.trees.commands.CommandForm.{CommandForm}
+use Rattle.dh_tree.specs.declared.trees.programs.Decl.{Decl}
+use Rattle.dh_tree.specs.declared.trees.programs.Parameter.{Parameter}
+use Rattle.dh_tree.specs.declared.trees.programs.Function.{Function}
 use Rattle.dh_tree.specs.LeastBreach.{least_of}
+use Rattle.dh_tree.specs.NameCounts.{declared_in}
+use Rattle.dh_tree.specs.Seen.{term_seen, action_seen, action_form_seen, part_seen, declared_seen, formal_seen, defined_seen}
 use Rattle.dh_tree.specs.PlainTrees.{Action, ActionForm, MaybeAction, Actions, Groups, Defined}
-use Rattle.dh_tree.specs.Kinds.{Fact, Facts, facts_after, facts_after_form, facts_after_other, facts_after_actions, facts_after_groups, facts_after_function, facts_after_functions, typed_action, typed_action_form, typed_other, typed_actions, typed_groups, typed_function, typed_functions}
-use Rattle.dh_tree.specs.KindBreaches.{action_kind_breaches, action_form_kind_breaches, other_kind_breaches, actions_kind_breaches, groups_kind_breaches, function_kind_breaches, functions_kind_breaches}
-use Rattle.dh_types.specs.Facts.{facts_seen}
+use Rattle.dh_tree.specs.Kinds.{Fact, Facts, fact_of, target_kind, function_fact, declared_facts, formal_facts, facts_after, facts_after_form, facts_after_other, facts_after_actions, facts_after_groups, facts_after_function, facts_after_functions, typed_action, typed_action_form, typed_other, typed_actions, typed_groups, typed_function, typed_functions}
+use Rattle.dh_tree.specs.Kinds as rules
+use Rattle.dh_tree.specs.KindBreaches.{right_side_breaches, target_breaches, parent_breaches, reducer_breaches, action_kind_breaches, action_form_kind_breaches, other_kind_breaches, actions_kind_breaches, groups_kind_breaches, function_kind_breaches, functions_kind_breaches}
+use Rattle.dh_types.specs.declared.facts.Fact as known
+use Rattle.dh_types.specs.Facts.{fact_seen, facts_seen}
+use Rattle.dh_types.specs.InTrees.{block_seen}
 use Rattle.dh_types.specs.declared.walks.Walk.{Walk}
 
 -- a point of the text: what is known there, and the least breach so far
@@ -32,6 +46,45 @@ learned s fact = record { facts = s.facts ++ fact ∷ []; least = s.least }
 -- the state where further facts are known
 abbrev pub knows : State → List Fact → State
 knows s facts = record { facts = s.facts ++ facts; least = s.least }
+
+-- the walk notes these breaches at its point
+abbrev pub NotesAll : (old new : Walk) → List Breach → Type 0
+NotesAll old new breaches = state_of new ≡ noted (state_of old) breaches
+
+-- the walk notes the breaches that a rule finds here, by what is known at its point
+abbrev pub NotesBy : {A : Type 0} → (rule : Facts → A → List Breach) → (old new : Walk) → A → Type 0
+NotesBy rule old new seen = NotesAll old new (rule (state_of old).facts seen)
+
+-- the walk notes the breaches of an assignment
+abbrev pub NotesAssigned : (old new : Walk) → (target : Ref) → (value : Expr) → Type 0
+NotesAssigned old new target value =
+    NotesAll old new (target_breaches (fact_of (state_of old).facts target) target.place
+    ++ right_side_breaches (state_of old).facts (target_kind (fact_of (state_of old).facts target)) (term_seen value))
+
+-- the walk notes the breaches of a reducer
+abbrev pub NotesReduced : (old new : Walk) → (target : Ref) → (value : Expr) → Type 0
+NotesReduced old new target value =
+    NotesAll old new (target_breaches (fact_of (state_of old).facts target) target.place
+    ++ (reducer_breaches (target_kind (fact_of (state_of old).facts target)) (rules.found (term_seen value)) target.place
+    ++ right_side_breaches (state_of old).facts (target_kind (fact_of (state_of old).facts target)) (term_seen value)))
+
+-- the walk notes the breach of the name of a view's parent
+abbrev pub NotesParent : (old new : Walk) → (parent : Ref) → Type 0
+NotesParent old new parent = NotesAll old new (parent_breaches (fact_of (state_of old).facts parent) parent.place)
+
+-- the walk learns one more fact; for want of memory it stays as it was
+abbrev pub LearnsFact : (old new : Walk) → known.Fact → Result (Unit {0}) NoMemory → Type 0
+LearnsFact old new fact result = state_of new ≡ (if is_ok result then learned (state_of old) (fact_seen fact) else state_of old)
+
+-- the walk learns what is known of memories from outside, of functions, and of parameters
+abbrev pub LearnsMemories : (old new : Walk) → List Decl → Type 0
+LearnsMemories old new decls = state_of new ≡ knows (state_of old) (declared_facts (map declared_seen decls))
+
+abbrev pub LearnsFunctions : (old new : Walk) → List Function → Type 0
+LearnsFunctions old new functions = state_of new ≡ knows (state_of old) (map function_fact (map defined_seen functions))
+
+abbrev pub LearnsParameters : (old new : Walk) → List Parameter → Type 0
+LearnsParameters old new parameters = state_of new ≡ knows (state_of old) (formal_facts (map formal_seen parameters))
 
 -- the first of these kinds, and the others
 abbrev pub first_of : List Kind → Option Kind
@@ -70,3 +123,27 @@ pub record TypesFunction (old new : State) (a b : Defined) : Type 0 where
 pub record TypesFunctions (old new : State) (a b : List Defined) : Type 0 where
   pub tree : b ≡ typed_functions old.facts a
   pub state : new ≡ walked old (functions_kind_breaches old.facts b) (facts_after_functions old.facts b)
+
+-- the code's walk over a command, up to its end; over its form, over a block that may lack, and over a part
+abbrev pub TypesCommand : (old new : Walk) → (a b : Command) → Type 0
+TypesCommand old new a b = Types (state_of old) (state_of new) (action_seen a) (action_seen b)
+
+abbrev pub TypesCommandForm : (old new : Walk) → (a b : CommandForm) → Type 0
+TypesCommandForm old new a b = TypesForm (state_of old) (state_of new) (action_form_seen a) (action_form_seen b)
+
+abbrev pub TypesOptional : (old new : Walk) → (a b : Option (Box Command Global)) → Type 0
+TypesOptional old new a b = TypesOther (state_of old) (state_of new) (block_seen a) (block_seen b)
+
+abbrev pub TypesPart : (old new : Walk) → (a b : Vec Command Global) → Type 0
+TypesPart old new a b = TypesActions (state_of old) (state_of new) (part_seen a) (part_seen b)
+
+-- the code's walk over a function, and over functions in order
+abbrev pub TypesDefinition : (old new : Walk) → (a b : Function) → Type 0
+TypesDefinition old new a b = TypesFunction (state_of old) (state_of new) (defined_seen a) (defined_seen b)
+
+abbrev pub TypesDefinitions : (old new : Walk) → (a b : Vec Function Global) → Type 0
+TypesDefinitions old new a b = TypesFunctions (state_of old) (state_of new) (map defined_seen a.items) (map defined_seen b.items)
+
+-- how many names a function declares
+abbrev pub names_of_function : Function → ℕ
+names_of_function f = length f.parameters.items + declared_in (action_seen f.body)

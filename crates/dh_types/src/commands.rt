@@ -1,10 +1,11 @@
 //! The kinds within commands.
 
-ghost use Rattle.std.specs.Prelude.{◌≡◌, ◌<◌, MatchResult, option_map};
+ghost use Rattle.std.specs.Prelude.{◌≡◌, ◌<◌, MatchResult};
 ghost use Rattle.dh_tree.specs.NameCounts.{declared_in, declared_in_form, declared_in_other, declared_in_actions};
-ghost use Rattle.dh_tree.specs.Seen.{action_seen, action_form_seen, part_seen, maybe_seen};
+ghost use Rattle.dh_tree.specs.Seen.{action_seen, action_form_seen, part_seen};
 ghost use Rattle.dh_tree.specs.Kinds as rules;
-ghost use Rattle.dh_types.specs.Walks.{state_of, Types, TypesForm, TypesOther, TypesActions};
+ghost use Rattle.dh_types.specs.InTrees.{block_seen};
+ghost use Rattle.dh_types.specs.Walks.{TypesCommand, TypesCommandForm, TypesOptional, TypesPart};
 
 use crate::facts::{Fact, memory_fact, variable_fact};
 use crate::walks::Walk;
@@ -27,7 +28,7 @@ impl Walk {
     /// Gives the expressions of a command their kinds.
     #[cycle(commands)]
     pub fn command(&mut self, alloc: Global, command: &mut Command) -> Result<(), NoMemory>
-        ensures { MatchResult result (λ _. Types (state_of self.old) (state_of self.new) (action_seen command.old) (action_seen command.new))
+        ensures { MatchResult result (λ _. TypesCommand self.old self.new command.old command.new)
             (λ _. 0 < declared_in (action_seen command.old)) }
     {
         let blank = CommandForm::Block {
@@ -41,7 +42,7 @@ impl Walk {
     // The form with the kinds of its expressions.
     #[cycle(commands)]
     fn form(&mut self, alloc: Global, form: CommandForm) -> Result<CommandForm, NoMemory>
-        ensures { MatchResult result (λ done. TypesForm (state_of self.old) (state_of self.new) (action_form_seen form) (action_form_seen done))
+        ensures { MatchResult result (λ done. TypesCommandForm self.old self.new form done)
             (λ _. 0 < declared_in_form (action_form_seen form)) }
     {
         match form {
@@ -174,8 +175,8 @@ impl Walk {
         alloc: Global,
         block: Option<Box<Command>>,
     ) -> Result<Option<Box<Command>>, NoMemory>
-        ensures { MatchResult result (λ done. TypesOther (state_of self.old) (state_of self.new) (maybe_seen (option_map (λ b. action_seen b.value) block)) (maybe_seen (option_map (λ b. action_seen b.value) done)))
-            (λ _. 0 < declared_in_other (maybe_seen (option_map (λ b. action_seen b.value) block))) }
+        ensures { MatchResult result (λ done. TypesOptional self.old self.new block done)
+            (λ _. 0 < declared_in_other (block_seen block)) }
     {
         match block {
             Some(mut command) => {
@@ -189,7 +190,7 @@ impl Walk {
     // The commands between two `---`.
     #[cycle(commands)]
     fn part(&mut self, alloc: Global, part: &mut Vec<Command>) -> Result<(), NoMemory>
-        ensures { MatchResult result (λ _. TypesActions (state_of self.old) (state_of self.new) (part_seen part.old) (part_seen part.new))
+        ensures { MatchResult result (λ _. TypesPart self.old self.new part.old part.new)
             (λ _. 0 < declared_in_actions (part_seen part.old)) }
     {
         for command in part.iter_mut() {

@@ -1,10 +1,11 @@
 //! The kinds of expressions.
 
-ghost use Rattle.std.specs.Prelude.{◌≡◌, ◌&&◌, true, None, map};
-ghost use Rattle.dh_tree.specs.Seen.{term_seen, form_seen, terms};
+ghost use Rattle.std.specs.Prelude.{◌≡◌, ◌&&◌};
+ghost use Rattle.dh_tree.specs.Seen.{term_seen, form_seen};
 ghost use Rattle.dh_tree.specs.Kinds as rules;
 ghost use Rattle.dh_types.specs.Facts.{facts_seen};
-ghost use Rattle.dh_types.specs.Bare.{settled, settled_form, filled_in, filled_in_form, filled_if_bare};
+ghost use Rattle.dh_types.specs.Bare.{settled, settled_form, filled_in, filled_in_form};
+ghost use Rattle.dh_types.specs.InTrees.{TypesTerm, TypesTerms, Fills, wanted_left, wanted_right};
 
 use crate::facts::Fact;
 use crate::finding::kind_found;
@@ -130,7 +131,7 @@ fn settle_form(facts: &[Fact], form: ExprForm) -> (ExprForm, bool)
 /// Gives an expression its kinds. The numbers of a bare one take the kind that is wanted.
 #[cycle(expressions)]
 pub fn type_term(facts: &[Fact], want: Option<Kind>, term: &mut Expr)
-    ensures { term_seen term.new ≡ rules.typed_term (facts_seen facts.now) want (term_seen term.old) }
+    ensures { TypesTerm facts.now want term.old term.new }
 {
     if settle(facts, term) {
         fill(facts, want, term);
@@ -140,7 +141,7 @@ pub fn type_term(facts: &[Fact], want: Option<Kind>, term: &mut Expr)
 /// Gives expressions, at whose places no kind is wanted, their kinds.
 #[cycle(expressions)]
 pub fn type_terms(facts: &[Fact], terms: &mut Vec<Expr>)
-    ensures { map term_seen terms.new.items ≡ map (rules.typed_term (facts_seen facts.now) None) (map term_seen terms.old.items) }
+    ensures { TypesTerms facts.now terms.old terms.new }
 {
     for term in terms.iter_mut() {
         type_term(facts, None, term);
@@ -156,7 +157,7 @@ fn is_bare(op: Op, bare_left: bool, bare_right: bool) -> bool
 
 // Gives a bare operand its kinds, and leaves one that has its kinds.
 fn fill_bare(facts: &[Fact], bare: bool, want: Option<Kind>, operand: &mut Expr)
-    ensures { term_seen operand.new ≡ filled_if_bare (facts_seen facts.now) bare want (term_seen operand.old) }
+    ensures { Fills facts.now bare want operand.old operand.new }
 {
     if bare {
         fill(facts, want, operand);
@@ -165,8 +166,8 @@ fn fill_bare(facts: &[Fact], bare: bool, want: Option<Kind>, operand: &mut Expr)
 
 // Gives the bare operands of an operation that is not bare their kinds, where the others have theirs.
 fn fill_operands(facts: &[Fact], op: Op, bare: (bool, bool), left: &mut Expr, right: &mut Expr)
-    ensures left { term_seen left.new ≡ filled_if_bare (facts_seen facts.now) bare.0 (rules.left_want op None true bare.1 (rules.found (term_seen right.old))) (term_seen left.old) }
-    ensures right { term_seen right.new ≡ filled_if_bare (facts_seen facts.now) bare.1 (rules.right_want op None bare.0 true (rules.found (term_seen left.new))) (term_seen right.old) }
+    ensures left { Fills facts.now bare.0 (wanted_left op bare.1 right.old) left.old left.new }
+    ensures right { Fills facts.now bare.1 (wanted_right op bare.0 left.new) right.old right.new }
 {
     fill_bare(facts, bare.0, left_want(op, None, bare.1, right.kind), left);
     fill_bare(

@@ -1,9 +1,10 @@
 //! What is known of entities.
 
-ghost use Rattle.std.specs.Prelude.{◌≡◌, ◌<◌, option_map, MatchResult, map, length};
-ghost use Rattle.dh_tree.specs.Seen.{term_seen, plan_seen, formal_seen, defined_seen, declared_seen};
+ghost use Rattle.std.specs.Prelude.{◌≡◌, ◌<◌, MatchResult, length};
+ghost use Rattle.dh_tree.specs.Seen.{plan_seen};
 ghost use Rattle.dh_tree.specs.Kinds as rules;
-ghost use Rattle.dh_types.specs.Facts.{fact_seen, facts_seen};
+ghost use Rattle.dh_types.specs.Facts.{fact_seen, facts_seen, known_fact, IsFunctionFact, parameter_kinds};
+ghost use Rattle.dh_types.specs.InTrees.{value_seen};
 
 use dh_base::{Items, NoMemory};
 use dh_tree::{Expr, Function, Kind, Parameter, Ref, Shape, ViewForm};
@@ -38,7 +39,7 @@ pub enum Fact {
 
 /// What is known of what a name stands for.
 pub fn fact_of<'a>(facts: &'a [Fact], name: &Ref) -> Option<&'a Fact>
-    ensures { option_map (λ f. fact_seen f.now) result ≡ rules.fact_of (facts_seen facts.now) name.now }
+    ensures { known_fact result ≡ rules.fact_of (facts_seen facts.now) name.now }
 {
     match name.entity {
         Some(number) => facts.get(number as usize),
@@ -49,7 +50,7 @@ pub fn fact_of<'a>(facts: &'a [Fact], name: &Ref) -> Option<&'a Fact>
 /// What is known of a variable: its kind as it is written, or that of its right side; Bool where
 /// neither is there.
 pub fn variable_fact(declared: Option<Kind>, value: &Option<Expr>) -> Fact
-    ensures { fact_seen result ≡ rules.variable_fact declared (option_map term_seen value.now) }
+    ensures { fact_seen result ≡ rules.variable_fact declared (value_seen value.now) }
 {
     match (declared, value) {
         (Some(kind), _) => Fact::Variable { kind: Some(kind) },
@@ -72,7 +73,7 @@ fn view_dims(form: &ViewForm, dims: usize) -> usize
 
 /// What is known of a view, by what is known of its parent.
 pub fn view_fact(parent: Option<&Fact>, form: &ViewForm) -> Fact
-    ensures { fact_seen result ≡ rules.view_fact (option_map (λ f. fact_seen f.now) parent.entry) (plan_seen form.now) }
+    ensures { fact_seen result ≡ rules.view_fact (known_fact parent.entry) (plan_seen form.now) }
 {
     match parent {
         Some(Fact::Memory { kind, dims }) => Fact::Memory {
@@ -113,7 +114,8 @@ pub fn parameter_fact(parameter: &Parameter) -> Fact
 
 // The kinds of parameters, in order.
 fn kinds_of(alloc: Global, parameters: &[Parameter]) -> Result<Items<Kind>, NoMemory>
-    ensures { MatchResult result (λ kinds. kinds ≡ map (λ m. m.kind) (map formal_seen parameters.now)) (λ _. 0 < length parameters.now) }
+    ensures { MatchResult result (λ kinds. kinds ≡ parameter_kinds parameters.now)
+        (λ _. 0 < length parameters.now) }
 {
     let mut kinds = Items::new(alloc);
     for parameter in parameters {
@@ -124,7 +126,8 @@ fn kinds_of(alloc: Global, parameters: &[Parameter]) -> Result<Items<Kind>, NoMe
 
 /// What is known of a function.
 pub fn function_fact(alloc: Global, function: &Function) -> Result<Fact, NoMemory>
-    ensures { MatchResult result (λ fact. fact_seen fact ≡ rules.function_fact (defined_seen function.now)) (λ _. 0 < length function.now.parameters.items) }
+    ensures { MatchResult result (λ fact. IsFunctionFact function.now fact)
+        (λ _. 0 < length function.now.parameters.items) }
 {
     let parameters = kinds_of(alloc, function.parameters.as_slice())?;
     Ok(Fact::Function { parameters })
@@ -132,7 +135,7 @@ pub fn function_fact(alloc: Global, function: &Function) -> Result<Fact, NoMemor
 
 /// The kinds of the parameters of a function; none for what is no function.
 pub fn parameters_of<'a>(fact: Option<&'a Fact>) -> &'a [Kind]
-    ensures { result.now ≡ rules.parameters_of (option_map (λ f. fact_seen f.now) fact.entry) }
+    ensures { result.now ≡ rules.parameters_of (known_fact fact.entry) }
 {
     match fact {
         Some(Fact::Function { parameters }) => parameters.as_slice(),

@@ -1,9 +1,10 @@
 //! The kind of an expression, by its parts, which have their kinds.
 
-ghost use Rattle.std.specs.Prelude.{◌≡◌, ◌&&◌, ◌==◌, option_map, map};
-ghost use Rattle.dh_tree.specs.Seen.{term_seen, form_seen, terms};
+ghost use Rattle.std.specs.Prelude.{◌≡◌};
+ghost use Rattle.dh_tree.specs.Seen.{term_seen, form_seen};
 ghost use Rattle.dh_tree.specs.Kinds as rules;
-ghost use Rattle.dh_types.specs.Facts.{fact_seen, facts_seen, has_integer};
+ghost use Rattle.dh_types.specs.Facts.{facts_seen, known_fact, has_integer};
+ghost use Rattle.dh_types.specs.InTrees.{indices_seen, are_right_indices};
 
 use crate::facts::{Fact, fact_of};
 use crate::operands::applied_kind;
@@ -27,7 +28,7 @@ fn number_kind(want: Option<Kind>, negative: bool, value: u64) -> Option<Kind>
 
 /// The kind of a name that is used as a value.
 pub fn value_kind(fact: Option<&Fact>) -> Option<Kind>
-    ensures { result ≡ rules.value_kind (option_map (λ f. fact_seen f.now) fact.entry) }
+    ensures { result ≡ rules.value_kind (known_fact fact.entry) }
 {
     match fact {
         Some(Fact::Variable { kind }) => *kind,
@@ -48,7 +49,7 @@ fn is_number(term: &Expr) -> bool
 
 // Whether every index is of an integer kind.
 fn all_integer(indices: &[Expr]) -> bool
-    ensures { result ≡ rules.all_integer (terms (map term_seen indices.now)) }
+    ensures { result ≡ rules.all_integer (indices_seen indices.now) }
 {
     for index in indices {
         if !is_number(index) {
@@ -61,14 +62,14 @@ fn all_integer(indices: &[Expr]) -> bool
 // Whether indices are integers and as many as the dimensions.
 #[tactic(auto, using(crate::proofs::Indices::counted))]
 fn suit(indices: &[Expr], dims: usize) -> bool
-    ensures { result ≡ (rules.all_integer (terms (map term_seen indices.now)) && (rules.count_of (terms (map term_seen indices.now)) == dims)) }
+    ensures { result ≡ are_right_indices (indices_seen indices.now) dims }
 {
     all_integer(indices) && indices.len() == dims
 }
 
 // The kind of an access.
 fn access_kind(fact: Option<&Fact>, indices: &[Expr]) -> Option<Kind>
-    ensures { result ≡ rules.access_found (option_map (λ f. fact_seen f.now) fact.entry) (terms (map term_seen indices.now)) }
+    ensures { result ≡ rules.access_found (known_fact fact.entry) (indices_seen indices.now) }
 {
     match fact {
         Some(Fact::Memory { kind, dims }) => { if suit(indices, *dims) { *kind } else { None } }
@@ -78,7 +79,7 @@ fn access_kind(fact: Option<&Fact>, indices: &[Expr]) -> Option<Kind>
 
 // The kind of a physical access to a row of this kind.
 fn bank_kind(fact: Option<&Fact>, row: Option<Kind>) -> Option<Kind>
-    ensures { result ≡ rules.bank_found (option_map (λ f. fact_seen f.now) fact.entry) row }
+    ensures { result ≡ rules.bank_found (known_fact fact.entry) row }
 {
     match (fact, row) {
         (Some(Fact::Memory { kind, .. }), Some(row)) if is_integer(row) => *kind,

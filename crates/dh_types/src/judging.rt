@@ -1,13 +1,14 @@
 //! Breaches of the rules on kinds in expressions that have their kinds, and at the places of commands
 //! where they stand.
 
-ghost use Rattle.std.specs.Prelude.{◌≡◌, ◌&&◌, ◌==◌, true, false, if◌then◌else◌, option_map, map};
+ghost use Rattle.std.specs.Prelude.{◌≡◌};
 ghost use Rattle.std.specs.Option.{is_some};
-ghost use Rattle.dh_tree.specs.Seen.{term_seen, terms, factor_seen, plan_seen, placed};
-ghost use Rattle.dh_tree.specs.LeastBreach.{least_of};
+ghost use Rattle.dh_tree.specs.Seen.{term_seen, placed};
 ghost use Rattle.dh_tree.specs.Kinds as rules;
-ghost use Rattle.dh_tree.specs.KindBreaches as breaches;
-ghost use Rattle.dh_types.specs.Facts.{fact_seen, facts_seen, listed, is_memory as names_it, is_memory_name};
+ghost use Rattle.dh_tree.specs.KindBreaches.{term_kind_breaches, indices_kind_breaches, offset_breaches, assigned_breaches, truth_breaches, condition_breaches, argument_breaches, target_breaches, parent_breaches, reducer_breaches, iterator_breaches, low_breaches, high_breaches};
+ghost use Rattle.dh_types.specs.Facts.{facts_seen, known_fact, listed, is_memory as names_it, is_memory_name};
+ghost use Rattle.dh_types.specs.InTrees.{indices_seen, have_wrong_count};
+ghost use Rattle.dh_types.specs.Judging.{JudgesAccess, KeepsBy, breaches_for};
 
 use crate::facts::{Fact, fact_of};
 use crate::keeping::{keep, lost_unless, mismatch_unless};
@@ -18,7 +19,7 @@ use dh_tree::{Breach, Expr, ExprForm, Kind, Ref};
 
 // The breach of a name that is used as a value.
 fn value_breach(fact: Option<&Fact>, place: Place) -> Option<Breach>
-    ensures { listed result ≡ rules.value_breaches (option_map (λ f. fact_seen f.now) fact.entry) place }
+    ensures { listed result ≡ rules.value_breaches (known_fact fact.entry) place }
 {
     match fact {
         Some(Fact::Memory { .. } | Fact::Function { .. }) => mismatch_unless(false, place),
@@ -35,7 +36,7 @@ fn has_kind(term: &Expr) -> bool
 
 // Whether each of the indices has a kind.
 fn all_found(indices: &[Expr]) -> bool
-    ensures { result ≡ rules.all_found (terms (map term_seen indices.now)) }
+    ensures { result ≡ rules.all_found (indices_seen indices.now) }
 {
     for index in indices {
         if !has_kind(index) {
@@ -48,14 +49,14 @@ fn all_found(indices: &[Expr]) -> bool
 // Whether indices have kinds and are not as many as the dimensions.
 #[tactic(auto, using(crate::proofs::Indices::counted))]
 fn are_miscounted(indices: &[Expr], dims: usize) -> bool
-    ensures { result ≡ (rules.all_found (terms (map term_seen indices.now)) && (if rules.count_of (terms (map term_seen indices.now)) == dims then false else true)) }
+    ensures { result ≡ have_wrong_count (indices_seen indices.now) dims }
 {
     all_found(indices) && indices.len() != dims
 }
 
 // The breach at the name of an access.
 fn access_breach(fact: Option<&Fact>, place: Place, indices: &[Expr]) -> Option<Breach>
-    ensures { listed result ≡ rules.access_breaches (option_map (λ f. fact_seen f.now) fact.entry) place (terms (map term_seen indices.now)) }
+    ensures { JudgesAccess fact.entry place indices.now result }
 {
     match fact {
         Some(Fact::Memory { dims, .. }) => {
@@ -68,7 +69,7 @@ fn access_breach(fact: Option<&Fact>, place: Place, indices: &[Expr]) -> Option<
 
 // The breach of a name at whose place a memory or a view stands.
 fn memory_breach(fact: Option<&Fact>, place: Place) -> Option<Breach>
-    ensures { listed result ≡ rules.bank_breaches (option_map (λ f. fact_seen f.now) fact.entry) place }
+    ensures { listed result ≡ rules.bank_breaches (known_fact fact.entry) place }
 {
     match fact {
         Some(Fact::Memory { .. }) | None => None,
@@ -100,7 +101,7 @@ fn cast_breach(place: Place, inner: Option<Kind>, to: Kind) -> Option<Breach>
 #[cycle(breaches)]
 #[tactic(auto, using(dh_tree::proofs::SeenTerms::terms_are, crate::proofs::LeastKept::least_then))]
 pub fn keep_term(facts: &[Fact], kept: &mut Option<Breach>, term: &Expr)
-    ensures { kept.new ≡ least_of kept.old (breaches.term_kind_breaches (facts_seen facts.now) (term_seen term.now)) }
+    ensures { KeepsBy term_kind_breaches facts.now kept.old kept.new (term_seen term.now) }
 {
     let place = term.place;
     match &term.form {
@@ -132,7 +133,7 @@ pub fn keep_term(facts: &[Fact], kept: &mut Option<Breach>, term: &Expr)
 // Keeps the breaches of indices.
 #[cycle(breaches)]
 fn keep_indices(facts: &[Fact], kept: &mut Option<Breach>, indices: &[Expr])
-    ensures { kept.new ≡ least_of kept.old (breaches.indices_kind_breaches (facts_seen facts.now) (terms (map term_seen indices.now))) }
+    ensures { KeepsBy indices_kind_breaches facts.now kept.old kept.new (indices_seen indices.now) }
 {
     for index in indices {
         keep(kept, index_breach(index.kind, index.place));
@@ -143,7 +144,7 @@ fn keep_indices(facts: &[Fact], kept: &mut Option<Breach>, indices: &[Expr])
 /// Keeps the breaches of an offset.
 #[tactic(auto, using(crate::proofs::LeastKept::least_then))]
 pub fn keep_offset(facts: &[Fact], kept: &mut Option<Breach>, offset: &Expr)
-    ensures { kept.new ≡ least_of kept.old (breaches.offset_breaches (facts_seen facts.now) (term_seen offset.now)) }
+    ensures { KeepsBy offset_breaches facts.now kept.old kept.new (term_seen offset.now) }
 {
     keep(kept, index_breach(offset.kind, offset.place));
     keep_term(facts, kept, offset);
@@ -151,7 +152,7 @@ pub fn keep_offset(facts: &[Fact], kept: &mut Option<Breach>, offset: &Expr)
 
 // The breach of a right side of a kind for a target of a kind.
 fn assigned_breach(target: Option<Kind>, value: Option<Kind>, place: Place) -> Option<Breach>
-    ensures { listed result ≡ breaches.assigned_breaches target value place }
+    ensures { listed result ≡ assigned_breaches target value place }
 {
     match (target, value) {
         (Some(target), Some(value)) => {
@@ -173,7 +174,7 @@ pub fn keep_right_side(
     target: Option<Kind>,
     value: &Expr,
 )
-    ensures { kept.new ≡ least_of kept.old (breaches.right_side_breaches (facts_seen facts.now) target (term_seen value.now)) }
+    ensures { KeepsBy (breaches_for target) facts.now kept.old kept.new (term_seen value.now) }
 {
     keep(kept, assigned_breach(target, value.kind, value.place));
     keep_term(facts, kept, value);
@@ -181,7 +182,7 @@ pub fn keep_right_side(
 
 // The breach of a condition of this kind.
 fn truth_breach(kind: Option<Kind>, place: Place) -> Option<Breach>
-    ensures { listed result ≡ breaches.truth_breaches kind place }
+    ensures { listed result ≡ truth_breaches kind place }
 {
     match kind {
         Some(kind) => mismatch_unless(is_truth(kind), place),
@@ -192,7 +193,7 @@ fn truth_breach(kind: Option<Kind>, place: Place) -> Option<Breach>
 /// Keeps the breaches of a condition.
 #[tactic(auto, using(crate::proofs::LeastKept::least_then))]
 pub fn keep_condition(facts: &[Fact], kept: &mut Option<Breach>, test: &Expr)
-    ensures { kept.new ≡ least_of kept.old (breaches.condition_breaches (facts_seen facts.now) (term_seen test.now)) }
+    ensures { KeepsBy condition_breaches facts.now kept.old kept.new (term_seen test.now) }
 {
     keep(kept, truth_breach(test.kind, test.place));
     keep_term(facts, kept, test);
@@ -200,7 +201,7 @@ pub fn keep_condition(facts: &[Fact], kept: &mut Option<Breach>, test: &Expr)
 
 // Whether it is a memory or a view.
 fn is_memory(fact: Option<&Fact>) -> bool
-    ensures { result ≡ names_it (option_map (λ f. fact_seen f.now) fact.entry) }
+    ensures { result ≡ names_it (known_fact fact.entry) }
 {
     match fact {
         Some(Fact::Memory { .. }) => true,
@@ -226,7 +227,7 @@ fn names_memory(facts: &[Fact], term: &Expr) -> bool
 
 /// Keeps the breaches of an argument: the name of a memory or a view is left to another rule.
 pub fn keep_argument(facts: &[Fact], kept: &mut Option<Breach>, argument: &Expr)
-    ensures { kept.new ≡ least_of kept.old (breaches.argument_breaches (facts_seen facts.now) (term_seen argument.now)) }
+    ensures { KeepsBy argument_breaches facts.now kept.old kept.new (term_seen argument.now) }
 {
     if !names_memory(facts, argument) {
         keep_term(facts, kept, argument);
@@ -236,7 +237,7 @@ pub fn keep_argument(facts: &[Fact], kept: &mut Option<Breach>, argument: &Expr)
 /// The breach of the name of what is assigned to, where it stands for no variable; an iterator is left
 /// to another rule.
 pub fn target_breach(fact: Option<&Fact>, place: Place) -> Option<Breach>
-    ensures { listed result ≡ breaches.target_breaches (option_map (λ f. fact_seen f.now) fact.entry) place }
+    ensures { listed result ≡ target_breaches (known_fact fact.entry) place }
 {
     match fact {
         Some(Fact::Memory { .. } | Fact::Function { .. }) => mismatch_unless(false, place),
@@ -246,14 +247,14 @@ pub fn target_breach(fact: Option<&Fact>, place: Place) -> Option<Breach>
 
 /// The breach of the name of a view's parent, where it stands for no memory and no view.
 pub fn parent_breach(fact: Option<&Fact>, place: Place) -> Option<Breach>
-    ensures { listed result ≡ breaches.parent_breaches (option_map (λ f. fact_seen f.now) fact.entry) place }
+    ensures { listed result ≡ parent_breaches (known_fact fact.entry) place }
 {
     memory_breach(fact, place)
 }
 
 /// The breach of a reducer whose target is Bool.
 pub fn reducer_breach(target: Option<Kind>, value: Option<Kind>, place: Place) -> Option<Breach>
-    ensures { listed result ≡ breaches.reducer_breaches target value place }
+    ensures { listed result ≡ reducer_breaches target value place }
 {
     match (target, value) {
         (Some(target), Some(_)) => mismatch_unless(!is_truth(target), place),
@@ -263,14 +264,14 @@ pub fn reducer_breach(target: Option<Kind>, value: Option<Kind>, place: Place) -
 
 /// The breach of an iterator that is declared Bool.
 pub fn iterator_breach(iterator: &Ref, kind: Kind) -> Option<Breach>
-    ensures { listed result ≡ breaches.iterator_breaches iterator.now kind }
+    ensures { listed result ≡ iterator_breaches iterator.now kind }
 {
     mismatch_unless(!is_truth(kind), iterator.place)
 }
 
 /// The breach of a lower bound that is no value of the iterator's kind.
 pub fn low_breach(kind: Kind, low: (u64, Place)) -> Option<Breach>
-    ensures { listed result ≡ breaches.low_breaches kind (placed low.0 low.1) }
+    ensures { listed result ≡ low_breaches kind (placed low.0 low.1) }
 {
     lost_unless(is_value(kind, false, low.0), low.1)
 }
@@ -278,7 +279,7 @@ pub fn low_breach(kind: Kind, low: (u64, Place)) -> Option<Breach>
 /// The breach of an upper bound above the lower one, where the number before it is no value of the
 /// iterator's kind.
 pub fn high_breach(kind: Kind, low: (u64, Place), high: (u64, Place)) -> Option<Breach>
-    ensures { listed result ≡ breaches.high_breaches kind (placed low.0 low.1) (placed high.0 high.1) }
+    ensures { listed result ≡ high_breaches kind (placed low.0 low.1) (placed high.0 high.1) }
 {
     if low.0 < high.0 {
         lost_unless(is_value(kind, false, high.0 - 1), high.1)

@@ -3,6 +3,7 @@
 ghost use Rattle.std.specs.Prelude.{◌≡◌, true};
 ghost use Rattle.dh_tree.specs.Kinds as rules;
 ghost use Rattle.dh_types.specs.Facts.{listed};
+ghost use Rattle.dh_types.specs.Judging.{JudgesOperands};
 
 use crate::keeping::mismatch_unless;
 use crate::sorts::{
@@ -44,7 +45,7 @@ pub fn right_want(op: Op, want: Option<Kind>, bare_left: bool, left: Option<Kind
 
 // The breach of an operation on numbers of one sign.
 fn numbers_breach(left: Place, right: Place, kinds: (Kind, Kind)) -> Option<Breach>
-    ensures { listed result ≡ rules.operands_breaches rules.two_numbers left right kinds.0 kinds.1 }
+    ensures { JudgesOperands rules.two_numbers left right kinds result }
 {
     if is_integer(kinds.0) {
         mismatch_unless(are_alike(kinds.0, kinds.1), right)
@@ -55,7 +56,7 @@ fn numbers_breach(left: Place, right: Place, kinds: (Kind, Kind)) -> Option<Brea
 
 // The breach of a shift of a number by an amount.
 fn shift_breach(left: Place, right: Place, kinds: (Kind, Kind)) -> Option<Breach>
-    ensures { listed result ≡ rules.operands_breaches rules.number_and_amount left right kinds.0 kinds.1 }
+    ensures { JudgesOperands rules.number_and_amount left right kinds result }
 {
     if is_integer(kinds.0) {
         mismatch_unless(is_unsigned(kinds.1), right)
@@ -66,7 +67,7 @@ fn shift_breach(left: Place, right: Place, kinds: (Kind, Kind)) -> Option<Breach
 
 // The breach of an operation on two truths.
 fn truths_breach(left: Place, right: Place, kinds: (Kind, Kind)) -> Option<Breach>
-    ensures { listed result ≡ rules.operands_breaches rules.two_truths left right kinds.0 kinds.1 }
+    ensures { JudgesOperands rules.two_truths left right kinds result }
 {
     if is_truth(kinds.0) {
         mismatch_unless(is_truth(kinds.1), right)
@@ -78,7 +79,7 @@ fn truths_breach(left: Place, right: Place, kinds: (Kind, Kind)) -> Option<Breac
 // The breach of an operation on operands of two kinds: at the first operand of a sort that it does not
 // take, or at the right one where the signs differ.
 fn operands_breach(op: Op, left: Place, right: Place, kinds: (Kind, Kind)) -> Option<Breach>
-    ensures { listed result ≡ rules.operands_breaches (rules.takes op) left right kinds.0 kinds.1 }
+    ensures { JudgesOperands (rules.takes op) left right kinds result }
 {
     match op {
         Op::Add

@@ -1,10 +1,10 @@
 //! The kinds of offsets of views.
 
-ghost use Rattle.std.specs.Prelude.{◌≡◌, None, map};
+ghost use Rattle.std.specs.Prelude.{None, map};
 ghost use Rattle.dh_tree.specs.Seen.{term_seen, plan_seen, factor_seen};
-ghost use Rattle.dh_tree.specs.Kinds as rules;
-ghost use Rattle.dh_tree.specs.KindBreaches as breaches;
-ghost use Rattle.dh_types.specs.Walks.{state_of, noted};
+ghost use Rattle.dh_tree.specs.KindBreaches.{plan_breaches, offset_breaches, suffixes_breaches, shifts_breaches};
+ghost use Rattle.dh_types.specs.InTrees.{list_seen, TypesTerm, TypesTerms, TypesPlan, TypesSuffixes};
+ghost use Rattle.dh_types.specs.Walks.{NotesBy};
 
 use crate::expressions::type_term;
 use crate::judging::keep_offset;
@@ -14,8 +14,8 @@ use dh_tree::{Expr, ViewForm};
 impl Walk {
     /// Gives the offsets of a view their kinds.
     pub fn plan(&mut self, form: ViewForm) -> ViewForm
-        ensures tree { plan_seen result ≡ rules.typed_plan (state_of self.old).facts (plan_seen form) }
-        ensures state { state_of self.new ≡ noted (state_of self.old) (breaches.plan_breaches (state_of self.old).facts (plan_seen result)) }
+        ensures tree { TypesPlan self.old.facts.items form result }
+        ensures state { NotesBy plan_breaches self.old self.new (plan_seen result) }
     {
         match form {
             ViewForm::Shrink { by, by_place } => ViewForm::Shrink { by, by_place },
@@ -33,8 +33,8 @@ impl Walk {
 
     // An offset.
     fn offset(&mut self, offset: &mut Expr)
-        ensures tree { term_seen offset.new ≡ rules.typed_term (state_of self.old).facts None (term_seen offset.old) }
-        ensures state { state_of self.new ≡ noted (state_of self.old) (breaches.offset_breaches (state_of self.old).facts (term_seen offset.new)) }
+        ensures tree { TypesTerm self.old.facts.items None offset.old offset.new }
+        ensures state { NotesBy offset_breaches self.old self.new (term_seen offset.new) }
     {
         type_term(&self.facts, None, offset);
         keep_offset(&self.facts, &mut self.least, offset);
@@ -42,8 +42,8 @@ impl Walk {
 
     // The offsets of factors in order.
     fn suffixes(&mut self, by: &mut Vec<(u64, Expr)>)
-        ensures tree { map factor_seen by.new.items ≡ map (rules.typed_offset (state_of self.old).facts) (map factor_seen by.old.items) }
-        ensures state { state_of self.new ≡ noted (state_of self.old) (breaches.suffixes_breaches (state_of self.old).facts (map factor_seen by.new.items)) }
+        ensures tree { TypesSuffixes self.old.facts.items by.old by.new }
+        ensures state { NotesBy suffixes_breaches self.old self.new (map factor_seen by.new.items) }
     {
         for pair in by.iter_mut() {
             self.offset(&mut pair.1);
@@ -52,8 +52,8 @@ impl Walk {
 
     // Offsets in order.
     fn shifts(&mut self, by: &mut Vec<Expr>)
-        ensures tree { map term_seen by.new.items ≡ map (rules.typed_term (state_of self.old).facts None) (map term_seen by.old.items) }
-        ensures state { state_of self.new ≡ noted (state_of self.old) (breaches.shifts_breaches (state_of self.old).facts (map term_seen by.new.items)) }
+        ensures tree { TypesTerms self.old.facts.items by.old by.new }
+        ensures state { NotesBy shifts_breaches self.old self.new (list_seen by.new) }
     {
         for offset in by.iter_mut() {
             self.offset(offset);

@@ -1,12 +1,12 @@
 //! A walk through the text of a program.
 
-ghost use Rattle.std.specs.Prelude.{◌≡◌, ◌++◌, None, is_ok, if◌then◌else◌, option_map, map};
-ghost use Rattle.dh_tree.specs.Seen.{term_seen, plan_seen, placed};
-ghost use Rattle.dh_tree.specs.Kinds as rules;
-ghost use Rattle.dh_tree.specs.KindBreaches as breaches;
-ghost use Rattle.dh_tree.specs.LeastBreach.{least_of};
-ghost use Rattle.dh_types.specs.Facts.{fact_seen, facts_seen};
-ghost use Rattle.dh_types.specs.Walks.{state_of, noted, learned, first_of, others_of};
+ghost use Rattle.std.specs.Prelude.{◌≡◌, None};
+ghost use Rattle.dh_tree.specs.Seen.{term_seen};
+ghost use Rattle.dh_tree.specs.KindBreaches.{term_kind_breaches, condition_breaches, arguments_breaches};
+ghost use Rattle.dh_types.specs.Facts.{IsViewFact};
+ghost use Rattle.dh_types.specs.InTrees.{list_seen, value_seen, TypesTerm, TypesRightSide, TypesValue, TypesAssigned, TypesArguments, TypesCall};
+ghost use Rattle.dh_types.specs.Judging.{KeepsArguments, breaches_for, maybe_breaches_for, bounds_breaches};
+ghost use Rattle.dh_types.specs.Walks.{LearnsFact, NotesAll, NotesBy, NotesAssigned, NotesReduced, NotesParent, first_of, others_of};
 
 use crate::expressions::type_term;
 use crate::facts::{Fact, fact_of, parameters_of, view_fact};
@@ -32,7 +32,7 @@ pub struct Walk {
 impl Walk {
     /// Adds what is known of the next entity. After want of memory all is as before.
     pub fn learn(&mut self, fact: Fact) -> Result<(), NoMemory>
-        ensures { state_of self.new ≡ (if is_ok result then learned (state_of self.old) (fact_seen fact) else state_of self.old) }
+        ensures { LearnsFact self.old self.new fact result }
     {
         self.facts.push(fact)?;
         Ok(())
@@ -40,8 +40,8 @@ impl Walk {
 
     /// Gives an access that is stored to its kinds.
     pub fn access(&mut self, target: &mut Expr)
-        ensures tree { term_seen target.new ≡ rules.typed_term (state_of self.old).facts None (term_seen target.old) }
-        ensures state { state_of self.new ≡ noted (state_of self.old) (breaches.term_kind_breaches (state_of self.old).facts (term_seen target.new)) }
+        ensures tree { TypesTerm self.old.facts.items None target.old target.new }
+        ensures state { NotesBy term_kind_breaches self.old self.new (term_seen target.new) }
     {
         type_term(&self.facts, None, target);
         keep_term(&self.facts, &mut self.least, target);
@@ -49,8 +49,8 @@ impl Walk {
 
     /// Gives a condition its kinds.
     pub fn condition(&mut self, test: &mut Expr)
-        ensures tree { term_seen test.new ≡ rules.typed_term (state_of self.old).facts None (term_seen test.old) }
-        ensures state { state_of self.new ≡ noted (state_of self.old) (breaches.condition_breaches (state_of self.old).facts (term_seen test.new)) }
+        ensures tree { TypesTerm self.old.facts.items None test.old test.new }
+        ensures state { NotesBy condition_breaches self.old self.new (term_seen test.new) }
     {
         type_term(&self.facts, None, test);
         keep_condition(&self.facts, &mut self.least, test);
@@ -58,8 +58,8 @@ impl Walk {
 
     /// Gives a right side for a target of this kind its kinds.
     pub fn right_side(&mut self, target: Option<Kind>, value: &mut Expr)
-        ensures tree { term_seen value.new ≡ rules.typed_term (state_of self.old).facts (rules.for_numbers target) (term_seen value.old) }
-        ensures state { state_of self.new ≡ noted (state_of self.old) (breaches.right_side_breaches (state_of self.old).facts target (term_seen value.new)) }
+        ensures tree { TypesRightSide self.old.facts.items target value.old value.new }
+        ensures state { NotesBy (breaches_for target) self.old self.new (term_seen value.new) }
     {
         type_term(&self.facts, for_numbers(target), value);
         keep_right_side(&self.facts, &mut self.least, target, value);
@@ -67,8 +67,8 @@ impl Walk {
 
     /// Gives a right side, which may lack, its kinds.
     pub fn value(&mut self, target: Option<Kind>, value: Option<Expr>) -> Option<Expr>
-        ensures tree { option_map term_seen result ≡ rules.typed_maybe (state_of self.old).facts target (option_map term_seen value) }
-        ensures state { state_of self.new ≡ noted (state_of self.old) (breaches.maybe_breaches (state_of self.old).facts target (option_map term_seen result)) }
+        ensures tree { TypesValue self.old.facts.items target value result }
+        ensures state { NotesBy (maybe_breaches_for target) self.old self.new (value_seen result) }
     {
         match value {
             Some(mut term) => {
@@ -82,8 +82,8 @@ impl Walk {
     /// Gives the right side of an assignment its kinds.
     #[tactic(auto, using(crate::proofs::LeastKept::least_then))]
     pub fn assignment(&mut self, target: &Ref, value: &mut Expr)
-        ensures tree { term_seen value.new ≡ rules.typed_term (state_of self.old).facts (rules.for_numbers (rules.target_kind (rules.fact_of (state_of self.old).facts target.now))) (term_seen value.old) }
-        ensures state { state_of self.new ≡ noted (state_of self.old) (breaches.target_breaches (rules.fact_of (state_of self.old).facts target.now) target.now.place ++ breaches.right_side_breaches (state_of self.old).facts (rules.target_kind (rules.fact_of (state_of self.old).facts target.now)) (term_seen value.new)) }
+        ensures tree { TypesAssigned self.old.facts.items target.now value.old value.new }
+        ensures state { NotesAssigned self.old self.new target.now value.new }
     {
         let fact = fact_of(&self.facts, target);
         let kind = value_kind(fact);
@@ -95,8 +95,8 @@ impl Walk {
     /// Gives the right side of a reducer its kinds.
     #[tactic(auto, using(crate::proofs::LeastKept::least_then))]
     pub fn reduction(&mut self, target: &Ref, value: &mut Expr)
-        ensures tree { term_seen value.new ≡ rules.typed_term (state_of self.old).facts (rules.for_numbers (rules.target_kind (rules.fact_of (state_of self.old).facts target.now))) (term_seen value.old) }
-        ensures state { state_of self.new ≡ noted (state_of self.old) (breaches.target_breaches (rules.fact_of (state_of self.old).facts target.now) target.now.place ++ (breaches.reducer_breaches (rules.target_kind (rules.fact_of (state_of self.old).facts target.now)) (rules.found (term_seen value.new)) target.now.place ++ breaches.right_side_breaches (state_of self.old).facts (rules.target_kind (rules.fact_of (state_of self.old).facts target.now)) (term_seen value.new))) }
+        ensures tree { TypesAssigned self.old.facts.items target.now value.old value.new }
+        ensures state { NotesReduced self.old self.new target.now value.new }
     {
         let fact = fact_of(&self.facts, target);
         let kind = value_kind(fact);
@@ -111,8 +111,8 @@ impl Walk {
 
     /// Gives arguments the kinds of the parameters.
     pub fn arguments(&mut self, function: &Ref, arguments: &mut Vec<Expr>)
-        ensures tree { map term_seen arguments.new.items ≡ rules.typed_arguments (state_of self.old).facts (rules.parameters_of (rules.fact_of (state_of self.old).facts function.now)) (map term_seen arguments.old.items) }
-        ensures state { state_of self.new ≡ noted (state_of self.old) (breaches.arguments_breaches (state_of self.old).facts (map term_seen arguments.new.items)) }
+        ensures tree { TypesCall self.old.facts.items function.now arguments.old arguments.new }
+        ensures state { NotesBy arguments_breaches self.old self.new (list_seen arguments.new) }
     {
         let parameters = parameters_of(fact_of(&self.facts, function));
         type_arguments(&self.facts, &mut self.least, parameters, arguments);
@@ -120,7 +120,7 @@ impl Walk {
 
     /// Looks at the parent of a view.
     pub fn parent(&mut self, parent: &Ref)
-        ensures { state_of self.new ≡ noted (state_of self.old) (breaches.parent_breaches (rules.fact_of (state_of self.old).facts parent.now) parent.now.place) }
+        ensures { NotesParent self.old self.new parent.now }
     {
         let fact = fact_of(&self.facts, parent);
         keep(&mut self.least, parent_breach(fact, parent.place));
@@ -128,7 +128,7 @@ impl Walk {
 
     /// What is known of a view of this parent.
     pub fn view(&self, parent: &Ref, form: &ViewForm) -> Fact
-        ensures { fact_seen result ≡ rules.view_fact (rules.fact_of (state_of self.now).facts parent.now) (plan_seen form.now) }
+        ensures { IsViewFact self.now.facts.items parent.now form.now result }
     {
         view_fact(fact_of(&self.facts, parent), form)
     }
@@ -136,7 +136,7 @@ impl Walk {
     /// Looks at the kind and the bounds of an iterator.
     #[tactic(auto, using(crate::proofs::LeastKept::least_then))]
     pub fn bounds(&mut self, iterator: &Ref, kind: Kind, low: (u64, Place), high: (u64, Place))
-        ensures { state_of self.new ≡ noted (state_of self.old) (breaches.iterator_breaches iterator.now kind ++ (breaches.low_breaches kind (placed low.0 low.1) ++ breaches.high_breaches kind (placed low.0 low.1) (placed high.0 high.1))) }
+        ensures { NotesAll self.old self.new (bounds_breaches iterator.now kind low high) }
     {
         keep(&mut self.least, iterator_breach(iterator, kind));
         keep(&mut self.least, low_breach(kind, low));
@@ -162,8 +162,8 @@ fn type_arguments(
     parameters: &[Kind],
     arguments: &mut Vec<Expr>,
 )
-    ensures tree { map term_seen arguments.new.items ≡ rules.typed_arguments (facts_seen facts.now) parameters.now (map term_seen arguments.old.items) }
-    ensures least { kept.new ≡ least_of kept.old (breaches.arguments_breaches (facts_seen facts.now) (map term_seen arguments.new.items)) }
+    ensures tree { TypesArguments facts.now parameters.now arguments.old arguments.new }
+    ensures least { KeepsArguments facts.now kept.old kept.new arguments.new }
 {
     let mut rest = parameters;
     for argument in arguments.iter_mut() {
