@@ -104,8 +104,9 @@ fn has_few_elements(entries: &[MemEntry]) -> bool
     true
 }
 
-/// Whether a net can have the memories: each outside, of a number kind, of one dimension in one bank
-/// with one port, with names that differ, and at most 1048576 elements together.
+/// Whether a net can have the memories: each outside, with a name of the language, of a number kind of 1
+/// to 64 bits, of one dimension with at least one element, in one bank with one port; with names that
+/// differ, and at most 1048576 elements together.
 pub fn is_table(table: &MemTable) -> bool
     ensures { IsTrue result ↔ IsTable table.now }
 {

@@ -23,7 +23,7 @@ pub struct Counter {
     pub factor: u64,
 }
 
-/// Finds the loops of a command, in text order.
+/// Finds the loops of a command, in the order of the tree, a loop before those inside it.
 #[cycle(finding_loops)]
 #[tactic(auto, using(crate::proofs::SeenActions::actions_are, crate::proofs::Collecting::found_none, crate::proofs::Collecting::found_both))]
 fn find_loops(found: &mut Vec<Counter>, command: &Command) -> Result<(), NoMemory>

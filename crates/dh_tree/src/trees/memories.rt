@@ -28,7 +28,7 @@ pub struct Collected {
     pub numbers: Vec<Option<usize>>,
 }
 
-/// Finds the local memories that a command declares, in text order.
+/// Finds the local memories that a command declares, in the order of the tree.
 #[cycle(finding)]
 #[tactic(auto, using(crate::proofs::SeenActions::actions_are, crate::proofs::Collecting::found_none, crate::proofs::Collecting::found_both))]
 fn find_locals<'a>(found: &mut Vec<Found<'a>>, command: &'a Command) -> Result<(), NoMemory>
@@ -92,7 +92,7 @@ fn find_in_parts<'a>(found: &mut Vec<Found<'a>>, parts: &'a [Vec<Command>]) -> R
     Ok(())
 }
 
-/// Finds the memories from outside, in text order.
+/// Finds the memories that these declarations bring from outside, in their order.
 fn find_decls<'a>(alloc: Global, decls: &'a [Decl]) -> Result<Vec<Found<'a>>, NoMemory>
     ensures { IfOk result (λ found. all_found found.items ≡ outside_memories decls.now) }
 {

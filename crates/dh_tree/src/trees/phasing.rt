@@ -301,7 +301,7 @@ fn find_in_parts(parts: &[Vec<Command>], number: u32) -> Option<&Command>
 ///
 /// # Errors
 ///
-/// `NoMemory` where an allocation was refused.
+/// `NoMemory`, the one error; no clause tells when.
 pub fn phases(alloc: Global, typed: &Typed, command: u32) -> Result<Vec<Phase>, NoMemory>
     requires there { HasCommand (program_seen typed.now).body command }
     requires numbered { (first : ℕ) × IsNumbered first (program_seen typed.now).body }

@@ -55,7 +55,7 @@ impl Typed {
     ///
     /// # Errors
     ///
-    /// `NoMemory` where an allocation was refused.
+    /// `NoMemory`, the one error; no clause tells when.
     pub fn of(alloc: Global, tree: Tree) -> Result<Typed, NoMemory>
         requires names { KeepsNames (program_seen tree) }
         requires entities { HasEntities (program_seen tree) }
@@ -107,7 +107,7 @@ impl Typed {
         }
     }
 
-    /// Its memories: those of `decl` in text order, then the local ones.
+    /// The table of its memories: those from outside, then the local ones, both in the order of the tree.
     pub fn memories(&self) -> &MemTable
         ensures { result.now ≡ table_of (program_seen self.now) }
     {
