@@ -34,7 +34,7 @@ pub(crate) fn keep_where(kept: &mut Option<Breach>, place: Option<Place>)
 }
 
 /// Dimensions behind the first.
-#[tactic(auto, using(crate::proofs::Leasts::least_append))]
+#[tactic(auto, using(dh_tree::proofs::Leasts::least_append))]
 fn keep_further_dims(kept: &mut Option<Breach>, dims: &[DimPlaces])
     ensures { kept.new ≡ least_of kept.old (further_dims dims.now) }
 {
@@ -44,7 +44,7 @@ fn keep_further_dims(kept: &mut Option<Breach>, dims: &[DimPlaces])
 }
 
 /// The dimensions of a type whose kind begins at `start`: at least one, without the word `bank`.
-#[tactic(auto, using(crate::proofs::Leasts::least_append))]
+#[tactic(auto, using(dh_tree::proofs::Leasts::least_append))]
 pub(crate) fn keep_dims(kept: &mut Option<Breach>, start: Place, dims: &[DimPlaces])
     ensures { kept.new ≡ least_of kept.old (unbuilt_dims start dims.now) }
 {
@@ -67,7 +67,7 @@ fn is_word(kind: Kind) -> bool
     }
 }
 
-#[tactic(auto, using(crate::proofs::Leasts::least_append))]
+#[tactic(auto, using(dh_tree::proofs::Leasts::least_append))]
 fn keep_decl(kept: &mut Option<Breach>, decl: &Decl)
     ensures { kept.new ≡ least_of kept.old (unbuilt_decl (declared_seen decl.now)) }
 {
@@ -79,7 +79,7 @@ fn keep_decl(kept: &mut Option<Breach>, decl: &Decl)
     keep_dims(kept, places.kind_place, places.dims.as_slice());
 }
 
-#[tactic(auto, using(crate::proofs::Leasts::least_append))]
+#[tactic(auto, using(dh_tree::proofs::Leasts::least_append))]
 fn keep_decls(kept: &mut Option<Breach>, decls: &[Decl])
     ensures { kept.new ≡ least_of kept.old (unbuilt_decls (map declared_seen decls.now)) }
 {
@@ -88,7 +88,7 @@ fn keep_decls(kept: &mut Option<Breach>, decls: &[Decl])
     }
 }
 
-#[tactic(auto, using(crate::proofs::Leasts::least_append))]
+#[tactic(auto, using(dh_tree::proofs::Leasts::least_append))]
 pub(crate) fn keep_functions(kept: &mut Option<Breach>, functions: &[Function])
     ensures { kept.new ≡ least_of kept.old (unbuilt_functions (map defined_seen functions.now)) }
 {
@@ -98,7 +98,7 @@ pub(crate) fn keep_functions(kept: &mut Option<Breach>, functions: &[Function])
 }
 
 /// The number that the expression is, if it is one without a sign.
-#[tactic(auto, using(dh_tree::proofs::SeenTerms::terms_are, crate::proofs::Leasts::least_append))]
+#[tactic(auto, using(dh_tree::proofs::SeenTerms::terms_are, dh_tree::proofs::Leasts::least_append))]
 fn plain_number(form: &ExprForm) -> Option<u64>
     ensures { result ≡ forms.plain_number (form_seen form.now) }
 {
@@ -123,7 +123,7 @@ fn is_stored(value: &Expr) -> bool
     }
 }
 
-#[tactic(auto, using(dh_tree::proofs::SeenTerms::terms_are, crate::proofs::Leasts::least_append))]
+#[tactic(auto, using(dh_tree::proofs::SeenTerms::terms_are, dh_tree::proofs::Leasts::least_append))]
 fn is_access(value: &Expr) -> bool
     ensures { result ≡ forms.is_access (term_seen value.now) }
 {
@@ -139,7 +139,7 @@ fn is_access(value: &Expr) -> bool
 }
 
 /// Indices behind the first.
-#[tactic(auto, using(dh_tree::proofs::SeenTerms::terms_are, crate::proofs::Leasts::least_append))]
+#[tactic(auto, using(dh_tree::proofs::SeenTerms::terms_are, dh_tree::proofs::Leasts::least_append))]
 fn keep_further_indices(kept: &mut Option<Breach>, indices: &[Expr])
     ensures { kept.new ≡ least_of kept.old (further_indices (terms_seen indices.now)) }
 {
@@ -156,7 +156,7 @@ fn keep_index(kept: &mut Option<Breach>, index: &Expr)
     }
 }
 
-#[tactic(auto, using(dh_tree::proofs::SeenTerms::terms_are, crate::proofs::Leasts::least_append))]
+#[tactic(auto, using(dh_tree::proofs::SeenTerms::terms_are, dh_tree::proofs::Leasts::least_append))]
 fn keep_indices(kept: &mut Option<Breach>, place: Place, indices: &[Expr])
     ensures { kept.new ≡ least_of kept.old (unbuilt_indices place (terms_seen indices.now)) }
 {
@@ -169,7 +169,7 @@ fn keep_indices(kept: &mut Option<Breach>, place: Place, indices: &[Expr])
     }
 }
 
-#[tactic(auto, using(dh_tree::proofs::SeenTerms::terms_are, crate::proofs::Leasts::least_append))]
+#[tactic(auto, using(dh_tree::proofs::SeenTerms::terms_are, dh_tree::proofs::Leasts::least_append))]
 fn keep_access(kept: &mut Option<Breach>, access: &Expr)
     ensures { kept.new ≡ least_of kept.old (unbuilt_access (term_seen access.now)) }
 {
@@ -202,7 +202,7 @@ fn keep_sum(kept: &mut Option<Breach>, place: Place, op: Op, left: &Expr, right:
     }
 }
 
-#[tactic(auto, using(dh_tree::proofs::SeenTerms::terms_are, crate::proofs::Leasts::least_append))]
+#[tactic(auto, using(dh_tree::proofs::SeenTerms::terms_are, dh_tree::proofs::Leasts::least_append))]
 fn keep_value(kept: &mut Option<Breach>, value: &Expr)
     ensures { kept.new ≡ least_of kept.old (unbuilt_value (term_seen value.now)) }
 {
@@ -230,7 +230,7 @@ pub(crate) fn has_dashes(parts: &[Vec<Command>]) -> bool
 
 /// What of a command is not built; whether it holds a `---`, a loop or a call.
 #[cycle(unbuilt)]
-#[tactic(auto, using(dh_tree::proofs::SeenActions::actions_are, crate::proofs::Leasts::least_append))]
+#[tactic(auto, using(dh_tree::proofs::SeenActions::actions_are, dh_tree::proofs::Leasts::least_append))]
 fn keep_command(kept: &mut Option<Breach>, command: &Command) -> bool
     ensures kept { kept.new ≡ least_of kept.old (unbuilt_action (action_seen command.now)) }
     ensures steps { result ≡ holds_steps (action_seen command.now) }
@@ -269,7 +269,7 @@ pub(crate) fn keep_whole(kept: &mut Option<Breach>, place: Place, form: &Command
 /// The parts between `---`; whether one of them holds a `---`. In a list, a second command
 /// that does is not built.
 #[cycle(unbuilt)]
-#[tactic(auto, using(dh_tree::proofs::SeenActions::actions_are, crate::proofs::Leasts::least_append))]
+#[tactic(auto, using(dh_tree::proofs::SeenActions::actions_are, dh_tree::proofs::Leasts::least_append))]
 fn keep_groups(kept: &mut Option<Breach>, parts: &[Vec<Command>]) -> bool
     ensures kept { kept.new ≡ least_of kept.old (unbuilt_groups (parts_seen parts.now)) }
     ensures steps { result ≡ groups_hold (parts_seen parts.now) }
@@ -297,7 +297,7 @@ pub(crate) fn keep_second(kept: &mut Option<Breach>, is_second: bool, place: Pla
 }
 
 /// The first form of a program that is not built, if there is one.
-#[tactic(auto, using(crate::proofs::Leasts::least_append))]
+#[tactic(auto, using(dh_tree::proofs::Leasts::least_append))]
 pub(crate) fn first_unbuilt(tree: &Tree) -> Option<Breach>
     ensures { result ≡ least_of None (unbuilt_forms (program_seen tree.now)) }
 {
@@ -310,7 +310,7 @@ pub(crate) fn first_unbuilt(tree: &Tree) -> Option<Breach>
 
 /// Whether a command that is not built holds a `---`, a `for`, a `while` or a call.
 #[cycle(steps)]
-#[tactic(auto, using(dh_tree::proofs::SeenActions::actions_are, crate::proofs::Leasts::least_append))]
+#[tactic(auto, using(dh_tree::proofs::SeenActions::actions_are, dh_tree::proofs::Leasts::least_append))]
 fn takes_steps(form: &CommandForm) -> bool
     ensures { result ≡ form_holds (action_form_seen form.now) }
 {

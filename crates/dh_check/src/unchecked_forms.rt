@@ -31,7 +31,7 @@ fn keep_combine(kept: &mut Option<Breach>, word: Place, combine: &Option<Box<Com
 
 /// What of a command is not built; whether it holds a `---`, a loop or a call.
 #[cycle(unbuilt)]
-#[tactic(auto, using(dh_tree::proofs::SeenActions::actions_are, crate::proofs::Leasts::least_append))]
+#[tactic(auto, using(dh_tree::proofs::SeenActions::actions_are, dh_tree::proofs::Leasts::least_append))]
 fn keep_command(kept: &mut Option<Breach>, command: &Command) -> bool
     ensures kept { kept.new ≡ least_of kept.old (unchecked_action (action_seen command.now)) }
     ensures steps { result ≡ holds_steps (action_seen command.now) }
@@ -76,7 +76,7 @@ fn keep_command(kept: &mut Option<Breach>, command: &Command) -> bool
 
 /// The same of a block after `else`, which may lack.
 #[cycle(unbuilt)]
-#[tactic(auto, using(dh_tree::proofs::SeenActions::actions_are, crate::proofs::Leasts::least_append))]
+#[tactic(auto, using(dh_tree::proofs::SeenActions::actions_are, dh_tree::proofs::Leasts::least_append))]
 fn keep_other(kept: &mut Option<Breach>, other: &Option<Box<Command>>) -> bool
     ensures kept { kept.new ≡ least_of kept.old (unchecked_other (other_seen other.now)) }
     ensures steps { result ≡ other_holds (other_seen other.now) }
@@ -90,7 +90,7 @@ fn keep_other(kept: &mut Option<Breach>, other: &Option<Box<Command>>) -> bool
 /// The parts between `---`; whether one of them holds a `---`. In a list, a second command
 /// that does is not built.
 #[cycle(unbuilt)]
-#[tactic(auto, using(dh_tree::proofs::SeenActions::actions_are, crate::proofs::Leasts::least_append))]
+#[tactic(auto, using(dh_tree::proofs::SeenActions::actions_are, dh_tree::proofs::Leasts::least_append))]
 fn keep_groups(kept: &mut Option<Breach>, parts: &[Vec<Command>]) -> bool
     ensures kept { kept.new ≡ least_of kept.old (unchecked_groups (parts_seen parts.now)) }
     ensures steps { result ≡ groups_hold (parts_seen parts.now) }
@@ -109,7 +109,7 @@ fn keep_groups(kept: &mut Option<Breach>, parts: &[Vec<Command>]) -> bool
 }
 
 /// The first form of a program that is not built, if there is one.
-#[tactic(auto, using(crate::proofs::Leasts::least_append))]
+#[tactic(auto, using(dh_tree::proofs::Leasts::least_append))]
 pub(crate) fn first_unchecked(tree: &Tree) -> Option<Breach>
     ensures { result ≡ least_of None (unchecked_forms (program_seen tree.now)) }
 {

@@ -23,7 +23,7 @@ pub fn resolve_term(names: &Names, least: &mut Option<Breach>, term: &mut Expr)
 
 // The form with the numbers of its names.
 #[cycle(expressions)]
-#[tactic(auto, using(dh_tree::proofs::SeenTerms::terms_are, crate::proofs::Keeping::least_then))]
+#[tactic(auto, using(dh_tree::proofs::SeenTerms::terms_are, dh_tree::proofs::Leasts::least_append))]
 fn resolved_form(names: &Names, least: &mut Option<Breach>, form: ExprForm) -> ExprForm
     ensures tree { form_seen result ≡ resolved_term_form (visible names.now) (form_seen form) }
     ensures least { least.new ≡ least_of least.old (term_form_breaches (visible names.now) (form_seen form)) }

@@ -99,7 +99,7 @@ fn cast_breach(place: Place, inner: Option<Kind>, to: Kind) -> Option<Breach>
 
 /// Keeps the breaches of an expression.
 #[cycle(breaches)]
-#[tactic(auto, using(dh_tree::proofs::SeenTerms::terms_are, crate::proofs::LeastKept::least_then))]
+#[tactic(auto, using(dh_tree::proofs::SeenTerms::terms_are, dh_tree::proofs::Leasts::least_append))]
 pub fn keep_term(facts: &[Fact], kept: &mut Option<Breach>, term: &Expr)
     ensures { KeepsBy term_kind_breaches facts.now kept.old kept.new (term_seen term.now) }
 {
@@ -142,7 +142,7 @@ fn keep_indices(facts: &[Fact], kept: &mut Option<Breach>, indices: &[Expr])
 }
 
 /// Keeps the breaches of an offset.
-#[tactic(auto, using(crate::proofs::LeastKept::least_then))]
+#[tactic(auto, using(dh_tree::proofs::Leasts::least_append))]
 pub fn keep_offset(facts: &[Fact], kept: &mut Option<Breach>, offset: &Expr)
     ensures { KeepsBy offset_breaches facts.now kept.old kept.new (term_seen offset.now) }
 {
@@ -167,7 +167,7 @@ fn assigned_breach(target: Option<Kind>, value: Option<Kind>, place: Place) -> O
 }
 
 /// Keeps the breaches of a right side for a target of this kind.
-#[tactic(auto, using(crate::proofs::LeastKept::least_then))]
+#[tactic(auto, using(dh_tree::proofs::Leasts::least_append))]
 pub fn keep_right_side(
     facts: &[Fact],
     kept: &mut Option<Breach>,
@@ -191,7 +191,7 @@ fn truth_breach(kind: Option<Kind>, place: Place) -> Option<Breach>
 }
 
 /// Keeps the breaches of a condition.
-#[tactic(auto, using(crate::proofs::LeastKept::least_then))]
+#[tactic(auto, using(dh_tree::proofs::Leasts::least_append))]
 pub fn keep_condition(facts: &[Fact], kept: &mut Option<Breach>, test: &Expr)
     ensures { KeepsBy condition_breaches facts.now kept.old kept.new (term_seen test.now) }
 {

@@ -80,7 +80,7 @@ impl Walk {
     }
 
     /// Gives the right side of an assignment its kinds.
-    #[tactic(auto, using(crate::proofs::LeastKept::least_then))]
+    #[tactic(auto, using(dh_tree::proofs::Leasts::least_append))]
     pub fn assignment(&mut self, target: &Ref, value: &mut Expr)
         ensures tree { TypesAssigned self.old.facts.items target.now value.old value.new }
         ensures state { NotesAssigned self.old self.new target.now value.new }
@@ -93,7 +93,7 @@ impl Walk {
     }
 
     /// Gives the right side of a reducer its kinds.
-    #[tactic(auto, using(crate::proofs::LeastKept::least_then))]
+    #[tactic(auto, using(dh_tree::proofs::Leasts::least_append))]
     pub fn reduction(&mut self, target: &Ref, value: &mut Expr)
         ensures tree { TypesAssigned self.old.facts.items target.now value.old value.new }
         ensures state { NotesReduced self.old self.new target.now value.new }
@@ -134,7 +134,7 @@ impl Walk {
     }
 
     /// Looks at the kind and the bounds of an iterator.
-    #[tactic(auto, using(crate::proofs::LeastKept::least_then))]
+    #[tactic(auto, using(dh_tree::proofs::Leasts::least_append))]
     pub fn bounds(&mut self, iterator: &Ref, kind: Kind, low: (u64, Place), high: (u64, Place))
         ensures { NotesAll self.old self.new (bounds_breaches iterator.now kind low high) }
     {
