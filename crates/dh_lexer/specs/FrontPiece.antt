@@ -1,6 +1,6 @@
 -- The piece that a text begins with, as a function: what the lexer computes. That it is the one of
 -- `Pieces` is proved, and holds of `lex` by its contract.
-use Rattle.std.specs.Prelude.{ℕ, ◌+◌, ◌^◌, Bool, ◌&&◌, ◌||◌, ◌==◌, not, nat_lt, List, [], ◌∷◌, length, take, drop, slice_index, bytes_eq, if◌then◌else◌, Option, Some, None, option_map}
+use Rattle.std.specs.Prelude.{ℕ, ◌+◌, ◌^◌, Bool, ◌&&◌, ◌||◌, ◌==◌, not, nat_lt, List, [], ◌∷◌, length, take, drop, slice_index, bytes_eq, if◌then◌else◌, Option, Some, None, option_map, ◌≡◌, Result, MatchResult}
 use Rattle.std.specs.List.{prefix_len, list_all}
 use Rattle.std.specs.Char.{is_ascii_alphanumeric, is_ascii_digit, is_digit}
 use Rattle.std.specs.Str.Parse.{digits_value}
@@ -99,6 +99,10 @@ token_of l =
 abbrev pub gap_of : ℕ → Front × ℕ
 gap_of n = (front.Gap, n)
 
+-- the comment that the text begins with, if its two first bytes are those of one that ends by itself
+abbrev pub comment_of : List ℕ → Option (Front × ℕ)
+comment_of l = option_map (λ n. gap_of (2 + n)) (block_len (drop 2 l))
+
 -- a token of so many bytes
 abbrev pub front_token : TokenKind × ℕ → Front × ℕ
 front_token t = (front.Token t.0, t.1)
@@ -108,7 +112,7 @@ unfoldable pub front_of : List ℕ → Option (Front × ℕ)
 front_of l =
     if is_space (slice_index l 0) then Some (gap_of 1) else
     (if (slice_index l 0 == 47) && (slice_index l 1 == 47) then Some (gap_of (2 + line_len (drop 2 l))) else
-    (if (slice_index l 0 == 47) && (slice_index l 1 == 42) then option_map (λ n. gap_of (2 + n)) (block_len (drop 2 l)) else
+    (if (slice_index l 0 == 47) && (slice_index l 1 == 42) then comment_of l else
     option_map front_token (token_of l)))
 
 -- a token was found that is a name, the one kind that takes memory
@@ -125,3 +129,7 @@ IsNamedToken None = ⊥
 abbrev pub IsNamedFront : Option (Front × ℕ) → Type 0
 IsNamedFront (Some (front.Token k, length)) = IsNamed (Some k)
 IsNamedFront _ = ⊥
+
+-- what is found is answered, and memory is wanting only where what is found takes some
+abbrev pub AnswersFound : {A E : Type 0} → (A → Type 0) → A → Result A E → Type 0
+AnswersFound TakesMemory found result = MatchResult result (λ o. o ≡ found) (λ _. TakesMemory found)

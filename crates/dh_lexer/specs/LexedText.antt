@@ -1,5 +1,5 @@
 -- The tokens of a text with their places, and where a text is refused.
-use Rattle.std.specs.Prelude.{◌≡◌, ℕ, ◌+◌, ◌^◌, ◌<◌, ◌≤◌, ◌==◌, if◌then◌else◌, List, [], ◌∷◌, ◌++◌, length, Result, Ok, Err, Vec}
+use Rattle.std.specs.Prelude.{◌≡◌, ℕ, ◌+◌, ◌^◌, ◌<◌, ◌≤◌, ◌==◌, if◌then◌else◌, List, [], ◌∷◌, ◌++◌, length, Bool, Result, Ok, Err, Vec}
 use Rattle.std.specs.declared.alloc.Global.{Global}
 use Rattle.dh_base.specs.declared.faults.PassFault.{PassFault}
 use Rattle.dh_base.specs.declared.faults.PassFault.TheVariants as fault
@@ -39,6 +39,14 @@ abbrev pub kept : Front → Place → List Token
 kept front.Gap place = []
 kept (front.Token k) place = placed k place ∷ []
 
+-- tokens, and behind them what is kept of a piece that begins at a place, if it is stored
+abbrev pub with_kept : Bool → List Token → Front → Place → List Token
+with_kept stored tokens front place = if stored then tokens ++ kept front place else tokens
+
+-- a place has room in a machine's words for so many bytes more
+abbrev pub PlaceFits : Place → ℕ → Type 0
+PlaceFits place more = (place.line + more < 2 ^ 32) × (place.column + more < 2 ^ 32)
+
 -- the bytes of all pieces
 abbrev pub all_bytes : List Piece → List ℕ
 all_bytes [] = []
@@ -64,6 +72,18 @@ pub record IsBreach (text : List ℕ) (place : Place) : Type 0 where
   pub filled : 0 < length rest
   pub none : (p : Piece) (more : List ℕ) → rest ≡ bytes p ++ more → Stands p more → ⊥
   pub is : place ≡ place_after (all_bytes pieces)
+
+-- a text has one list of tokens at most
+abbrev pub TokensAreOne : List ℕ → Type 0
+TokensAreOne text = (ts us : List Token) → HasTokens text ts → HasTokens text us → ts ≡ us
+
+-- a text is refused at one place at most
+abbrev pub BreachIsOne : List ℕ → Type 0
+BreachIsOne text = (p q : Place) → IsBreach text p → IsBreach text q → p ≡ q
+
+-- a text that has tokens is refused nowhere
+abbrev pub TokensExcludeBreach : List ℕ → Type 0
+TokensExcludeBreach text = (ts : List Token) (p : Place) → HasTokens text ts → IsBreach text p → ⊥
 
 -- a text is answered by its tokens, or by where it breaks the rule on tokens
 abbrev pub Lexed : List ℕ → Result (Vec Token Global) PassFault → Type 0

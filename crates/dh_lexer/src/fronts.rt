@@ -1,10 +1,10 @@
 //! The piece that a text begins with: a space, a comment, or the longest token.
 
-ghost use Rattle.std.specs.Prelude.{◌≡◌, ◌+◌, ◌<◌, ◌≤◌, length, drop, slice_index, MatchResult, option_map};
+ghost use Rattle.std.specs.Prelude.{◌≡◌, ◌+◌, ◌<◌, ◌≤◌, length, drop, slice_index, option_map};
 ghost use Rattle.std.specs.List.{AllByRecursion};
 ghost use Rattle.dh_tree.specs.Names.{IsNameByte};
 ghost use Rattle.dh_lexer.specs.FrontPiece as first;
-ghost use Rattle.dh_lexer.specs.FrontPiece.{run_len, line_len, block_len, run_of, token_of, front_of, IsNamed, IsNamedToken, IsNamedFront};
+ghost use Rattle.dh_lexer.specs.FrontPiece.{run_len, line_len, block_len, run_of, token_of, front_of, comment_of, IsNamed, IsNamedToken, IsNamedFront, AnswersFound};
 
 use crate::numbers::number;
 use crate::signs::sign;
@@ -31,7 +31,7 @@ pub(crate) fn front_at(
     at: usize,
 ) -> Result<Option<(Front, usize)>, NoMemory>
     requires { at < length text.now }
-    ensures { MatchResult result (λ o. o ≡ front_of (drop at text.now)) (λ _. IsNamedFront (front_of (drop at text.now))) }
+    ensures { AnswersFound IsNamedFront (front_of (drop at text.now)) result }
 {
     if is_space(text[at]) {
         return Ok(Some((Front::Gap, 1)));
@@ -92,7 +92,7 @@ fn line_end(text: &[u8], at: usize) -> usize
 /// The comment that begins with the two bytes at `at`, and its length, or None where it has no end.
 fn block_comment(text: &[u8], at: usize) -> Option<(Front, usize)>
     requires { at + 2 ≤ length text.now }
-    ensures { result ≡ option_map (λ n. first.gap_of (2 + n)) (block_len (drop 2 (drop at text.now))) }
+    ensures { result ≡ comment_of (drop at text.now) }
 {
     match block_end(text, at + 2) {
         Some(end) => Some((Front::Gap, end - at)),
@@ -118,7 +118,7 @@ fn block_end(text: &[u8], at: usize) -> Option<usize>
 #[tactic(auto, unfolding(crate::specs::FrontPiece::token_of))]
 fn token_at(alloc: Global, text: &[u8], at: usize) -> Result<Option<(TokenKind, usize)>, NoMemory>
     requires { at < length text.now }
-    ensures { MatchResult result (λ o. o ≡ token_of (drop at text.now)) (λ _. IsNamedToken (token_of (drop at text.now))) }
+    ensures { AnswersFound IsNamedToken (token_of (drop at text.now)) result }
 {
     if !is_name_byte(text[at]) {
         return Ok(sign(text[at], byte_at(text, at, 1), byte_at(text, at, 2)));
@@ -148,7 +148,7 @@ fn run_end(text: &[u8], at: usize) -> usize
 #[tactic(auto, unfolding(crate::specs::FrontPiece::run_of))]
 fn run(alloc: Global, bytes: &[u8]) -> Result<Option<TokenKind>, NoMemory>
     requires { (0 < length bytes.now) × AllByRecursion IsNameByte bytes.now }
-    ensures { MatchResult result (λ o. o ≡ run_of bytes.now) (λ _. IsNamed (run_of bytes.now)) }
+    ensures { AnswersFound IsNamed (run_of bytes.now) result }
 {
     if bytes[0].is_ascii_digit() {
         return match number(bytes) {

@@ -1,12 +1,10 @@
 //! The lexer: it takes the longest token at each point and never goes back, so that each byte is
 //! looked at a bounded number of times.
 
-ghost use Rattle.std.specs.Prelude.{◌≡◌, ℕ, ◌+◌, ◌^◌, ◌<◌, ◌≤◌, List, [], ◌∷◌, ◌++◌, length, is_ok, if◌then◌else◌, OnErr, IfOk};
+ghost use Rattle.std.specs.Prelude.{◌≡◌, ℕ, ◌≤◌, List, [], length, is_ok, OnErr, IfOk};
 ghost use Rattle.dh_base.specs.declared.faults.PassFault.TheVariants as fault;
-ghost use Rattle.dh_base.specs.declared.places.Place.{Place};
 ghost use Rattle.dh_lexer.specs.LexedText as text;
-ghost use Rattle.dh_lexer.specs.LexedText.{place_from, HasTokens, IsBreach, Lexed, AreReady};
-ghost use Rattle.dh_lexer.specs.declared.tokens.Token.{Token};
+ghost use Rattle.dh_lexer.specs.LexedText.{place_from, with_kept, PlaceFits, TokensAreOne, BreachIsOne, TokensExcludeBreach, Lexed, AreReady};
 
 use crate::fronts::{Front, front_at};
 use crate::tokens::{Token, TokenKind};
@@ -44,14 +42,14 @@ pub fn lex(alloc: Global, text: &[u8]) -> Result<Vec<Token>, PassFault>
 
 /// A text has one list of tokens at most, or one place where it is refused, and not both.
 pub fn tokens_are_one()
-    ensures tokens { (text : List ℕ) (ts us : List Token) → HasTokens text ts → HasTokens text us → ts ≡ us }
-    ensures breach { (text : List ℕ) (p q : Place) → IsBreach text p → IsBreach text q → p ≡ q }
-    ensures either { (text : List ℕ) (ts : List Token) (p : Place) → HasTokens text ts → IsBreach text p → ⊥ }
+    ensures tokens { (text : List ℕ) → TokensAreOne text }
+    ensures breach { (text : List ℕ) → BreachIsOne text }
+    ensures either { (text : List ℕ) → TokensExcludeBreach text }
 {}
 
 /// Adds the token that stands at this place, if it is one. After want of memory the tokens are as before.
 fn keep(tokens: &mut Vec<Token>, front: Front, place: Place) -> Result<(), NoMemory>
-    ensures tokens { tokens.new.items ≡ (if is_ok result then tokens.old.items ++ text.kept front place else tokens.old.items) }
+    ensures tokens { tokens.new.items ≡ with_kept (is_ok result) tokens.old.items front place }
     ensures memory { OnErr result (text.kept front place ≡ [] → ⊥) }
 {
     if let Front::Token(kind) = front {
@@ -62,7 +60,7 @@ fn keep(tokens: &mut Vec<Token>, front: Front, place: Place) -> Result<(), NoMem
 
 /// The place after bytes that begin at `start`.
 fn place_past(start: Place, bytes: &[u8]) -> Place
-    requires { (start.line + length bytes.now < 2 ^ 32) × (start.column + length bytes.now < 2 ^ 32) }
+    requires { PlaceFits start (length bytes.now) }
     ensures { result ≡ place_from start bytes.now }
 {
     let mut place = start;
@@ -74,7 +72,7 @@ fn place_past(start: Place, bytes: &[u8]) -> Place
 
 /// The place after a byte that stands at `place`.
 fn next_place(place: Place, byte: u8) -> Place
-    requires { (place.line + 1 < 2 ^ 32) × (place.column + 1 < 2 ^ 32) }
+    requires { PlaceFits place 1 }
     ensures { result ≡ text.next_place place byte }
 {
     if byte == b'\n' {

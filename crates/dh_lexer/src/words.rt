@@ -1,8 +1,8 @@
 //! Words: those of the language, those that it keeps out, and names.
 
-ghost use Rattle.std.specs.Prelude.{◌≡◌, MatchResult};
+ghost use Rattle.std.specs.Prelude.{◌≡◌};
 ghost use Rattle.dh_lexer.specs.FrontPiece as first;
-ghost use Rattle.dh_lexer.specs.FrontPiece.{word_kind, IsNamed};
+ghost use Rattle.dh_lexer.specs.FrontPiece.{word_kind, IsNamed, AnswersFound};
 
 use crate::tokens::{OutWord, TokenKind};
 use dh_base::NoMemory;
@@ -13,7 +13,7 @@ use std::alloc::Global;
 /// Never None. Only a name takes memory.
 #[tactic(auto, unfolding(crate::specs::FrontPiece::word_kind))]
 pub(crate) fn word(alloc: Global, text: &str) -> Result<Option<TokenKind>, NoMemory>
-    ensures { MatchResult result (λ k. k ≡ word_kind text.now) (λ _. IsNamed (word_kind text.now)) }
+    ensures { AnswersFound IsNamed (word_kind text.now) result }
 {
     if let Some(kind) = kept_word(text) {
         return Ok(Some(kind));

@@ -51,7 +51,7 @@ body_made id old count new place body p end h e f g s =
 
 pub if_made : {t : Action} (id old count mid new : ℕ) (place word opener closer : Place) (test : Expr) (first other : _) (v : Command) (e : ExprText) (b : BlockText) (l : ElseText)
     → t ≡ action id place (action_form_seen (If test first other)) → id ≡ old → count ≡ old + 1 → place ≡ word → SameTerm test e → first.value ≡ v → SameBlock v b count mid
-    → SameElse (option_map (λ x. action_seen x.value) other) l mid new → Numbered t (if_of old (if_else word opener e closer b l)) old new (suc (count_block b + count_else l))
+    → SameElse other l mid new → Numbered t (if_of old (if_else word opener e closer b l)) old new (suc (count_block b + count_else l))
 if_made id old count mid new place word opener closer test first other v e b l h i f g s w x y = record {
   is = h ∙ (ap (λ z. action id place z) (if_is test first other) ∙ (ap (λ z. action id place (decides z (action_seen first.value) (maybe_seen (option_map (λ x. action_seen x.value) other)))) s
       ∙ (ap (λ z. action id place (decides (term_of e) z (maybe_seen (option_map (λ x. action_seen x.value) other)))) (ap action_seen w ∙ (x.is ∙ ap (λ n. block_of n b) (f ∙ add_one old)))

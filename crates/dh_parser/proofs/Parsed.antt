@@ -10,16 +10,12 @@ use Rattle.dh_tree.specs.Seen.{program_seen}
 use Rattle.dh_parser.specs.declared.parsing.reading.Stop.TheVariants as stop
 use Rattle.dh_parser.specs.Grammar.{ProgramText}
 use Rattle.dh_parser.specs.Spelling.{spell_program}
-use Rattle.dh_parser.specs.TreesOfTexts.{program_of}
 use Rattle.dh_parser.specs.Programs.{Spells, OutOfPlace, IsSound, IsPlaced, Parses, rule_at}
-use Rattle.dh_parser.specs.Answers.{AnswersBy, Answers}
+use Rattle.dh_parser.specs.Answers.{AnswersBy, Answers, SameProgram}
 use Rattle.dh_parser.specs.Reading.{Outcome, good, bad, deep, the_program}
 use Rattle.dh_parser.proofs.Going.{known}
 use Rattle.dh_parser.proofs.SoundPrograms.{program_sound}
 use Rattle.dh_parser.proofs.PlacedTokens.{programs_are_placed}
-
-abbrev SameProgram : Tree → ProgramText → Type 0
-SameProgram tree p = program_seen tree ≡ program_of p
 
 spells_by : (ts rest : List Token) (tree : Tree) (p : ProgramText) (o : Outcome ProgramText) → o ≡ good p rest → SameProgram tree p → IsSound ts o → IsPlaced ts o → Spells (program_seen tree) ts
 spells_by ts rest tree p o e s sound placed =

@@ -33,7 +33,7 @@ at_text {s = s} {x = x} {rest = rest} read r n h a = subst (λ m. Answers s x re
 pub variable_seen : {t : Term} (of : Ref) (n : NameText) → t ≡ term of.place None (form_seen (Variable of)) → of ≡ ref_of n → t ≡ term_of (variable n)
 variable_seen of n h e = h ∙ (ap (λ f. term of.place None f) (variable_is of) ∙ ap (λ (r : Ref). term r.place None (named r)) e)
 
-pub access_seen : {t : Term} (of : Ref) (n : NameText) (es : Vec Expr Global) (i : IndexText) (more : MoreIndicesText) → t ≡ term of.place None (form_seen (Access of es)) → of ≡ ref_of n → SameIndices es.items (i, more)
+pub access_seen : {t : Term} (of : Ref) (n : NameText) (es : Vec Expr Global) (i : IndexText) (more : MoreIndicesText) → t ≡ term of.place None (form_seen (Access of es)) → of ≡ ref_of n → SameIndices es (i, more)
     → t ≡ access_of (element n i more)
 access_seen of n es i more h e s =
     h ∙ (ap (λ f. term of.place None f) (access_is of es) ∙ (ap (λ x. term of.place None (accessed of x)) s ∙ ap (λ (r : Ref). term r.place None (accessed r (term_then (index_of i) (indices_of more)))) e))

@@ -5,4 +5,5 @@ pub mod TreesOfTexts
 pub mod Programs
 pub mod Marks
 pub mod Reading
+pub mod StepsEnough
 pub mod Answers

@@ -1,5 +1,5 @@
 -- Which trees tokens spell, and at which token a list of tokens ceases to begin a program.
-use Rattle.std.specs.Prelude.{◌≡◌, Bool, true, false, if◌then◌else◌, List, [], ◌∷◌, ◌++◌, Result, Ok, Err}
+use Rattle.std.specs.Prelude.{◌≡◌, Bool, true, false, if◌then◌else◌, List, [], ◌∷◌, ◌++◌, length, Result, Ok, Err}
 use Rattle.dh_base.specs.declared.faults.PassFault.{PassFault}
 use Rattle.dh_base.specs.declared.faults.PassFault.TheVariants as fault
 use Rattle.dh_base.specs.declared.rules.Rule.{Rule}
@@ -10,12 +10,15 @@ use Rattle.dh_tree.specs.declared.trees.programs.Tree.{Tree}
 use Rattle.dh_tree.specs.Seen.{program_seen}
 use Rattle.dh_base.specs.declared.places.Place.{Place}
 use Rattle.dh_lexer.specs.declared.tokens.Token.{Token}
+use Rattle.dh_lexer.specs.LexedText.{AreEnded}
 use Rattle.dh_parser.specs.Grammar.{ProgramText}
 use Rattle.dh_parser.specs.Spelling.{spell_program}
 use Rattle.dh_parser.specs.Allowed.{ProgramFits}
+use Rattle.dh_tree.specs.Forms.{unbuilt_forms}
 use Rattle.dh_tree.specs.PlainTrees.{Program}
+use Rattle.dh_tree.specs.Written.{IsOfText, IsWritten}
 use Rattle.dh_parser.specs.TreesOfTexts.{program_of}
-use Rattle.dh_parser.specs.Reading.{Outcome, good, bad, deep}
+use Rattle.dh_parser.specs.Reading.{Outcome, good, bad, deep, the_program}
 
 -- the tree is that of a text of the grammar with these tokens
 pub record Spells (tree : Program) (tokens : List Token) : Type 0 where
@@ -23,6 +26,18 @@ pub record Spells (tree : Program) (tokens : List Token) : Type 0 where
   pub fits : ProgramFits text
   pub tokens_are : spell_program text [] ≡ tokens
   pub tree_is : program_of text ≡ tree
+
+-- what the text spells is read as that text
+abbrev pub IsReadAgain : ProgramText → Type 0
+IsReadAgain p = the_program (spell_program p []) ≡ good p []
+
+-- a tree that these tokens spell is that of a text, if they end
+abbrev pub IsOfTextIfSpelled : Program → List Token → Type 0
+IsOfTextIfSpelled p tokens = Spells p tokens → AreEnded tokens → IsOfText (length tokens) p
+
+-- a tree of the built forms that these tokens spell is one that is written, if they end
+abbrev pub IsWrittenIfSpelled : Program → List Token → Type 0
+IsWrittenIfSpelled p tokens = Spells p tokens → AreEnded tokens → unbuilt_forms p ≡ [] → IsWritten (length tokens) p
 
 -- the tokens of some program begin so
 pub record Begins (tokens : List Token) : Type 0 where
@@ -36,6 +51,15 @@ pub record OutOfPlace (tokens before : List Token) (token : Token) (after : List
   pub all : tokens ≡ before ++ token ∷ after
   pub viable : Begins before
   pub dead : Begins (before ++ token ∷ []) → ⊥
+
+-- one token at most is out of place
+abbrev pub AtMostOneOutOfPlace : List Token → Type 0
+AtMostOneOutOfPlace tokens =
+    (b c : List Token) (t u : Token) (a d : List Token) → OutOfPlace tokens b t a → OutOfPlace tokens c u d → (b ≡ c) × (t ≡ u)
+
+-- no token is out of place, if these tokens spell the tree
+abbrev pub NoneOutOfPlaceIfSpelled : Program → List Token → Type 0
+NoneOutOfPlaceIfSpelled p tokens = (b : List Token) (t : Token) (a : List Token) → Spells p tokens → OutOfPlace tokens b t a → ⊥
 
 -- reading a program does not give up
 abbrev pub IsAnswered : Outcome ProgramText → Type 0

@@ -1,16 +1,13 @@
 //! What holds of all lists of tokens, stated on functions that do nothing.
 
-ghost use Rattle.std.specs.Prelude.{◌≡◌, [], List, length};
+ghost use Rattle.std.specs.Prelude.{◌≡◌, List};
 ghost use Rattle.dh_lexer.specs.LexedText.{AreEnded};
 ghost use Rattle.dh_lexer.specs.declared.tokens.Token.{Token};
 ghost use Rattle.dh_tree.specs.PlainTrees.{Program};
-ghost use Rattle.dh_parser.specs.Programs.{IsSound, IsAnswered, IsPlaced, OutOfPlace, Spells};
-ghost use Rattle.dh_tree.specs.Forms.{unbuilt_forms};
-ghost use Rattle.dh_tree.specs.Written.{IsOfText, IsWritten};
+ghost use Rattle.dh_parser.specs.Programs.{IsSound, IsAnswered, IsPlaced, Spells, AtMostOneOutOfPlace, IsOfTextIfSpelled, IsReadAgain, IsWrittenIfSpelled, NoneOutOfPlaceIfSpelled};
 ghost use Rattle.dh_parser.specs.Allowed.{ProgramFits};
 ghost use Rattle.dh_parser.specs.Grammar.{ProgramText};
-ghost use Rattle.dh_parser.specs.Reading.{good, the_program};
-ghost use Rattle.dh_parser.specs.Spelling.{spell_program};
+ghost use Rattle.dh_parser.specs.Reading.{the_program};
 
 /// What the reader of programs reads is a text of the grammar that has the tokens which it took.
 pub fn reading_is_sound()
@@ -25,8 +22,8 @@ pub fn reading_is_answered()
 /// What a program of the grammar spells is read as that program, so that one tree spells a list of
 /// tokens at most.
 pub fn programs_are_read_again()
-    ensures again { (p : ProgramText) → ProgramFits p → the_program (spell_program p []) ≡ good p [] }
-    ensures one { (t u : Program) (tokens : List Token) → Spells t tokens → Spells u tokens → t ≡ u }
+    ensures again { (p : ProgramText) → ProgramFits p → IsReadAgain p }
+    ensures one { (t u : Program) (ts : List Token) → Spells t ts → Spells u ts → t ≡ u }
 {}
 
 /// Where the reader of programs stops, no program goes on: some program begins with the tokens
@@ -40,12 +37,12 @@ pub fn refused_tokens_are_out_of_place()
 /// built forms also that commands are numbered in text order, and that there are no more accesses than
 /// tokens.
 pub fn trees_of_texts_are_sound()
-    ensures all { (p : Program) (tokens : List Token) → Spells p tokens → AreEnded tokens → IsOfText (length tokens) p }
-    ensures built { (p : Program) (tokens : List Token) → Spells p tokens → AreEnded tokens → unbuilt_forms p ≡ [] → IsWritten (length tokens) p }
+    ensures all { (p : Program) (tokens : List Token) → IsOfTextIfSpelled p tokens }
+    ensures built { (p : Program) (tokens : List Token) → IsWrittenIfSpelled p tokens }
 {}
 
 /// A list of tokens has one token out of place at most, and none where a tree spells it.
 pub fn one_token_is_out_of_place()
-    ensures one { (tokens b c : List Token) (t u : Token) (a d : List Token) → OutOfPlace tokens b t a → OutOfPlace tokens c u d → (b ≡ c) × (t ≡ u) }
-    ensures spelled { (p : Program) (tokens b : List Token) (t : Token) (a : List Token) → Spells p tokens → OutOfPlace tokens b t a → ⊥ }
+    ensures one { (tokens : List Token) → AtMostOneOutOfPlace tokens }
+    ensures spelled { (p : Program) (tokens : List Token) → NoneOutOfPlaceIfSpelled p tokens }
 {}

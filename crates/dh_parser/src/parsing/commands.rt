@@ -1,12 +1,10 @@
 //! Commands, and the blocks that hold them.
 
-ghost use Rattle.std.specs.Prelude.{◌≡◌, ◌<◌, ◌≤◌, ◌+◌, ◌^◌, length, map, option_map, IfOk};
-ghost use Rattle.dh_base.specs.declared.places.Place.{Place};
-ghost use Rattle.dh_tree.specs.Seen.{action_seen, maybe_seen, placed, unrolled};
-ghost use Rattle.dh_tree.specs.PlainTrees.{action, counts, blocks, group_then, no_groups, action_then, no_actions};
-ghost use Rattle.dh_parser.specs.Answers.{Answers, Made, SameBlock, SameCompound, SameIf, SameElseIf, SameElse, SameCombine, SamePart, SameParts, SameTerm, begins_as};
-ghost use Rattle.dh_parser.specs.Reading.{the_test, the_parts, the_part, the_compound, the_block, whole_if, whole_else, the_while, the_for, the_combine, beginning, steps};
-ghost use Rattle.dh_parser.specs.TreesOfTexts.{combine_place_of};
+ghost use Rattle.std.specs.Prelude.{◌≡◌, ◌<◌, ◌≤◌, ◌+◌, ◌^◌, length, IfOk};
+ghost use Rattle.dh_tree.specs.Seen.{action_seen};
+ghost use Rattle.dh_parser.specs.Answers.{Made, SameBlock, SameCompound, SameIf, SameElseIf, SameElse, SamePart, SameParts, SameTerm, begins_as, AnswersAs, NumbersAs, SameBoxedBlock, SameCombineAt, TookTokens, block_around, loop_seen, most_commands};
+ghost use Rattle.dh_parser.specs.Reading.{the_test, the_compound, the_block, whole_if, whole_else, the_while, the_for, beginning};
+ghost use Rattle.dh_parser.specs.StepsEnough.{all_parts, whole_combine, whole_part};
 
 use crate::parsing::expressions::read_expression;
 use crate::parsing::loops::{LoopHead, read_loop_head};
@@ -33,9 +31,9 @@ pub(crate) enum Beginning {
 /// The parts between `---`.
 #[cycle(command)]
 pub(crate) fn read_sequence(reader: &mut Reader<'_>) -> Result<Vec<Vec<Command>>, Stop>
-    requires { reader.old.commands + length reader.old.rest.now ≤ 2 ^ 32 }
-    ensures answer { Answers (λ parts p. SameParts parts p reader.old.commands reader.new.commands) result reader.new.rest.now (the_parts the_block (steps reader.old.rest.now) reader.old.rest.now) }
-    ensures room { reader.new.commands + length reader.new.rest.now ≤ reader.old.commands + length reader.old.rest.now }
+    requires { most_commands reader.old ≤ 2 ^ 32 }
+    ensures answer { NumbersAs all_parts SameParts result reader.old reader.new }
+    ensures room { most_commands reader.new ≤ most_commands reader.old }
     ensures shorter { length reader.new.rest.now ≤ length reader.old.rest.now }
 {
     let mut parts = Vec::new(reader.alloc);
@@ -51,9 +49,9 @@ pub(crate) fn read_sequence(reader: &mut Reader<'_>) -> Result<Vec<Vec<Command>>
 /// The commands of a part. A simple one that no `;` follows is the last.
 #[cycle(command)]
 fn read_part(reader: &mut Reader<'_>) -> Result<Vec<Command>, Stop>
-    requires { reader.old.commands + length reader.old.rest.now ≤ 2 ^ 32 }
-    ensures answer { Answers (λ commands p. SamePart commands p reader.old.commands reader.new.commands) result reader.new.rest.now (the_part the_block (steps reader.old.rest.now) reader.old.rest.now) }
-    ensures room { reader.new.commands + length reader.new.rest.now ≤ reader.old.commands + length reader.old.rest.now }
+    requires { most_commands reader.old ≤ 2 ^ 32 }
+    ensures answer { NumbersAs whole_part SamePart result reader.old reader.new }
+    ensures room { most_commands reader.new ≤ most_commands reader.old }
     ensures shorter { length reader.new.rest.now ≤ length reader.old.rest.now }
 {
     let mut commands = Vec::new(reader.alloc);
@@ -98,11 +96,11 @@ fn what_begins(tokens: &[Token]) -> Beginning
 /// A command that ends with a block.
 #[cycle(command)]
 fn read_compound(reader: &mut Reader<'_>) -> Result<Command, Stop>
-    requires { reader.old.commands + length reader.old.rest.now ≤ 2 ^ 32 }
-    ensures answer { Answers (λ command c. SameCompound command c reader.old.commands reader.new.commands) result reader.new.rest.now (the_compound the_block reader.old.rest.now) }
-    ensures room { reader.new.commands + length reader.new.rest.now ≤ reader.old.commands + length reader.old.rest.now }
+    requires { most_commands reader.old ≤ 2 ^ 32 }
+    ensures answer { NumbersAs (the_compound the_block) SameCompound result reader.old reader.new }
+    ensures room { most_commands reader.new ≤ most_commands reader.old }
     ensures shorter { length reader.new.rest.now ≤ length reader.old.rest.now }
-    ensures taken { IfOk result (λ _. length reader.new.rest.now < length reader.old.rest.now) }
+    ensures taken { IfOk result (λ _. TookTokens reader.old reader.new) }
 {
     if reader.is_next(Mark::If) {
         read_if(reader)
@@ -118,11 +116,11 @@ fn read_compound(reader: &mut Reader<'_>) -> Result<Command, Stop>
 /// `{ .. }`
 #[cycle(command)]
 pub(crate) fn read_block(reader: &mut Reader<'_>) -> Result<Command, Stop>
-    requires { reader.old.commands + length reader.old.rest.now ≤ 2 ^ 32 }
-    ensures answer { Answers (λ command b. SameBlock command b reader.old.commands reader.new.commands) result reader.new.rest.now (the_block reader.old.rest.now) }
-    ensures room { reader.new.commands + length reader.new.rest.now ≤ reader.old.commands + length reader.old.rest.now }
+    requires { most_commands reader.old ≤ 2 ^ 32 }
+    ensures answer { NumbersAs the_block SameBlock result reader.old reader.new }
+    ensures room { most_commands reader.new ≤ most_commands reader.old }
     ensures shorter { length reader.new.rest.now ≤ length reader.old.rest.now }
-    ensures taken { IfOk result (λ _. length reader.new.rest.now < length reader.old.rest.now) }
+    ensures taken { IfOk result (λ _. TookTokens reader.old reader.new) }
 {
     let place = reader.skip(Mark::OpenBrace)?;
     let id = begin(&mut reader.commands);
@@ -135,11 +133,11 @@ pub(crate) fn read_block(reader: &mut Reader<'_>) -> Result<Command, Stop>
 /// `{ .. }`, as a command holds it.
 #[cycle(command)]
 fn read_boxed_block(reader: &mut Reader<'_>) -> Result<Box<Command>, Stop>
-    requires { reader.old.commands + length reader.old.rest.now ≤ 2 ^ 32 }
-    ensures answer { Answers (λ block b. SameBlock block.value b reader.old.commands reader.new.commands) result reader.new.rest.now (the_block reader.old.rest.now) }
-    ensures room { reader.new.commands + length reader.new.rest.now ≤ reader.old.commands + length reader.old.rest.now }
+    requires { most_commands reader.old ≤ 2 ^ 32 }
+    ensures answer { NumbersAs the_block SameBoxedBlock result reader.old reader.new }
+    ensures room { most_commands reader.new ≤ most_commands reader.old }
     ensures shorter { length reader.new.rest.now ≤ length reader.old.rest.now }
-    ensures taken { IfOk result (λ _. length reader.new.rest.now < length reader.old.rest.now) }
+    ensures taken { IfOk result (λ _. TookTokens reader.old reader.new) }
 {
     let block = read_block(reader)?;
     let block = Box::new(reader.alloc, block)?;
@@ -148,7 +146,7 @@ fn read_boxed_block(reader: &mut Reader<'_>) -> Result<Box<Command>, Stop>
 
 /// `(test)`, what an `if` or a `while` asks.
 fn read_test(reader: &mut Reader<'_>) -> Result<Expr, Stop>
-    ensures answer { Answers (λ e t. SameTerm e t.test) result reader.new.rest.now (the_test reader.old.rest.now) }
+    ensures answer { AnswersAs the_test (λ e t. SameTerm e t.test) result reader.old reader.new }
     ensures commands { reader.new.commands ≡ reader.old.commands }
     ensures shorter { length reader.new.rest.now ≤ length reader.old.rest.now }
 {
@@ -161,11 +159,11 @@ fn read_test(reader: &mut Reader<'_>) -> Result<Expr, Stop>
 /// `if (test) { .. }` with what follows `else`, if anything does.
 #[cycle(command)]
 fn read_if(reader: &mut Reader<'_>) -> Result<Command, Stop>
-    requires { reader.old.commands + length reader.old.rest.now ≤ 2 ^ 32 }
-    ensures answer { Answers (λ command i. SameIf command i reader.old.commands reader.new.commands) result reader.new.rest.now (whole_if reader.old.rest.now) }
-    ensures room { reader.new.commands + length reader.new.rest.now ≤ reader.old.commands + length reader.old.rest.now }
+    requires { most_commands reader.old ≤ 2 ^ 32 }
+    ensures answer { NumbersAs whole_if SameIf result reader.old reader.new }
+    ensures room { most_commands reader.new ≤ most_commands reader.old }
     ensures shorter { length reader.new.rest.now ≤ length reader.old.rest.now }
-    ensures taken { IfOk result (λ _. length reader.new.rest.now < length reader.old.rest.now) }
+    ensures taken { IfOk result (λ _. TookTokens reader.old reader.new) }
 {
     let place = reader.skip(Mark::If)?;
     let id = begin(&mut reader.commands);
@@ -179,9 +177,9 @@ fn read_if(reader: &mut Reader<'_>) -> Result<Command, Stop>
 /// `else` and its block, if the word comes next.
 #[cycle(command)]
 fn read_else(reader: &mut Reader<'_>) -> Result<Option<Box<Command>>, Stop>
-    requires { reader.old.commands + length reader.old.rest.now ≤ 2 ^ 32 }
-    ensures answer { Answers (λ other e. SameElse (option_map (λ b. action_seen b.value) other) e reader.old.commands reader.new.commands) result reader.new.rest.now (whole_else reader.old.rest.now) }
-    ensures room { reader.new.commands + length reader.new.rest.now ≤ reader.old.commands + length reader.old.rest.now }
+    requires { most_commands reader.old ≤ 2 ^ 32 }
+    ensures answer { NumbersAs whole_else SameElse result reader.old reader.new }
+    ensures room { most_commands reader.new ≤ most_commands reader.old }
     ensures shorter { length reader.new.rest.now ≤ length reader.old.rest.now }
 {
     if !reader.is_next(Mark::Else) {
@@ -199,9 +197,9 @@ fn read_else(reader: &mut Reader<'_>) -> Result<Option<Box<Command>>, Stop>
 /// The block that an `if` after `else` stands for: its one command is that `if`.
 #[cycle(command)]
 fn read_else_if(reader: &mut Reader<'_>) -> Result<Command, Stop>
-    requires { reader.old.commands + length reader.old.rest.now < 2 ^ 32 }
-    ensures answer { Answers (λ command i. SameElseIf command i reader.old.commands reader.new.commands) result reader.new.rest.now (whole_if reader.old.rest.now) }
-    ensures room { reader.new.commands + length reader.new.rest.now ≤ reader.old.commands + length reader.old.rest.now + 1 }
+    requires { most_commands reader.old < 2 ^ 32 }
+    ensures answer { NumbersAs whole_if SameElseIf result reader.old reader.new }
+    ensures room { most_commands reader.new ≤ most_commands reader.old + 1 }
     ensures shorter { length reader.new.rest.now ≤ length reader.old.rest.now }
 {
     let id = begin(&mut reader.commands);
@@ -211,7 +209,7 @@ fn read_else_if(reader: &mut Reader<'_>) -> Result<Command, Stop>
 
 /// The block of this number that holds this command alone.
 fn block_of_one(alloc: Global, id: u32, inner: Command) -> Result<Command, Stop>
-    ensures { Made (λ block. action_seen block ≡ action id inner.place (blocks (group_then (action_then (action_seen inner) no_actions) no_groups))) result }
+    ensures { Made (λ block. action_seen block ≡ block_around id inner) result }
 {
     let place = inner.place;
     let mut part = Vec::new(alloc);
@@ -225,11 +223,11 @@ fn block_of_one(alloc: Global, id: u32, inner: Command) -> Result<Command, Stop>
 /// `while (test) { .. }`
 #[cycle(command)]
 fn read_while(reader: &mut Reader<'_>) -> Result<Command, Stop>
-    requires { reader.old.commands + length reader.old.rest.now ≤ 2 ^ 32 }
-    ensures answer { Answers (λ command c. SameCompound command c reader.old.commands reader.new.commands) result reader.new.rest.now (the_while the_block reader.old.rest.now) }
-    ensures room { reader.new.commands + length reader.new.rest.now ≤ reader.old.commands + length reader.old.rest.now }
+    requires { most_commands reader.old ≤ 2 ^ 32 }
+    ensures answer { NumbersAs (the_while the_block) SameCompound result reader.old reader.new }
+    ensures room { most_commands reader.new ≤ most_commands reader.old }
     ensures shorter { length reader.new.rest.now ≤ length reader.old.rest.now }
-    ensures taken { IfOk result (λ _. length reader.new.rest.now < length reader.old.rest.now) }
+    ensures taken { IfOk result (λ _. TookTokens reader.old reader.new) }
 {
     let place = reader.skip(Mark::While)?;
     let id = begin(&mut reader.commands);
@@ -242,11 +240,11 @@ fn read_while(reader: &mut Reader<'_>) -> Result<Command, Stop>
 /// `for (let ..) { .. }` with its combine block, if one follows.
 #[cycle(command)]
 fn read_for(reader: &mut Reader<'_>) -> Result<Command, Stop>
-    requires { reader.old.commands + length reader.old.rest.now ≤ 2 ^ 32 }
-    ensures answer { Answers (λ command c. SameCompound command c reader.old.commands reader.new.commands) result reader.new.rest.now (the_for the_block reader.old.rest.now) }
-    ensures room { reader.new.commands + length reader.new.rest.now ≤ reader.old.commands + length reader.old.rest.now }
+    requires { most_commands reader.old ≤ 2 ^ 32 }
+    ensures answer { NumbersAs (the_for the_block) SameCompound result reader.old reader.new }
+    ensures room { most_commands reader.new ≤ most_commands reader.old }
     ensures shorter { length reader.new.rest.now ≤ length reader.old.rest.now }
-    ensures taken { IfOk result (λ _. length reader.new.rest.now < length reader.old.rest.now) }
+    ensures taken { IfOk result (λ _. TookTokens reader.old reader.new) }
 {
     let head = read_loop_head(reader)?;
     let id = begin(&mut reader.commands);
@@ -263,9 +261,7 @@ fn counted_loop(
     combine: Option<Box<Command>>,
     combine_place: Place,
 ) -> Command
-    ensures { action_seen result ≡ action id head.place
-        (counts head.iterator head.declared (placed head.low.value head.low.place) (placed head.high.value head.high.place) (unrolled head.factor.value head.factor.place head.unroll)
-        (action_seen body.value) (maybe_seen (option_map (λ b. action_seen b.value) combine)) combine_place) }
+    ensures { action_seen result ≡ loop_seen id head body combine combine_place }
 {
     let LoopHead {
         place,
@@ -299,9 +295,9 @@ fn read_combine(
     reader: &mut Reader<'_>,
     place: Place,
 ) -> Result<(Option<Box<Command>>, Place), Stop>
-    requires { reader.old.commands + length reader.old.rest.now ≤ 2 ^ 32 }
-    ensures answer { Answers (λ v c. SameCombine (option_map (λ b. action_seen b.value) v.0) c reader.old.commands reader.new.commands × (v.1 ≡ combine_place_of place c)) result reader.new.rest.now (the_combine the_block reader.old.rest.now) }
-    ensures room { reader.new.commands + length reader.new.rest.now ≤ reader.old.commands + length reader.old.rest.now }
+    requires { most_commands reader.old ≤ 2 ^ 32 }
+    ensures answer { NumbersAs whole_combine (SameCombineAt place) result reader.old reader.new }
+    ensures room { most_commands reader.new ≤ most_commands reader.old }
     ensures shorter { length reader.new.rest.now ≤ length reader.old.rest.now }
 {
     if !reader.is_next(Mark::Combine) {

@@ -1,11 +1,10 @@
 //! Expressions: operands joined by operators, of which the tighter take their operands first.
 
-ghost use Rattle.std.specs.Prelude.{◌≡◌, ◌<◌, ◌≤◌, length, map, IfOk, IfErr, None};
+ghost use Rattle.std.specs.Prelude.{◌≡◌, ◌≤◌, length, IfOk, IfErr, None};
 ghost use Rattle.dh_tree.specs.PlainTrees.{term, number, truth_value};
 ghost use Rattle.dh_tree.specs.Seen.{form_seen, term_seen};
-ghost use Rattle.dh_parser.specs.Answers.{Answers, Made, SameTerm, SameIndices};
+ghost use Rattle.dh_parser.specs.Answers.{Made, SameTerm, SameIndices, AnswersAfterName, AnswersAs, AnswersTerm, SameAccess, SameArguments, SameCast, SameIndex, TookTokens, joined_expressions};
 ghost use Rattle.dh_parser.specs.Reading.{expression, operand, named_from, access_from, all_indices, the_index, bracket_from, the_cast, the_argument, the_arguments};
-ghost use Rattle.dh_parser.specs.TreesOfTexts.{name_text, kind_of, access_of, index_of, arguments_of, joined_terms};
 ghost use Rattle.dh_parser.specs.declared.parsing.reading.Stop.TheVariants as stop;
 
 use crate::parsing::operators::{level_above, take_operator};
@@ -21,7 +20,7 @@ use std::alloc::Global;
 /// none.
 #[cycle(expression)]
 pub(crate) fn read_expression(reader: &mut Reader<'_>, level: u8) -> Result<Expr, Stop>
-    ensures answer { Answers (λ e t. SameTerm e t) result reader.new.rest.now (expression level reader.old.rest.now) }
+    ensures answer { AnswersTerm (expression level) result reader.old reader.new }
     ensures commands { reader.new.commands ≡ reader.old.commands }
     ensures shorter { length reader.new.rest.now ≤ length reader.old.rest.now }
 {
@@ -36,7 +35,7 @@ pub(crate) fn read_expression(reader: &mut Reader<'_>, level: u8) -> Result<Expr
 /// An operand: a literal, a name, an access, or something in parentheses.
 #[cycle(expression)]
 pub(crate) fn read_operand(reader: &mut Reader<'_>) -> Result<Expr, Stop>
-    ensures answer { Answers (λ e t. SameTerm e t) result reader.new.rest.now (operand expression reader.old.rest.now) }
+    ensures answer { AnswersTerm (operand expression) result reader.old reader.new }
     ensures commands { reader.new.commands ≡ reader.old.commands }
     ensures shorter { length reader.new.rest.now ≤ length reader.old.rest.now }
 {
@@ -78,7 +77,7 @@ pub(crate) fn read_operand(reader: &mut Reader<'_>) -> Result<Expr, Stop>
 #[cycle(expression)]
 fn read_named(reader: &mut Reader<'_>, of: Ref) -> Result<Expr, Stop>
     requires { of.entity ≡ None }
-    ensures answer { Answers (λ e t. SameTerm e t) result reader.new.rest.now (named_from expression (name_text of) reader.old.rest.now) }
+    ensures answer { AnswersAfterName named_from SameTerm of result reader.old reader.new }
     ensures commands { reader.new.commands ≡ reader.old.commands }
     ensures shorter { length reader.new.rest.now ≤ length reader.old.rest.now }
 {
@@ -93,7 +92,7 @@ fn read_named(reader: &mut Reader<'_>, of: Ref) -> Result<Expr, Stop>
 #[cycle(expression)]
 pub(crate) fn read_access(reader: &mut Reader<'_>, of: Ref) -> Result<Expr, Stop>
     requires { of.entity ≡ None }
-    ensures answer { Answers (λ e a. term_seen e ≡ access_of a) result reader.new.rest.now (access_from expression (name_text of) reader.old.rest.now) }
+    ensures answer { AnswersAfterName access_from SameAccess of result reader.old reader.new }
     ensures commands { reader.new.commands ≡ reader.old.commands }
     ensures shorter { length reader.new.rest.now ≤ length reader.old.rest.now }
 {
@@ -118,7 +117,7 @@ pub(crate) fn read_access(reader: &mut Reader<'_>, of: Ref) -> Result<Expr, Stop
 /// Indices in brackets, at least one.
 #[cycle(expression)]
 fn read_indices(reader: &mut Reader<'_>) -> Result<Vec<Expr>, Stop>
-    ensures answer { Answers (λ es t. SameIndices es.items t) result reader.new.rest.now (all_indices expression reader.old.rest.now) }
+    ensures answer { AnswersAs (all_indices expression) SameIndices result reader.old reader.new }
     ensures commands { reader.new.commands ≡ reader.old.commands }
     ensures shorter { length reader.new.rest.now ≤ length reader.old.rest.now }
 {
@@ -135,10 +134,10 @@ fn read_indices(reader: &mut Reader<'_>) -> Result<Vec<Expr>, Stop>
 /// An index in brackets.
 #[cycle(expression)]
 fn read_index(reader: &mut Reader<'_>) -> Result<Expr, Stop>
-    ensures answer { Answers (λ e i. term_seen e ≡ index_of i) result reader.new.rest.now (the_index expression reader.old.rest.now) }
+    ensures answer { AnswersAs (the_index expression) SameIndex result reader.old reader.new }
     ensures commands { reader.new.commands ≡ reader.old.commands }
     ensures shorter { length reader.new.rest.now ≤ length reader.old.rest.now }
-    ensures taken { IfOk result (λ _. length reader.new.rest.now < length reader.old.rest.now) }
+    ensures taken { IfOk result (λ _. TookTokens reader.old reader.new) }
 {
     reader.skip(Mark::OpenBracket)?;
     let index = read_expression(reader, 0)?;
@@ -149,7 +148,7 @@ fn read_index(reader: &mut Reader<'_>) -> Result<Expr, Stop>
 /// What stands in parentheses, of which the first stood at `opening`: an expression or a cast.
 #[cycle(expression)]
 fn read_bracketed(reader: &mut Reader<'_>, opening: Place) -> Result<Expr, Stop>
-    ensures answer { Answers (λ e t. SameTerm e t) result reader.new.rest.now (bracket_from expression opening reader.old.rest.now) }
+    ensures answer { AnswersTerm (bracket_from expression opening) result reader.old reader.new }
     ensures commands { reader.new.commands ≡ reader.old.commands }
     ensures shorter { length reader.new.rest.now ≤ length reader.old.rest.now }
 {
@@ -165,7 +164,7 @@ fn read_bracketed(reader: &mut Reader<'_>, opening: Place) -> Result<Expr, Stop>
 
 /// `as kind)`, what makes an expression behind `(` a cast.
 fn read_cast(reader: &mut Reader<'_>) -> Result<Kind, Stop>
-    ensures answer { Answers (λ kind t. kind ≡ kind_of t.kind) result reader.new.rest.now (the_cast reader.old.rest.now) }
+    ensures answer { AnswersAs the_cast SameCast result reader.old reader.new }
     ensures commands { reader.new.commands ≡ reader.old.commands }
     ensures shorter { length reader.new.rest.now ≤ length reader.old.rest.now }
     ensures memory { IfErr result (λ e. e ≡ stop.Here) }
@@ -178,7 +177,7 @@ fn read_cast(reader: &mut Reader<'_>) -> Result<Kind, Stop>
 
 /// Arguments between parentheses, after the first of these.
 pub(crate) fn read_arguments(reader: &mut Reader<'_>) -> Result<Vec<Expr>, Stop>
-    ensures answer { Answers (λ es t. map term_seen es.items ≡ arguments_of t) result reader.new.rest.now (the_arguments reader.old.rest.now) }
+    ensures answer { AnswersAs the_arguments SameArguments result reader.old reader.new }
     ensures commands { reader.new.commands ≡ reader.old.commands }
     ensures shorter { length reader.new.rest.now ≤ length reader.old.rest.now }
 {
@@ -199,10 +198,10 @@ pub(crate) fn read_arguments(reader: &mut Reader<'_>) -> Result<Vec<Expr>, Stop>
 
 /// `, argument`
 fn read_argument(reader: &mut Reader<'_>) -> Result<Expr, Stop>
-    ensures answer { Answers (λ e t. SameTerm e t.1) result reader.new.rest.now (the_argument reader.old.rest.now) }
+    ensures answer { AnswersAs the_argument (λ e t. SameTerm e t.1) result reader.old reader.new }
     ensures commands { reader.new.commands ≡ reader.old.commands }
     ensures shorter { length reader.new.rest.now ≤ length reader.old.rest.now }
-    ensures taken { IfOk result (λ _. length reader.new.rest.now < length reader.old.rest.now) }
+    ensures taken { IfOk result (λ _. TookTokens reader.old reader.new) }
 {
     reader.skip(Mark::Comma)?;
     let argument = read_expression(reader, 0)?;
@@ -236,7 +235,7 @@ fn truth(place: Place, value: bool) -> Expr
 
 /// `left op right`
 fn joined(alloc: Global, op: Op, left: Expr, right: Expr) -> Result<Expr, Stop>
-    ensures { Made (λ e. term_seen e ≡ joined_terms op (term_seen left) (term_seen right)) result }
+    ensures { Made (λ e. term_seen e ≡ joined_expressions op left right) result }
 {
     let place = left.place;
     let form = ExprForm::Binary {

@@ -1,9 +1,8 @@
 //! The head of a `for`.
 
-ghost use Rattle.std.specs.Prelude.{◌≡◌, ◌<◌, ◌≤◌, length, IfOk, IfErr};
-ghost use Rattle.dh_parser.specs.Answers.{Answers, SameHead, SameRange, SameUnrolled};
+ghost use Rattle.std.specs.Prelude.{◌≡◌, ◌≤◌, length, IfOk, IfErr};
+ghost use Rattle.dh_parser.specs.Answers.{SameHead, SameRange, AnswersAs, SameCopies, SameDeclared, TookTokens};
 ghost use Rattle.dh_parser.specs.Reading.{the_declared, the_head, the_range, the_unroll};
-ghost use Rattle.dh_parser.specs.TreesOfTexts.{declared_of, factor_of};
 ghost use Rattle.dh_parser.specs.declared.parsing.reading.Stop.TheVariants as stop;
 
 use crate::parsing::reading::{Mark, Numeral, Reader, Stop};
@@ -43,10 +42,10 @@ pub(crate) struct WrittenRange {
 
 /// `for (let iterator: declared = low..high) unroll factor`
 pub(crate) fn read_loop_head(reader: &mut Reader<'_>) -> Result<LoopHead, Stop>
-    ensures answer { Answers (λ head t. SameHead head t) result reader.new.rest.now (the_head reader.old.rest.now) }
+    ensures answer { AnswersAs the_head SameHead result reader.old reader.new }
     ensures commands { reader.new.commands ≡ reader.old.commands }
     ensures shorter { length reader.new.rest.now ≤ length reader.old.rest.now }
-    ensures taken { IfOk result (λ _. length reader.new.rest.now < length reader.old.rest.now) }
+    ensures taken { IfOk result (λ _. TookTokens reader.old reader.new) }
 {
     let place = reader.skip(Mark::For)?;
     reader.skip(Mark::OpenParen)?;
@@ -67,7 +66,7 @@ pub(crate) fn read_loop_head(reader: &mut Reader<'_>) -> Result<LoopHead, Stop>
 
 /// `: kind = low..high)`, behind an iterator.
 fn read_range(reader: &mut Reader<'_>) -> Result<WrittenRange, Stop>
-    ensures answer { Answers (λ range t. SameRange range t) result reader.new.rest.now (the_range reader.old.rest.now) }
+    ensures answer { AnswersAs the_range SameRange result reader.old reader.new }
     ensures commands { reader.new.commands ≡ reader.old.commands }
     ensures shorter { length reader.new.rest.now ≤ length reader.old.rest.now }
     ensures memory { IfErr result (λ e. e ≡ stop.Here) }
@@ -88,7 +87,7 @@ fn read_range(reader: &mut Reader<'_>) -> Result<WrittenRange, Stop>
 /// The kind after `:`, if that sign comes next.
 fn read_declared(reader: &mut Reader<'_>) -> Result<Option<Kind>, Stop>
     ensures memory { IfErr result (λ e. e ≡ stop.Here) }
-    ensures answer { Answers (λ declared t. declared ≡ declared_of t) result reader.new.rest.now (the_declared reader.old.rest.now) }
+    ensures answer { AnswersAs the_declared SameDeclared result reader.old reader.new }
     ensures commands { reader.new.commands ≡ reader.old.commands }
     ensures shorter { length reader.new.rest.now ≤ length reader.old.rest.now }
 {
@@ -102,7 +101,7 @@ fn read_declared(reader: &mut Reader<'_>) -> Result<Option<Kind>, Stop>
 /// loop.
 fn read_factor(reader: &mut Reader<'_>, place: Place) -> Result<(Numeral, Place), Stop>
     ensures memory { IfErr result (λ e. e ≡ stop.Here) }
-    ensures answer { Answers (λ v t. SameUnrolled v.0 v.1 (factor_of place t)) result reader.new.rest.now (the_unroll reader.old.rest.now) }
+    ensures answer { AnswersAs the_unroll (SameCopies place) result reader.old reader.new }
     ensures commands { reader.new.commands ≡ reader.old.commands }
     ensures shorter { length reader.new.rest.now ≤ length reader.old.rest.now }
 {

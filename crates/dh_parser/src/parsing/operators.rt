@@ -2,7 +2,7 @@
 
 ghost use Rattle.std.specs.Prelude.{◌≡◌, suc, ◌<◌, ◌≤◌, length, IfSome, option_map};
 ghost use Rattle.dh_parser.specs.Allowed.{level};
-ghost use Rattle.dh_parser.specs.Answers.{TookOperator};
+ghost use Rattle.dh_parser.specs.Answers.{TookOperator, TookTokens};
 ghost use Rattle.dh_parser.specs.Reading.{op_from, reducer_from};
 ghost use Rattle.dh_parser.specs.TreesOfTexts.{reducer_op};
 
@@ -66,7 +66,7 @@ pub(crate) fn take_operator(reader: &mut Reader<'_>, level: u8) -> Option<Op>
     ensures took { TookOperator level result reader.old.rest.now reader.new.rest.now }
     ensures commands { reader.new.commands ≡ reader.old.commands }
     ensures shorter { length reader.new.rest.now ≤ length reader.old.rest.now }
-    ensures taken { IfSome result (λ _. length reader.new.rest.now < length reader.old.rest.now) }
+    ensures taken { IfSome result (λ _. TookTokens reader.old reader.new) }
 {
     let [token, after @ ..] = reader.rest else {
         return None;

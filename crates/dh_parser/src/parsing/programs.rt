@@ -1,12 +1,9 @@
 //! Whole programs: declarations and functions in any order, and then the body.
 
-ghost use Rattle.std.specs.Prelude.{◌≡◌, ◌<◌, ◌≤◌, ◌+◌, ◌^◌, length, map, IfOk, IfSome};
-ghost use Rattle.dh_base.specs.declared.places.Place.{Place};
-ghost use Rattle.dh_tree.specs.Seen.{action_seen, formal_seen, program_seen};
-ghost use Rattle.dh_parser.specs.Answers.{Answers, Made, Kept, SameType, SameDecl, SameFunction, SameItem, SameItems};
-ghost use Rattle.dh_parser.specs.Grammar.{NameText, TypeText};
-ghost use Rattle.dh_parser.specs.Reading.{parameter_text, the_parameter, further_parameter, the_parameters, the_decl, the_def, the_item, the_items, the_body, the_program, steps};
-ghost use Rattle.dh_parser.specs.TreesOfTexts.{ref_of, formal_of, formals_of, body_of, program_of};
+ghost use Rattle.std.specs.Prelude.{◌≡◌, ◌<◌, ◌≤◌, ◌^◌, length, IfOk, IfSome};
+ghost use Rattle.dh_parser.specs.Answers.{Made, Kept, SameDecl, SameFunction, SameItem, SameItems, AnswersAfterWord, AnswersAs, NumbersAs, ParameterOfParts, SameBody, SameFurtherParameter, SameParameter, SameParameters, SameProgram, TookTokens, most_commands};
+ghost use Rattle.dh_parser.specs.Reading.{the_parameter, further_parameter, the_parameters, the_decl, the_def, the_item, the_body, the_program};
+ghost use Rattle.dh_parser.specs.StepsEnough.{all_items};
 
 use crate::parsing::commands::{read_block, read_sequence};
 use crate::parsing::reading::{Mark, Reader, Stop, begin};
@@ -37,7 +34,7 @@ pub(crate) struct ItemsRead {
 pub(crate) fn program(reader: &mut Reader<'_>) -> Result<Tree, Stop>
     requires few { length reader.old.rest.now < 2 ^ 32 }
     requires none { reader.old.commands ≡ 0 }
-    ensures { Answers (λ tree p. program_seen tree ≡ program_of p) result reader.new.rest.now (the_program reader.old.rest.now) }
+    ensures { AnswersAs the_program SameProgram result reader.old reader.new }
 {
     let items = read_items(reader)?;
     let body = read_body(reader)?;
@@ -52,9 +49,9 @@ pub(crate) fn program(reader: &mut Reader<'_>) -> Result<Tree, Stop>
 
 /// The declarations and functions that come next.
 fn read_items(reader: &mut Reader<'_>) -> Result<ItemsRead, Stop>
-    requires { reader.old.commands + length reader.old.rest.now ≤ 2 ^ 32 }
-    ensures answer { Answers (λ items t. SameItems items t reader.old.commands reader.new.commands) result reader.new.rest.now (the_items (steps reader.old.rest.now) reader.old.rest.now) }
-    ensures room { reader.new.commands + length reader.new.rest.now ≤ reader.old.commands + length reader.old.rest.now }
+    requires { most_commands reader.old ≤ 2 ^ 32 }
+    ensures answer { NumbersAs all_items SameItems result reader.old reader.new }
+    ensures room { most_commands reader.new ≤ most_commands reader.old }
 {
     let mut items = ItemsRead {
         decls: Vec::new(reader.alloc),
@@ -87,8 +84,8 @@ fn keep(items: &mut ItemsRead, item: Item) -> Result<(), Stop>
 
 /// The body of a program, and the end of the text.
 fn read_body(reader: &mut Reader<'_>) -> Result<Command, Stop>
-    requires { reader.old.commands + length reader.old.rest.now < 2 ^ 32 }
-    ensures { Answers (λ body t. action_seen body ≡ body_of reader.old.commands t.0 t.1) result reader.new.rest.now (the_body reader.old.rest.now) }
+    requires { most_commands reader.old < 2 ^ 32 }
+    ensures { AnswersAs the_body (SameBody reader.old.commands) result reader.old reader.new }
 {
     let place = reader.place()?;
     let id = begin(&mut reader.commands);
@@ -100,11 +97,11 @@ fn read_body(reader: &mut Reader<'_>) -> Result<Command, Stop>
 
 /// A declaration or a function, if one comes next.
 fn read_item(reader: &mut Reader<'_>) -> Result<Option<Item>, Stop>
-    requires { reader.old.commands + length reader.old.rest.now ≤ 2 ^ 32 }
-    ensures answer { Answers (λ item t. SameItem item t reader.old.commands reader.new.commands) result reader.new.rest.now (the_item reader.old.rest.now) }
-    ensures room { reader.new.commands + length reader.new.rest.now ≤ reader.old.commands + length reader.old.rest.now }
+    requires { most_commands reader.old ≤ 2 ^ 32 }
+    ensures answer { NumbersAs the_item SameItem result reader.old reader.new }
+    ensures room { most_commands reader.new ≤ most_commands reader.old }
     ensures shorter { length reader.new.rest.now ≤ length reader.old.rest.now }
-    ensures taken { IfOk result (λ item. IfSome item (λ _. length reader.new.rest.now < length reader.old.rest.now)) }
+    ensures taken { IfOk result (λ item. IfSome item (λ _. TookTokens reader.old reader.new)) }
 {
     let [token, after @ ..] = reader.rest else {
         return Ok(None);
@@ -126,7 +123,7 @@ fn read_item(reader: &mut Reader<'_>) -> Result<Option<Item>, Stop>
 
 /// The rest of `decl name: type;`, after its word.
 fn read_decl(reader: &mut Reader<'_>) -> Result<Decl, Stop>
-    ensures answer { (word : Place) → Answers (λ d put. SameDecl d put) result reader.new.rest.now (the_decl word reader.old.rest.now) }
+    ensures answer { AnswersAfterWord the_decl (λ _. SameDecl) result reader.old reader.new }
     ensures commands { reader.new.commands ≡ reader.old.commands }
     ensures shorter { length reader.new.rest.now ≤ length reader.old.rest.now }
 {
@@ -143,9 +140,9 @@ fn read_decl(reader: &mut Reader<'_>) -> Result<Decl, Stop>
 
 /// The rest of `def name(parameters) = { .. }`, after its word, which stands here.
 fn read_function(reader: &mut Reader<'_>, word: Place) -> Result<Function, Stop>
-    requires { reader.old.commands + length reader.old.rest.now ≤ 2 ^ 32 }
-    ensures answer { Answers (λ f put. SameFunction f put reader.old.commands reader.new.commands) result reader.new.rest.now (the_def word reader.old.rest.now) }
-    ensures room { reader.new.commands + length reader.new.rest.now ≤ reader.old.commands + length reader.old.rest.now }
+    requires { most_commands reader.old ≤ 2 ^ 32 }
+    ensures answer { NumbersAs (the_def word) SameFunction result reader.old reader.new }
+    ensures room { most_commands reader.new ≤ most_commands reader.old }
     ensures shorter { length reader.new.rest.now ≤ length reader.old.rest.now }
 {
     let name = reader.name()?;
@@ -163,7 +160,7 @@ fn read_function(reader: &mut Reader<'_>, word: Place) -> Result<Function, Stop>
 
 /// Parameters between parentheses, after the first of these.
 fn read_parameters(reader: &mut Reader<'_>) -> Result<Vec<Parameter>, Stop>
-    ensures answer { Answers (λ ps t. map formal_seen ps.items ≡ formals_of t) result reader.new.rest.now (the_parameters reader.old.rest.now) }
+    ensures answer { AnswersAs the_parameters SameParameters result reader.old reader.new }
     ensures commands { reader.new.commands ≡ reader.old.commands }
     ensures shorter { length reader.new.rest.now ≤ length reader.old.rest.now }
 {
@@ -184,10 +181,10 @@ fn read_parameters(reader: &mut Reader<'_>) -> Result<Vec<Parameter>, Stop>
 
 /// `, name: type`
 fn read_further_parameter(reader: &mut Reader<'_>) -> Result<Parameter, Stop>
-    ensures answer { Answers (λ p t. formal_seen p ≡ formal_of t.1) result reader.new.rest.now (further_parameter reader.old.rest.now) }
+    ensures answer { AnswersAs further_parameter SameFurtherParameter result reader.old reader.new }
     ensures commands { reader.new.commands ≡ reader.old.commands }
     ensures shorter { length reader.new.rest.now ≤ length reader.old.rest.now }
-    ensures taken { IfOk result (λ _. length reader.new.rest.now < length reader.old.rest.now) }
+    ensures taken { IfOk result (λ _. TookTokens reader.old reader.new) }
 {
     reader.skip(Mark::Comma)?;
     let parameter = read_parameter(reader)?;
@@ -196,7 +193,7 @@ fn read_further_parameter(reader: &mut Reader<'_>) -> Result<Parameter, Stop>
 
 /// `name: type`
 fn read_parameter(reader: &mut Reader<'_>) -> Result<Parameter, Stop>
-    ensures answer { Answers (λ p t. formal_seen p ≡ formal_of t) result reader.new.rest.now (the_parameter reader.old.rest.now) }
+    ensures answer { AnswersAs the_parameter SameParameter result reader.old reader.new }
     ensures commands { reader.new.commands ≡ reader.old.commands }
     ensures shorter { length reader.new.rest.now ≤ length reader.old.rest.now }
 {
@@ -208,7 +205,7 @@ fn read_parameter(reader: &mut Reader<'_>) -> Result<Parameter, Stop>
 
 /// The parameter of this name and type.
 fn parameter_of(name: Ref, written: WrittenType) -> Parameter
-    ensures { (n : NameText) (colon : Place) (t : TypeText) → name ≡ ref_of n → SameType written t → formal_seen result ≡ formal_of (parameter_text n colon t) }
+    ensures { ParameterOfParts name written result }
 {
     let WrittenType {
         shape,

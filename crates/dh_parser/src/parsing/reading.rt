@@ -1,11 +1,11 @@
 //! Where the parser stands, and the single tokens that it takes.
 
 ghost use Rattle.std.specs.Prelude.{◌≡◌, ◌<◌, ◌≤◌, ◌+◌, ◌^◌, None, length, IfOk, IfErr};
-ghost use Rattle.dh_parser.specs.Answers.{Answers, IfWanting, SameNumber, StandsAt, Took};
+ghost use Rattle.dh_parser.specs.Answers.{IfWanting, StandsAt, Took, AnswersAs, SameNumeral, TookTokens};
 ghost use Rattle.dh_parser.specs.Marks as marks;
 ghost use Rattle.dh_parser.specs.Marks.{comes};
 ghost use Rattle.dh_parser.specs.Reading.{the, the_number, the_name, goes_on};
-ghost use Rattle.dh_parser.specs.TreesOfTexts.{ref_of, placed_of};
+ghost use Rattle.dh_parser.specs.TreesOfTexts.{ref_of};
 ghost use Rattle.dh_parser.specs.declared.parsing.reading.Stop.TheVariants as stop;
 
 use dh_base::{NoMemory, Place};
@@ -207,9 +207,9 @@ impl Reader<'_> {
     /// Takes this, which has to come next. Gives its place.
     pub fn skip(&mut self, mark: Mark) -> Result<Place, Stop>
         ensures memory { IfErr result (λ e. e ≡ stop.Here) }
-        ensures answer { Answers (λ place p. place ≡ p) result self.new.rest.now (the mark self.old.rest.now) }
+        ensures answer { AnswersAs (the mark) (λ place p. place ≡ p) result self.old self.new }
         ensures shorter { length self.new.rest.now ≤ length self.old.rest.now }
-        ensures taken { IfOk result (λ _. length self.new.rest.now < length self.old.rest.now) }
+        ensures taken { IfOk result (λ _. TookTokens self.old self.new) }
         ensures commands { self.new.commands ≡ self.old.commands }
     {
         match self.rest {
@@ -225,9 +225,9 @@ impl Reader<'_> {
     pub fn name(&mut self) -> Result<Ref, Stop>
         ensures memory { IfWanting result (the_name self.old.rest.now) }
         ensures unnumbered { IfOk result (λ name. name.entity ≡ None) }
-        ensures answer { Answers (λ name n. name ≡ ref_of n) result self.new.rest.now (the_name self.old.rest.now) }
+        ensures answer { AnswersAs the_name (λ name n. name ≡ ref_of n) result self.old self.new }
         ensures shorter { length self.new.rest.now ≤ length self.old.rest.now }
-        ensures taken { IfOk result (λ _. length self.new.rest.now < length self.old.rest.now) }
+        ensures taken { IfOk result (λ _. TookTokens self.old self.new) }
         ensures commands { self.new.commands ≡ self.old.commands }
     {
         match self.rest {
@@ -253,9 +253,9 @@ impl Reader<'_> {
     /// Takes a number, which has to come next.
     pub fn number(&mut self) -> Result<Numeral, Stop>
         ensures memory { IfErr result (λ e. e ≡ stop.Here) }
-        ensures answer { Answers (λ number n. SameNumber number (placed_of n)) result self.new.rest.now (the_number self.old.rest.now) }
+        ensures answer { AnswersAs the_number SameNumeral result self.old self.new }
         ensures shorter { length self.new.rest.now ≤ length self.old.rest.now }
-        ensures taken { IfOk result (λ _. length self.new.rest.now < length self.old.rest.now) }
+        ensures taken { IfOk result (λ _. TookTokens self.old self.new) }
         ensures commands { self.new.commands ≡ self.old.commands }
     {
         match self.rest {

@@ -1,12 +1,9 @@
 //! Commands without blocks.
 
-ghost use Rattle.std.specs.Prelude.{◌≡◌, ◌<◌, ◌≤◌, ◌+◌, ◌^◌, None, length, option_map, IfOk};
-ghost use Rattle.dh_base.specs.declared.places.Place.{Place};
-ghost use Rattle.dh_tree.specs.PlainTrees.{action};
-ghost use Rattle.dh_tree.specs.Seen.{action_seen, action_form_seen, term_seen};
-ghost use Rattle.dh_parser.specs.Answers.{Answers, SameSimple, StandsAt};
+ghost use Rattle.std.specs.Prelude.{◌≡◌, ◌<◌, ◌≤◌, ◌^◌, None, length, IfOk};
+ghost use Rattle.dh_tree.specs.Seen.{action_form_seen};
+ghost use Rattle.dh_parser.specs.Answers.{SameSimple, AnswersAfterWord, AnswersAs, AnswersNamed, AnswersSimple, NumbersAs, SameSimpleCommand, SameValue, TookTokens, most_commands, typed_let_seen};
 ghost use Rattle.dh_parser.specs.Reading.{the_simple, let_from, after_name, store_from, the_value};
-ghost use Rattle.dh_parser.specs.TreesOfTexts.{name_text, simple_form, simple_place, value_of, let_written};
 
 use crate::parsing::expressions::{read_access, read_arguments, read_expression};
 use crate::parsing::operators::reducer_of;
@@ -18,11 +15,11 @@ use dh_tree::{Command, CommandForm, Expr, Ref};
 
 /// A command that begins with `let`, `view` or a name.
 pub(crate) fn read_simple(reader: &mut Reader<'_>) -> Result<Command, Stop>
-    requires { reader.old.commands + length reader.old.rest.now ≤ 2 ^ 32 }
-    ensures answer { Answers (λ c s. (action_seen c ≡ action reader.old.commands (simple_place s) (simple_form s)) × (reader.new.commands ≡ reader.old.commands + 1)) result reader.new.rest.now (the_simple reader.old.rest.now) }
-    ensures room { reader.new.commands + length reader.new.rest.now ≤ reader.old.commands + length reader.old.rest.now }
+    requires { most_commands reader.old ≤ 2 ^ 32 }
+    ensures answer { NumbersAs the_simple SameSimpleCommand result reader.old reader.new }
+    ensures room { most_commands reader.new ≤ most_commands reader.old }
     ensures shorter { length reader.new.rest.now ≤ length reader.old.rest.now }
-    ensures taken { IfOk result (λ _. length reader.new.rest.now < length reader.old.rest.now) }
+    ensures taken { IfOk result (λ _. TookTokens reader.old reader.new) }
 {
     let place = reader.place()?;
     let form = read_form(reader)?;
@@ -33,10 +30,10 @@ pub(crate) fn read_simple(reader: &mut Reader<'_>) -> Result<Command, Stop>
 /// What a command is that begins with `let`, `view` or a name.
 fn read_form(reader: &mut Reader<'_>) -> Result<CommandForm, Stop>
     requires { 0 < length reader.old.rest.now }
-    ensures answer { (p : Place) → StandsAt (Ok p) reader.old.rest.now → Answers (λ form s. SameSimple p form s) result reader.new.rest.now (the_simple reader.old.rest.now) }
+    ensures answer { AnswersSimple result reader.old reader.new }
     ensures commands { reader.new.commands ≡ reader.old.commands }
     ensures shorter { length reader.new.rest.now ≤ length reader.old.rest.now }
-    ensures taken { IfOk result (λ _. length reader.new.rest.now < length reader.old.rest.now) }
+    ensures taken { IfOk result (λ _. TookTokens reader.old reader.new) }
 {
     let [token, after @ ..] = reader.rest else {
         return Err(Stop::Here);
@@ -62,7 +59,7 @@ fn read_form(reader: &mut Reader<'_>) -> Result<CommandForm, Stop>
 
 /// The rest of a `let`, after its word.
 fn read_let(reader: &mut Reader<'_>) -> Result<CommandForm, Stop>
-    ensures answer { (word : Place) → Answers (λ form s. SameSimple word form s) result reader.new.rest.now (let_from word reader.old.rest.now) }
+    ensures answer { AnswersAfterWord let_from SameSimple result reader.old reader.new }
     ensures commands { reader.new.commands ≡ reader.old.commands }
     ensures shorter { length reader.new.rest.now ≤ length reader.old.rest.now }
 {
@@ -84,7 +81,7 @@ fn read_let(reader: &mut Reader<'_>) -> Result<CommandForm, Stop>
 
 /// The `let` of this name with a type.
 fn typed_let(name: Ref, written: WrittenType, value: Option<Expr>) -> CommandForm
-    ensures { action_form_seen result ≡ let_written written.is_memory name written.shape written.places (option_map term_seen value) }
+    ensures { action_form_seen result ≡ typed_let_seen name written value }
 {
     let WrittenType {
         shape,
@@ -108,7 +105,7 @@ fn typed_let(name: Ref, written: WrittenType, value: Option<Expr>) -> CommandFor
 
 /// The expression after `=`, if that sign comes next.
 fn read_value(reader: &mut Reader<'_>) -> Result<Option<Expr>, Stop>
-    ensures answer { Answers (λ value v. option_map term_seen value ≡ value_of v) result reader.new.rest.now (the_value reader.old.rest.now) }
+    ensures answer { AnswersAs the_value SameValue result reader.old reader.new }
     ensures commands { reader.new.commands ≡ reader.old.commands }
     ensures shorter { length reader.new.rest.now ≤ length reader.old.rest.now }
 {
@@ -122,7 +119,7 @@ fn read_value(reader: &mut Reader<'_>) -> Result<Option<Expr>, Stop>
 /// The rest of a command that begins with this name.
 fn read_named(reader: &mut Reader<'_>, name: Ref) -> Result<CommandForm, Stop>
     requires { name.entity ≡ None }
-    ensures answer { Answers (λ form s. SameSimple name.place form s) result reader.new.rest.now (after_name (name_text name) reader.old.rest.now) }
+    ensures answer { AnswersNamed after_name name result reader.old reader.new }
     ensures commands { reader.new.commands ≡ reader.old.commands }
     ensures shorter { length reader.new.rest.now ≤ length reader.old.rest.now }
 {
@@ -165,7 +162,7 @@ fn read_named(reader: &mut Reader<'_>, name: Ref) -> Result<CommandForm, Stop>
 /// The rest of a store to an element of the memory of this name.
 fn read_store(reader: &mut Reader<'_>, name: Ref) -> Result<CommandForm, Stop>
     requires { name.entity ≡ None }
-    ensures answer { Answers (λ form s. SameSimple name.place form s) result reader.new.rest.now (store_from (name_text name) reader.old.rest.now) }
+    ensures answer { AnswersNamed store_from name result reader.old reader.new }
     ensures commands { reader.new.commands ≡ reader.old.commands }
     ensures shorter { length reader.new.rest.now ≤ length reader.old.rest.now }
 {

@@ -1,12 +1,11 @@
 //! Kinds and types.
 
-ghost use Rattle.std.specs.Prelude.{◌≡◌, ◌<◌, ◌≤◌, length, IfOk, IfErr};
-ghost use Rattle.dh_base.specs.declared.places.Place.{Place};
+ghost use Rattle.std.specs.Prelude.{◌≡◌, ◌≤◌, length, IfOk, IfErr};
 ghost use Rattle.dh_value.specs.declared.kinds.Kind.TheVariants as kinds;
-ghost use Rattle.dh_parser.specs.Answers.{Answers, SameBanks, SamePorts, SameDim, SameType};
-ghost use Rattle.dh_parser.specs.Grammar.{TypeText, bit_kind, ubit_kind};
-ghost use Rattle.dh_parser.specs.Reading.{width_then, the_kind, the_ports, the_banks, the_dim, the_dims, the_type, steps};
-ghost use Rattle.dh_parser.specs.TreesOfTexts.{kind_of, kind_place, dims_of, places_of};
+ghost use Rattle.dh_parser.specs.Answers.{SameBanks, SamePorts, SameDim, SameType, AnswersAs, AnswersWidth, SameDims, SameKind, TookTokens, TypeOfParts};
+ghost use Rattle.dh_parser.specs.Grammar.{bit_kind, ubit_kind};
+ghost use Rattle.dh_parser.specs.Reading.{the_kind, the_ports, the_banks, the_dim, the_type};
+ghost use Rattle.dh_parser.specs.StepsEnough.{all_dims};
 ghost use Rattle.dh_parser.specs.declared.parsing.reading.Stop.TheVariants as stop;
 
 use crate::parsing::reading::{Mark, Numeral, Reader, Stop};
@@ -58,7 +57,7 @@ const MOST_BITS: u64 = 64;
 /// `bool`, `bit<width>` or `ubit<width>`
 pub(crate) fn read_kind(reader: &mut Reader<'_>) -> Result<Kind, Stop>
     ensures memory { IfErr result (λ e. e ≡ stop.Here) }
-    ensures answer { Answers (λ kind k. kind ≡ kind_of k) result reader.new.rest.now (the_kind reader.old.rest.now) }
+    ensures answer { AnswersAs the_kind SameKind result reader.old reader.new }
     ensures commands { reader.new.commands ≡ reader.old.commands }
     ensures shorter { length reader.new.rest.now ≤ length reader.old.rest.now }
 {
@@ -85,8 +84,8 @@ pub(crate) fn read_kind(reader: &mut Reader<'_>) -> Result<Kind, Stop>
 /// The width of a kind between its signs, from 1 to 64.
 fn read_width(reader: &mut Reader<'_>) -> Result<u8, Stop>
     ensures memory { IfErr result (λ e. e ≡ stop.Here) }
-    ensures answer { (word : Place) → Answers (λ width k. kinds.Unsigned width ≡ kind_of k) result reader.new.rest.now (width_then (ubit_kind word) reader.old.rest.now) }
-    ensures signed { (word : Place) → Answers (λ width k. kinds.Signed width ≡ kind_of k) result reader.new.rest.now (width_then (bit_kind word) reader.old.rest.now) }
+    ensures answer { AnswersWidth ubit_kind kinds.Unsigned result reader.old reader.new }
+    ensures signed { AnswersWidth bit_kind kinds.Signed result reader.old reader.new }
     ensures commands { reader.new.commands ≡ reader.old.commands }
     ensures shorter { length reader.new.rest.now ≤ length reader.old.rest.now }
 {
@@ -112,7 +111,7 @@ fn read_width(reader: &mut Reader<'_>) -> Result<u8, Stop>
 
 /// `kind{ports}[size bank banks]..`
 pub(crate) fn read_type(reader: &mut Reader<'_>) -> Result<WrittenType, Stop>
-    ensures answer { Answers (λ written t. SameType written t) result reader.new.rest.now (the_type reader.old.rest.now) }
+    ensures answer { AnswersAs the_type SameType result reader.old reader.new }
     ensures commands { reader.new.commands ≡ reader.old.commands }
     ensures shorter { length reader.new.rest.now ≤ length reader.old.rest.now }
 {
@@ -131,8 +130,7 @@ fn written_type(
     dims: Items<Dim>,
     places: Items<DimPlaces>,
 ) -> WrittenType
-    ensures { (t : TypeText) → kind ≡ kind_of t.kind → kind_place t.kind ≡ place → SamePorts ports t.ports
-        → (dims ≡ dims_of t.dims) × (places ≡ places_of t.dims) → SameType result t }
+    ensures { TypeOfParts kind place ports dims places result }
 {
     let (number, braces_place, is_memory) = match ports {
         Some(ports) => (ports.number, Some(ports.braces), true),
@@ -157,7 +155,7 @@ fn written_type(
 /// A number of ports in braces, if a brace comes next.
 fn read_ports(reader: &mut Reader<'_>) -> Result<Option<WrittenPorts>, Stop>
     ensures memory { IfErr result (λ e. e ≡ stop.Here) }
-    ensures answer { Answers (λ ports p. SamePorts ports p) result reader.new.rest.now (the_ports reader.old.rest.now) }
+    ensures answer { AnswersAs the_ports SamePorts result reader.old reader.new }
     ensures commands { reader.new.commands ≡ reader.old.commands }
     ensures shorter { length reader.new.rest.now ≤ length reader.old.rest.now }
 {
@@ -172,7 +170,7 @@ fn read_ports(reader: &mut Reader<'_>) -> Result<Option<WrittenPorts>, Stop>
 
 /// The dimensions that come next, and the places of their parts.
 fn read_dims(reader: &mut Reader<'_>) -> Result<(Items<Dim>, Items<DimPlaces>), Stop>
-    ensures answer { Answers (λ dims t. (dims.0 ≡ dims_of t) × (dims.1 ≡ places_of t)) result reader.new.rest.now (the_dims (steps reader.old.rest.now) reader.old.rest.now) }
+    ensures answer { AnswersAs all_dims SameDims result reader.old reader.new }
     ensures commands { reader.new.commands ≡ reader.old.commands }
     ensures shorter { length reader.new.rest.now ≤ length reader.old.rest.now }
 {
@@ -189,10 +187,10 @@ fn read_dims(reader: &mut Reader<'_>) -> Result<(Items<Dim>, Items<DimPlaces>), 
 /// `[size]` or `[size bank banks]`
 fn read_dim(reader: &mut Reader<'_>) -> Result<WrittenDim, Stop>
     ensures memory { IfErr result (λ e. e ≡ stop.Here) }
-    ensures answer { Answers (λ written put. SameDim written put) result reader.new.rest.now (the_dim reader.old.rest.now) }
+    ensures answer { AnswersAs the_dim SameDim result reader.old reader.new }
     ensures commands { reader.new.commands ≡ reader.old.commands }
     ensures shorter { length reader.new.rest.now ≤ length reader.old.rest.now }
-    ensures taken { IfOk result (λ _. length reader.new.rest.now < length reader.old.rest.now) }
+    ensures taken { IfOk result (λ _. TookTokens reader.old reader.new) }
 {
     let open_place = reader.skip(Mark::OpenBracket)?;
     let size = reader.number()?;
@@ -215,7 +213,7 @@ fn read_dim(reader: &mut Reader<'_>) -> Result<WrittenDim, Stop>
 /// The number after `bank`, if the word comes next; else 1, at the place of the size.
 fn read_banks(reader: &mut Reader<'_>, size: Place) -> Result<WrittenBanks, Stop>
     ensures memory { IfErr result (λ e. e ≡ stop.Here) }
-    ensures answer { Answers (λ banks t. SameBanks size banks t) result reader.new.rest.now (the_banks reader.old.rest.now) }
+    ensures answer { AnswersAs the_banks (SameBanks size) result reader.old reader.new }
     ensures commands { reader.new.commands ≡ reader.old.commands }
     ensures shorter { length reader.new.rest.now ≤ length reader.old.rest.now }
 {

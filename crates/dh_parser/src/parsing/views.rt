@@ -1,10 +1,8 @@
 //! Views.
 
-ghost use Rattle.std.specs.Prelude.{◌≡◌, ◌<◌, ◌≤◌, length, IfOk, IfErr};
-ghost use Rattle.dh_base.specs.declared.places.Place.{Place};
-ghost use Rattle.dh_parser.specs.Answers.{Answers, SameNumber, SameFactors, SameSuffix, SameSuffixes, SameOffsets, SamePlan, SameSimple, SameTerm};
-ghost use Rattle.dh_parser.specs.Reading.{the_factor, the_suffix, the_offset, all_of, parent_and, the_view, view_command_from};
-ghost use Rattle.dh_parser.specs.TreesOfTexts.{ref_of, placed_of};
+ghost use Rattle.std.specs.Prelude.{◌≡◌, ◌≤◌, length, IfOk, IfErr};
+ghost use Rattle.dh_parser.specs.Answers.{SameFactors, SameSuffixes, SameOffsets, SamePlan, SameSimple, AnswersAfterWord, AnswersAs, AnswersParentAnd, SameFactor, SameOffset, SameSuffixRead, TookTokens};
+ghost use Rattle.dh_parser.specs.Reading.{the_factor, the_suffix, the_offset, all_of, the_view, view_command_from};
 ghost use Rattle.dh_parser.specs.declared.parsing.reading.Stop.TheVariants as stop;
 
 use crate::parsing::expressions::{read_expression, read_operand};
@@ -33,7 +31,7 @@ pub(crate) struct Suffixes {
 
 /// `name = form parent[by ..]..`, after the word `view`.
 pub(crate) fn read_view(reader: &mut Reader<'_>) -> Result<CommandForm, Stop>
-    ensures answer { (word : Place) → Answers (λ form s. SameSimple word form s) result reader.new.rest.now (view_command_from word reader.old.rest.now) }
+    ensures answer { AnswersAfterWord view_command_from SameSimple result reader.old reader.new }
     ensures commands { reader.new.commands ≡ reader.old.commands }
     ensures shorter { length reader.new.rest.now ≤ length reader.old.rest.now }
 {
@@ -45,7 +43,7 @@ pub(crate) fn read_view(reader: &mut Reader<'_>) -> Result<CommandForm, Stop>
 
 /// `form parent[by ..]..`
 fn read_plan(reader: &mut Reader<'_>) -> Result<(Ref, ViewForm), Stop>
-    ensures answer { Answers (λ v t. SamePlan v.0 v.1 t) result reader.new.rest.now (the_view reader.old.rest.now) }
+    ensures answer { AnswersAs the_view (λ v t. SamePlan v.0 v.1 t) result reader.old reader.new }
     ensures commands { reader.new.commands ≡ reader.old.commands }
     ensures shorter { length reader.new.rest.now ≤ length reader.old.rest.now }
 {
@@ -82,7 +80,7 @@ fn read_plan(reader: &mut Reader<'_>) -> Result<(Ref, ViewForm), Stop>
 
 /// `parent[by factor]..`
 fn read_factored(reader: &mut Reader<'_>) -> Result<(Ref, Factors), Stop>
-    ensures answer { Answers (λ v t. (v.0 ≡ ref_of t.0) × SameFactors v.1.by.items v.1.by_place.items t.1) result reader.new.rest.now (parent_and the_factor reader.old.rest.now) }
+    ensures answer { AnswersParentAnd the_factor SameFactors result reader.old reader.new }
     ensures commands { reader.new.commands ≡ reader.old.commands }
     ensures shorter { length reader.new.rest.now ≤ length reader.old.rest.now }
 {
@@ -93,7 +91,7 @@ fn read_factored(reader: &mut Reader<'_>) -> Result<(Ref, Factors), Stop>
 
 /// `parent[by factor * offset]..`
 fn read_suffixed(reader: &mut Reader<'_>) -> Result<(Ref, Suffixes), Stop>
-    ensures answer { Answers (λ v t. (v.0 ≡ ref_of t.0) × SameSuffixes v.1.by.items v.1.by_place.items t.1) result reader.new.rest.now (parent_and the_suffix reader.old.rest.now) }
+    ensures answer { AnswersParentAnd the_suffix SameSuffixes result reader.old reader.new }
     ensures commands { reader.new.commands ≡ reader.old.commands }
     ensures shorter { length reader.new.rest.now ≤ length reader.old.rest.now }
 {
@@ -104,7 +102,7 @@ fn read_suffixed(reader: &mut Reader<'_>) -> Result<(Ref, Suffixes), Stop>
 
 /// `parent[by offset]..`
 fn read_shifted(reader: &mut Reader<'_>) -> Result<(Ref, Vec<Expr>), Stop>
-    ensures answer { Answers (λ v t. (v.0 ≡ ref_of t.0) × SameOffsets v.1.items t.1) result reader.new.rest.now (parent_and the_offset reader.old.rest.now) }
+    ensures answer { AnswersParentAnd the_offset SameOffsets result reader.old reader.new }
     ensures commands { reader.new.commands ≡ reader.old.commands }
     ensures shorter { length reader.new.rest.now ≤ length reader.old.rest.now }
 {
@@ -115,7 +113,7 @@ fn read_shifted(reader: &mut Reader<'_>) -> Result<(Ref, Vec<Expr>), Stop>
 
 /// `[by factor]`, once or more.
 fn read_factors(reader: &mut Reader<'_>) -> Result<Factors, Stop>
-    ensures answer { Answers (λ f t. SameFactors f.by.items f.by_place.items t) result reader.new.rest.now (all_of the_factor reader.old.rest.now) }
+    ensures answer { AnswersAs (all_of the_factor) SameFactors result reader.old reader.new }
     ensures commands { reader.new.commands ≡ reader.old.commands }
     ensures shorter { length reader.new.rest.now ≤ length reader.old.rest.now }
 {
@@ -135,10 +133,10 @@ fn read_factors(reader: &mut Reader<'_>) -> Result<Factors, Stop>
 /// `[by factor]`
 fn read_factor(reader: &mut Reader<'_>) -> Result<Numeral, Stop>
     ensures memory { IfErr result (λ e. e ≡ stop.Here) }
-    ensures answer { Answers (λ n f. SameNumber n (placed_of f.factor)) result reader.new.rest.now (the_factor reader.old.rest.now) }
+    ensures answer { AnswersAs the_factor SameFactor result reader.old reader.new }
     ensures commands { reader.new.commands ≡ reader.old.commands }
     ensures shorter { length reader.new.rest.now ≤ length reader.old.rest.now }
-    ensures taken { IfOk result (λ _. length reader.new.rest.now < length reader.old.rest.now) }
+    ensures taken { IfOk result (λ _. TookTokens reader.old reader.new) }
 {
     reader.skip(Mark::OpenBracket)?;
     reader.skip(Mark::By)?;
@@ -149,7 +147,7 @@ fn read_factor(reader: &mut Reader<'_>) -> Result<Numeral, Stop>
 
 /// `[by factor * offset]`, once or more.
 fn read_suffixes(reader: &mut Reader<'_>) -> Result<Suffixes, Stop>
-    ensures answer { Answers (λ f t. SameSuffixes f.by.items f.by_place.items t) result reader.new.rest.now (all_of the_suffix reader.old.rest.now) }
+    ensures answer { AnswersAs (all_of the_suffix) SameSuffixes result reader.old reader.new }
     ensures commands { reader.new.commands ≡ reader.old.commands }
     ensures shorter { length reader.new.rest.now ≤ length reader.old.rest.now }
 {
@@ -168,10 +166,10 @@ fn read_suffixes(reader: &mut Reader<'_>) -> Result<Suffixes, Stop>
 
 /// `[by factor * offset]`
 fn read_suffix(reader: &mut Reader<'_>) -> Result<(Numeral, Expr), Stop>
-    ensures answer { Answers (λ v s. SameSuffix v.0 v.1 s) result reader.new.rest.now (the_suffix reader.old.rest.now) }
+    ensures answer { AnswersAs the_suffix SameSuffixRead result reader.old reader.new }
     ensures commands { reader.new.commands ≡ reader.old.commands }
     ensures shorter { length reader.new.rest.now ≤ length reader.old.rest.now }
-    ensures taken { IfOk result (λ _. length reader.new.rest.now < length reader.old.rest.now) }
+    ensures taken { IfOk result (λ _. TookTokens reader.old reader.new) }
 {
     reader.skip(Mark::OpenBracket)?;
     reader.skip(Mark::By)?;
@@ -184,7 +182,7 @@ fn read_suffix(reader: &mut Reader<'_>) -> Result<(Numeral, Expr), Stop>
 
 /// `[by offset]`, once or more.
 fn read_offsets(reader: &mut Reader<'_>) -> Result<Vec<Expr>, Stop>
-    ensures answer { Answers (λ es t. SameOffsets es.items t) result reader.new.rest.now (all_of the_offset reader.old.rest.now) }
+    ensures answer { AnswersAs (all_of the_offset) SameOffsets result reader.old reader.new }
     ensures commands { reader.new.commands ≡ reader.old.commands }
     ensures shorter { length reader.new.rest.now ≤ length reader.old.rest.now }
 {
@@ -200,10 +198,10 @@ fn read_offsets(reader: &mut Reader<'_>) -> Result<Vec<Expr>, Stop>
 
 /// `[by offset]`
 fn read_offset(reader: &mut Reader<'_>) -> Result<Expr, Stop>
-    ensures answer { Answers (λ e o. SameTerm e o.offset) result reader.new.rest.now (the_offset reader.old.rest.now) }
+    ensures answer { AnswersAs the_offset SameOffset result reader.old reader.new }
     ensures commands { reader.new.commands ≡ reader.old.commands }
     ensures shorter { length reader.new.rest.now ≤ length reader.old.rest.now }
-    ensures taken { IfOk result (λ _. length reader.new.rest.now < length reader.old.rest.now) }
+    ensures taken { IfOk result (λ _. TookTokens reader.old reader.new) }
 {
     reader.skip(Mark::OpenBracket)?;
     reader.skip(Mark::By)?;
