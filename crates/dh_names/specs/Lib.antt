@@ -1,4 +1,5 @@
 pub mod Entries
 pub mod Visible
+pub mod InTrees
 pub mod Walks
 pub mod Programs

@@ -1,19 +1,26 @@
 -- What the walk over a program does before and behind its commands, and what it answers.
-use Rattle.std.specs.Prelude.{ℕ, Bool, true, false, ◌+◌, ◌≡◌, List, [], ◌∷◌, ◌<◌, ◌≤◌, length, map, drop, Option, None, Result, Ok, Err}
+use Rattle.std.specs.Prelude.{ℕ, Bool, true, false, ◌+◌, ◌≡◌, List, [], ◌∷◌, ◌++◌, ◌<◌, ◌≤◌, length, map, drop, Option, None, Result, Ok, Err, Vec}
+use Rattle.std.specs.Global.{Global}
 use Rattle.dh_base.specs.declared.faults.PassFault.{PassFault}
 use Rattle.dh_base.specs.declared.faults.PassFault.TheVariants as fault
 use Rattle.dh_tree.specs.declared.breaches.Breach.{Breach}
 use Rattle.dh_tree.specs.declared.trees.programs.Decl.{Decl}
+use Rattle.dh_tree.specs.declared.trees.programs.Entity.{Entity}
 use Rattle.dh_tree.specs.declared.trees.programs.Function.{Function}
+use Rattle.dh_tree.specs.declared.trees.programs.Parameter.{Parameter}
+use Rattle.dh_tree.specs.declared.trees.programs.Sort.TheVariants as sort
 use Rattle.dh_tree.specs.declared.trees.named.Named.{Named}
 use Rattle.dh_tree.specs.PlainTrees.{Declared, Formal, Defined, Program}
-use Rattle.dh_tree.specs.Seen.{declared_seen, defined_seen, program_seen}
+use Rattle.dh_tree.specs.Seen.{action_seen, declared_seen, formal_seen, defined_seen, program_seen}
 use Rattle.dh_tree.specs.LeastBreach.{is_before, breach, least_of, IsLeast}
-use Rattle.dh_tree.specs.Scopes.{Binding, entity_of, bind, Item, memory_items, function_items, merged, Scope, after_formals, after_function, after_functions}
-use Rattle.dh_tree.specs.Breaches.{breaches_of, KeepsNames, twice, formals_breaches, function_breaches, functions_breaches}
-use Rattle.dh_tree.specs.Resolved.{resolved, resolved_formals, resolved_function, resolved_functions}
-use Rattle.dh_tree.specs.NameCounts.{names_declared}
-use Rattle.dh_names.specs.Walks.{State, walked}
+use Rattle.dh_tree.specs.Scopes.{Binding, entity_of, bind, entity, Item, memory_items, function_items, merged, after_items, Scope, after_formals, after_function, after_functions}
+use Rattle.dh_tree.specs.Breaches.{breaches_of, KeepsNames, twice, items_breaches, formals_breaches, function_breaches, functions_breaches}
+use Rattle.dh_tree.specs.Resolved.{resolved, resolved_decls, resolved_formals, resolved_function, resolved_functions}
+use Rattle.dh_tree.specs.NameCounts.{declared_in, declared_in_functions, names_declared}
+use Rattle.dh_names.specs.Visible.{visible, LeastBy}
+use Rattle.dh_names.specs.Walks.{State, state_of, walked}
+use Rattle.dh_names.specs.declared.scopes.Names.{Names}
+use Rattle.dh_names.specs.declared.walks.Walk.{Walk}
 
 -- a walk over the parameters of a function
 pub record ResolvesFormals (old new : State) (a b : List Formal) : Type 0 where
@@ -37,11 +44,42 @@ pub record ResolvesFunctions (n : ℕ) (old new : State) (a b : List Defined) : 
   pub tree : b ≡ resolved_functions n old.scope a
   pub state : new ≡ between old (after_functions n old.scope a) (least_of old.least (functions_breaches n old.scope a))
 
+-- the code's walk over parameters in order, over a function that is entity number n, and over functions
+-- of which the first is so
+abbrev pub NumbersParameters : (old new : Walk) → (a b : Vec Parameter Global) → Type 0
+NumbersParameters old new a b = ResolvesFormals (state_of old) (state_of new) (map formal_seen a.items) (map formal_seen b.items)
+
+abbrev pub NumbersFunction : ℕ → (old new : Walk) → (a b : Function) → Type 0
+NumbersFunction n old new a b = ResolvesFunction n (state_of old) (state_of new) (defined_seen a) (defined_seen b)
+
+abbrev pub NumbersFunctions : ℕ → (old new : Walk) → (a b : Vec Function Global) → Type 0
+NumbersFunctions n old new a b = ResolvesFunctions n (state_of old) (state_of new) (map defined_seen a.items) (map defined_seen b.items)
+
+-- how many names a function declares, and functions
+abbrev pub declared_by : Function → ℕ
+declared_by f = length f.parameters.items + declared_in (action_seen f.body)
+
+abbrev pub declared_by_all : Vec Function Global → ℕ
+declared_by_all functions = declared_in_functions (map defined_seen functions.items)
+
+-- memories from outside take their numbers, from 0
+abbrev pub NumbersMemories : (old new : Vec Decl Global) → Type 0
+NumbersMemories old new = map declared_seen new.items ≡ resolved_decls 0 (map declared_seen old.items)
+
+-- the entities of memories from outside and of functions
+abbrev pub entities_outside : List Decl → List Function → List Entity
+entities_outside decls functions =
+    map (λ d. entity d.name sort.Memory) (map declared_seen decls) ++ map (λ f. entity f.name sort.Function) (map defined_seen functions)
+
 -- whether the next name in text order is that of a function, where these memories and functions are left
 abbrev pub is_function_next : List Declared → List Defined → Bool
 is_function_next memories [] = false
 is_function_next [] (f ∷ functions) = true
 is_function_next (m ∷ memories) (f ∷ functions) = is_before f.name.place m.name.place
+
+-- and after so many memories and so many functions
+abbrev pub is_function_first : List Decl → List Function → (done : ℕ × ℕ) → Bool
+is_function_first decls functions done = is_function_next (map declared_seen (drop done.0 decls)) (map defined_seen (drop done.1 functions))
 
 -- the names that are left in text order, after so many memories and so many functions
 abbrev pub left : List Decl → List Function → ℕ × ℕ → List Item
@@ -72,6 +110,21 @@ pub record LacksNext (decls : List Decl) (functions : List Function) (old : List
   pub unbound : entity_of old item.name.name ≡ None
   pub visible : new ≡ old
   pub least : new_least ≡ old_least
+
+-- the same of the names that the code keeps
+abbrev pub BindsItem : List Decl → List Function → (old : Names) → (old_least : Option Breach) → (done : ℕ × ℕ) → (new : Names) → (new_least : Option Breach) → (after : ℕ × ℕ) → Type 0
+BindsItem decls functions old old_least done new new_least after = BindsNext decls functions (visible old) old_least done (visible new) new_least after
+
+abbrev pub LacksItem : List Decl → List Function → (old : Names) → (old_least : Option Breach) → (done : ℕ × ℕ) → (new : Names) → (new_least : Option Breach) → Type 0
+LacksItem decls functions old old_least done new new_least = LacksNext decls functions (visible old) old_least done (visible new) new_least
+
+-- memories from outside and functions are made visible, in text order
+abbrev pub BindsItems : List Decl → List Function → (old new : Names) → Type 0
+BindsItems decls functions old new = visible new ≡ after_items (visible old) (left decls functions (0, 0))
+
+-- the least is kept of the breach that was kept and those of their names, each of which was visible already
+abbrev pub FindsTwice : List Decl → List Function → Names → (old new : Option Breach) → Type 0
+FindsTwice decls functions names old new = LeastBy items_breaches names old new (left decls functions (0, 0))
 
 -- a program is answered by its tree with entities where no name breaks a rule, and else by the breach
 -- that stands first; for want of memory it may have no answer, where it declares a name

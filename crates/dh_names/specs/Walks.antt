@@ -1,12 +1,20 @@
 -- What the code's walk over a tree keeps, as the definitions see it, and what each part of the walk does.
-use Rattle.std.specs.Prelude.{ℕ, Bool, true, false, ◌+◌, ◌≤◌, ◌^◌, ◌≡◌, List, length, take, Option}
+use Rattle.std.specs.Prelude.{ℕ, Bool, true, false, ◌+◌, ◌≤◌, ◌^◌, ◌≡◌, List, length, take, Option, Vec, Box}
+use Rattle.std.specs.Global.{Global}
 use Rattle.dh_tree.specs.declared.breaches.Breach.{Breach}
+use Rattle.dh_tree.specs.declared.trees.expressions.Ref.{Ref}
+use Rattle.dh_tree.specs.declared.trees.commands.Command.{Command}
+use Rattle.dh_tree.specs.declared.trees.commands.CommandForm.{CommandForm}
+use Rattle.dh_tree.specs.declared.trees.programs.Sort.{Sort}
 use Rattle.dh_tree.specs.PlainTrees.{Action, ActionForm, blocks, MaybeAction, Actions, Groups}
 use Rattle.dh_tree.specs.LeastBreach.{least_of}
-use Rattle.dh_tree.specs.Scopes.{Binding, Scope, leave, past, at_end, form_at_end, other_at_end, actions_at_end, groups_at_end}
-use Rattle.dh_tree.specs.Breaches.{breaches, form_breaches, other_breaches, actions_breaches, groups_breaches}
-use Rattle.dh_tree.specs.Resolved.{resolved_action, resolved_form, resolved_other, resolved_actions, resolved_groups}
+use Rattle.dh_tree.specs.Scopes.{Binding, Scope, declare, leave, past, at_end, form_at_end, other_at_end, actions_at_end, groups_at_end}
+use Rattle.dh_tree.specs.Breaches.{twice, breaches, form_breaches, other_breaches, actions_breaches, groups_breaches}
+use Rattle.dh_tree.specs.Resolved.{declares, resolved_action, resolved_form, resolved_other, resolved_actions, resolved_groups}
+use Rattle.dh_tree.specs.Seen.{action_seen, action_form_seen, part_seen}
+use Rattle.dh_tree.specs.NameCounts.{declared_in, declared_in_form, declared_in_other, declared_in_actions}
 use Rattle.dh_names.specs.Visible.{visible}
+use Rattle.dh_names.specs.InTrees.{optional_seen}
 use Rattle.dh_names.specs.declared.walks.Walk.{Walk}
 
 -- whether a command is a block
@@ -34,6 +42,19 @@ cut s own = record { outer = s.outer; scope = record { visible = take (length s.
 -- so many further declarations have numbers of 32 bits
 abbrev pub Room : State → ℕ → Type 0
 Room s declared = length s.scope.entities + declared ≤ 2 ^ 32
+
+-- the walk finds the breaches that a rule finds here where the names at its point are visible, and stays there
+abbrev pub FindsBy : {A : Type 0} → (rule : List Binding → A → List Breach) → (old new : Walk) → A → Type 0
+FindsBy rule old new seen = state_of new ≡ walked (state_of old) (rule (state_of old).scope.visible seen) (state_of old).scope
+
+-- a name that is declared at the walk's point takes the number of the next entity, where there is one
+abbrev pub NumbersName : Walk → (old new : Ref) → Type 0
+NumbersName walk old new = Room (state_of walk) 1 → new ≡ declares (state_of walk).scope old
+
+-- the walk goes past a name that is declared as an entity of this sort, where that has a number
+abbrev pub DeclaresName : (old new : Walk) → (name : Ref) → Sort → Type 0
+DeclaresName old new name sort =
+    Room (state_of old) 1 → state_of new ≡ walked (state_of old) (twice (state_of old).scope.visible name) (declare (state_of old).scope name sort)
 
 -- a walk over a command, up to its end
 pub record Resolves (old new : State) (a b : Action) : Type 0 where
@@ -65,3 +86,25 @@ pub record ResolvesActions (old new : State) (a b : Actions) : Type 0 where
 pub record ResolvesGroups (old new : State) (a b : Groups) : Type 0 where
   pub tree : b ≡ resolved_groups old.scope a
   pub state : new ≡ walked old (groups_breaches old.scope a) (groups_at_end old.scope a)
+
+-- the code's walk over a command, up to its end, where all that it declares has numbers; over its form, over a
+-- block that may lack, over a command whose scope ends with it, over a command of a list, and over a part
+abbrev pub NumbersCommand : (old new : Walk) → (a b : Command) → Type 0
+NumbersCommand old new a b = Room (state_of old) (declared_in (action_seen a)) → Resolves (state_of old) (state_of new) (action_seen a) (action_seen b)
+
+abbrev pub NumbersForm : (old new : Walk) → (a b : CommandForm) → Type 0
+NumbersForm old new a b =
+    Room (state_of old) (declared_in_form (action_form_seen a)) → ResolvesForm (state_of old) (state_of new) (action_form_seen a) (action_form_seen b)
+
+abbrev pub NumbersOptional : (old new : Walk) → (a b : Option (Box Command Global)) → Type 0
+NumbersOptional old new a b =
+    Room (state_of old) (declared_in_other (optional_seen a)) → ResolvesOther (state_of old) (state_of new) (optional_seen a) (optional_seen b)
+
+abbrev pub NumbersInner : (old new : Walk) → (a b : Command) → Type 0
+NumbersInner old new a b = Room (state_of old) (declared_in (action_seen a)) → ResolvesInner (state_of old) (state_of new) (action_seen a) (action_seen b)
+
+abbrev pub NumbersNext : (old new : Walk) → (a b : Command) → Type 0
+NumbersNext old new a b = Room (state_of old) (declared_in (action_seen a)) → ResolvesNext (state_of old) (state_of new) (action_seen a) (action_seen b)
+
+abbrev pub NumbersPart : (old new : Walk) → (a b : Vec Command Global) → Type 0
+NumbersPart old new a b = Room (state_of old) (declared_in_actions (part_seen a)) → ResolvesActions (state_of old) (state_of new) (part_seen a) (part_seen b)

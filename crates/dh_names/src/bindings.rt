@@ -1,8 +1,8 @@
 //! The names that are visible at a point of the text.
 
-ghost use Rattle.std.specs.Prelude.{◌≡◌, ◌++◌, [], ◌∷◌, None, is_ok, if◌then◌else◌, length, take};
-ghost use Rattle.dh_tree.specs.Scopes.{entity_of, binding};
-ghost use Rattle.dh_names.specs.Visible.{Binds};
+ghost use Rattle.std.specs.Prelude.{◌≡◌, [], None, length, take};
+ghost use Rattle.dh_tree.specs.Scopes.{entity_of};
+ghost use Rattle.dh_names.specs.Visible.{AddsName, Binds};
 
 use dh_base::NoMemory;
 use dh_tree::Name;
@@ -46,7 +46,7 @@ impl Bindings {
     /// Adds a name that is not there. After want of memory the names are as before.
     pub fn add(&mut self, alloc: Global, name: &Name, entity: u32) -> Result<(), NoMemory>
         requires { entity_of self.old name.now ≡ None }
-        ensures { self.new ≡ (if is_ok result then self.old ++ binding name.now entity ∷ [] else self.old) }
+        ensures { AddsName self.old self.new name.now entity result }
     {
         let text = String::from_str(alloc, name.as_str())?;
         self.numbers.insert(text, entity)?;

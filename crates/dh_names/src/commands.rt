@@ -1,10 +1,10 @@
 //! The names within commands.
 
-ghost use Rattle.std.specs.Prelude.{◌≡◌, ◌<◌, MatchResult, option_map, map};
-ghost use Rattle.dh_tree.specs.PlainTrees.{lets, lets_memory, views};
-ghost use Rattle.dh_tree.specs.Seen.{term_seen, plan_seen, action_seen, action_form_seen, part_seen, maybe_seen};
+ghost use Rattle.std.specs.Prelude.{◌≡◌, ◌<◌, MatchResult};
+ghost use Rattle.dh_tree.specs.Seen.{action_seen, action_form_seen, part_seen};
 ghost use Rattle.dh_tree.specs.NameCounts.{declared_in, declared_in_form, declared_in_other, declared_in_actions};
-ghost use Rattle.dh_names.specs.Walks.{is_blocks, Room, state_of, Resolves, ResolvesForm, ResolvesInner, ResolvesOther, ResolvesNext, ResolvesActions};
+ghost use Rattle.dh_names.specs.InTrees.{optional_seen};
+ghost use Rattle.dh_names.specs.Walks.{is_blocks, NumbersCommand, NumbersForm, NumbersInner, NumbersOptional, NumbersNext, NumbersPart};
 
 use crate::walks::Walk;
 use dh_base::NoMemory;
@@ -16,7 +16,7 @@ impl Walk {
     /// Gives the names of a command their numbers. Names that a block declares stay visible.
     #[cycle(commands)]
     pub fn command(&mut self, alloc: Global, command: &mut Command) -> Result<(), NoMemory>
-        ensures { MatchResult result (λ _. Room (state_of self.old) (declared_in (action_seen command.old)) → Resolves (state_of self.old) (state_of self.new) (action_seen command.old) (action_seen command.new))
+        ensures { MatchResult result (λ _. NumbersCommand self.old self.new command.old command.new)
             (λ _. 0 < declared_in (action_seen command.old)) }
     {
         let blank = CommandForm::Block {
@@ -30,7 +30,7 @@ impl Walk {
     // The form with the numbers of its names.
     #[cycle(commands)]
     fn form(&mut self, alloc: Global, form: CommandForm) -> Result<CommandForm, NoMemory>
-        ensures { MatchResult result (λ done. Room (state_of self.old) (declared_in_form (action_form_seen form)) → ResolvesForm (state_of self.old) (state_of self.new) (action_form_seen form) (action_form_seen done))
+        ensures { MatchResult result (λ done. NumbersForm self.old self.new form done)
             (λ _. 0 < declared_in_form (action_form_seen form)) }
     {
         match form {
@@ -175,8 +175,8 @@ impl Walk {
         alloc: Global,
         block: Option<Box<Command>>,
     ) -> Result<Option<Box<Command>>, NoMemory>
-        ensures { MatchResult result (λ done. Room (state_of self.old) (declared_in_other (maybe_seen (option_map (λ b. action_seen b.value) block))) → ResolvesOther (state_of self.old) (state_of self.new) (maybe_seen (option_map (λ b. action_seen b.value) block)) (maybe_seen (option_map (λ b. action_seen b.value) done)))
-            (λ _. 0 < declared_in_other (maybe_seen (option_map (λ b. action_seen b.value) block))) }
+        ensures { MatchResult result (λ done. NumbersOptional self.old self.new block done)
+            (λ _. 0 < declared_in_other (optional_seen block)) }
     {
         match block {
             Some(mut command) => {
@@ -190,7 +190,7 @@ impl Walk {
     // A command whose names are visible in it alone.
     #[cycle(commands)]
     fn inner(&mut self, alloc: Global, command: &mut Command) -> Result<(), NoMemory>
-        ensures { MatchResult result (λ _. Room (state_of self.old) (declared_in (action_seen command.old)) → ResolvesInner (state_of self.old) (state_of self.new) (action_seen command.old) (action_seen command.new))
+        ensures { MatchResult result (λ _. NumbersInner self.old self.new command.old command.new)
             (λ _. 0 < declared_in (action_seen command.old)) }
     {
         let start = self.own_names();
@@ -202,7 +202,7 @@ impl Walk {
     // A command of a list: what it declares is visible after it, unless it is a block.
     #[cycle(commands)]
     fn next(&mut self, alloc: Global, command: &mut Command) -> Result<(), NoMemory>
-        ensures { MatchResult result (λ _. Room (state_of self.old) (declared_in (action_seen command.old)) → ResolvesNext (state_of self.old) (state_of self.new) (action_seen command.old) (action_seen command.new))
+        ensures { MatchResult result (λ _. NumbersNext self.old self.new command.old command.new)
             (λ _. 0 < declared_in (action_seen command.old)) }
     {
         if is_block(&command.form) {
@@ -215,7 +215,7 @@ impl Walk {
     // The commands between two `---`.
     #[cycle(commands)]
     fn part(&mut self, alloc: Global, part: &mut Vec<Command>) -> Result<(), NoMemory>
-        ensures { MatchResult result (λ _. Room (state_of self.old) (declared_in_actions (part_seen part.old)) → ResolvesActions (state_of self.old) (state_of self.new) (part_seen part.old) (part_seen part.new))
+        ensures { MatchResult result (λ _. NumbersPart self.old self.new part.old part.new)
             (λ _. 0 < declared_in_actions (part_seen part.old)) }
     {
         for command in part.iter_mut() {

@@ -1,11 +1,11 @@
 //! The names within expressions.
 
-ghost use Rattle.std.specs.Prelude.{◌≡◌, map};
+ghost use Rattle.std.specs.Prelude.{◌≡◌};
 ghost use Rattle.dh_tree.specs.Seen.{term_seen, form_seen};
-ghost use Rattle.dh_tree.specs.LeastBreach.{least_of};
 ghost use Rattle.dh_tree.specs.Breaches.{term_breaches, term_form_breaches, list_breaches};
-ghost use Rattle.dh_tree.specs.Resolved.{resolved_term, resolved_term_form};
-ghost use Rattle.dh_names.specs.Visible.{visible};
+ghost use Rattle.dh_tree.specs.Resolved.{resolved_term_form};
+ghost use Rattle.dh_names.specs.Visible.{visible, LeastBy};
+ghost use Rattle.dh_names.specs.InTrees.{items_seen, ResolvesTerm, ResolvesTerms};
 
 use crate::scopes::{Names, resolve_use};
 use dh_tree::{Breach, Expr, ExprForm};
@@ -14,8 +14,8 @@ use std::mem;
 /// Gives the names of an expression their numbers, and keeps the breaches.
 #[cycle(expressions)]
 pub fn resolve_term(names: &Names, least: &mut Option<Breach>, term: &mut Expr)
-    ensures tree { term_seen term.new ≡ resolved_term (visible names.now) (term_seen term.old) }
-    ensures least { least.new ≡ least_of least.old (term_breaches (visible names.now) (term_seen term.old)) }
+    ensures tree { ResolvesTerm (visible names.now) term.old term.new }
+    ensures least { LeastBy term_breaches names.now least.old least.new (term_seen term.old) }
 {
     let form = mem::replace(&mut term.form, ExprForm::Truth { value: false });
     term.form = resolved_form(names, least, form);
@@ -26,7 +26,7 @@ pub fn resolve_term(names: &Names, least: &mut Option<Breach>, term: &mut Expr)
 #[tactic(auto, using(dh_tree::proofs::SeenTerms::terms_are, dh_tree::proofs::Leasts::least_append))]
 fn resolved_form(names: &Names, least: &mut Option<Breach>, form: ExprForm) -> ExprForm
     ensures tree { form_seen result ≡ resolved_term_form (visible names.now) (form_seen form) }
-    ensures least { least.new ≡ least_of least.old (term_form_breaches (visible names.now) (form_seen form)) }
+    ensures least { LeastBy term_form_breaches names.now least.old least.new (form_seen form) }
 {
     match form {
         ExprForm::Number { negative, value } => ExprForm::Number { negative, value },
@@ -77,8 +77,8 @@ fn resolved_form(names: &Names, least: &mut Option<Breach>, form: ExprForm) -> E
 /// Gives the names of expressions in order their numbers, and keeps the breaches.
 #[cycle(expressions)]
 pub fn resolve_terms(names: &Names, least: &mut Option<Breach>, terms: &mut Vec<Expr>)
-    ensures tree { map term_seen terms.new.items ≡ map (resolved_term (visible names.now)) (map term_seen terms.old.items) }
-    ensures least { least.new ≡ least_of least.old (list_breaches (visible names.now) (map term_seen terms.old.items)) }
+    ensures tree { ResolvesTerms (visible names.now) terms.old terms.new }
+    ensures least { LeastBy list_breaches names.now least.old least.new (items_seen terms.old) }
 {
     for term in terms.iter_mut() {
         resolve_term(names, least, term);

@@ -1,11 +1,9 @@
 //! The names within functions.
 
-ghost use Rattle.std.specs.Prelude.{◌≡◌, ◌+◌, ◌<◌, ◌^◌, OnOk, MatchResult, length, map};
+ghost use Rattle.std.specs.Prelude.{◌≡◌, ◌+◌, ◌<◌, ◌^◌, OnOk, MatchResult, length};
 ghost use Rattle.dh_tree.specs.Scopes.{formal_sort};
-ghost use Rattle.dh_tree.specs.Seen.{action_seen, formal_seen, defined_seen};
-ghost use Rattle.dh_tree.specs.NameCounts.{declared_in, declared_in_functions};
 ghost use Rattle.dh_names.specs.Walks.{Room, state_of};
-ghost use Rattle.dh_names.specs.Programs.{IsOutside, ResolvesFormals, ResolvesFunction, ResolvesFunctions};
+ghost use Rattle.dh_names.specs.Programs.{IsOutside, NumbersParameters, NumbersFunction, NumbersFunctions, declared_by, declared_by_all};
 
 use crate::walks::Walk;
 use dh_base::NoMemory;
@@ -26,7 +24,8 @@ impl Walk {
     // The parameters in order.
     fn parameters(&mut self, alloc: Global, parameters: &mut Vec<Parameter>) -> Result<(), NoMemory>
         requires { Room (state_of self.old) (length parameters.old.items) }
-        ensures { MatchResult result (λ _. ResolvesFormals (state_of self.old) (state_of self.new) (map formal_seen parameters.old.items) (map formal_seen parameters.new.items))
+        ensures { MatchResult result
+            (λ _. NumbersParameters self.old self.new parameters.old parameters.new)
             (λ _. 0 < length parameters.old.items) }
     {
         for parameter in parameters.iter_mut() {
@@ -44,8 +43,8 @@ impl Walk {
         number: u32,
     ) -> Result<(), NoMemory>
         requires outside { IsOutside (state_of self.old) }
-        requires room { Room (state_of self.old) (length function.old.parameters.items + declared_in (action_seen function.old.body)) }
-        ensures { OnOk result (ResolvesFunction number (state_of self.old) (state_of self.new) (defined_seen function.old) (defined_seen function.new)) }
+        requires room { Room (state_of self.old) (declared_by function.old) }
+        ensures { OnOk result (NumbersFunction number self.old self.new function.old function.new) }
     {
         function.name.entity = Some(number);
         self.parameters(alloc, &mut function.parameters)?;
@@ -63,8 +62,9 @@ impl Walk {
     ) -> Result<(), NoMemory>
         requires outside { IsOutside (state_of self.old) }
         requires few { first + length functions.old.items < 2 ^ 32 }
-        requires room { Room (state_of self.old) (declared_in_functions (map defined_seen functions.old.items)) }
-        ensures { MatchResult result (λ _. ResolvesFunctions first (state_of self.old) (state_of self.new) (map defined_seen functions.old.items) (map defined_seen functions.new.items))
+        requires room { Room (state_of self.old) (declared_by_all functions.old) }
+        ensures { MatchResult result
+            (λ _. NumbersFunctions first self.old self.new functions.old functions.new)
             (λ _. 0 < length functions.old.items) }
     {
         let mut number = first;

@@ -1,15 +1,9 @@
 //! The names of whole programs.
 
-ghost use Rattle.std.specs.Prelude.{◌≡◌, ◌+◌, ◌<◌, ◌^◌, [], ◌++◌, OnOk, OnErr, MatchResult, length, map, drop};
-ghost use Rattle.dh_tree.specs.declared.trees.programs.Sort.TheVariants as sort;
-ghost use Rattle.dh_tree.specs.LeastBreach.{least_of};
-ghost use Rattle.dh_tree.specs.Scopes.{entity, after_items};
-ghost use Rattle.dh_tree.specs.Breaches.{items_breaches};
-ghost use Rattle.dh_tree.specs.Resolved.{resolved_decls};
-ghost use Rattle.dh_tree.specs.Seen.{declared_seen, defined_seen, program_seen};
+ghost use Rattle.std.specs.Prelude.{◌≡◌, ◌+◌, ◌<◌, ◌^◌, [], OnOk, OnErr, MatchResult, length};
+ghost use Rattle.dh_tree.specs.Seen.{program_seen};
 ghost use Rattle.dh_tree.specs.NameCounts.{HasFewNames};
-ghost use Rattle.dh_names.specs.Visible.{visible};
-ghost use Rattle.dh_names.specs.Programs.{Answers, is_function_next, left, AreLeft, BindsNext, LacksNext};
+ghost use Rattle.dh_names.specs.Programs.{Answers, entities_outside, NumbersMemories, is_function_first, AreLeft, BindsItem, LacksItem, BindsItems, FindsTwice};
 
 use crate::bindings::Bindings;
 use crate::scopes::{Names, bind_name};
@@ -24,7 +18,7 @@ fn outer_entities(
     decls: &[Decl],
     functions: &[Function],
 ) -> Result<Vec<Entity>, NoMemory>
-    ensures { MatchResult result (λ all. all.items ≡ map (λ d. entity d.name sort.Memory) (map declared_seen decls.now) ++ map (λ f. entity f.name sort.Function) (map defined_seen functions.now))
+    ensures { MatchResult result (λ all. all.items ≡ entities_outside decls.now functions.now)
         (λ _. 0 < length decls.now + length functions.now) }
 {
     let mut entities = Vec::new(alloc);
@@ -48,7 +42,7 @@ fn outer_entities(
 // Numbers memories from outside, from 0.
 fn number_decls(decls: &mut Vec<Decl>)
     requires few { length decls.old.items < 2 ^ 32 }
-    ensures { map declared_seen decls.new.items ≡ resolved_decls 0 (map declared_seen decls.old.items) }
+    ensures { NumbersMemories decls.old decls.new }
 {
     let mut number = 0;
     for decl in decls.iter_mut() {
@@ -60,7 +54,7 @@ fn number_decls(decls: &mut Vec<Decl>)
 // Whether the function with this index is the next item in text order, before the memory with that
 // index.
 fn function_is_next(decls: &[Decl], functions: &[Function], memory: usize, function: usize) -> bool
-    ensures { result ≡ is_function_next (map declared_seen (drop memory decls.now)) (map defined_seen (drop function functions.now)) }
+    ensures { result ≡ is_function_first decls.now functions.now (memory, function) }
 {
     match (functions.get(function), decls.get(memory)) {
         (Some(function), Some(decl)) => is_before(function.name.place, decl.name.place),
@@ -82,8 +76,9 @@ fn bind_next(
     requires few { length decls.now + length functions.now < 2 ^ 32 }
     requires left { AreLeft decls.now functions.now done }
     ensures outer { names.new.outer ≡ names.old.outer }
-    ensures next { MatchResult result (λ after. BindsNext decls.now functions.now (visible names.old) least.old done (visible names.new) least.new after)
-        (λ _. LacksNext decls.now functions.now (visible names.old) least.old done (visible names.new) least.new) }
+    ensures next { MatchResult result
+        (BindsItem decls.now functions.now names.old least.old done names.new least.new)
+        (λ _. LacksItem decls.now functions.now names.old least.old done names.new least.new) }
 {
     let (memory, function) = done;
     if function_is_next(decls, functions, memory, function) {
@@ -106,8 +101,8 @@ fn bind_items(
 ) -> Result<(), NoMemory>
     requires few { length decls.now + length functions.now < 2 ^ 32 }
     ensures outer { names.new.outer ≡ names.old.outer }
-    ensures names { OnOk result (visible names.new ≡ after_items (visible names.old) (left decls.now functions.now (0, 0))) }
-    ensures least { OnOk result (least.new ≡ least_of least.old (items_breaches (visible names.old) (left decls.now functions.now (0, 0)))) }
+    ensures names { OnOk result (BindsItems decls.now functions.now names.old names.new) }
+    ensures least { OnOk result (FindsTwice decls.now functions.now names.old least.old least.new) }
     ensures memory { OnErr result (0 < length decls.now + length functions.now) }
 {
     let mut done = (0, 0);

@@ -2,10 +2,9 @@
 
 ghost use Rattle.std.specs.Prelude.{◌≡◌};
 ghost use Rattle.dh_tree.specs.Scopes.{entity_of};
-ghost use Rattle.dh_tree.specs.LeastBreach.{least_of};
 ghost use Rattle.dh_tree.specs.Breaches.{unknown, twice};
 ghost use Rattle.dh_tree.specs.Resolved.{used};
-ghost use Rattle.dh_names.specs.Visible.{visible, Binds};
+ghost use Rattle.dh_names.specs.Visible.{visible, Binds, LeastBy};
 
 use crate::bindings::Bindings;
 use dh_base::{NoMemory, Rule};
@@ -37,7 +36,7 @@ impl Names {
 /// Gives a name that is used its number, and keeps the breach where it is not visible.
 pub fn resolve_use(names: &Names, least: &mut Option<Breach>, name: &mut Ref)
     ensures tree { name.new ≡ used (visible names.now) name.old }
-    ensures least { least.new ≡ least_of least.old (unknown (visible names.now) name.old) }
+    ensures least { LeastBy unknown names.now least.old least.new name.old }
 {
     name.entity = names.find(&name.name);
     if name.entity.is_none() {
@@ -62,7 +61,7 @@ pub fn bind_name(
 ) -> Result<(), NoMemory>
     ensures outer { names.new.outer ≡ names.old.outer }
     ensures names { Binds (visible names.old) (visible names.new) name.now.name entity result }
-    ensures least { least.new ≡ least_of least.old (twice (visible names.old) name.now) }
+    ensures least { LeastBy twice names.old least.old least.new name.now }
 {
     if names.find(&name.name).is_some() {
         keep_least(

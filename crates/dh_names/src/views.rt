@@ -3,8 +3,10 @@
 ghost use Rattle.std.specs.Prelude.{◌≡◌, map};
 ghost use Rattle.dh_tree.specs.Seen.{plan_seen, factor_seen};
 ghost use Rattle.dh_tree.specs.Breaches.{plan_breaches, offsets_breaches};
-ghost use Rattle.dh_tree.specs.Resolved.{resolved_plan, resolved_offset};
-ghost use Rattle.dh_names.specs.Walks.{state_of, walked};
+ghost use Rattle.dh_tree.specs.Resolved.{resolved_plan};
+ghost use Rattle.dh_names.specs.Visible.{visible};
+ghost use Rattle.dh_names.specs.InTrees.{ResolvesOffsets};
+ghost use Rattle.dh_names.specs.Walks.{FindsBy};
 
 use crate::walks::Walk;
 use dh_tree::{Expr, ViewForm};
@@ -12,8 +14,8 @@ use dh_tree::{Expr, ViewForm};
 impl Walk {
     /// Gives the names of a view's offsets their numbers.
     pub fn plan(&mut self, form: ViewForm) -> ViewForm
-        ensures tree { plan_seen result ≡ resolved_plan (state_of self.old).scope.visible (plan_seen form) }
-        ensures state { state_of self.new ≡ walked (state_of self.old) (plan_breaches (state_of self.old).scope.visible (plan_seen form)) (state_of self.old).scope }
+        ensures tree { plan_seen result ≡ resolved_plan (visible self.old.names) (plan_seen form) }
+        ensures state { FindsBy plan_breaches self.old self.new (plan_seen form) }
     {
         match form {
             ViewForm::Shrink { by, by_place } => ViewForm::Shrink { by, by_place },
@@ -31,8 +33,8 @@ impl Walk {
 
     // The offsets of factors in order.
     fn offsets(&mut self, by: &mut Vec<(u64, Expr)>)
-        ensures tree { map factor_seen by.new.items ≡ map (resolved_offset (state_of self.old).scope.visible) (map factor_seen by.old.items) }
-        ensures state { state_of self.new ≡ walked (state_of self.old) (offsets_breaches (state_of self.old).scope.visible (map factor_seen by.old.items)) (state_of self.old).scope }
+        ensures tree { ResolvesOffsets (visible self.old.names) by.old by.new }
+        ensures state { FindsBy offsets_breaches self.old self.new (map factor_seen by.old.items) }
     {
         for pair in by.iter_mut() {
             self.expression(&mut pair.1);

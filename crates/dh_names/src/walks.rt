@@ -1,11 +1,12 @@
 //! A walk through the text of a program.
 
-ghost use Rattle.std.specs.Prelude.{◌≡◌, ◌+◌, ◌-◌, ◌^◌, min, OnOk, option_map, map, length};
-ghost use Rattle.dh_tree.specs.Scopes.{declare};
+ghost use Rattle.std.specs.Prelude.{◌≡◌, ◌+◌, ◌-◌, ◌^◌, min, OnOk, option_map, length};
 ghost use Rattle.dh_tree.specs.Seen.{term_seen};
-ghost use Rattle.dh_tree.specs.Breaches.{unknown, twice, term_breaches, value_breaches, list_breaches};
-ghost use Rattle.dh_tree.specs.Resolved.{used, declares, resolved_term};
-ghost use Rattle.dh_names.specs.Walks.{Room, state_of, walked, cut};
+ghost use Rattle.dh_tree.specs.Breaches.{unknown, term_breaches, value_breaches, list_breaches};
+ghost use Rattle.dh_tree.specs.Resolved.{used};
+ghost use Rattle.dh_names.specs.Visible.{visible};
+ghost use Rattle.dh_names.specs.InTrees.{items_seen, ResolvesTerm, ResolvesTerms, ResolvesValue};
+ghost use Rattle.dh_names.specs.Walks.{state_of, cut, FindsBy, NumbersName, DeclaresName};
 
 use crate::expressions::{resolve_term, resolve_terms};
 use crate::scopes::{Names, bind_name, resolve_use};
@@ -27,24 +28,24 @@ pub struct Walk {
 impl Walk {
     /// Gives a name that is used its number.
     pub fn use_name(&mut self, name: &mut Ref)
-        ensures tree { name.new ≡ used (state_of self.old).scope.visible name.old }
-        ensures state { state_of self.new ≡ walked (state_of self.old) (unknown (state_of self.old).scope.visible name.old) (state_of self.old).scope }
+        ensures tree { name.new ≡ used (visible self.old.names) name.old }
+        ensures state { FindsBy unknown self.old self.new name.old }
     {
         resolve_use(&self.names, &mut self.least, name);
     }
 
     /// Gives the names of an expression their numbers.
     pub fn expression(&mut self, term: &mut Expr)
-        ensures tree { term_seen term.new ≡ resolved_term (state_of self.old).scope.visible (term_seen term.old) }
-        ensures state { state_of self.new ≡ walked (state_of self.old) (term_breaches (state_of self.old).scope.visible (term_seen term.old)) (state_of self.old).scope }
+        ensures tree { ResolvesTerm (visible self.old.names) term.old term.new }
+        ensures state { FindsBy term_breaches self.old self.new (term_seen term.old) }
     {
         resolve_term(&self.names, &mut self.least, term);
     }
 
     /// Gives the names of an expression, which may lack, their numbers.
     pub fn value(&mut self, value: Option<Expr>) -> Option<Expr>
-        ensures tree { option_map term_seen result ≡ option_map (resolved_term (state_of self.old).scope.visible) (option_map term_seen value) }
-        ensures state { state_of self.new ≡ walked (state_of self.old) (value_breaches (state_of self.old).scope.visible (option_map term_seen value)) (state_of self.old).scope }
+        ensures tree { ResolvesValue (visible self.old.names) value result }
+        ensures state { FindsBy value_breaches self.old self.new (option_map term_seen value) }
     {
         match value {
             Some(mut term) => {
@@ -57,16 +58,16 @@ impl Walk {
 
     /// Gives the names of expressions in order their numbers.
     pub fn expressions(&mut self, terms: &mut Vec<Expr>)
-        ensures tree { map term_seen terms.new.items ≡ map (resolved_term (state_of self.old).scope.visible) (map term_seen terms.old.items) }
-        ensures state { state_of self.new ≡ walked (state_of self.old) (list_breaches (state_of self.old).scope.visible (map term_seen terms.old.items)) (state_of self.old).scope }
+        ensures tree { ResolvesTerms (visible self.old.names) terms.old terms.new }
+        ensures state { FindsBy list_breaches self.old self.new (items_seen terms.old) }
     {
         resolve_terms(&self.names, &mut self.least, terms);
     }
 
     /// Numbers a name that is declared, and makes it visible.
     pub fn declare(&mut self, alloc: Global, name: &mut Ref, sort: Sort) -> Result<(), NoMemory>
-        ensures tree { OnOk result (Room (state_of self.old) 1 → name.new ≡ declares (state_of self.old).scope name.old) }
-        ensures state { OnOk result (Room (state_of self.old) 1 → state_of self.new ≡ walked (state_of self.old) (twice (state_of self.old).scope.visible name.old) (declare (state_of self.old).scope name.old sort)) }
+        ensures tree { OnOk result (NumbersName self.old name.old name.new) }
+        ensures state { OnOk result (DeclaresName self.old self.new name.old sort) }
     {
         let number = numbered(self.entities.len());
         bind_name(alloc, &mut self.names, &mut self.least, name, number)?;
@@ -81,7 +82,7 @@ impl Walk {
 
     /// How many names of the function or the program's body are visible.
     pub fn own_names(&self) -> usize
-        ensures { length (state_of self.now).outer + result ≡ length (state_of self.now).scope.visible }
+        ensures { length self.now.names.outer + result ≡ length (visible self.now.names) }
     {
         self.names.own.len()
     }
