@@ -9,4 +9,8 @@ mod lexing;
 #[cfg(test)]
 mod outside;
 #[cfg(test)]
+mod passes;
+#[cfg(test)]
+mod phasing;
+#[cfg(test)]
 mod texts;
