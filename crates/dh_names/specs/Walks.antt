@@ -103,8 +103,8 @@ NumbersOptional old new a b =
 abbrev pub NumbersInner : (old new : Walk) → (a b : Command) → Type 0
 NumbersInner old new a b = Room (state_of old) (declared_in (action_seen a)) → ResolvesInner (state_of old) (state_of new) (action_seen a) (action_seen b)
 
-abbrev pub NumbersNext : (old new : Walk) → (a b : Command) → Type 0
-NumbersNext old new a b = Room (state_of old) (declared_in (action_seen a)) → ResolvesNext (state_of old) (state_of new) (action_seen a) (action_seen b)
+abbrev pub NumbersListed : (old new : Walk) → (a b : Command) → Type 0
+NumbersListed old new a b = Room (state_of old) (declared_in (action_seen a)) → ResolvesNext (state_of old) (state_of new) (action_seen a) (action_seen b)
 
 abbrev pub NumbersPart : (old new : Walk) → (a b : Vec Command Global) → Type 0
 NumbersPart old new a b = Room (state_of old) (declared_in_actions (part_seen a)) → ResolvesActions (state_of old) (state_of new) (part_seen a) (part_seen b)

@@ -4,7 +4,7 @@ ghost use Rattle.std.specs.Prelude.{◌≡◌, ◌<◌, MatchResult};
 ghost use Rattle.dh_tree.specs.Seen.{action_seen, action_form_seen, part_seen};
 ghost use Rattle.dh_tree.specs.NameCounts.{declared_in, declared_in_form, declared_in_other, declared_in_actions};
 ghost use Rattle.dh_names.specs.InTrees.{optional_seen};
-ghost use Rattle.dh_names.specs.Walks.{is_blocks, NumbersCommand, NumbersForm, NumbersInner, NumbersOptional, NumbersNext, NumbersPart};
+ghost use Rattle.dh_names.specs.Walks.{is_blocks, NumbersCommand, NumbersForm, NumbersInner, NumbersOptional, NumbersListed, NumbersPart};
 
 use crate::walks::Walk;
 use dh_base::NoMemory;
@@ -202,7 +202,7 @@ impl Walk {
     // A command of a list: what it declares is visible after it, unless it is a block.
     #[cycle(commands)]
     fn next(&mut self, alloc: Global, command: &mut Command) -> Result<(), NoMemory>
-        ensures { MatchResult result (λ _. NumbersNext self.old self.new command.old command.new)
+        ensures { MatchResult result (λ _. NumbersListed self.old self.new command.old command.new)
             (λ _. 0 < declared_in (action_seen command.old)) }
     {
         if is_block(&command.form) {
