@@ -99,7 +99,7 @@ token_of l =
 abbrev pub gap_of : ℕ → Front × ℕ
 gap_of n = (front.Gap, n)
 
--- the comment that the text begins with, if its two first bytes are those of one that ends by itself
+-- the comment that a text begins with whose first bytes are `/*`, up to and with the first `*/`
 abbrev pub comment_of : List ℕ → Option (Front × ℕ)
 comment_of l = option_map (λ n. gap_of (2 + n)) (block_len (drop 2 l))
 
