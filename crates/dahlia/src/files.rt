@@ -2,8 +2,8 @@
 
 ghost use Rattle.std.specs.Prelude.{◌≡◌, []};
 ghost use Rattle.std.specs.IoError.{error_kind};
-ghost use Rattle.dh_base.specs.Outside.{Untold, KeepsFiles, Reads};
-ghost use Rattle.dahlia.specs.Counted.{Counts, CountsOpened, Meets, files_with, told_of};
+ghost use Rattle.dh_base.specs.Outside.{Untold, KeepsFiles};
+ghost use Rattle.dahlia.specs.Counted.{Counts, CountsOpened, Meets, NoMemoryMeansOutOfMemory, ReadsTold, files_with, told_of};
 
 use dh_base::{FileFault, Files};
 use std::alloc::Global;
@@ -47,7 +47,7 @@ impl<'a, R: std::rt::Files> RealFiles<'a, R> {
     fn read_named(&mut self, alloc: Global, name: &str, limit: u64) -> Result<Vec<u8>, FileFault>
         ensures keeps { KeepsFiles (files_with Untold self.old) (files_with Untold self.new) }
         ensures counts { CountsOpened self.old self.new result }
-        ensures answer { Reads (files_with Untold self.old) (files_with Untold self.new) name.now limit result }
+        ensures answer { ReadsTold Untold self.old self.new name.now limit result }
     {
         match fs::open(self.rt, name) {
             Ok(file) => self.read_open(alloc, file, limit),
@@ -65,7 +65,7 @@ impl<'a, R: std::rt::Files> RealFiles<'a, R> {
     ) -> Result<Vec<u8>, FileFault>
         ensures keeps { KeepsFiles (files_with Untold self.old) (files_with Untold self.new) }
         ensures counts { CountsOpened self.old self.new result }
-        ensures answer { Reads (files_with (told_of (F.remaining file)) self.old) (files_with (told_of (F.remaining file)) self.new) [] limit result }
+        ensures answer { ReadsTold (told_of (F.remaining file)) self.old self.new [] limit result }
     {
         let mut contents = Vec::new(alloc);
         let cut = limit.saturating_add(1);
@@ -83,7 +83,7 @@ impl<'a, R: std::rt::Files> RealFiles<'a, R> {
     fn met(&mut self, error: &io::Error) -> FileFault
         ensures keeps { KeepsFiles (files_with Untold self.old) (files_with Untold self.new) }
         ensures answer { Meets self.old self.new result }
-        ensures memory { result ≡ FileFault.NoMemory → error_kind error.now ≡ ErrorKind.OutOfMemory }
+        ensures memory { NoMemoryMeansOutOfMemory result (error_kind error.now) }
     {
         if error.kind() == ErrorKind::OutOfMemory {
             return FileFault::NoMemory;

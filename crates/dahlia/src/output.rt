@@ -1,9 +1,8 @@
 //! The standard output, or any other writer, as the output that the program writes.
 
-ghost use Rattle.std.specs.Prelude.{◌≡◌, OnErr, OnOk};
-ghost use Rattle.std.specs.Io.KnownBytes.{Appends};
-ghost use Rattle.dh_base.specs.Outside.{Rose, KeepsSink, CountsWrite, Writes};
-ghost use Rattle.dahlia.specs.Counted.{sink_with};
+ghost use Rattle.std.specs.Prelude.{◌≡◌, OnErr};
+ghost use Rattle.dh_base.specs.Outside.{Rose, KeepsSink};
+ghost use Rattle.dahlia.specs.Counted.{CountsUntoldWrite, HoldsWhole, WritesUntold, sink_with};
 
 use dh_base::{Sink, SinkFault};
 use std::io;
@@ -34,10 +33,10 @@ impl<W: Write> Sink for StdSink<W> {
     /// fault, also that of a flush, and of a writer that takes nothing of a piece that isn't empty.
     fn write(&mut self, piece: &[u8]) -> Result<(), SinkFault>
         ensures keeps { KeepsSink (sink_with self.old.faults) (sink_with self.new.faults) }
-        ensures counts { CountsWrite (sink_with self.old.faults) (sink_with self.new.faults) result }
-        ensures answer { Writes (sink_with self.old.faults) (sink_with self.new.faults) piece.now result }
+        ensures counts { CountsUntoldWrite self.old.faults self.new.faults result }
+        ensures answer { WritesUntold self.old.faults self.new.faults piece.now result }
         ensures counted { OnErr result (Rose self.old.faults self.new.faults) }
-        ensures whole { OnOk result (Appends (W.contents self.old.writer) (W.contents self.new.writer) piece.now) }
+        ensures whole { HoldsWhole W.contents self.old.writer self.new.writer piece.now result }
     {
         match write_out(&mut self.writer, piece) {
             Ok(()) => Ok(()),
@@ -51,7 +50,7 @@ impl<W: Write> Sink for StdSink<W> {
 
 /// Writes a whole piece, and what the writer may have kept back of it.
 fn write_out<W: Write>(writer: &mut W, piece: &[u8]) -> io::Result<()>
-    ensures { OnOk result (Appends (W.contents writer.old) (W.contents writer.new) piece.now) }
+    ensures { HoldsWhole W.contents writer.old writer.new piece.now result }
 {
     writer.write_all(piece)?;
     writer.flush()

@@ -2,12 +2,17 @@
 -- exclude one another, so each status comes exactly where its case holds, but where reading or writing
 -- failed or memory was refused.
 use Rattle.std.specs.Prelude.{◌≡◌, ℕ, ◌⊎◌, List}
-use Rattle.dh_base.specs.Outside.{SinkSeen, Rose, Grew, GrewByPart}
+use Rattle.dh_base.specs.Outside.{FilesSeen, SinkSeen, Rose, Grew, GrewByPart}
 use Rattle.dh_base.specs.declared.statuses.Status.{Status}
 use Rattle.dh_base.specs.declared.statuses.Status.TheVariants as status
-use Rattle.dh_app.specs.Inputs.{InputsSeen}
+use Rattle.dh_app.specs.Engines.{EngineSeen}
+use Rattle.dh_app.specs.Inputs.{InputsSeen, inputs_of}
 use Rattle.dh_app.specs.Jobs.{Comes, Answers}
 use Rattle.dh_app.specs.Replies.{unread, no_memory}
+
+-- the relation between what a call finds, files, an engine and an output, and what it leaves
+abbrev pub OverCall : FilesSeen → EngineSeen → SinkSeen → FilesSeen → EngineSeen → SinkSeen → (relation : InputsSeen → InputsSeen → SinkSeen → SinkSeen → Type 0) → Type 0
+OverCall files engine out files_after engine_after out_after relation = relation (inputs_of files engine) (inputs_of files_after engine_after) out out_after
 
 -- the whole text of an answer was written, without a fault of the output
 pub record WritesAll (words : List (List ℕ)) (old new : InputsSeen) (before after : SinkSeen) (s : Status) : Type 0 where

@@ -1,7 +1,8 @@
 -- What clauses see of an engine, and what its answers are: one for each of the memories that it was given,
 -- and for an exact engine each the run of the net from them.
-use Rattle.std.specs.Prelude.{◌≡◌, ℕ, Bool, List, [], ◌∷◌}
+use Rattle.std.specs.Prelude.{◌≡◌, ℕ, Bool, List, [], ◌∷◌, Result, IsTrue, OnOk}
 use Rattle.dh_base.specs.Outside.{risen}
+use Rattle.dh_base.specs.declared.lists.NoMemory.{NoMemory}
 use Rattle.dh_tree.specs.Tables.{Fits}
 use Rattle.dh_net.specs.declared.nets.Net.{Net}
 use Rattle.dh_net.specs.Ends.{IsRunOf}
@@ -32,9 +33,17 @@ AnswersTo net [] (f ∷ fs) = ⊥
 AnswersTo net (m ∷ ms) [] = ⊥
 AnswersTo net (m ∷ ms) (f ∷ fs) = IsAnswer net f × AnswersTo net ms fs
 
+-- the run of the net from these memories under the limit
+abbrev pub IsFinishOf : Net → (memories : List (List ℕ)) → (limit : ℕ) → Finish → Type 0
+IsFinishOf net memories limit f = IsRunOf net memories limit f.outcome f.steps f.clocks f.memories
+
 -- each the run of the net from its memories under the limit
 abbrev pub AreRuns : Net → (limit : ℕ) → List (List (List ℕ)) → List Finish → Type 0
 AreRuns net limit [] [] = Unit {0}
 AreRuns net limit [] (f ∷ fs) = ⊥
 AreRuns net limit (m ∷ ms) [] = ⊥
 AreRuns net limit (m ∷ ms) (f ∷ fs) = IsRunOf net m limit f.outcome f.steps f.clocks f.memories × AreRuns net limit ms fs
+
+-- where a call succeeds and the engine was exact before, its answers are the runs of the net
+abbrev pub ExactRuns : (old new : EngineSeen) → Net → (limit : ℕ) → List (List (List ℕ)) → Result (Unit {0}) NoMemory → Type 0
+ExactRuns old new net limit sets result = OnOk result (IsTrue old.exact → AreRuns net limit sets new.answers)

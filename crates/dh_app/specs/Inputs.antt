@@ -10,6 +10,14 @@ pub record InputsSeen : Type 0 where
 abbrev pub inputs_of : FilesSeen → EngineSeen → InputsSeen
 inputs_of files engine = record { files = files; engine = engine }
 
+-- the relation between the inputs before, of these files and this engine, and those after
+abbrev pub OverInputs : FilesSeen → EngineSeen → FilesSeen → EngineSeen → (relation : InputsSeen → InputsSeen → Type 0) → Type 0
+OverInputs files engine files_after engine_after relation = relation (inputs_of files engine) (inputs_of files_after engine_after)
+
+-- the relation between the files before and after, whatever engine stands beside them
+abbrev pub WithAnyEngine : (old new : FilesSeen) → (relation : InputsSeen → InputsSeen → Type 0) → Type 0
+WithAnyEngine old new relation = (engine : EngineSeen) → relation (inputs_of old engine) (inputs_of new engine)
+
 -- so many files were read, without a fault
 pub record HasRead (old new : FilesSeen) (count : ℕ) : Type 0 where
   pub reads : new.reads ≡ risen old.reads count

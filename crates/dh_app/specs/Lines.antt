@@ -1,7 +1,7 @@
 -- The lines that the program writes where it writes no report (this project's formats).
-use Rattle.std.specs.Prelude.{ℕ, List, [], ◌++◌, codes, decimal}
+use Rattle.std.specs.Prelude.{ℕ, ◌+◌, List, [], ◌++◌, codes, decimal}
 use Rattle.dh_base.specs.Rules.{number_of, name_of}
-use Rattle.dh_base.specs.Limits.{printed_name}
+use Rattle.dh_base.specs.Limits.{printed_name, greatest_of}
 use Rattle.dh_base.specs.declared.limits.Limit.{Limit}
 use Rattle.dh_base.specs.declared.places.Place.{Place}
 use Rattle.dh_base.specs.declared.rules.Rule.{Rule}
@@ -27,6 +27,10 @@ excess_line name count = codes "too large " ++ (name ++ (codes " " ++ (decimal c
 
 abbrev pub too_large_line : Limit → (count : ℕ) → List ℕ
 too_large_line limit count = excess_line (printed_name limit) count
+
+-- a file is longer than its limit: the count is the limit and one
+abbrev pub too_long_line : Limit → List ℕ
+too_long_line limit = too_large_line limit (greatest_of limit + 1)
 
 -- no rule is broken
 abbrev pub ok_line : List ℕ

@@ -22,6 +22,10 @@ pub record IsNetText (net : Net) (s : Status) (text : List ℕ) : Type 0 where
 abbrev pub LowersProgram : (old new : InputsSeen) → Program → ReplySeen → Type 0
 LowersProgram old new p r = NetStage old new p (λ net answer. OnlyReads old new 1 × Says (IsNetText net) answer) r
 
+-- so it is of all inputs of which one file was read and nothing else
+abbrev pub LowersOnceRead : Program → ReplySeen → Type 0
+LowersOnceRead p r = (old new : InputsSeen) → OnlyReads old new 1 → LowersProgram old new p r
+
 -- the one file is read, and its program is compiled
 abbrev pub LowersFile : (old new : InputsSeen) → (file : List ℕ) → ReplySeen → Type 0
 LowersFile old new file r = ProgramStage old new compiled file (λ p. LowersProgram old new p) r

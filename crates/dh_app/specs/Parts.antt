@@ -1,5 +1,5 @@
 -- What the parts of the top call promise one another.
-use Rattle.std.specs.Prelude.{◌≡◌, ℕ, ◌⊎◌, List, [], ◌∷◌, Result, Ok, Err, IfOk, Vec}
+use Rattle.std.specs.Prelude.{◌≡◌, ℕ, ◌⊎◌, true, List, [], ◌∷◌, Result, Ok, Err, IfOk, Vec}
 use Rattle.std.specs.declared.alloc.Global.{Global}
 use Rattle.dh_base.specs.Outside.{FilesSeen, SinkSeen, Rose, Grew, GrewByPart}
 use Rattle.dh_base.specs.declared.limits.Limit.{Limit}
@@ -8,22 +8,30 @@ use Rattle.dh_base.specs.declared.statuses.Status.{Status}
 use Rattle.dh_base.specs.declared.statuses.Status.TheVariants as status
 use Rattle.dh_tree.specs.declared.tables.MemEntry.{MemEntry}
 use Rattle.dh_tree.specs.declared.trees.typed.Typed.{Typed}
+use Rattle.dh_tree.specs.PlainTrees.{Program}
 use Rattle.dh_tree.specs.Ready.{IsReady}
 use Rattle.dh_tree.specs.Seen.{program_seen}
 use Rattle.dh_tree.specs.Tables.{Fits}
 use Rattle.dh_ports.specs.declared.accepted.Accepted.{Accepted}
-use Rattle.dh_check.specs.Verdicts.{Asked, Verdict, accepts, IsVerdict}
+use Rattle.dh_net.specs.declared.nets.Net.{Net}
+use Rattle.dh_check.specs.Acceptance.{IsCompilable}
+use Rattle.dh_check.specs.Verdicts.{Asked, asked_of, Verdict, accepts, IsVerdict}
 use Rattle.dh_check.specs.declared.checking.CheckFault.{CheckFault}
 use Rattle.dh_check.specs.declared.checking.CheckFault.TheVariants as check_fault
+use Rattle.dh_check.specs.declared.checking.Forms.{Forms}
+use Rattle.dh_check.specs.declared.checking.Forms.TheVariants as column
+use Rattle.dh_compile.specs.Compiled.{PlaysProgram}
 use Rattle.dh_data.specs.DataFiles.{Holds, Means}
 use Rattle.dh_data.specs.declared.data_files.DataFault.{DataFault}
 use Rattle.dh_data.specs.declared.data_files.DataFault.TheVariants as fault
-use Rattle.dh_app.specs.Inputs.{HasRead}
+use Rattle.dh_app.specs.Asking.{interpreted}
+use Rattle.dh_app.specs.Engines.{EngineSeen}
+use Rattle.dh_app.specs.Inputs.{HasRead, HasBegun}
 use Rattle.dh_app.specs.Lines.{refused_line, too_large_line, bad_data_line}
 use Rattle.dh_app.specs.Replies.{ReplySeen, replied, unread, no_memory, reply_seen, Says}
 use Rattle.dh_app.specs.Sources.{MayRead, NoFile, IsProgram, NoProgram, verdict_line, verdict_status, IsRefusal, IsData, NoData}
 use Rattle.dh_app.specs.Reporting.{IsEndingReport}
-use Rattle.dh_app.specs.SimulateJob.{ending_of}
+use Rattle.dh_app.specs.SimulateJob.{ending_of, RunsNet}
 use Rattle.dh_app.specs.declared.engine.Finish.{Finish}
 use Rattle.dh_app.specs.declared.replies.Answer.{Answer}
 use Rattle.dh_app.specs.declared.replies.Reply.{Reply}
@@ -83,9 +91,21 @@ abbrev pub ProgramRead : (old new : FilesSeen) → Asked → (file : List ℕ) �
 ProgramRead old new asked file (Ok p) = IsProgram old asked file (program_seen p) × HasRead old new 1
 ProgramRead old new asked file (Err r) = NoProgram old new asked file (reply_seen r)
 
+-- the same, where these forms may stand in the program and its ports are judged
+abbrev pub AcceptedRead : (old new : FilesSeen) → Forms → (file : List ℕ) → Result Accepted Reply → Type 0
+AcceptedRead old new forms file r = ProgramRead old new (asked_of forms true) file r
+
+-- a program that was accepted by the forms that are compiled can be compiled
+abbrev pub IsCompilableOf : Forms → Result Accepted Reply → Type 0
+IsCompilableOf forms r = forms ≡ column.Compiled → IfOk r (λ a. IsCompilable (program_seen a))
+
 abbrev pub TypedRead : (old new : FilesSeen) → Asked → (file : List ℕ) → Result Typed Reply → Type 0
 TypedRead old new asked file (Ok t) = IsProgram old asked file (program_seen t) × (HasRead old new 1 × IsReady (program_seen t))
 TypedRead old new asked file (Err r) = NoProgram old new asked file (reply_seen r)
+
+-- what `--unchecked` asks of the file
+abbrev pub UncheckedRead : (old new : FilesSeen) → (file : List ℕ) → Result Typed Reply → Type 0
+UncheckedRead old new file r = TypedRead old new (interpreted true) file r
 
 -- bytes have a fault for a table, whose line is the reply
 pub record BadBytes (bytes : List ℕ) (table : List MemEntry) (s : Status) (line : List ℕ) : Type 0 where
@@ -110,7 +130,19 @@ abbrev pub DataRead : (old new : FilesSeen) → (data_ : List ℕ) → List MemE
 DataRead old new data_ table (Ok memories) = IsData old data_ table memories × HasRead old new 2
 DataRead old new data_ table (Err r) = NoData old new data_ table 2 (reply_seen r)
 
+-- so it is from wherever the first of a job's files was read
+abbrev pub SecondRead : (old new : FilesSeen) → (data_ : List ℕ) → List MemEntry → Result (List (List ℕ)) Reply → Type 0
+SecondRead old new data_ table r = (first : FilesSeen) → HasBegun first old → DataRead first new data_ table r
+
 -- ---- the engine
+
+-- the reply is that of the run of each program that the net plays
+abbrev pub RunsAsPlayed : (old new : EngineSeen) → Net → (memories : List (List ℕ)) → Reply → Type 0
+RunsAsPlayed old new net memories r = (p : Program) → PlaysProgram net p → RunsNet old new p memories (reply_seen r)
+
+-- there is one answer, whose memories fit the table
+abbrev pub IsSingleAnswer : List MemEntry → List Finish → Type 0
+IsSingleAnswer table answers = (finish : Finish) × ((answers ≡ finish ∷ []) × Fits table finish.memories)
 
 -- the one answer is reported
 pub record IsFirstReport (table : List MemEntry) (answers : List Finish) (s : Status) (text : List ℕ) : Type 0 where

@@ -1,9 +1,14 @@
 -- Which job a list of words names (this project's table of jobs; four are built).
-use Rattle.std.specs.Prelude.{ℕ, ◌==◌, ◌&&◌, not, Bool, true, false, if◌then◌else◌, nat_le, List, [], ◌∷◌, codes, decimal, Option, Some, None}
+use Rattle.std.specs.Prelude.{ℕ, ◌==◌, ◌&&◌, not, Bool, true, false, if◌then◌else◌, nat_le, List, [], ◌∷◌, map, codes, decimal, Option, Some, None, String, string_bytes}
+use Rattle.std.specs.declared.alloc.Global.{Global}
 use Rattle.std.specs.Str.{bytes_eq}
 use Rattle.std.specs.Str.Parse.{digits_value}
 use Rattle.dh_app.specs.declared.words.Job.{Job}
 use Rattle.dh_app.specs.declared.words.Job.TheVariants.{Check, Lower, Interpret, Simulate}
+
+-- the bytes of each word
+abbrev pub words_seen : List (String Global) → List (List ℕ)
+words_seen words = map string_bytes words
 
 -- a word that can name a file: not empty, and it does not begin with `-`
 abbrev pub is_file_word : List ℕ → Bool

@@ -2,8 +2,7 @@
 
 ghost use Rattle.dh_base.specs.Outside.{KeepsFiles};
 ghost use Rattle.dh_app.specs.CheckJob.{IsOk, ChecksFile};
-ghost use Rattle.dh_app.specs.Engines.{EngineSeen};
-ghost use Rattle.dh_app.specs.Inputs.{inputs_of};
+ghost use Rattle.dh_app.specs.Inputs.{WithAnyEngine};
 ghost use Rattle.dh_app.specs.Replies.{Says, reply_seen};
 
 use crate::lines::ok_line;
@@ -16,7 +15,8 @@ use std::alloc::Global;
 /// Says whether the program of a file breaks a rule or exceeds a limit, and which and where.
 pub fn check_file<F: Files>(alloc: Global, file: &str, files: &mut F) -> Reply
     ensures files { KeepsFiles (F.seen files.old) (F.seen files.new) }
-    ensures comes { (engine : EngineSeen) → ChecksFile (inputs_of (F.seen files.old) engine) (inputs_of (F.seen files.new) engine) file.now (reply_seen result) }
+    ensures comes { WithAnyEngine (F.seen files.old) (F.seen files.new) (λ old new.
+        ChecksFile old new file.now (reply_seen result)) }
 {
     match read_program(alloc, file, files, Forms::Checked) {
         Ok(_) => ok_reply(alloc),

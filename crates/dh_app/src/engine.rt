@@ -1,12 +1,11 @@
 //! What runs nets for the program. The program is generic in its engine: it can't tell a real one
 //! from a test's, so what it reports is what the engine answered.
 
-ghost use Rattle.std.specs.Prelude.{◌≡◌, ◌≤◌, [], true, IsTrue, OnOk, OnErr, IfOk, vec_len};
+ghost use Rattle.std.specs.Prelude.{◌≡◌, ◌≤◌, [], true, OnOk, OnErr, IfOk, vec_len};
 ghost use Rattle.std.specs.List.{AllByRecursion};
 ghost use Rattle.dh_tree.specs.Tables.{Fits};
 ghost use Rattle.dh_net.specs.Valid.{IsValid};
-ghost use Rattle.dh_net.specs.Ends.{IsRunOf};
-ghost use Rattle.dh_app.specs.Engines.{IsAnswer, Asks, AnswersTo, AreRuns};
+ghost use Rattle.dh_app.specs.Engines.{IsAnswer, IsFinishOf, Asks, AnswersTo, AreRuns, ExactRuns};
 
 use dh_base::{NoMemory, Outcome};
 use dh_net::Net;
@@ -30,7 +29,7 @@ pub struct Finish {
 
 /// What runs nets.
 pub trait Engine {
-    ghost use Rattle.dh_app.specs.Engines.{EngineSeen, Asks, AnswersTo, AreRuns};
+    ghost use Rattle.dh_app.specs.Engines.{EngineSeen, Asks, AnswersTo, ExactRuns};
 
     /// What a clause sees of it.
     ghost seen: { Self → EngineSeen };
@@ -43,7 +42,7 @@ pub trait Engine {
         requires fit { AllByRecursion (Fits net.now.table) sets.items }
         ensures asks { Asks (seen self.old) (seen self.new) }
         ensures answers { OnOk result (AnswersTo net.now sets.items (seen self.new).answers) }
-        ensures right { OnOk result (IsTrue (seen self.old).exact → AreRuns net.now limit sets.items (seen self.new).answers) }
+        ensures right { ExactRuns (seen self.old) (seen self.new) net.now limit sets.items result }
         ensures unchanged { OnErr result ((seen self.new).answers ≡ (seen self.old).answers) };
 
     /// The answers of the last call that succeeded, one for each of its memories, in their order.
@@ -123,7 +122,7 @@ fn run_one(alloc: Global, net: &Net, memories: Memories, limit: u64) -> Result<F
     requires valid { IsValid net.now }
     requires fits { Fits net.now.table memories }
     ensures answer { IfOk result (λ f. IsAnswer net.now f) }
-    ensures right { IfOk result (λ f. IsRunOf net.now memories limit f.outcome f.steps f.clocks f.memories) }
+    ensures right { IfOk result (λ f. IsFinishOf net.now memories limit f) }
 {
     let (end, memories) = run_net(alloc, net, memories, limit)?;
     Ok(Finish {

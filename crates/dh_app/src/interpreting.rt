@@ -8,7 +8,7 @@ ghost use Rattle.dh_tree.specs.Seen.{program_seen};
 ghost use Rattle.dh_tree.specs.Ready.{IsReady};
 ghost use Rattle.dh_sem.specs.Runs.{StandsAt};
 ghost use Rattle.dh_app.specs.Engines.{EngineSeen};
-ghost use Rattle.dh_app.specs.Inputs.{HasBegun, inputs_of};
+ghost use Rattle.dh_app.specs.Inputs.{HasBegun, OverInputs, WithAnyEngine};
 ghost use Rattle.dh_app.specs.InterpretJob.{IsStandingReport, InterpretsData, InterpretsFiles};
 ghost use Rattle.dh_app.specs.Replies.{Says, reply_seen};
 
@@ -34,7 +34,8 @@ pub fn interpret<F: Files>(
     files: &mut F,
 ) -> Reply
     ensures files { KeepsFiles (F.seen files.old) (F.seen files.new) }
-    ensures comes { (engine : EngineSeen) → InterpretsFiles (inputs_of (F.seen files.old) engine) (inputs_of (F.seen files.new) engine) file.now data_.now steps unchecked (reply_seen result) }
+    ensures comes { WithAnyEngine (F.seen files.old) (F.seen files.new) (λ old new.
+        InterpretsFiles old new file.now data_.now steps unchecked (reply_seen result)) }
 {
     if unchecked {
         match read_typed(alloc, file, files) {
@@ -60,7 +61,8 @@ fn interpret_typed<F: Files>(
     requires ready { IsReady (program_seen typed.now) }
     ensures files { KeepsFiles (F.seen files.old) (F.seen files.new) }
     ensures comes { (first : FilesSeen) (engine : EngineSeen) → HasBegun first (F.seen files.old)
-        → InterpretsData (inputs_of first engine) (inputs_of (F.seen files.new) engine) data_.now (program_seen typed.now) steps (reply_seen result) }
+        → OverInputs first engine (F.seen files.new) engine (λ old new.
+        InterpretsData old new data_.now (program_seen typed.now) steps (reply_seen result)) }
 {
     ready_programs_have_tables();
     match read_memories(alloc, data_, typed.memories(), files) {

@@ -4,9 +4,8 @@ ghost use Rattle.dh_base.specs.Outside.{KeepsFiles};
 ghost use Rattle.dh_tree.specs.Seen.{program_seen};
 ghost use Rattle.dh_net.specs.Valid.{IsValid, HasReadsZero};
 ghost use Rattle.dh_check.specs.Acceptance.{IsCompilable};
-ghost use Rattle.dh_app.specs.Engines.{EngineSeen};
-ghost use Rattle.dh_app.specs.Inputs.{InputsSeen, OnlyReads, inputs_of};
-ghost use Rattle.dh_app.specs.LowerJob.{IsNetText, LowersFile, LowersProgram};
+ghost use Rattle.dh_app.specs.Inputs.{WithAnyEngine};
+ghost use Rattle.dh_app.specs.LowerJob.{IsNetText, LowersFile, LowersOnceRead};
 ghost use Rattle.dh_app.specs.Replies.{Says, reply_seen};
 
 use crate::replies::{Answer, Reply};
@@ -20,7 +19,8 @@ use std::alloc::Global;
 /// Compiles the program of a file, and writes the text of its net.
 pub fn lower<F: Files>(alloc: Global, file: &str, files: &mut F) -> Reply
     ensures files { KeepsFiles (F.seen files.old) (F.seen files.new) }
-    ensures comes { (engine : EngineSeen) → LowersFile (inputs_of (F.seen files.old) engine) (inputs_of (F.seen files.new) engine) file.now (reply_seen result) }
+    ensures comes { WithAnyEngine (F.seen files.old) (F.seen files.new) (λ old new.
+        LowersFile old new file.now (reply_seen result)) }
 {
     match read_program(alloc, file, files, Forms::Compiled) {
         Ok(accepted) => lower_program(alloc, &accepted),
@@ -31,7 +31,7 @@ pub fn lower<F: Files>(alloc: Global, file: &str, files: &mut F) -> Reply
 /// Compiles an accepted program, and writes the text of its net.
 fn lower_program(alloc: Global, accepted: &Accepted) -> Reply
     requires { IsCompilable (program_seen accepted.now) }
-    ensures { (old new : InputsSeen) → OnlyReads old new 1 → LowersProgram old new (program_seen accepted.now) (reply_seen result) }
+    ensures { LowersOnceRead (program_seen accepted.now) (reply_seen result) }
 {
     match compile(alloc, accepted) {
         Ok(net) => net_text(alloc, &net),

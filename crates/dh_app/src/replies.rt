@@ -1,7 +1,5 @@
 //! What a job comes to before anything is written.
 
-ghost use Rattle.std.specs.Prelude.{◌+◌};
-ghost use Rattle.dh_base.specs.Limits.{greatest_of};
 ghost use Rattle.dh_base.specs.declared.statuses.Status.TheVariants as status;
 ghost use Rattle.dh_app.specs.Lines as lines;
 ghost use Rattle.dh_app.specs.Parts.{Line, RepliesWith};
@@ -43,7 +41,7 @@ pub fn reply_with(status: Status, line: Result<Vec<u8>, NoMemory>) -> Reply
 
 /// That a file is longer than its limit: the count is the limit and one.
 pub fn too_large(alloc: Global, limit: Limit) -> Reply
-    ensures { Says (Line status.TooLarge (lines.too_large_line limit (greatest_of limit + 1))) (reply_seen result) }
+    ensures { Says (Line status.TooLarge (lines.too_long_line limit)) (reply_seen result) }
 {
     let count = limit.greatest() + 1;
     let line = too_large_line(alloc, Excess { limit, count });

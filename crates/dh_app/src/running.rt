@@ -1,14 +1,14 @@
 //! The top call: from the words to the status.
 
-ghost use Rattle.std.specs.Prelude.{◌≡◌, map, string_bytes, Some};
+ghost use Rattle.std.specs.Prelude.{◌≡◌, Some};
 ghost use Rattle.dh_base.specs.Outside.{KeepsFiles, KeepsSink};
-ghost use Rattle.dh_app.specs.Ends.{Ends};
-ghost use Rattle.dh_app.specs.Inputs.{inputs_of};
+ghost use Rattle.dh_app.specs.Ends.{Ends, OverCall};
+ghost use Rattle.dh_app.specs.Inputs.{OverInputs};
 ghost use Rattle.dh_app.specs.Jobs.{IsUsage, JobComes, Comes};
 ghost use Rattle.dh_app.specs.Parts.{Written};
 ghost use Rattle.dh_app.specs.Promises.{CountsFaults, Touches, Succeeds, HasOneAnswer};
 ghost use Rattle.dh_app.specs.Replies.{Says, reply_seen};
-ghost use Rattle.dh_app.specs.Words.{job_of};
+ghost use Rattle.dh_app.specs.Words.{job_of, words_seen};
 
 use crate::checking::check_file;
 use crate::engine::Engine;
@@ -42,11 +42,21 @@ pub fn run<F: Files, S: Sink, E: Engine>(
 ) -> Status
     ensures files { KeepsFiles (F.seen files.old) (F.seen files.new) }
     ensures out { KeepsSink (S.seen out.old) (S.seen out.new) }
-    ensures ends { Ends (map string_bytes words.now) (inputs_of (F.seen files.old) (E.seen engine.old)) (inputs_of (F.seen files.new) (E.seen engine.new)) (S.seen out.old) (S.seen out.new) result }
-    ensures faults { CountsFaults (F.seen files.old) (F.seen files.new) (S.seen out.old) (S.seen out.new) result }
-    ensures touches { Touches (map string_bytes words.now) (inputs_of (F.seen files.old) (E.seen engine.old)) (inputs_of (F.seen files.new) (E.seen engine.new)) }
-    ensures succeeds { Succeeds (map string_bytes words.now) (inputs_of (F.seen files.old) (E.seen engine.old)) (inputs_of (F.seen files.new) (E.seen engine.new)) (S.seen out.old) (S.seen out.new) result }
-    ensures only { HasOneAnswer (map string_bytes words.now) (inputs_of (F.seen files.old) (E.seen engine.old)) (inputs_of (F.seen files.new) (E.seen engine.new)) (S.seen out.old) (S.seen out.new) result }
+    ensures ends { OverCall (F.seen files.old) (E.seen engine.old) (S.seen out.old)
+        (F.seen files.new) (E.seen engine.new) (S.seen out.new)
+        (λ old new before after. Ends (words_seen words.now) old new before after result) }
+    ensures faults { OverCall (F.seen files.old) (E.seen engine.old) (S.seen out.old)
+        (F.seen files.new) (E.seen engine.new) (S.seen out.new)
+        (λ old new before after. CountsFaults old.files new.files before after result) }
+    ensures touches { OverInputs (F.seen files.old) (E.seen engine.old)
+        (F.seen files.new) (E.seen engine.new)
+        (Touches (words_seen words.now)) }
+    ensures succeeds { OverCall (F.seen files.old) (E.seen engine.old) (S.seen out.old)
+        (F.seen files.new) (E.seen engine.new) (S.seen out.new)
+        (λ old new before after. Succeeds (words_seen words.now) old new before after result) }
+    ensures only { OverCall (F.seen files.old) (E.seen engine.old) (S.seen out.old)
+        (F.seen files.new) (E.seen engine.new) (S.seen out.new)
+        (λ old new before after. HasOneAnswer (words_seen words.now) old new before after result) }
 {
     call(alloc, words, files, out, engine)
 }
@@ -60,7 +70,9 @@ fn call<F: Files, S: Sink, E: Engine>(
 ) -> Status
     ensures files { KeepsFiles (F.seen files.old) (F.seen files.new) }
     ensures out { KeepsSink (S.seen out.old) (S.seen out.new) }
-    ensures ends { Ends (map string_bytes words.now) (inputs_of (F.seen files.old) (E.seen engine.old)) (inputs_of (F.seen files.new) (E.seen engine.new)) (S.seen out.old) (S.seen out.new) result }
+    ensures ends { OverCall (F.seen files.old) (E.seen engine.old) (S.seen out.old)
+        (F.seen files.new) (E.seen engine.new) (S.seen out.new)
+        (λ old new before after. Ends (words_seen words.now) old new before after result) }
 {
     match reply_to(alloc, words, files, engine) {
         Reply::Answer(answer) => write_answer(out, &answer),
@@ -89,7 +101,9 @@ fn reply_to<F: Files, E: Engine>(
     engine: &mut E,
 ) -> Reply
     ensures files { KeepsFiles (F.seen files.old) (F.seen files.new) }
-    ensures comes { Comes (map string_bytes words.now) (inputs_of (F.seen files.old) (E.seen engine.old)) (inputs_of (F.seen files.new) (E.seen engine.new)) (reply_seen result) }
+    ensures comes { OverInputs (F.seen files.old) (E.seen engine.old)
+        (F.seen files.new) (E.seen engine.new)
+        (λ old new. Comes (words_seen words.now) old new (reply_seen result)) }
 {
     match Job::of(words) {
         Some(job) => do_job(alloc, job, words, files, engine),
@@ -112,9 +126,11 @@ fn do_job<F: Files, E: Engine>(
     files: &mut F,
     engine: &mut E,
 ) -> Reply
-    requires { job_of (map string_bytes words.now) ≡ Some job }
+    requires { job_of (words_seen words.now) ≡ Some job }
     ensures files { KeepsFiles (F.seen files.old) (F.seen files.new) }
-    ensures comes { JobComes (map string_bytes words.now) (inputs_of (F.seen files.old) (E.seen engine.old)) (inputs_of (F.seen files.new) (E.seen engine.new)) job (reply_seen result) }
+    ensures comes { OverInputs (F.seen files.old) (E.seen engine.old)
+        (F.seen files.new) (E.seen engine.new)
+        (λ old new. JobComes (words_seen words.now) old new job (reply_seen result)) }
 {
     match job {
         Job::Check { file } => check_file(alloc, word(words, file), files),

@@ -2,18 +2,15 @@
 
 ghost use Rattle.std.specs.Prelude.{◌≡◌, [], ◌∷◌, IfOk};
 ghost use Rattle.dh_base.specs.Outside.{FilesSeen, KeepsFiles};
-ghost use Rattle.dh_tree.specs.PlainTrees.{Program};
 ghost use Rattle.dh_tree.specs.Seen.{program_seen};
 ghost use Rattle.dh_tree.specs.Shapes.{IsProgramTable};
 ghost use Rattle.dh_tree.specs.Tables.{Fits};
 ghost use Rattle.dh_net.specs.Valid.{IsValid};
 ghost use Rattle.dh_check.specs.Acceptance.{IsCompilable};
-ghost use Rattle.dh_compile.specs.Compiled.{PlaysProgram};
-ghost use Rattle.dh_app.specs.Inputs.{HasBegun, inputs_of};
-ghost use Rattle.dh_app.specs.Parts.{IsFirstReport};
+ghost use Rattle.dh_app.specs.Inputs.{HasBegun, OverInputs};
+ghost use Rattle.dh_app.specs.Parts.{IsFirstReport, IsSingleAnswer, RunsAsPlayed};
 ghost use Rattle.dh_app.specs.Replies.{Says, reply_seen};
-ghost use Rattle.dh_app.specs.SimulateJob.{RunsNet, SimulatesProgram, SimulatesFiles};
-ghost use Rattle.dh_app.specs.declared.engine.Finish.{Finish};
+ghost use Rattle.dh_app.specs.SimulateJob.{SimulatesProgram, SimulatesFiles};
 
 use crate::engine::{Engine, Finish};
 use crate::replies::Reply;
@@ -40,7 +37,9 @@ pub fn simulate<F: Files, E: Engine>(
     engine: &mut E,
 ) -> Reply
     ensures files { KeepsFiles (F.seen files.old) (F.seen files.new) }
-    ensures comes { SimulatesFiles (inputs_of (F.seen files.old) (E.seen engine.old)) (inputs_of (F.seen files.new) (E.seen engine.new)) file.now data_.now (reply_seen result) }
+    ensures comes { OverInputs (F.seen files.old) (E.seen engine.old)
+        (F.seen files.new) (E.seen engine.new)
+        (λ old new. SimulatesFiles old new file.now data_.now (reply_seen result)) }
 {
     match read_program(alloc, file, files, Forms::Compiled) {
         Ok(accepted) => simulate_program(alloc, &accepted, data_, files, engine),
@@ -59,7 +58,8 @@ fn simulate_program<F: Files, E: Engine>(
     requires { IsCompilable (program_seen accepted.now) }
     ensures files { KeepsFiles (F.seen files.old) (F.seen files.new) }
     ensures comes { (first : FilesSeen) → HasBegun first (F.seen files.old)
-        → SimulatesProgram (inputs_of first (E.seen engine.old)) (inputs_of (F.seen files.new) (E.seen engine.new)) data_.now (program_seen accepted.now) (reply_seen result) }
+        → OverInputs first (E.seen engine.old) (F.seen files.new) (E.seen engine.new) (λ old new.
+        SimulatesProgram old new data_.now (program_seen accepted.now) (reply_seen result)) }
 {
     let Ok(net) = compile(alloc, accepted) else {
         return Reply::NoMemory;
@@ -74,7 +74,7 @@ fn simulate_program<F: Files, E: Engine>(
 fn report_run<E: Engine>(alloc: Global, net: &Net, memories: Memories, engine: &mut E) -> Reply
     requires valid { IsValid net.now }
     requires fits { Fits net.now.table memories }
-    ensures { (p : Program) → PlaysProgram net.now p → RunsNet (E.seen engine.old) (E.seen engine.new) p memories (reply_seen result) }
+    ensures { RunsAsPlayed (E.seen engine.old) (E.seen engine.new) net.now memories result }
 {
     let Ok(sets) = only(alloc, memories) else {
         return Reply::NoMemory;
@@ -96,7 +96,7 @@ fn only(alloc: Global, memories: Memories) -> Result<Vec<Memories>, NoMemory>
 
 /// Reports the first of an engine's answers.
 fn report_first(alloc: Global, table: &MemTable, answers: &[Finish]) -> Reply
-    requires answers { (finish : Finish) × ((answers.now ≡ finish ∷ []) × Fits table.now finish.memories) }
+    requires answers { IsSingleAnswer table.now answers.now }
     requires table { IsProgramTable table.now }
     ensures { Says (IsFirstReport table.now answers.now) (reply_seen result) }
 {

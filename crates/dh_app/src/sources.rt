@@ -1,16 +1,12 @@
 //! What jobs read: the program of a file, and the memories that another holds.
 
-ghost use Rattle.std.specs.Prelude.{◌≡◌, ◌≤◌, length, true, IfOk};
-ghost use Rattle.dh_base.specs.Outside.{FilesSeen, KeepsFiles};
-ghost use Rattle.dh_tree.specs.Seen.{program_seen};
+ghost use Rattle.std.specs.Prelude.{◌≤◌, length, true, IfOk};
+ghost use Rattle.dh_base.specs.Outside.{KeepsFiles};
 ghost use Rattle.dh_tree.specs.Shapes.{IsProgramTable};
 ghost use Rattle.dh_tree.specs.Tables.{Fits};
-ghost use Rattle.dh_check.specs.Acceptance.{IsCompilable};
 ghost use Rattle.dh_check.specs.Verdicts.{asked_of};
-ghost use Rattle.dh_check.specs.declared.checking.Forms.TheVariants as column;
 ghost use Rattle.dh_app.specs.Asking.{interpreted};
-ghost use Rattle.dh_app.specs.Inputs.{HasBegun};
-ghost use Rattle.dh_app.specs.Parts.{SaysFault, FileRead, ProgramOf, ProgramRead, TypedOf, TypedRead, DataOf, DataRead};
+ghost use Rattle.dh_app.specs.Parts.{SaysFault, FileRead, ProgramOf, AcceptedRead, IsCompilableOf, TypedOf, UncheckedRead, DataOf, SecondRead};
 ghost use Rattle.dh_app.specs.Replies.{reply_seen};
 
 use crate::lines::{bad_data_line, refused_line, too_large_line};
@@ -46,8 +42,8 @@ pub fn read_program<F: Files>(
     forms: Forms,
 ) -> Result<Accepted, Reply>
     ensures files { KeepsFiles (F.seen files.old) (F.seen files.new) }
-    ensures read { ProgramRead (F.seen files.old) (F.seen files.new) (asked_of forms true) name.now result }
-    ensures compilable { forms ≡ column.Compiled → IfOk result (λ a. IsCompilable (program_seen a)) }
+    ensures read { AcceptedRead (F.seen files.old) (F.seen files.new) forms name.now result }
+    ensures compilable { IsCompilableOf forms result }
 {
     let text = read_file(alloc, name, Limit::Source, files)?;
     program_of(alloc, text.as_slice(), forms)
@@ -56,7 +52,7 @@ pub fn read_program<F: Files>(
 /// The program of a file, whose ports are not judged, or the line of its verdict.
 pub fn read_typed<F: Files>(alloc: Global, name: &str, files: &mut F) -> Result<Typed, Reply>
     ensures files { KeepsFiles (F.seen files.old) (F.seen files.new) }
-    ensures read { TypedRead (F.seen files.old) (F.seen files.new) (interpreted true) name.now result }
+    ensures read { UncheckedRead (F.seen files.old) (F.seen files.new) name.now result }
 {
     let text = read_file(alloc, name, Limit::Source, files)?;
     typed_of(alloc, text.as_slice())
@@ -66,7 +62,7 @@ pub fn read_typed<F: Files>(alloc: Global, name: &str, files: &mut F) -> Result<
 fn program_of(alloc: Global, text: &[u8], forms: Forms) -> Result<Accepted, Reply>
     requires { length text.now ≤ 1048576 }
     ensures program { ProgramOf (asked_of forms true) text.now result }
-    ensures compilable { forms ≡ column.Compiled → IfOk result (λ a. IsCompilable (program_seen a)) }
+    ensures compilable { IsCompilableOf forms result }
 {
     match check(alloc, text, forms) {
         Ok(accepted) => Ok(accepted),
@@ -112,7 +108,7 @@ pub fn read_memories<F: Files>(
     requires { IsProgramTable table.now }
     ensures files { KeepsFiles (F.seen files.old) (F.seen files.new) }
     ensures fits { IfOk result (λ m. Fits table.now m) }
-    ensures read { (first : FilesSeen) → HasBegun first (F.seen files.old) → DataRead first (F.seen files.new) name.now table.now result }
+    ensures read { SecondRead (F.seen files.old) (F.seen files.new) name.now table.now result }
 {
     let bytes = read_file(alloc, name, Limit::Data, files)?;
     memories_of(alloc, table, bytes.as_slice())

@@ -1,9 +1,9 @@
 //! The words that the program is called with, and the job that they name.
 
-ghost use Rattle.std.specs.Prelude.{◌≡◌, ◌<◌, [], ◌∷◌, length, map, string_bytes};
+ghost use Rattle.std.specs.Prelude.{◌≡◌, ◌<◌, [], ◌∷◌, length};
 ghost use Rattle.dh_app.specs.Asking.{word_at};
 ghost use Rattle.dh_app.specs.Words as words;
-ghost use Rattle.dh_app.specs.Words.{job_of, is_file_word};
+ghost use Rattle.dh_app.specs.Words.{job_of, is_file_word, words_seen};
 
 /// What a call of the program is to do. A file goes by the position of its word, from 0.
 #[derive(Clone, Copy, Debug, PartialEq, Eq)]
@@ -45,11 +45,11 @@ const MOST_STEPS: u64 = 1_000_000_000_000;
 const USUAL_STEPS: u64 = 1_000_000;
 
 impl Job {
-    ghost use Rattle.dh_app.specs.Words.{job_of};
+    ghost use Rattle.dh_app.specs.Words.{job_of, words_seen};
 
     /// The job that a list of words names, or None where they name none.
     pub fn of(words: &[String]) -> Option<Job>
-        ensures { result ≡ job_of (map string_bytes words.now) }
+        ensures { result ≡ job_of (words_seen words.now) }
     {
         match words {
             [command, file] => over_file(command.as_str(), file.as_str()),
@@ -64,7 +64,7 @@ impl Job {
 /// The word at a position.
 pub fn word(words: &[String], position: u32) -> &str
     requires { position < length words.now }
-    ensures { result.now ≡ word_at (map string_bytes words.now) position }
+    ensures { result.now ≡ word_at (words_seen words.now) position }
 {
     words[position as usize].as_str()
 }
@@ -86,7 +86,7 @@ fn over_file(command: &str, file: &str) -> Option<Job>
 
 /// The job of three words with options behind them.
 fn over_data(command: &str, file: &str, data_: &str, options: &[String]) -> Option<Job>
-    ensures { result ≡ job_of (command.now ∷ (file.now ∷ (data_.now ∷ map string_bytes options.now))) }
+    ensures { result ≡ job_of (command.now ∷ (file.now ∷ (data_.now ∷ words_seen options.now))) }
 {
     if !is_file_word(file) || !is_file_word(data_) {
         None
@@ -101,7 +101,7 @@ fn over_data(command: &str, file: &str, data_: &str, options: &[String]) -> Opti
 
 /// The job of `simulate` with these options, of which there are none yet.
 fn simulate_with(options: &[String]) -> Option<Job>
-    ensures { result ≡ words.simulate_with (map string_bytes options.now) }
+    ensures { result ≡ words.simulate_with (words_seen options.now) }
 {
     match options {
         [] => Some(Job::Simulate { file: 1, data_: 2 }),
@@ -111,7 +111,7 @@ fn simulate_with(options: &[String]) -> Option<Job>
 
 /// The job of `interpret` with these options: `--steps N` and `--unchecked`, each at most once.
 fn interpret_with(options: &[String]) -> Option<Job>
-    ensures { result ≡ words.interpret_with (map string_bytes options.now) }
+    ensures { result ≡ words.interpret_with (words_seen options.now) }
 {
     match options {
         [] => interpret_for(false, Some(USUAL_STEPS)),

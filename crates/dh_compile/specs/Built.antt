@@ -33,6 +33,10 @@ clock_register next = record { width = 32; initial = 0; next = next }
 abbrev pub tick_register : (next : ℕ) → Register
 tick_register next = record { width = 1; initial = 0; next = next }
 
+-- the two registers of a net
+abbrev pub clock_and_tick : (next_clock next_tick : ℕ) → List Register
+clock_and_tick next_clock next_tick = clock_register next_clock ∷ (tick_register next_tick ∷ [])
+
 -- what the wires show
 pub record IsShown (net : Net) (p : Program) (next_clock next_tick now tick : ℕ) (held wires : List ℕ) : Type 0 where
   pub done : slice_index wires net.done ≡ (if now == total_length p.groups then 1 else 0)
@@ -48,6 +52,6 @@ pub record IsBuilt (net : Net) (p : Program) : Type 0 where
   pub faults : net.faults ≡ []
   pub next_clock : ℕ
   pub next_tick : ℕ
-  pub registers : net.registers ≡ clock_register next_clock ∷ (tick_register next_tick ∷ [])
+  pub registers : net.registers ≡ clock_and_tick next_clock next_tick
   pub ports : length net.drivers ≡ length p.table
   pub shown : (now tick : ℕ) (held wires : List ℕ) → IsValuation net.cells (now ∷ (tick ∷ [])) held wires → IsShown net p next_clock next_tick now tick held wires

@@ -22,6 +22,9 @@ abbrev pub group_cells : Option Use → ℕ
 group_cells None = 0
 group_cells (Some used) = use_cells used
 
+abbrev pub driver_cells : List Store → (memory : ℕ) → ℕ
+driver_cells g memory = group_cells (use_in g memory)
+
 -- the drivers of a memory
 abbrev pub port_cells : (memory : ℕ) → List (List Store) → ℕ
 port_cells memory [] = 0
@@ -31,6 +34,10 @@ port_cells memory (g ∷ gs) = group_cells (use_in g memory) + port_cells memory
 abbrev pub ports_cells : (memories : ℕ) → List (List Store) → ℕ
 ports_cells zero groups = 0
 ports_cells (suc m) groups = ports_cells m groups + port_cells m groups
+
+-- the drivers of all memories
+abbrev pub all_port_cells : Program → ℕ
+all_port_cells p = ports_cells (length p.table) p.groups
 
 -- the wires that each net has
 abbrev pub head_cells : ℕ

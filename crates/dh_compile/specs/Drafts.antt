@@ -1,6 +1,7 @@
 -- What the cells of a net that is being built say of its wires. Cells are only appended, so each
 -- fact is stated for every solution of the cells' equations: what solves more cells solves fewer.
-use Rattle.std.specs.Prelude.{◌≡◌, ℕ, ◌+◌, ◌≤◌, List, [], ◌∷◌, ◌++◌, length, slice_get, slice_index, Option, Some, None}
+use Rattle.std.specs.Prelude.{◌≡◌, ℕ, ◌+◌, ◌≤◌, List, [], ◌∷◌, ◌++◌, length, slice_get, slice_index, Option, Some, None, Result, IfOk}
+use Rattle.dh_base.specs.declared.lists.NoMemory.{NoMemory}
 use Rattle.dh_tree.specs.declared.tables.MemEntry.{MemEntry}
 use Rattle.dh_compile.specs.declared.stores.Operand.{Operand}
 use Rattle.dh_net.specs.Valid.{HasWidth, FormFits, IsCell, IsPort}
@@ -58,6 +59,10 @@ pub record Adds (old new : Drafted) (wire width : ℕ) (value : List ℕ → Lis
   pub wide : HasWidth new.cells wire width
   pub is : Always new.cells (λ registers held wires. slice_index wires wire ≡ value registers held wires)
 
+-- where memory was had, the wire of this width and value was added
+abbrev pub WireAdded : Result ℕ NoMemory → (old new : Drafted) → (width : ℕ) → (value : List ℕ → List ℕ → List ℕ → ℕ) → Type 0
+WireAdded result old new width value = IfOk result (λ wire. Adds old new wire width value)
+
 -- this one cell was appended, once and nothing else, and the wire is its own
 pub record Appends (old new : Drafted) (wire width : ℕ) (form : CellForm) : Type 0 where
   pub number : wire ≡ length old.cells
@@ -66,6 +71,10 @@ pub record Appends (old new : Drafted) (wire width : ℕ) (form : CellForm) : Ty
 -- so many cells were added
 abbrev pub Gains : (old new : Drafted) → ℕ → Type 0
 Gains old new count = length new.cells ≡ length old.cells + count
+
+-- where memory was had, so many cells were added
+abbrev pub CellsGained : {A : Type 0} → Result A NoMemory → (old new : Drafted) → ℕ → Type 0
+CellsGained result old new count = IfOk result (λ _. Gains old new count)
 
 -- the wire shows the register that counts the clocks
 pub record IsClock (d : Drafted) (wire : ℕ) : Type 0 where

@@ -1,5 +1,6 @@
 -- What the drivers of a port say while a net is being built.
-use Rattle.std.specs.Prelude.{◌≡◌, ℕ, ◌+◌, ◌-◌, ◌<◌, ◌^◌, true, List, [], ◌++◌, length, slice_get, slice_index, slice_index_or, Some}
+use Rattle.std.specs.Prelude.{◌≡◌, ℕ, ◌+◌, ◌-◌, ◌<◌, ◌^◌, true, List, [], ◌++◌, length, slice_get, slice_index, slice_index_or, Some, Result, IfOk}
+use Rattle.dh_base.specs.declared.lists.NoMemory.{NoMemory}
 use Rattle.dh_tree.specs.declared.tables.MemEntry.{MemEntry}
 use Rattle.dh_compile.specs.declared.stores.Store.{Store}
 use Rattle.dh_compile.specs.declared.stores.Program.{Program}
@@ -43,12 +44,20 @@ pub record AddsUse (old new : Drafted) (d : Driver) (enable wide : ℕ) (u : Use
   pub row : HasWidth new.cells d.row wide
   pub out : d.write ≡ true → HasWidth new.cells d.data_ 32
 
+-- where memory was had, the driver that is answered is so
+abbrev pub UseAdded : Result Driver NoMemory → (old new : Drafted) → (enable wide : ℕ) → Use → Type 0
+UseAdded result old new enable wide u = IfOk result (λ d. AddsUse old new d enable wide u)
+
 -- cells were added for a driver that does this at this clock alone
 pub record AddsDriver (old new : Drafted) (d : Driver) (wide at : ℕ) (u : Use) : Type 0 where
   pub grows : Grows old new
   pub enabled : Always new.cells (λ registers held wires. EnabledAt (slice_index registers 0) wires d at)
   pub does : Always new.cells (λ registers held wires. Does held wires d u)
   pub fits : FitsDriver new.cells wide d
+
+-- where memory was had, the driver that is answered is so
+abbrev pub DriverAdded : Result Driver NoMemory → (old new : Drafted) → (wide at : ℕ) → Use → Type 0
+DriverAdded result old new wide at u = IfOk result (λ d. AddsDriver old new d wide at u)
 
 -- with drivers for what is still to come, these drivers do all
 abbrev pub Leads : List Cell → List Driver → (rest all : List Timed) → Type 0
@@ -61,11 +70,19 @@ pub record AddsGroup (old new : Drafted) (ds more : List Driver) (memory wide be
   pub leads : (rest all : List Timed) → Leads old.cells ds (put_use begin (group_length g) (use_in g memory) rest) all → Leads new.cells more rest all
   pub fit : FitDrivers old.cells wide ds → FitDrivers new.cells wide more
 
+-- where memory was had, they have
+abbrev pub GroupAdded : Result (Unit {0}) NoMemory → (old new : Drafted) → (ds more : List Driver) → (memory wide begin : ℕ) → List Store → Type 0
+GroupAdded result old new ds more memory wide begin g = IfOk result (λ _. AddsGroup old new ds more memory wide begin g)
+
 -- cells were added for drivers that do what all groups do
 pub record AddsPort (old new : Drafted) (ds : List Driver) (memory wide : ℕ) (groups : List (List Store)) : Type 0 where
   pub grows : Grows old new
   pub drives : Always new.cells (λ registers held wires. Drives (slice_index registers 0) held wires ds (uses_of memory 0 groups))
   pub fit : FitDrivers new.cells wide ds
+
+-- where memory was had, the drivers that are answered are so
+abbrev pub PortAdded : Result (List Driver) NoMemory → (old new : Drafted) → (memory wide : ℕ) → List (List Store) → Type 0
+PortAdded result old new memory wide groups = IfOk result (λ ds. AddsPort old new ds memory wide groups)
 
 -- what the groups do can be done by the port of this memory
 abbrev pub FitsGroups : List MemEntry → (memory wide : ℕ) → List (List Store) → Type 0

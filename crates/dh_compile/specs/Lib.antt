@@ -5,6 +5,7 @@ pub mod Built
 pub mod GroupRun
 pub mod Compiled
 pub mod Drafts
+pub mod WireValues
 pub mod Counts
 pub mod Drivers
 pub mod Heads

@@ -1,16 +1,19 @@
 -- The groups of stores that are read off a plain tree: one for each of its straight phases. What is read
 -- off a form that is not built plays no part; an accepted program has none.
-use Rattle.std.specs.Prelude.{ℕ, List, [], ◌∷◌, ◌++◌, map, Option, Some, None}
+use Rattle.std.specs.Prelude.{◌≡◌, ℕ, List, [], ◌∷◌, ◌++◌, map, Option, Some, None, Result, IfOk, Vec}
+use Rattle.std.specs.declared.alloc.Global.{Global}
+use Rattle.dh_base.specs.declared.lists.NoMemory.{NoMemory}
 use Rattle.dh_base.specs.declared.places.Place.{Place}
 use Rattle.dh_tree.specs.PlainTrees.{Term, term, TermForm, number, truth_value, named, accessed, in_bank, applied, converted, Terms, no_terms, term_then, Action, action, ActionForm, lets, lets_memory, views, assigns, stores, reduces, calls, blocks, decides, repeats, counts, Actions, no_actions, action_then}
 use Rattle.dh_tree.specs.PlainTrees as plain
 use Rattle.dh_tree.specs.Phases.{Phase, straight, turns, repeated, decided, joined, one_command}
-use Rattle.dh_tree.specs.Meaning.{entity_number}
+use Rattle.dh_tree.specs.Meaning.{entity_number, meaning_of}
 use Rattle.dh_tree.specs.Memories.{table_of}
 use Rattle.dh_compile.specs.declared.stores.Operand.{Operand}
 use Rattle.dh_compile.specs.declared.stores.Store.{Store}
 use Rattle.dh_compile.specs.declared.stores.Program.{Program}
 use Rattle.dh_compile.specs.declared.gathering.Stored.{Stored}
+use Rattle.dh_compile.specs.Grouped.{tree_of}
 
 -- the number that an expression is
 abbrev pub number_read : TermForm → ℕ
@@ -100,6 +103,10 @@ abbrev mutual
 abbrev pub groups_read : Action → List (List Store)
 groups_read a = map phase_read (store_phases a)
 
+-- where memory was had, these groups are answered
+abbrev pub GroupsGathered : Result (Vec (List Store) Global) NoMemory → List (List Store) → Type 0
+GroupsGathered result groups = IfOk result (λ gathered. gathered.items ≡ groups)
+
 abbrev pub one_group : List Store → List (List Store)
 one_group [] = []
 one_group (s ∷ ss) = (s ∷ ss) ∷ []
@@ -116,6 +123,10 @@ abbrev pub current_after : List Store → List (List Store) → List Store
 current_after current [] = current
 current_after current (g ∷ []) = current ++ g
 current_after current (g ∷ h ∷ gs) = []
+
+-- a command with these groups behind the open group: those that are done then
+abbrev pub GroupsDone : (old new : Vec (List Store) Global) → (current : Vec Store Global) → (next : Vec (List Store) Global) → Type 0
+GroupsDone old new current next = new.items ≡ old.items ++ done_by current.items next.items
 
 -- the groups of the rest of a list, from those of its commands, behind an open group
 abbrev pub gathered : List Store → List (List (List Store)) → List (List Store)
@@ -134,3 +145,7 @@ parts_read (plain.group_then part rest) = part_read part ++ parts_read rest
 -- the program as its groups
 abbrev pub program_read : plain.Program → Program
 program_read p = record { table = table_of p; groups = groups_read p.body }
+
+-- the groups mean what the program means
+abbrev pub MeansSame : Program → plain.Program → Type 0
+MeansSame grouped p = tree_of grouped ≡ meaning_of p

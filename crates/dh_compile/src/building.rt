@@ -1,10 +1,10 @@
 //! The net of a grouped program.
 
-ghost use Rattle.std.specs.Prelude.{◌≡◌, [], ◌∷◌, length, IfOk};
+ghost use Rattle.std.specs.Prelude.{◌≡◌, length, IfOk};
 ghost use Rattle.dh_compile.specs.Grouped.{IsGrouped};
 ghost use Rattle.dh_net.specs.Valid.{IsValid};
 ghost use Rattle.dh_compile.specs.Counts.{cells_of};
-ghost use Rattle.dh_compile.specs.Built.{IsBuilt, clock_register, tick_register};
+ghost use Rattle.dh_compile.specs.Built.{IsBuilt, clock_and_tick};
 
 use crate::clocks::{push_ends, push_head};
 use crate::drafts::Draft;
@@ -22,7 +22,7 @@ fn two_registers(
     next_clock: u64,
     next_tick: u64,
 ) -> Result<Items<Register>, NoMemory>
-    ensures { IfOk result (λ registers. registers ≡ clock_register next_clock ∷ (tick_register next_tick ∷ [])) }
+    ensures { IfOk result (λ registers. registers ≡ clock_and_tick next_clock next_tick) }
 {
     let mut registers = Items::new(alloc);
     registers.push(Register {

@@ -1,11 +1,12 @@
 //! The wires that count the clocks, and those that tell by the count.
 
-ghost use Rattle.std.specs.Prelude.{◌≡◌, ◌+◌, ◌%◌, ◌^◌, ◌==◌, ◌<◌, ◌≤◌, bit_or, if◌then◌else◌, slice_index, IfOk};
+ghost use Rattle.std.specs.Prelude.{◌^◌, ◌<◌, IfOk};
 ghost use Rattle.dh_net.specs.Valid.{HasWidth};
 ghost use Rattle.dh_compile.specs.Counts.{head_cells, ends_cells};
-ghost use Rattle.dh_compile.specs.Timetable.{total_length, ends_at};
-ghost use Rattle.dh_compile.specs.Drafts.{Adds, Gains, IsClock};
+ghost use Rattle.dh_compile.specs.Timetable.{total_length};
+ghost use Rattle.dh_compile.specs.Drafts.{WireAdded, CellsGained, IsClock};
 ghost use Rattle.dh_compile.specs.Heads.{AddsHead};
+ghost use Rattle.dh_compile.specs.WireValues.{count_until, one_also_at_clock, one_at_ends};
 
 use crate::drafts::Draft;
 use crate::stores::Store;
@@ -33,8 +34,8 @@ pub(crate) struct Head {
 fn push_count(draft: &mut Draft, clock: u64, done: u64) -> Result<u64, NoMemory>
     requires clock { IsClock draft.old clock }
     requires done { HasWidth draft.old.cells done 1 }
-    ensures adds { IfOk result (λ wire. Adds draft.old draft.new wire 32 (λ registers held wires. if slice_index wires done == 1 then slice_index registers 0 else (slice_index registers 0 + 1) % 2 ^ 32)) }
-    ensures gains { IfOk result (λ _. Gains draft.old draft.new 3) }
+    ensures adds { WireAdded result draft.old draft.new 32 (count_until done) }
+    ensures gains { CellsGained result draft.old draft.new 3 }
 {
     let one = push_constant(draft, 32, 1)?;
     let more = draft.push(32, CellForm::Add { a: clock, b: one })?;
@@ -52,7 +53,7 @@ fn push_count(draft: &mut Draft, clock: u64, done: u64) -> Result<u64, NoMemory>
 pub(crate) fn push_head(draft: &mut Draft, total: u64) -> Result<Head, NoMemory>
     requires { total < 2 ^ 32 }
     ensures adds { IfOk result (λ head. AddsHead draft.old draft.new head total) }
-    ensures gains { IfOk result (λ _. Gains draft.old draft.new head_cells) }
+    ensures gains { CellsGained result draft.old draft.new head_cells }
 {
     let clock = draft.push(32, CellForm::Reg { register: 0 })?;
     let tick = draft.push(1, CellForm::Reg { register: 1 })?;
@@ -73,8 +74,8 @@ fn push_end(draft: &mut Draft, clock: u64, chain: u64, number: u64) -> Result<u6
     requires clock { IsClock draft.old clock }
     requires chain { HasWidth draft.old.cells chain 1 }
     requires fits { number < 2 ^ 32 }
-    ensures adds { IfOk result (λ wire. Adds draft.old draft.new wire 1 (λ registers held wires. bit_or (slice_index wires chain) (if slice_index registers 0 == number then 1 else 0))) }
-    ensures gains { IfOk result (λ _. Gains draft.old draft.new 3) }
+    ensures adds { WireAdded result draft.old draft.new 1 (one_also_at_clock chain number) }
+    ensures gains { CellsGained result draft.old draft.new 3 }
 {
     let here = push_at(draft, clock, number)?;
     draft.push(1, CellForm::Or { a: chain, b: here })
@@ -88,8 +89,8 @@ pub(crate) fn push_ends(
 ) -> Result<u64, NoMemory>
     requires clock { IsClock draft.old clock }
     requires total { total_length groups.now < 2 ^ 32 }
-    ensures adds { IfOk result (λ wire. Adds draft.old draft.new wire 1 (λ registers held wires. if ends_at 0 groups.now (slice_index registers 0) then 1 else 0)) }
-    ensures gains { IfOk result (λ _. Gains draft.old draft.new (ends_cells groups.now)) }
+    ensures adds { WireAdded result draft.old draft.new 1 (one_at_ends groups.now) }
+    ensures gains { CellsGained result draft.old draft.new (ends_cells groups.now) }
 {
     let mut chain = push_constant(draft, 1, 0)?;
     let mut begin: u64 = 0;

@@ -1,8 +1,8 @@
 //! A net that is being built: cells are appended, and each gives the wire that it drives.
 
 ghost use Rattle.std.specs.Prelude.{◌≡◌, [], IfOk};
-ghost use Rattle.dh_net.specs.Clock.{form_value};
-ghost use Rattle.dh_compile.specs.Drafts.{AreCells, IsNext, Adds, Appends, Gains};
+ghost use Rattle.dh_compile.specs.Drafts.{AreCells, IsNext, WireAdded, Appends, CellsGained};
+ghost use Rattle.dh_compile.specs.WireValues.{form_shown};
 
 use dh_base::{Items, NoMemory};
 use dh_net::{Cell, CellForm};
@@ -42,9 +42,9 @@ impl Draft {
     /// Adds a cell, and answers the wire that it drives.
     pub(crate) fn push(&mut self, width: u8, form: CellForm) -> Result<u64, NoMemory>
         requires { IsNext self.old width form }
-        ensures adds { IfOk result (λ wire. Adds self.old self.new wire width (λ registers held wires. form_value registers held wires width form)) }
+        ensures adds { WireAdded result self.old self.new width (form_shown width form) }
         ensures appended { IfOk result (λ wire. Appends self.old self.new wire width form) }
-        ensures gains { IfOk result (λ _. Gains self.old self.new 1) }
+        ensures gains { CellsGained result self.old self.new 1 }
     {
         let wire = self.cells.len() as u64;
         self.cells.push(Cell { width, form })?;

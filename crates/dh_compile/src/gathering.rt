@@ -2,11 +2,11 @@
 
 ghost use Rattle.std.specs.Prelude.{◌≡◌, ◌++◌, [], ◌∷◌, map, IfOk, OnOk};
 ghost use Rattle.dh_tree.specs.Seen.{term_seen, form_seen, terms, action_seen, program_seen, actions, groups, part_seen};
-ghost use Rattle.dh_tree.specs.Meaning.{entity_number, meaning_of};
+ghost use Rattle.dh_tree.specs.Meaning.{entity_number};
 ghost use Rattle.dh_compile.specs.Taken.{IsTaken};
-ghost use Rattle.dh_compile.specs.Grouped.{IsGrouped, tree_of};
+ghost use Rattle.dh_compile.specs.Grouped.{IsGrouped};
 ghost use Rattle.dh_compile.specs.Reading as read;
-ghost use Rattle.dh_compile.specs.Reading.{number_read, index_read, element_read, stored_read, store_read, groups_read, one_group, done_by, current_after, parts_read, part_read, program_read};
+ghost use Rattle.dh_compile.specs.Reading.{number_read, index_read, element_read, stored_read, store_read, groups_read, GroupsGathered, one_group, GroupsDone, current_after, parts_read, part_read, program_read, MeansSame};
 
 use crate::stores::{Operand, Program, Store};
 use dh_base::{Items, NoMemory, Place};
@@ -133,7 +133,7 @@ fn store_of(target: &Expr, value: &Expr) -> Store
 
 /// A group of one store alone.
 fn group_of_one(alloc: Global, store: Store) -> Result<Vec<Items<Store>>, NoMemory>
-    ensures { IfOk result (λ gathered. gathered.items ≡ (store ∷ []) ∷ []) }
+    ensures { GroupsGathered result ((store ∷ []) ∷ []) }
 {
     let mut group = Items::new(alloc);
     group.push(store)?;
@@ -166,7 +166,7 @@ fn join(
     current: &mut Vec<Store>,
     mut next: Vec<Items<Store>>,
 ) -> Result<(), NoMemory>
-    ensures done { OnOk result (done.new.items ≡ done.old.items ++ done_by current.old.items next.items) }
+    ensures done { OnOk result (GroupsDone done.old done.new current.old next) }
     ensures current { OnOk result (current.new.items ≡ current_after current.old.items next.items) }
 {
     match next.as_slice() {
@@ -184,7 +184,7 @@ fn join(
 #[cycle(gathering)]
 #[tactic(auto, using(dh_tree::proofs::SeenActions::actions_are))]
 fn groups_in(alloc: Global, command: &Command) -> Result<Vec<Items<Store>>, NoMemory>
-    ensures { IfOk result (λ gathered. gathered.items ≡ groups_read (action_seen command.now)) }
+    ensures { GroupsGathered result (groups_read (action_seen command.now)) }
 {
     match &command.form {
         CommandForm::Store { target, value } => group_of_one(alloc, store_of(target, value)),
@@ -204,7 +204,7 @@ fn groups_in(alloc: Global, command: &Command) -> Result<Vec<Items<Store>>, NoMe
 /// The groups of the parts between `---`, one part after the other.
 #[cycle(gathering)]
 fn groups_in_parts(alloc: Global, parts: &[Vec<Command>]) -> Result<Vec<Items<Store>>, NoMemory>
-    ensures { IfOk result (λ gathered. gathered.items ≡ parts_read (groups (map part_seen parts.now))) }
+    ensures { GroupsGathered result (parts_read (groups (map part_seen parts.now))) }
 {
     let mut done = Vec::new(alloc);
     let mut current = Vec::new(alloc);
@@ -234,7 +234,7 @@ fn program_in(alloc: Global, typed: &Typed) -> Result<Program, NoMemory>
 /// The program of an accepted tree as its groups: one for each straight phase of its body, in order.
 pub(crate) fn groups_of(alloc: Global, typed: &Typed) -> Result<Program, NoMemory>
     requires { IsTaken (program_seen typed.now) }
-    ensures meaning { IfOk result (λ program. tree_of program ≡ meaning_of (program_seen typed.now)) }
+    ensures meaning { IfOk result (λ program. MeansSame program (program_seen typed.now)) }
     ensures grouped { IfOk result (λ program. IsGrouped program) }
 {
     program_in(alloc, typed)

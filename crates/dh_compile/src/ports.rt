@@ -1,12 +1,12 @@
 //! The drivers of the ports: for each memory one for each group that uses it.
 
-ghost use Rattle.std.specs.Prelude.{◌≡◌, ◌+◌, ◌^◌, ◌<◌, ◌≤◌, length, IfOk};
+ghost use Rattle.std.specs.Prelude.{◌≡◌, ◌+◌, ◌^◌, ◌<◌, ◌≤◌, IfOk};
 ghost use Rattle.dh_compile.specs.Grouped.{IsGrouped};
 ghost use Rattle.dh_compile.specs.declared.uses.Use.TheVariants.{Reads, Writes};
-ghost use Rattle.dh_compile.specs.Counts.{stored_cells, use_cells, group_cells, port_cells, ports_cells};
-ghost use Rattle.dh_compile.specs.Timetable.{group_length, total_length, use_in};
-ghost use Rattle.dh_compile.specs.Drafts.{Gains, IsClock, IsHeld};
-ghost use Rattle.dh_compile.specs.Drivers.{use_clock, FitsUse, FitsGroup, FitsGroups, AddsUse, AddsDriver, AddsGroup, AddsPort, AddsPorts};
+ghost use Rattle.dh_compile.specs.Counts.{stored_cells, use_cells, driver_cells, port_cells, all_port_cells};
+ghost use Rattle.dh_compile.specs.Timetable.{group_length, total_length};
+ghost use Rattle.dh_compile.specs.Drafts.{CellsGained, IsClock, IsHeld};
+ghost use Rattle.dh_compile.specs.Drivers.{use_clock, FitsUse, FitsGroup, FitsGroups, UseAdded, DriverAdded, GroupAdded, PortAdded, AddsPorts};
 
 use crate::drafts::Draft;
 use crate::stores::{Operand, Program, Store};
@@ -45,8 +45,8 @@ fn push_read(draft: &mut Draft, enable: u64, row_width: u8, row: u64) -> Result<
     requires least { 1 ≤ row_width }
     requires greatest { row_width ≤ 64 }
     requires fits { row < 2 ^ row_width }
-    ensures adds { IfOk result (λ driver. AddsUse draft.old draft.new driver enable row_width (Reads row)) }
-    ensures gains { IfOk result (λ _. Gains draft.old draft.new 1) }
+    ensures adds { UseAdded result draft.old draft.new enable row_width (Reads row) }
+    ensures gains { CellsGained result draft.old draft.new 1 }
 {
     let wire = push_constant(draft, row_width, row)?;
     Ok(Driver {
@@ -71,8 +71,8 @@ fn push_write(
     requires fits { row < 2 ^ row_width }
     requires source { IsHeld draft.old.table source }
     requires number { number < 2 ^ 32 }
-    ensures adds { IfOk result (λ driver. AddsUse draft.old draft.new driver enable row_width (Writes row source number)) }
-    ensures gains { IfOk result (λ _. Gains draft.old draft.new (1 + stored_cells source)) }
+    ensures adds { UseAdded result draft.old draft.new enable row_width (Writes row source number) }
+    ensures gains { CellsGained result draft.old draft.new (1 + stored_cells source) }
 {
     let wire = push_constant(draft, row_width, row)?;
     let stored = push_stored(draft, source, number)?;
@@ -91,8 +91,8 @@ fn push_driver(draft: &mut Draft, port: Port, at: u64, used: Use) -> Result<Driv
     requires greatest { port.row_width ≤ 64 }
     requires at { at < 2 ^ 32 }
     requires fits { FitsUse draft.old.table port.row_width used }
-    ensures adds { IfOk result (λ driver. AddsDriver draft.old draft.new driver port.row_width at used) }
-    ensures gains { IfOk result (λ _. Gains draft.old draft.new (use_cells used)) }
+    ensures adds { DriverAdded result draft.old draft.new port.row_width at used }
+    ensures gains { CellsGained result draft.old draft.new (use_cells used) }
 {
     let enable = push_at(draft, port.clock, at)?;
     match used {
@@ -121,8 +121,9 @@ fn push_group(
     requires length { length ≡ group_length group.now }
     requires at { begin + length < 2 ^ 32 }
     requires fits { FitsGroup draft.old.table port.memory port.row_width group.now }
-    ensures adds { IfOk result (λ _. AddsGroup draft.old draft.new drivers.old drivers.new port.memory port.row_width begin group.now) }
-    ensures gains { IfOk result (λ _. Gains draft.old draft.new (group_cells (use_in group.now port.memory))) }
+    ensures adds { GroupAdded result draft.old draft.new drivers.old drivers.new
+        port.memory port.row_width begin group.now }
+    ensures gains { CellsGained result draft.old draft.new (driver_cells group.now port.memory) }
 {
     match use_in(group, port.memory) {
         None => Ok(()),
@@ -145,8 +146,8 @@ fn push_port(
     requires greatest { port.row_width ≤ 64 }
     requires total { total_length groups.now < 2 ^ 32 }
     requires fits { FitsGroups draft.old.table port.memory port.row_width groups.now }
-    ensures adds { IfOk result (λ drivers. AddsPort draft.old draft.new drivers port.memory port.row_width groups.now) }
-    ensures gains { IfOk result (λ _. Gains draft.old draft.new (port_cells port.memory groups.now)) }
+    ensures adds { PortAdded result draft.old draft.new port.memory port.row_width groups.now }
+    ensures gains { CellsGained result draft.old draft.new (port_cells port.memory groups.now) }
 {
     let mut drivers = Items::new(alloc);
     let mut begin: u64 = 0;
@@ -170,7 +171,7 @@ pub(crate) fn push_ports(
     requires table { draft.old.table ≡ program.now.table }
     requires clock { IsClock draft.old clock }
     ensures adds { IfOk result (λ ports. AddsPorts draft.old draft.new ports program.now) }
-    ensures gains { IfOk result (λ _. Gains draft.old draft.new (ports_cells (length program.now.table) program.now.groups)) }
+    ensures gains { CellsGained result draft.old draft.new (all_port_cells program.now) }
 {
     let groups = program.groups.as_slice();
     let mut ports = Items::new(alloc);

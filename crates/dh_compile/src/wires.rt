@@ -1,10 +1,10 @@
 //! Wires that a draft gains by a few cells in a row.
 
-ghost use Rattle.std.specs.Prelude.{◌≡◌, ◌+◌, ◌%◌, ◌^◌, ◌==◌, ◌<◌, ◌≤◌, if◌then◌else◌, slice_index, IfOk};
+ghost use Rattle.std.specs.Prelude.{◌^◌, ◌<◌, ◌≤◌};
 ghost use Rattle.dh_net.specs.Valid.{IsPort};
 ghost use Rattle.dh_compile.specs.Counts.{stored_cells};
-ghost use Rattle.dh_compile.specs.Timetable.{stored_from};
-ghost use Rattle.dh_compile.specs.Drafts.{Adds, Gains, IsClock, IsHeld};
+ghost use Rattle.dh_compile.specs.Drafts.{WireAdded, CellsGained, IsClock, IsHeld};
+ghost use Rattle.dh_compile.specs.WireValues.{number_shown, one_at_clock, sum_shown, stored_shown};
 
 use crate::drafts::Draft;
 use crate::stores::Operand;
@@ -16,8 +16,8 @@ pub(crate) fn push_constant(draft: &mut Draft, width: u8, bits: u64) -> Result<u
     requires least { 1 ≤ width }
     requires greatest { width ≤ 64 }
     requires fits { bits < 2 ^ width }
-    ensures adds { IfOk result (λ wire. Adds draft.old draft.new wire width (λ registers held wires. bits)) }
-    ensures gains { IfOk result (λ _. Gains draft.old draft.new 1) }
+    ensures adds { WireAdded result draft.old draft.new width (number_shown bits) }
+    ensures gains { CellsGained result draft.old draft.new 1 }
 {
     draft.push(width, CellForm::Const { bits })
 }
@@ -26,8 +26,8 @@ pub(crate) fn push_constant(draft: &mut Draft, width: u8, bits: u64) -> Result<u
 pub(crate) fn push_at(draft: &mut Draft, clock: u64, number: u64) -> Result<u64, NoMemory>
     requires clock { IsClock draft.old clock }
     requires fits { number < 2 ^ 32 }
-    ensures adds { IfOk result (λ wire. Adds draft.old draft.new wire 1 (λ registers held wires. if slice_index registers 0 == number then 1 else 0)) }
-    ensures gains { IfOk result (λ _. Gains draft.old draft.new 2) }
+    ensures adds { WireAdded result draft.old draft.new 1 (one_at_clock number) }
+    ensures gains { CellsGained result draft.old draft.new 2 }
 {
     let right = push_constant(draft, 32, number)?;
     draft.push(1, CellForm::Eq { a: clock, b: right })
@@ -37,8 +37,8 @@ pub(crate) fn push_at(draft: &mut Draft, clock: u64, number: u64) -> Result<u64,
 fn push_sum(draft: &mut Draft, memory: u32, number: u64) -> Result<u64, NoMemory>
     requires port { IsPort draft.old.table memory 0 0 32 }
     requires fits { number < 2 ^ 32 }
-    ensures adds { IfOk result (λ wire. Adds draft.old draft.new wire 32 (λ registers held wires. (slice_index held memory + number) % 2 ^ 32)) }
-    ensures gains { IfOk result (λ _. Gains draft.old draft.new 3) }
+    ensures adds { WireAdded result draft.old draft.new 32 (sum_shown memory number) }
+    ensures gains { CellsGained result draft.old draft.new 3 }
 {
     let right = push_constant(draft, 32, number)?;
     let left = draft.push(
@@ -60,8 +60,8 @@ pub(crate) fn push_stored(
 ) -> Result<u64, NoMemory>
     requires source { IsHeld draft.old.table source }
     requires fits { number < 2 ^ 32 }
-    ensures adds { IfOk result (λ wire. Adds draft.old draft.new wire 32 (λ registers held wires. stored_from held source number)) }
-    ensures gains { IfOk result (λ _. Gains draft.old draft.new (stored_cells source)) }
+    ensures adds { WireAdded result draft.old draft.new 32 (stored_shown source number) }
+    ensures gains { CellsGained result draft.old draft.new (stored_cells source) }
 {
     match source {
         None => push_constant(draft, 32, number),
