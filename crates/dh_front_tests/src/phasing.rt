@@ -2,7 +2,7 @@
 
 use crate::texts::{LONGEST, stores};
 use dh_check::{Forms, check_without_ports};
-use dh_tree::{Phase, phases};
+use dh_phases::{Phase, phases};
 use std::alloc::Global;
 use std::test::Fail;
 

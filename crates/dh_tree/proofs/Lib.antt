@@ -29,9 +29,6 @@ pub mod SuitedPrograms
 pub mod BankElements
 pub mod BankSpread
 pub mod Leasts
-pub mod SeenPhases
-pub mod PhasesNumbered
-pub mod CommandsFound
 pub mod RowsSpent
 pub mod SpentCounts
 pub mod SpentAlike

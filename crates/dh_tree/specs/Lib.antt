@@ -38,5 +38,3 @@ pub mod Widths
 pub mod Written
 pub mod UncheckedForms
 pub mod Suited
-pub mod NumberedPhases
-pub mod Phasing

@@ -9,7 +9,6 @@ mod counters;
 mod expressions;
 mod memories;
 mod named;
-mod phasing;
 mod programs;
 mod typed;
 
@@ -17,6 +16,5 @@ pub use commands::{Command, CommandForm, ViewForm};
 pub use counters::Counter;
 pub use expressions::{Expr, ExprForm, Ref};
 pub use named::Named;
-pub use phasing::{Phase, phases};
 pub use programs::{Decl, DimPlaces, Entity, Function, Parameter, ShapePlaces, Sort, Tree};
 pub use typed::Typed;

@@ -1,0 +1,3 @@
+pub mod SeenPhases
+pub mod PhasesNumbered
+pub mod CommandsFound

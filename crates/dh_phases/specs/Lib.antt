@@ -1,0 +1,2 @@
+pub mod NumberedPhases
+pub mod Phasing
