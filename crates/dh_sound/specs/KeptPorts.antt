@@ -9,18 +9,17 @@ use Rattle.dh_meaning.specs.Runs.{run_state}
 use Rattle.dh_meets.specs.Ports.{KeepsPorts}
 use Rattle.dh_sound.specs.BlockTold.{AccessesDeclared}
 use Rattle.dh_sound.specs.BlocksOfPhases.{TellsBlocks}
-use Rattle.dh_sound.specs.NamedPrograms.{StoresToAccesses}
 use Rattle.dh_sound.specs.ReducerIndices.{KeepsIndexRules}
 use Rattle.dh_sound.specs.Standing.{IsStanding}
 
--- A program of which all is told that soundness rests on.
+-- A program of which all is told that soundness rests on. That it is told of each program that the passes accept is a
+-- law (`Accepted` says what they tell).
 pub record IsTold (p : Program) : Type 0 where
   pub ready : IsReady p
   -- it breaks no rule on indices, in reducers either, and keeps its ports
   pub rules : KeepsIndexRules p
   pub keeps : KeepsPorts p
-  -- each store goes to an access, and each access is of a memory: so it is of the program of every text without views
-  pub targets : StoresToAccesses p
+  -- each access is of a memory
   pub declared : AccessesDeclared p
   -- what is assigned in copies has a value for each copy, and the indices of accesses name what is in scope
   pub tells : TellsBlocks p
