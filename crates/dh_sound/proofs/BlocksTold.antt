@@ -2,7 +2,7 @@
 -- iterator of a loop round the block, which is in a turn and which the block does not touch; or a variable, which
 -- the block does not touch, or which is declared inside all the loops. An iterator of an unrolled loop in an index finds
 -- its value in the turn of that loop, since the loops round the access are those round its block.
-use Rattle.std.proofs.Common.{◌≡◌, inl, inr, ℕ, zero, suc, ◌≤◌, Bool, true, false, List, [], ◌∷◌, length, Some, refl, ◌∙◌, ap, subst, arith}
+use Rattle.std.proofs.Common.{◌≡◌, inl, inr, ℕ, zero, suc, ◌≤◌, Bool, true, false, List, [], ◌∷◌, ◌++◌, length, Some, refl, ◌∙◌, ap, subst, arith}
 use Rattle.std.specs.Prelude.{slice_get}
 use Rattle.dh_tree.specs.declared.trees.expressions.Ref.{Ref}
 use Rattle.dh_tree.specs.PlainTrees.{Term, term, number, truth_value, named, accessed, in_bank, applied, converted, Terms, no_terms, term_then, Program}
@@ -27,7 +27,7 @@ use Rattle.dh_sound.specs.LoopsMatch.{AreSpared}
 use Rattle.dh_sound.specs.NamedPrograms.{StoresToAccesses}
 use Rattle.dh_sound.specs.NamesInScope.{InScope, is_variable, is_iterator}
 use Rattle.dh_sound.specs.SameKeys.{EachName, EachNameOf, EachNameIn, NameFacts, is_plain, is_full}
-use Rattle.dh_sound.specs.Trails.{Follows}
+use Rattle.dh_sound.specs.Trails.{of_located, Follows}
 use Rattle.dh_sound.proofs.AssignsInside.{commands_deep, as_deep, touched_deep}
 use Rattle.dh_sound.proofs.BlocksFound.{StraightFound, TestFound, block_found}
 use Rattle.dh_sound.proofs.IteratorsAt.{turns_at}
@@ -117,7 +117,7 @@ made_in k (c ∷ cs) e =
 around_is : (r : Around) (before part : List SourceEvent) (cs : List Located) → Follows r before part cs → (c : Located) → Has c cs → c.around ≡ r
 around_is r before part [] f c h = elim h [ ]
 around_is r before part (d ∷ ds) f c (inl e) = ap (λ (x : Located). x.around) e ∙ f.1.1.1.0.around
-around_is r before part (d ∷ ds) f c (inr h) = around_is r _ _ ds f.1.1.1.1 c h
+around_is r before part (d ∷ ds) (gap, (rest, (is, (stands, more)))) c (inr h) = around_is r ((before ++ gap) ++ of_located d) rest ds more c h
 
 module _ (p : Program) (ready : IsReady p) (typed : IsTypedProgram p) (loops : List Turning) (block : Block) (stands : StandsIn [] (core_of p).phases loops block) where
   depths : HaveDepths [] loops

@@ -113,11 +113,14 @@ functions_sorted p facts n (f ∷ fs) h = (
   functions_sorted p facts (n + 1) fs (λ i x e. subst (λ (k : ℕ). IsSorted p facts 0 0 k) (sym (next_number n i)) (h (suc i) x e)),
 )
 
+one_first : {A : Type 0} (x y : A) (xs ys : List A) → x ∷ xs ≡ y ∷ ys → x ≡ y
+one_first x y xs ys e = cc
+
 -- memories from outside have the numbers of their declarations
 numbered_at : (n : ℕ) (ds : List Declared) → resolved_decls n ds ≡ ds → (i : ℕ) (d : Declared) → slice_get ds i ≡ Some d → d.name.entity ≡ Some (n + i)
 numbered_at n [] e i d f = absurd cc
 numbered_at n (x ∷ ds) e zero d f =
-    let own : Some n ≡ x.name.entity = cc in
+    let own : Some n ≡ x.name.entity = ap (λ (y : Declared). y.name.entity) (one_first _ x _ ds e) in
     let same : x ≡ d = cc in
     ap (λ (y : Declared). y.name.entity) (sym same) ∙ (sym own ∙ ap Some (sym (front n)))
 numbered_at n (x ∷ ds) e (suc i) d f =
