@@ -67,9 +67,10 @@ module _ (known : Known) where
     find_in (straight cs) round loops b h s = inl (cs, (s.1, (refl, subst (λ (l : List Turning). HoldsOfCommands l cs) (sym s.0) h)))
     find_in (turns loop count body) round loops b h s =
         let own : Turning = turning_of known count (form_of loop.command) in
-        find body (round ++ own ∷ []) loops b
-        (subst (λ (ts : List Turning). AreInside known ts body) (sym (unrolled_both round (own ∷ []))) h.0,
-        (h.1.0, subst (λ (d : ℕ). PhasesHold (assigns_deep known) d body) (sym (inside_count known round count (form_of loop.command))) h.1.1.1)) s
+        find body (round ++ own ∷ []) loops b (
+          subst (λ (ts : List Turning). AreInside known ts body) (sym (unrolled_both round (own ∷ []))) h.0,
+          (h.1.0, subst (λ (d : ℕ). PhasesHold (assigns_deep known) d body) (sym (inside_count known round count (form_of loop.command))) h.1.1.1),
+        ) s
     find_in (repeated loop body) round loops b h (inl s) = found_test (HasTestIn (repeated loop body)) (HasStraightIn (repeated loop body)) round loops b loop (inl refl) h.0.0 h.1.0.0 s
     find_in (repeated loop body) round loops b h (inr s) =
         found_more (HaveStraight body) (HasStraightIn (repeated loop body)) (HaveTest body) (HasTestIn (repeated loop body)) loops b (λ cs g. g) (λ c g. inr g)

@@ -261,8 +261,8 @@ module _ (p : Program) (typed : IsTypedProgram p) (rules : KeepsIndexRules p) (d
       chosen = made_numbers p entity memory bank made_events told;
       together = made_together;
       covers = (let l = spent_told p entity memory bank made_events told are_once in
-      let t = total_below (charge p entity bank) (made_numbers p entity memory bank made_events told) p in
-      omega (arith, l, t));
+          let t = total_below (charge p entity bank) (made_numbers p entity memory bank made_events told) p in
+          omega (arith, l, t));
     }
 
   -- Of each bank, where the program keeps its ports.

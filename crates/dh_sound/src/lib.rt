@@ -2,26 +2,19 @@
 //! together, in which banks they lie, and that a program that keeps its ports is never stuck.
 #![tactic(auto)]
 
-ghost use Rattle.std.specs.Prelude.{◌≡◌, ℕ, List, Some};
-ghost use Rattle.dh_tree.specs.Elements.{Spot};
 ghost use Rattle.dh_tree.specs.Kinds.{typed};
 ghost use Rattle.dh_tree.specs.PlainTrees.{Program};
 ghost use Rattle.dh_tree.specs.Ready.{IsReady};
 ghost use Rattle.dh_tree.specs.Resolved.{resolved};
-ghost use Rattle.dh_meaning.specs.Core.{Reach};
-ghost use Rattle.dh_meaning.specs.CoreOf.{core_of, known_of};
-ghost use Rattle.dh_meaning.specs.Effects.{Begun, Variables, spot_reached};
-ghost use Rattle.dh_meaning.specs.Paths.{Path};
+ghost use Rattle.dh_meaning.specs.CoreOf.{core_of};
 ghost use Rattle.dh_meets.specs.Ports.{KeepsPorts};
-ghost use Rattle.dh_meets.specs.SourceEvents.{SourceAccess};
 ghost use Rattle.dh_sound.specs.Accepted.{IsChecked, IsAccepted};
 ghost use Rattle.dh_sound.specs.BlocksCovered.{BlocksCovered, BlocksKept};
-ghost use Rattle.dh_sound.specs.IndexValues.{IsTypedProgram, IsMade, IsReached, target_of};
+ghost use Rattle.dh_sound.specs.IndexValues.{IsTypedProgram, AccessesReachBanks};
 ghost use Rattle.dh_sound.specs.KeptPorts.{IsTold, IsNeverStuck, StandsAlways};
 ghost use Rattle.dh_sound.specs.NamedPrograms.{StoresToAccesses};
 ghost use Rattle.dh_sound.specs.ReducerIndices.{KeepsIndexRules};
 ghost use Rattle.dh_sound.specs.Standing.{BlocksKeepPorts};
-ghost use Rattle.dh_sound.specs.ToldEvents.{access_at};
 ghost use Rattle.dh_sound.specs.Unmet.{StandOpposite, TestsMeet};
 
 /// A run of a ready program stands at a block of a phase, at the paths inside the loops round it, each of which is
@@ -39,9 +32,7 @@ pub fn unmet_accesses_stand_opposite()
 /// The element to which an access leads lies in a bank that the rules take it to reach at its path: so it is in
 /// every turn of its loops.
 pub fn accesses_lie_in_their_banks()
-    ensures { (p : Program) (b : Begun) (path : Path) (v : Variables) (k : ℕ) (a : SourceAccess) (n : ℕ) (r : Reach) (s : Spot)
-        → IsTypedProgram p → KeepsIndexRules p → access_at p k ≡ Some a → (made : IsMade p b path v a r)
-        → spot_reached b v path r (target_of (known_of p) n a.element) ≡ Some s → IsReached p a path made.entity r s }
+    ensures { (p : Program) → IsTypedProgram p → KeepsIndexRules p → AccessesReachBanks p }
 {}
 
 /// Of a program that keeps its ports, each block spends of each bank at most the ports of its memory; so no run of
