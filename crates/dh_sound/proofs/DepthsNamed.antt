@@ -15,7 +15,7 @@ use Rattle.dh_tree.specs.PlainTrees.{Action, action, ActionForm, lets, lets_memo
 use Rattle.dh_tree.specs.Resolved.{resolved_action, resolved_form, resolved_other, resolved_actions, resolved_groups, HasEntities}
 use Rattle.dh_tree.specs.Scopes.{Scope, entity, declare, leave, past, at_end, form_at_end, other_at_end, actions_at_end, groups_at_end, body_scope}
 use Rattle.dh_meaning.specs.AccessNumbers.{term_accesses, accesses_of, part_accesses}
-use Rattle.dh_meaning.specs.Bindings.{Binding, depth_inside, iterator_kind, bindings, form_bindings, other_bindings, groups_bindings, part_bindings, bindings_of, binding_in, depth_bound}
+use Rattle.dh_meaning.specs.Bindings.{Binding, let_kind, depth_inside, iterator_kind, bindings, form_bindings, other_bindings, groups_bindings, part_bindings, bindings_of, binding_in, depth_bound}
 use Rattle.dh_meaning.specs.Sites.{Around, nothing_around, in_arm, in_loop, loop_of}
 use Rattle.dh_meaning.specs.Phases.{Phase, straight, turns, repeated, decided, Phases, no_phases, phase, of_list, turn_count, located, phases, form_phases, other_phases, groups_phases, parts_phases, phases_of}
 use Rattle.dh_meaning.specs.Core.{Turning}
@@ -141,13 +141,13 @@ pub split_second : (bs before b c after : List Binding) → bs ≡ before ++ ((b
 split_second bs before b c after e = split_first bs before b c after e ∙ sym (append_assoc before b (c ++ after))
 
 module _ (bs : List Binding) where
-  -- of each loop of a command at this depth the iterator is found with its depth
+  -- of each loop of a command at this depth the iterator is found with its depth, and each variable with that of its `let`
   abbrev mutual
-    Deep : (depth : ℕ) → Action → Type 0
+    pub Deep : (depth : ℕ) → Action → Type 0
     Deep d (action id place form) = FormDeep d form
 
-    FormDeep : (depth : ℕ) → ActionForm → Type 0
-    FormDeep d (lets name declared value) = Unit {0}
+    pub FormDeep : (depth : ℕ) → ActionForm → Type 0
+    FormDeep d (lets name declared value) = depth_bound (binding_in bs (entity_number name.entity)) ≡ d
     FormDeep d (lets_memory name shape shape_places value) = Unit {0}
     FormDeep d (views name parent form) = Unit {0}
     FormDeep d (assigns target value) = Unit {0}
@@ -161,15 +161,15 @@ module _ (bs : List Binding) where
         IsFoundWith bs iterator (depth_inside d factor.value) factor.value
         × (Deep (depth_inside d factor.value) body × OtherDeep (depth_inside d factor.value) combine)
 
-    OtherDeep : (depth : ℕ) → MaybeAction → Type 0
+    pub OtherDeep : (depth : ℕ) → MaybeAction → Type 0
     OtherDeep d no_action = Unit {0}
     OtherDeep d (one_action a) = Deep d a
 
-    GroupsDeep : (depth : ℕ) → Groups → Type 0
+    pub GroupsDeep : (depth : ℕ) → Groups → Type 0
     GroupsDeep d no_groups = Unit {0}
     GroupsDeep d (group_then part rest) = PartDeep d part × GroupsDeep d rest
 
-    PartDeep : (depth : ℕ) → Actions → Type 0
+    pub PartDeep : (depth : ℕ) → Actions → Type 0
     PartDeep d no_actions = Unit {0}
     PartDeep d (action_then a rest) = Deep d a × PartDeep d rest
 
@@ -185,7 +185,9 @@ module _ (bs : List Binding) where
 
     form_deep : (f : ActionForm) (s : Scope) (d : ℕ) (before after : List Binding) → resolved_form s f ≡ f
         → bs ≡ before ++ (form_bindings d f ++ after) → AllBelow (size s) before → FormDeep d f
-    form_deep (lets name declared value) s d before after e is h = tt
+    form_deep (lets name declared value) s d before after e is h =
+        let named : Some (size s) ≡ name.entity = cc in
+        ap depth_bound (binding_found before (record { entity = name.entity; kind = let_kind declared value; depth = d; iterates = None }) after (size s) named h is)
     form_deep (lets_memory name shape shape_places value) s d before after e is h = tt
     form_deep (views name parent form) s d before after e is h = tt
     form_deep (assigns target value) s d before after e is h = tt
@@ -346,7 +348,7 @@ module _ (known : Known) where
   factor_same count (blocks body) = refl
 
   -- the number of unrolled loops inside a loop of phases
-  inside_count : (round : List Turning) (count : ℕ) (form : ActionForm)
+  pub inside_count : (round : List Turning) (count : ℕ) (form : ActionForm)
       → length (factors (round ++ turning_of known count form ∷ [])) ≡ depth_inside (length (factors round)) (turning_of known 0 form).factor
   inside_count round count form = factors_counted round (turning_of known count form) ∙ ap (depth_inside (length (factors round))) (factor_same count form)
 

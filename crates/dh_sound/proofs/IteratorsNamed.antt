@@ -101,7 +101,7 @@ visible_is : (b : Bool) (x : Breach) → (if b then [] else x ∷ []) ≡ [] →
 visible_is true x e = refl
 visible_is false x e = not_none _ _ e
 
-none_when : (b : Bool) (x : Breach) → when b (x ∷ []) ≡ [] → b ≡ false
+pub none_when : (b : Bool) (x : Breach) → when b (x ∷ []) ≡ [] → b ≡ false
 none_when true x e = not_none _ _ e
 none_when false x e = refl
 

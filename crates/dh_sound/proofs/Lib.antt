@@ -56,7 +56,6 @@ pub mod OneArm
 pub mod BlocksOfPhases
 pub mod NamedPrograms
 pub mod TargetsKept
-pub mod ReadyWitness
 pub mod DistinctPaths
 pub mod ArmsOnce
 pub mod PortsOfBlocks
@@ -66,3 +65,10 @@ pub mod TurnsOfIndices
 pub mod NamesScoped
 pub mod NamesOfEvents
 pub mod NamesInScope
+pub mod AssignsInside
+pub mod BlocksFound
+pub mod BlocksTold
+pub mod SortsOfNames
+pub mod SortsOfCommands
+pub mod SortsOfPrograms
+pub mod AcceptedPrograms

@@ -1,36 +1,29 @@
 -- The loops round a block of the core program are those of the source round its commands, one by one. A `for` that is
 -- run has the bounds, the factor, the number of turns and the depth of the `for` of the source from which it comes,
--- and its iterator's number; both come to the loops round them just where they are unrolled. So one walk along the
--- commands keeps the match, and a second along the phases finds it at each block. Where a straight phase has no command,
--- the loops of the source are those round the place where it stands.
-use Rattle.std.proofs.Common.{◌≡◌, ◌⊎◌, inl, inr, ℕ, ◌+◌, ◌==◌, ◌&&◌, nat_lt, Bool, true, false, if◌then◌else◌, List, [], ◌∷◌, ◌++◌, Some, refl, sym, ◌∙◌, ap, subst}
+-- and its iterator's number; both come to the loops round them just where they are unrolled. So a walk along the
+-- commands keeps the match in their phases. Where a straight phase has no command, the loops of the source are those
+-- round the place where it stands.
+use Rattle.std.proofs.Common.{◌≡◌, ℕ, ◌+◌, ◌==◌, ◌&&◌, nat_lt, Bool, true, false, if◌then◌else◌, List, [], ◌∷◌, ◌++◌, Some, refl, sym, ◌∙◌, ap, subst}
 use Rattle.std.specs.Prelude.{Option}
 use Rattle.std.proofs.lemmas.List.{append-nil}
 use Rattle.dh_base.specs.declared.places.Place.{Place}
 use Rattle.dh_value.specs.declared.kinds.Kind.{Kind}
 use Rattle.dh_tree.specs.declared.trees.counters.Counter.{Counter}
 use Rattle.dh_tree.specs.declared.trees.expressions.Ref.{Ref}
-use Rattle.dh_tree.specs.Numbers.{IsNumbered}
 use Rattle.dh_tree.specs.PlainTrees.{Placed, Unrolled, Action, action, ActionForm, lets, lets_memory, views, assigns, stores, reduces, calls, blocks, decides, repeats, counts, MaybeAction, no_action, one_action, Actions, no_actions, action_then, Groups, no_groups, group_then, Program}
-use Rattle.dh_tree.specs.Ready.{IsReady}
 use Rattle.dh_meaning.specs.AccessNumbers.{term_accesses, accesses_of, part_accesses}
 use Rattle.dh_meaning.specs.Bindings.{binding_in, depth_bound}
-use Rattle.dh_meaning.specs.Paths.{paths_in}
-use Rattle.dh_meaning.specs.Phases.{Located, Phase, straight, turns, repeated, decided, Phases, no_phases, phase, of_list, one_straight, joined, are_straight, one_command, folded, turn_count, turn_phases, choice_phases, phases, form_phases, other_phases, groups_phases, parts_phases, phases_of}
-use Rattle.dh_meaning.specs.Sites.{Around, nothing_around, in_arm, in_loop, loop_of}
+use Rattle.dh_meaning.specs.Phases.{Located, Phase, straight, turns, repeated, decided, Phases, no_phases, phase, of_list, one_straight, joined, are_straight, one_command, folded, turn_count, turn_phases, choice_phases, phases, form_phases, other_phases, groups_phases, parts_phases}
+use Rattle.dh_meaning.specs.Sites.{Around, in_arm, in_loop, loop_of}
 use Rattle.dh_meaning.specs.Core.{Turning}
-use Rattle.dh_meaning.specs.CoreOf.{Known, known_of, entity_number, depth_of, form_of, turning_of, core_commands, core_test, core_phase, core_phases, core_of}
-use Rattle.dh_meaning.specs.Effects.{Block, commands, tests}
+use Rattle.dh_meaning.specs.CoreOf.{Known, known_of, entity_number, depth_of, form_of, turning_of}
+use Rattle.dh_meaning.specs.Effects.{Block}
 use Rattle.dh_meets.specs.Charges.{factors_of}
-use Rattle.dh_meets.specs.SourceEvents.{SourceEvent, trace}
-use Rattle.dh_sound.specs.Blocks.{factors, StandsIn, StandsInPhase}
+use Rattle.dh_meets.specs.SourceEvents.{SourceEvent}
+use Rattle.dh_sound.specs.Blocks.{factors}
 use Rattle.dh_sound.specs.LoopsMatch.{unrolled, LoopMatches, EachMatches, LoopsMatch}
-use Rattle.dh_sound.specs.NamedPrograms.{StoresToAccesses}
-use Rattle.dh_sound.specs.PhaseFacts.{HasStraightIn, HaveStraight, HasStraight, HasTestIn, HaveTest, HasTest}
 use Rattle.dh_sound.specs.Straight.{Stands, IsNamedAction, IsNamedForm, IsNamedOther, AreNamedGroups, AreNamedActions}
-use Rattle.dh_sound.proofs.BlocksOfPhases.{Along, straight_along, tested_along, own_around, phases_follow}
-use Rattle.dh_sound.proofs.NamedPrograms.{ready_named}
-use Rattle.dh_sound.proofs.Trails.{Tops}
+use Rattle.dh_sound.proofs.BlocksOfPhases.{Along}
 use Rattle.dh_sound.specs.BlocksOfPhases.{OfStraight, OfTest}
 use Rattle.dh_sound.specs.Trails.{Follows}
 
@@ -90,7 +83,7 @@ loop_matches known r c ts own m h =
     by false = subst (λ (x : List Turning). EachMatches known x r.loops) (sym (append-nil ts)) h
 
 -- each of these commands has loops round it that match, and there are such loops
-abbrev EachInside : Known → (ts : List Turning) → List Located → Type 0
+abbrev pub EachInside : Known → (ts : List Turning) → List Located → Type 0
 EachInside known ts [] = (loops : List Counter) × EachMatches known ts loops
 EachInside known ts (c ∷ cs) = EachMatches known ts c.around.loops × EachInside known ts cs
 
@@ -117,17 +110,17 @@ module _ (known : Known) where
   -- phases inside these unrolled loops: the commands of straight phases and of tests have loops round them that match,
   -- and inside a `for` that is unrolled it stands behind these
   abbrev mutual
-    IsInside : (ts : List Turning) → Phase → Type 0
+    pub IsInside : (ts : List Turning) → Phase → Type 0
     IsInside ts (straight cs) = EachInside known ts cs
     IsInside ts (turns loop count body) = AreInside (ts ++ unrolled (turning_of known count (form_of loop.command) ∷ [])) body
     IsInside ts (repeated loop body) = EachMatches known ts loop.around.loops × AreInside ts body
     IsInside ts (decided choice chosen other) = EachMatches known ts choice.around.loops × (AreInside ts chosen × AreInside ts other)
 
-    AreInside : (ts : List Turning) → Phases → Type 0
+    pub AreInside : (ts : List Turning) → Phases → Type 0
     AreInside ts no_phases = Unit {0}
     AreInside ts (phase p ps) = IsInside ts p × AreInside ts ps
 
-  abbrev ListInside : (ts : List Turning) → List Phase → Type 0
+  abbrev pub ListInside : (ts : List Turning) → List Phase → Type 0
   ListInside ts [] = Unit {0}
   ListInside ts (p ∷ ps) = IsInside ts p × ListInside ts ps
 
@@ -188,7 +181,7 @@ module _ (known : Known) where
 
   -- the phases of a command with this round it
   mutual
-    action_inside : (r : Around) (ts : List Turning) (n : ℕ) (a : Action) → IsNamedAction a → EachMatches known ts r.loops → ListInside ts (phases r n a)
+    pub action_inside : (r : Around) (ts : List Turning) (n : ℕ) (a : Action) → IsNamedAction a → EachMatches known ts r.loops → ListInside ts (phases r n a)
     action_inside r ts n (action id place form) names e = form_inside r ts n id place form names e
 
     form_inside : (r : Around) (ts : List Turning) (n id : ℕ) (place : Place) (f : ActionForm) → IsNamedForm f → EachMatches known ts r.loops → ListInside ts (form_phases r n id place f)
@@ -226,64 +219,8 @@ module _ (known : Known) where
     parts_inside r ts n no_actions names e = tt
     parts_inside r ts n (action_then a rest) names e = (action_inside r ts n a names.0 e, parts_inside r ts (n + accesses_of a) rest names.1 e)
 
-  -- What is found of a block in loops: the straight commands or the command with the test that it is made of, which
-  -- have loops round them that match these.
-  abbrev FoundStraight : (List Located → Type 0) → (loops : List Turning) → Block → Type 0
-  FoundStraight S loops b = (cs : List Located) × ((b ≡ commands (core_commands known cs)) × (S cs × EachInside known (unrolled loops) cs))
-
-  abbrev FoundTest : (Located → Type 0) → (loops : List Turning) → Block → Type 0
-  FoundTest T loops b = (c : Located) × ((b ≡ tests (core_test known c)) × (T c × EachMatches known (unrolled loops) c.around.loops))
-
-  abbrev Found : (S : List Located → Type 0) (T : Located → Type 0) → (loops : List Turning) → Block → Type 0
-  Found S T loops b = FoundStraight S loops b ⊎ FoundTest T loops b
-
-  found_more : (S S2 : List Located → Type 0) (T T2 : Located → Type 0) (loops : List Turning) (b : Block) → ((cs : List Located) → S cs → S2 cs) → ((c : Located) → T c → T2 c)
-      → Found S T loops b → Found S2 T2 loops b
-  found_more S S2 T T2 loops b s t (inl (cs, (is, (has, inside)))) = inl (cs, (is, (s cs has, inside)))
-  found_more S S2 T T2 loops b s t (inr (c, (is, (has, inside)))) = inr (c, (is, (t c has, inside)))
-
-  found_test : (T : Located → Type 0) (S : List Located → Type 0) (round loops : List Turning) (b : Block) (c : Located) → T c → EachMatches known (unrolled round) c.around.loops
-      → (loops ≡ round) × (b ≡ tests (core_test known c)) → Found S T loops b
-  found_test T S round loops b c t e s = inr (c, (s.1, (t, subst (λ (l : List Turning). EachMatches known (unrolled l) c.around.loops) (sym s.0) e)))
-
-  mutual
-    find_in : (p : Phase) (round loops : List Turning) (b : Block) → IsInside (unrolled round) p → StandsInPhase round (core_phase known p) loops b
-        → Found (HasStraightIn p) (HasTestIn p) loops b
-    find_in (straight cs) round loops b i s = inl (cs, (s.1, (refl, subst (λ (l : List Turning). EachInside known (unrolled l) cs) (sym s.0) i)))
-    find_in (turns loop count body) round loops b i s =
-        let own : Turning = turning_of known count (form_of loop.command) in
-        find body (round ++ own ∷ []) loops b (subst (λ (ts : List Turning). AreInside ts body) (sym (unrolled_both round (own ∷ []))) i) s
-    find_in (repeated loop body) round loops b i (inl s) = found_test (HasTestIn (repeated loop body)) (HasStraightIn (repeated loop body)) round loops b loop (inl refl) i.0 s
-    find_in (repeated loop body) round loops b i (inr s) =
-        found_more (HaveStraight body) (HasStraightIn (repeated loop body)) (HaveTest body) (HasTestIn (repeated loop body)) loops b (λ cs h. h) (λ c h. inr h)
-        (find body round loops b i.1 s)
-    find_in (decided choice chosen other) round loops b i (inl s) =
-        found_test (HasTestIn (decided choice chosen other)) (HasStraightIn (decided choice chosen other)) round loops b choice (inl refl) i.0 s
-    find_in (decided choice chosen other) round loops b i (inr (inl s)) =
-        found_more (HaveStraight chosen) (HasStraightIn (decided choice chosen other)) (HaveTest chosen) (HasTestIn (decided choice chosen other)) loops b
-        (λ cs h. inl h) (λ c h. inr (inl h)) (find chosen round loops b i.1.0 s)
-    find_in (decided choice chosen other) round loops b i (inr (inr s)) =
-        found_more (HaveStraight other) (HasStraightIn (decided choice chosen other)) (HaveTest other) (HasTestIn (decided choice chosen other)) loops b
-        (λ cs h. inr h) (λ c h. inr (inr h)) (find other round loops b i.1.1 s)
-
-    find : (ps : Phases) (round loops : List Turning) (b : Block) → AreInside (unrolled round) ps → StandsIn round (core_phases known ps) loops b
-        → Found (HaveStraight ps) (HaveTest ps) loops b
-    find no_phases round loops b i s = elim s [ ]
-    find (phase p ps) round loops b i (inl s) =
-        found_more (HasStraightIn p) (HaveStraight (phase p ps)) (HasTestIn p) (HaveTest (phase p ps)) loops b (λ cs h. inl h) (λ c h. inl h) (find_in p round loops b i.0 s)
-    find (phase p ps) round loops b i (inr s) =
-        found_more (HaveStraight ps) (HaveStraight (phase p ps)) (HaveTest ps) (HaveTest (phase p ps)) loops b (λ cs h. inr h) (λ c h. inr h) (find ps round loops b i.1 s)
-
-  find_listed : (ps : List Phase) (round loops : List Turning) (b : Block) → ListInside (unrolled round) ps → StandsIn round (core_phases known (of_list ps)) loops b
-      → Found (HasStraight ps) (HasTest ps) loops b
-  find_listed [] round loops b i s = elim s [ ]
-  find_listed (p ∷ ps) round loops b i (inl s) =
-      found_more (HasStraightIn p) (HasStraight (p ∷ ps)) (HasTestIn p) (HasTest (p ∷ ps)) loops b (λ cs h. inl h) (λ c h. inl h) (find_in p round loops b i.0 s)
-  find_listed (p ∷ ps) round loops b i (inr s) =
-      found_more (HasStraight ps) (HasStraight (p ∷ ps)) (HasTest ps) (HasTest (p ∷ ps)) loops b (λ cs h. inr h) (λ c h. inr h) (find_listed ps round loops b i.1 s)
-
   -- commands along the trace, with the loops round them
-  same_loops : (before part : List SourceEvent) (ts : List Turning) (cs : List Located) → Along before part cs → EachInside known ts cs
+  pub same_loops : (before part : List SourceEvent) (ts : List Turning) (cs : List Located) → Along before part cs → EachInside known ts cs
       → (r : Around) × (Follows r before part cs × EachMatches known ts r.loops)
   same_loops before part ts [] f i = (record { arms = []; loops = i.0 }, (tt, i.1))
   same_loops before part ts (c ∷ cs) (r, f) i = (r, (f, subst (λ (x : Around). EachMatches known ts x.loops) f.1.1.1.0.around i.0))
@@ -297,27 +234,3 @@ pub record StraightMatches (p : Program) (loops : List Turning) (block : Block) 
 pub record TestMatches (p : Program) (loops : List Turning) (block : Block) : Type 0 where
   pub of : OfTest p loops block
   pub loops_match : LoopsMatch (known_of p) loops of.tested.around.loops
-
--- each block of a program is that of a phase, in loops that match
-pub block_matches : (p : Program) (first : ℕ) (loops : List Turning) (block : Block) → IsNumbered first p.body → IsNamedAction p.body
-    → StandsIn [] (core_of p).phases loops block → StraightMatches p loops block ⊎ TestMatches p loops block
-block_matches p first loops block numbered names s =
-    by (find_listed (known_of p) (phases_of p) [] loops block (action_inside (known_of p) nothing_around [] 0 p.body names tt) s)
-  where
-    tops : Tops nothing_around [] (trace p) (phases_of p)
-    tops = phases_follow p first numbered names
-
-    by : Found (known_of p) (HasStraight (phases_of p)) (HasTest (phases_of p)) loops block → StraightMatches p loops block ⊎ TestMatches p loops block
-    by (inl (cs, (is, (has, inside)))) =
-        let w = same_loops (known_of p) [] (trace p) (unrolled loops) cs (straight_along [] (trace p) nothing_around (phases_of p) cs tops has) inside in
-        let same : factors loops ≡ factors_of w.0.loops = match_factors (known_of p) loops w.0.loops w.1.1 in
-        inl (record { of = record { done = cs; is = is; has = has; round = w.0; follows = w.1.0; inside = same; paths = ap paths_in same }; loops_match = w.1.1 })
-    by (inr (c, (is, (has, inside)))) =
-        let f = own_around [] (trace p) c (tested_along [] (trace p) nothing_around (phases_of p) c tops has) in
-        let same : factors loops ≡ factors_of c.around.loops = match_factors (known_of p) loops c.around.loops inside in
-        inr (record { of = record { tested = c; is = is; has = has; follows = f; inside = same; paths = ap paths_in same }; loops_match = inside })
-
--- so are those of a ready program
-pub ready_match : (p : Program) → IsReady p → StoresToAccesses p → (loops : List Turning) (block : Block)
-    → StandsIn [] (core_of p).phases loops block → StraightMatches p loops block ⊎ TestMatches p loops block
-ready_match p r t loops block s = block_matches p r.of_text.first loops block r.of_text.numbered (ready_named p r t) s

@@ -1,9 +1,8 @@
 -- A program that is ready is numbered and named: its commands are numbered from a first number on, as in the tree of
 -- any text; each name that it uses as a variable stands for something, since every name has the entity that it stands
 -- for where it stands (the tree is resolved) and is visible there (no rule on names is broken); a name that is
--- declared has the next number. By one walk over the body, with the names that are visible at each command. So each
--- block of a ready program is that of a phase.
-use Rattle.std.proofs.Common.{◌≡◌, ◌⊎◌, ℕ, if◌then◌else◌, List, [], ◌∷◌, length, Option, Some, None, refl, sym, ◌∙◌, ap}
+-- declared has the next number. By one walk over the body, with the names that are visible at each command.
+use Rattle.std.proofs.Common.{◌≡◌, ℕ, if◌then◌else◌, List, [], ◌∷◌, length, Option, Some, None, refl, sym, ◌∙◌, ap}
 use Rattle.std.specs.Option.{is_some, option_map}
 use Rattle.dh_tree.specs.declared.breaches.Breach.{Breach}
 use Rattle.dh_tree.specs.declared.trees.expressions.Ref.{Ref}
@@ -17,14 +16,8 @@ use Rattle.dh_tree.specs.Ready.{IsReady}
 use Rattle.dh_tree.specs.Resolved.{resolved_term, resolved_term_form, resolved_terms, resolved_action, resolved_form, resolved_other, resolved_actions, resolved_groups}
 use Rattle.dh_tree.specs.Scopes.{Binding, entity_of, Scope, declare, leave, past, at_end, actions_at_end, first_scope, body_scope, items_of}
 use Rattle.dh_tree.proofs.UncheckedBuilt.{first_none, second_none}
-use Rattle.dh_meaning.specs.Core.{Turning}
-use Rattle.dh_meaning.specs.CoreOf.{core_of}
-use Rattle.dh_meaning.specs.Effects.{Block}
-use Rattle.dh_sound.specs.Blocks.{StandsIn}
 use Rattle.dh_sound.specs.NamedPrograms.{IsAccess, HasTargets, FormHasTargets, OtherHasTargets, GroupsHaveTargets, PartHasTargets, StoresToAccesses}
 use Rattle.dh_sound.specs.Straight.{Stands, IsNamedTerm, IsNamedTermForm, AreNamedTerms, MaybeNamed, IsTarget, IsNamedAction, IsNamedForm, IsNamedOther, AreNamedGroups, AreNamedActions}
-use Rattle.dh_sound.proofs.BlocksOfPhases.{block_of_phase}
-use Rattle.dh_sound.specs.BlocksOfPhases.{OfStraight, OfTest}
 
 -- what is visible has a number
 numbered_where : (o : Option ℕ) (b : Breach) → (if is_some o then [] else b ∷ []) ≡ [] → (e : ℕ) × (o ≡ Some e)
@@ -32,7 +25,7 @@ numbered_where None b h = cc
 numbered_where (Some n) b h = (n, refl)
 
 -- a name that is used stands for something where it is visible
-used_stands : (bs : List Binding) (r : Ref) → entity_of bs r.name ≡ r.entity → unknown bs r ≡ [] → Stands r
+pub used_stands : (bs : List Binding) (r : Ref) → entity_of bs r.name ≡ r.entity → unknown bs r ≡ [] → Stands r
 used_stands bs r e h = let w = numbered_where (entity_of bs r.name) (breach UnknownName r.place) h in (w.0, sym e ∙ w.1)
 
 -- a name that is declared has the next number
@@ -157,8 +150,3 @@ ready_named p r t =
 -- and its numbers
 pub ready_numbered : (p : Program) → IsReady p → (first : ℕ) × IsNumbered first p.body
 ready_numbered p r = (r.of_text.first, r.of_text.numbered)
-
--- so each block of a ready program is that of a phase
-pub ready_blocks : (p : Program) → IsReady p → StoresToAccesses p → (loops : List Turning) (block : Block)
-    → StandsIn [] (core_of p).phases loops block → OfStraight p loops block ⊎ OfTest p loops block
-ready_blocks p r t loops block s = block_of_phase p r.of_text.first loops block r.of_text.numbered (ready_named p r t) s

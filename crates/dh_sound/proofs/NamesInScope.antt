@@ -1,10 +1,9 @@
--- Every name in the indices of an access of a block is a variable, or the iterator of a loop in which the block
+-- Every name in the indices of an access of a phase is a variable, or the iterator of a loop in which the phase
 -- stands. The names of the body are in scope, by the loops in which each command stands. The loops of a block are
 -- all the `for`s round its commands that have phases; a `for` without phases has no commands that a phase does. What
 -- holds of commands holds of the phases that do them: joining and folding puts straight commands of the same loops
--- together and changes nothing else. So the block is found with loops in which the names of its commands, or of
--- its test, are in scope; and the indices of an access name nothing else.
-use Rattle.std.proofs.Common.{◌≡◌, ◌⊎◌, inl, inr, ℕ, ◌+◌, ◌<◌, ◌≤◌, ◌==◌, ◌&&◌, ◌||◌, Bool, true, false, if◌then◌else◌, List, [], ◌∷◌, ◌++◌, length, map, Some, None, refl, sym, ◌∙◌, ap, subst, arith, length-append}
+-- together and changes nothing else. And the indices of an access name nothing else than its command.
+use Rattle.std.proofs.Common.{◌≡◌, inl, inr, ℕ, ◌+◌, ◌<◌, ◌≤◌, ◌==◌, ◌&&◌, ◌||◌, Bool, true, false, if◌then◌else◌, List, [], ◌∷◌, ◌++◌, length, map, Some, None, refl, sym, ap, arith, length-append}
 use Rattle.std.specs.Prelude.{slice_get}
 use Rattle.std.proofs.lemmas.List.{append-nil}
 use Rattle.dh_base.specs.declared.places.Place.{Place}
@@ -18,33 +17,25 @@ use Rattle.dh_tree.specs.declared.trees.programs.Sort.TheVariants as sort
 use Rattle.dh_meaning.specs.AccessNumbers.{term_accesses, accesses_of, part_accesses}
 use Rattle.dh_meaning.specs.Bindings.{bindings_of, binding_in}
 use Rattle.dh_meaning.specs.Core.{Turning}
-use Rattle.dh_meaning.specs.CoreOf.{Known, known_of, form_of, turning_of, core_commands, core_test, core_phase, core_phases, core_of}
-use Rattle.dh_meaning.specs.Effects.{Block, commands, tests}
+use Rattle.dh_meaning.specs.CoreOf.{Known, known_of, form_of, turning_of}
 use Rattle.dh_meaning.specs.OnePhase.{makes, any_makes, test_makes}
-use Rattle.dh_meaning.specs.Paths.{paths_in}
 use Rattle.dh_meaning.specs.Phases.{Located, located, Phase, straight, turns, repeated, decided, Phases, no_phases, phase, of_list, one_straight, joined, are_straight, one_command, folded, turn_count, turn_phases, choice_phases, phases, form_phases, other_phases, groups_phases, parts_phases, phases_of, idle_phases_of}
-use Rattle.dh_meaning.specs.Sites.{Around, nothing_around, in_arm, in_loop, loop_of}
+use Rattle.dh_meaning.specs.Sites.{Around, in_arm, in_loop, loop_of}
 use Rattle.dh_meets.specs.SourceEvents.{SourceAccess, accesses_in, trace}
-use Rattle.dh_meets.specs.Charges.{factors_of}
-use Rattle.dh_sound.specs.Blocks.{factors, StandsIn, StandsInPhase}
 use Rattle.dh_sound.specs.NamedPrograms.{StoresToAccesses}
 use Rattle.dh_sound.specs.NamesInScope.{InScope, IsScoped, FormScoped, OtherScoped, GroupsScoped, PartScoped}
-use Rattle.dh_sound.specs.PhaseFacts.{HasStraightIn, HaveStraight, HasStraight, HasTestIn, HaveTest, HasTest}
+use Rattle.dh_sound.specs.PhaseFacts.{HasStraight, HasTest}
 use Rattle.dh_sound.specs.SameKeys.{EachNameIn}
-use Rattle.dh_sound.proofs.BlocksOfPhases.{EachInside, IsInside, AreInside, ListInside, action_inside, straight_along, tested_along, own_around, same_loops, phases_follow}
 use Rattle.dh_sound.proofs.DepthsNamed.{size}
-use Rattle.dh_sound.proofs.IteratorsAt.{factors_both}
 use Rattle.dh_sound.proofs.IteratorsNamed.{on_long, declared_on, goes_on}
 use Rattle.dh_sound.proofs.KindsOfPrograms.{map_long}
 use Rattle.dh_sound.proofs.LocatedSites.{located_at, test_first}
-use Rattle.dh_sound.proofs.NamedPrograms.{ready_named, ready_numbered}
+use Rattle.dh_sound.proofs.NamedPrograms.{ready_named}
 use Rattle.dh_sound.proofs.NamesOfEvents.{made_names, tested_names}
 use Rattle.dh_sound.proofs.NamesScoped.{AreVisible, plain_in, bind_in, all_from, all_less, none_behind, scoped}
 use Rattle.dh_sound.proofs.Sited.{makes_within}
 use Rattle.dh_sound.proofs.Slices.{straight_stands, test_stands, straight_either, test_either}
 use Rattle.dh_sound.proofs.Pigeons.{Has}
-use Rattle.dh_sound.proofs.Trails.{Tops}
-use Rattle.dh_sound.specs.BlocksOfPhases.{OfStraight, OfTest}
 
 -- Phases.
 
@@ -131,7 +122,7 @@ module _ (known : Known) where
 
   -- the phases of a command
   mutual
-    action_scoped : (r : Around) (loops : List Turning) (n : ℕ) (a : Action) → IsScoped known loops a → ListScoped loops (phases r n a)
+    pub action_scoped : (r : Around) (loops : List Turning) (n : ℕ) (a : Action) → IsScoped known loops a → ListScoped loops (phases r n a)
     action_scoped r loops n (action id place form) e = phases_scoped r loops n id place form e
 
     phases_scoped : (r : Around) (loops : List Turning) (n id : ℕ) (place : Place) (f : ActionForm) → FormScoped known loops f → ListScoped loops (form_phases r n id place f)
@@ -167,66 +158,6 @@ module _ (known : Known) where
     parts_scoped : (r : Around) (loops : List Turning) (n : ℕ) (q : Actions) → PartScoped known loops q → ListsScoped loops (parts_phases r n q)
     parts_scoped r loops n no_actions e = tt
     parts_scoped r loops n (action_then a rest) e = (action_scoped r loops n a e.0, parts_scoped r loops (n + accesses_of a) rest e.1)
-
-  -- Blocks.
-
-  -- What is found of a block in loops: the straight commands or the command with the test that it is made of, which
-  -- have loops of these factors round them, and names in scope.
-  abbrev FoundStraight : (List Located → Type 0) → (loops : List Turning) → Block → Type 0
-  FoundStraight S loops b = (cs : List Located) × ((b ≡ commands (core_commands known cs)) × (S cs × (EachInside (factors loops) cs × EachScoped loops cs)))
-
-  abbrev FoundTest : (Located → Type 0) → (loops : List Turning) → Block → Type 0
-  FoundTest T loops b = (c : Located) × ((b ≡ tests (core_test known c)) × (T c × ((factors_of c.around.loops ≡ factors loops) × IsScoped known loops c.command)))
-
-  abbrev Found : (S : List Located → Type 0) (T : Located → Type 0) → (loops : List Turning) → Block → Type 0
-  Found S T loops b = FoundStraight S loops b ⊎ FoundTest T loops b
-
-  found_more : (S S2 : List Located → Type 0) (T T2 : Located → Type 0) (loops : List Turning) (b : Block) → ((cs : List Located) → S cs → S2 cs) → ((c : Located) → T c → T2 c)
-      → Found S T loops b → Found S2 T2 loops b
-  found_more S S2 T T2 loops b s t (inl (cs, (is, (has, inside)))) = inl (cs, (is, (s cs has, inside)))
-  found_more S S2 T T2 loops b s t (inr (c, (is, (has, inside)))) = inr (c, (is, (t c has, inside)))
-
-  found_test : (T : Located → Type 0) (S : List Located → Type 0) (round loops : List Turning) (b : Block) (c : Located) → T c → factors_of c.around.loops ≡ factors round → IsScoped known round c.command
-      → (loops ≡ round) × (b ≡ tests (core_test known c)) → Found S T loops b
-  found_test T S round loops b c t e n s =
-      inr (c, (s.1, (t, (e ∙ ap factors (sym s.0), subst (λ (l : List Turning). IsScoped known l c.command) (sym s.0) n))))
-
-  mutual
-    find_in : (p : Phase) (round loops : List Turning) (b : Block) → IsInside known (factors round) p → PhaseScoped round p → StandsInPhase round (core_phase known p) loops b
-        → Found (HasStraightIn p) (HasTestIn p) loops b
-    find_in (straight cs) round loops b i n s =
-        inl (cs, (s.1, (refl, (subst (λ (l : List Turning). EachInside (factors l) cs) (sym s.0) i, subst (λ (l : List Turning). EachScoped l cs) (sym s.0) n))))
-    find_in (turns loop count body) round loops b i n s =
-        let own : Turning = turning_of known count (form_of loop.command) in
-        find body (round ++ own ∷ []) loops b (subst (λ (fs : List ℕ). AreInside known fs body) (sym (factors_both round (own ∷ []))) i) n s
-    find_in (repeated loop body) round loops b i n (inl s) = found_test (HasTestIn (repeated loop body)) (HasStraightIn (repeated loop body)) round loops b loop (inl refl) i.0 n.0 s
-    find_in (repeated loop body) round loops b i n (inr s) =
-        found_more (HaveStraight body) (HasStraightIn (repeated loop body)) (HaveTest body) (HasTestIn (repeated loop body)) loops b (λ cs h. h) (λ c h. inr h)
-        (find body round loops b i.1 n.1 s)
-    find_in (decided choice chosen other) round loops b i n (inl s) =
-        found_test (HasTestIn (decided choice chosen other)) (HasStraightIn (decided choice chosen other)) round loops b choice (inl refl) i.0 n.0 s
-    find_in (decided choice chosen other) round loops b i n (inr (inl s)) =
-        found_more (HaveStraight chosen) (HasStraightIn (decided choice chosen other)) (HaveTest chosen) (HasTestIn (decided choice chosen other)) loops b
-        (λ cs h. inl h) (λ c h. inr (inl h)) (find chosen round loops b i.1.0 n.1.0 s)
-    find_in (decided choice chosen other) round loops b i n (inr (inr s)) =
-        found_more (HaveStraight other) (HasStraightIn (decided choice chosen other)) (HaveTest other) (HasTestIn (decided choice chosen other)) loops b
-        (λ cs h. inr h) (λ c h. inr (inr h)) (find other round loops b i.1.1 n.1.1 s)
-
-    find : (ps : Phases) (round loops : List Turning) (b : Block) → AreInside known (factors round) ps → PhasesScoped round ps → StandsIn round (core_phases known ps) loops b
-        → Found (HaveStraight ps) (HaveTest ps) loops b
-    find no_phases round loops b i n s = elim s [ ]
-    find (phase p ps) round loops b i n (inl s) =
-        found_more (HasStraightIn p) (HaveStraight (phase p ps)) (HasTestIn p) (HaveTest (phase p ps)) loops b (λ cs h. inl h) (λ c h. inl h) (find_in p round loops b i.0 n.0 s)
-    find (phase p ps) round loops b i n (inr s) =
-        found_more (HaveStraight ps) (HaveStraight (phase p ps)) (HaveTest ps) (HaveTest (phase p ps)) loops b (λ cs h. inr h) (λ c h. inr h) (find ps round loops b i.1 n.1 s)
-
-  find_listed : (ps : List Phase) (round loops : List Turning) (b : Block) → ListInside known (factors round) ps → ListScoped round ps → StandsIn round (core_phases known (of_list ps)) loops b
-      → Found (HasStraight ps) (HasTest ps) loops b
-  find_listed [] round loops b i n s = elim s [ ]
-  find_listed (p ∷ ps) round loops b i n (inl s) =
-      found_more (HasStraightIn p) (HasStraight (p ∷ ps)) (HasTestIn p) (HasTest (p ∷ ps)) loops b (λ cs h. inl h) (λ c h. inl h) (find_in p round loops b i.0 n.0 s)
-  find_listed (p ∷ ps) round loops b i n (inr s) =
-      found_more (HasStraight ps) (HasStraight (p ∷ ps)) (HasTest ps) (HasTest (p ∷ ps)) loops b (λ cs h. inr h) (λ c h. inr h) (find_listed ps round loops b i.1 n.1 s)
 
 -- Where the body begins.
 
@@ -305,7 +236,7 @@ module _ (p : Program) (r : IsReady p) (t : StoresToAccesses p) where
   -- Accesses.
   module _ (loops : List Turning) (k : ℕ) (a : SourceAccess) (is : slice_get (accesses_in (trace p)) k ≡ Some a) where
     -- an access of one of straight commands
-    any_named : (cs all : List Located) → HasStraight (phases_of p) all → ((c : Located) → Has c cs → Has c all) → EachScoped (known_of p) loops cs → any_makes k cs ≡ true
+    pub any_named : (cs all : List Located) → HasStraight (phases_of p) all → ((c : Located) → Has c cs → Has c all) → EachScoped (known_of p) loops cs → any_makes k cs ≡ true
         → EachNameIn (InScope (known_of p) loops) a.element
     any_named [] all h more n m = absurd cc
     any_named (c ∷ cs) all h more n m = by (makes k c.first c.command) refl m (any_named cs all h (λ d g. more d (inr g)) n.1)
@@ -317,7 +248,7 @@ module _ (p : Program) (r : IsReady p) (t : StoresToAccesses p) where
         by false e g rest = rest g
 
     -- an access of a test
-    test_named : (c : Located) → HasTest (phases_of p) c → IsScoped (known_of p) loops c.command → test_makes k c ≡ true → EachNameIn (InScope (known_of p) loops) a.element
+    pub test_named : (c : Located) → HasTest (phases_of p) c → IsScoped (known_of p) loops c.command → test_makes k c ≡ true → EachNameIn (InScope (known_of p) loops) a.element
     test_named c h n m =
         tested_names k a (known_of p) loops c.around c.first c.command n m
         (located_at k a (trace p) c (test_stands p c (test_either (phases_of p) (idle_phases_of p) c (inl h))) (test_first k a c.first c.command m) is)
@@ -329,37 +260,3 @@ StraightNames p loops done = (k : ℕ) (a : SourceAccess) → any_makes k done �
 -- and so do those of a test
 abbrev pub TestNames : (p : Program) → (loops : List Turning) → Located → Type 0
 TestNames p loops tested = (k : ℕ) (a : SourceAccess) → test_makes k tested ≡ true → slice_get (accesses_in (trace p)) k ≡ Some a → EachNameIn (InScope (known_of p) loops) a.element
-
--- A block is that of straight commands, whose indices name only what is in scope in its loops.
-pub record OfStraightInScope (p : Program) (loops : List Turning) (block : Block) : Type 0 where
-  pub straightly : OfStraight p loops block
-  pub names : StraightNames p loops straightly.done
-
--- A block is that of a test, whose indices name only what is in scope in its loops.
-pub record OfTestInScope (p : Program) (loops : List Turning) (block : Block) : Type 0 where
-  pub testing : OfTest p loops block
-  pub names : TestNames p loops testing.tested
-
--- each block of a ready program is that of a phase, and its indices name only what is in scope
-pub ready_names : (p : Program) → IsReady p → StoresToAccesses p → (loops : List Turning) (block : Block)
-    → StandsIn [] (core_of p).phases loops block → OfStraightInScope p loops block ⊎ OfTestInScope p loops block
-ready_names p r t loops block s =
-    by (find_listed (known_of p) (phases_of p) [] loops block (action_inside (known_of p) nothing_around [] 0 p.body refl)
-    (action_scoped (known_of p) nothing_around [] 0 p.body (body_scoped p r t)) s)
-  where
-    tops : Tops nothing_around [] (trace p) (phases_of p)
-    tops = let w = ready_numbered p r in phases_follow p w.0 w.1 (ready_named p r t)
-
-    by : Found (known_of p) (HasStraight (phases_of p)) (HasTest (phases_of p)) loops block → OfStraightInScope p loops block ⊎ OfTestInScope p loops block
-    by (inl (cs, (is, (has, (inside, names))))) =
-        let w = same_loops [] (trace p) (factors loops) cs (straight_along [] (trace p) nothing_around (phases_of p) cs tops has) inside in
-        inl (record {
-          straightly = record { done = cs; is = is; has = has; round = w.0; follows = w.1.0; inside = w.1.1; paths = ap paths_in w.1.1 };
-          names = λ k a m g. any_named p r t loops k a g cs cs has (λ c h. h) names m;
-        })
-    by (inr (c, (is, (has, (inside, names))))) =
-        let f = own_around [] (trace p) c (tested_along [] (trace p) nothing_around (phases_of p) c tops has) in
-        inr (record {
-          testing = record { tested = c; is = is; has = has; follows = f; inside = sym inside; paths = ap paths_in (sym inside) };
-          names = λ k a m g. test_named p r t loops k a g c has names m;
-        })

@@ -4,7 +4,7 @@
 use Rattle.std.proofs.Common.{◌≡◌, ◌⊎◌, inl, inr, ℕ, ◌+◌, ◌≤◌, Bool, true, false, List, [], length, Option, Some, None, refl, sym, ◌∙◌, ap, subst, arith}
 use Rattle.std.proofs.lemmas.List.{append-nil}
 use Rattle.dh_tree.specs.Elements.{ports_at}
-use Rattle.dh_tree.specs.Memories.{table_of}
+use Rattle.dh_tree.specs.Memories.{memories_of, number_in, table_of}
 use Rattle.dh_tree.specs.Meets.{Apart}
 use Rattle.dh_tree.specs.Numbers.{IsNumbered}
 use Rattle.dh_tree.specs.PlainTrees.{Program, Term}
@@ -29,9 +29,7 @@ use Rattle.dh_base.specs.declared.places.Place.{Place}
 use Rattle.dh_tree.specs.Ready.{IsReady}
 use Rattle.dh_meaning.specs.AccessNumbers.{term_accesses}
 use Rattle.dh_meaning.specs.Runs.{run_state}
-use Rattle.dh_sound.specs.NamedPrograms.{StoresToAccesses}
 use Rattle.dh_sound.specs.Standing.{BlocksKeepPorts}
-use Rattle.dh_sound.proofs.NamedPrograms.{ready_blocks}
 use Rattle.dh_sound.proofs.ReadyKeeps.{ready_never_stuck}
 use Rattle.dh_sound.proofs.Ascending.{number_of, Ascends, read_number, write_number, located_ascend, term_ascends}
 use Rattle.dh_sound.proofs.BlockEvents.{block_events, made_at, commands_of, test_made}
@@ -43,11 +41,12 @@ use Rattle.dh_sound.proofs.OneArm.{one_arm}
 use Rattle.dh_sound.proofs.OnePath.{all_made_by}
 use Rattle.dh_sound.proofs.Opposite.{apart_opposite}
 use Rattle.dh_sound.proofs.Pigeons.{Has}
-use Rattle.dh_sound.proofs.PortsOfBlocks.{block_keeps}
+use Rattle.dh_sound.proofs.PortsOfBlocks.{bank_covered, block_keeps}
 use Rattle.dh_sound.proofs.SourceValues.{source_spot}
 use Rattle.dh_sound.proofs.TermWalks.{IsGood, IsMadeOf, as_read, as_write}
 use Rattle.dh_sound.proofs.TestsMeet.{test_together}
-use Rattle.dh_sound.specs.BlocksOfPhases.{OfStraight, OfTest, TellsBlocks}
+use Rattle.dh_sound.specs.BlocksOfPhases.{OfStraight, OfTest, StraightTold, TestTold, TellsBlocks}
+use Rattle.dh_sound.specs.BlocksCovered.{AreCovered, events_in, BlocksCovered, BlocksKept}
 use Rattle.dh_sound.specs.Trails.{count}
 use Rattle.dh_sound.specs.Deep.{AreDeep}
 
@@ -71,7 +70,7 @@ only_path : (path : Path) → Has path outer_paths → path ≡ []
 only_path path (inl e) = e
 only_path path (inr none) = elim none [ ]
 
-module _ (p : Program) (typed : IsTypedProgram p) (rules : KeepsIndexRules p) (keeps : KeepsPorts p) (declared : AccessesDeclared p) (first : ℕ) (numbered : IsNumbered first p.body)
+module _ (p : Program) (typed : IsTypedProgram p) (rules : KeepsIndexRules p) (declared : AccessesDeclared p) (first : ℕ) (numbered : IsNumbered first p.body)
     (b : Begun) (table : b.table ≡ table_of p) (loops : List Turning) (v : Variables) where
   -- The commands of a Straight phase.
   module _ (block : Block) (o : OfStraight p loops block) (deep : AreDeep (length (factors loops)) (core_commands (known_of p) o.done))
@@ -111,9 +110,14 @@ module _ (p : Program) (typed : IsTypedProgram p) (rules : KeepsIndexRules p) (k
             one_arm p b (known_of p) (path_of x) v o.round [] (trace p) [] o.done first numbered (sym (append-nil (trace p))) o.follows x y mx
             (subst (λ (q : Path). Has y (all_made_by b q phase_commands v)) (sym one) my) gx.of gy.of lx ly opposite.command opposite.opposite
 
-    pub straight_keeps : (memory bank : ℕ) → spent phase_events memory bank ≤ ports_at (table_of p) memory
+    pub straight_covered : (entity memory bank : ℕ) → number_in (memories_of p) (Some entity) ≡ Some memory → AreCovered p phase_events entity memory bank
+    straight_covered =
+        bank_covered p typed rules declared b table (λ k. any_makes k o.done) (λ path. phase_shares p b (known_of p) path o.done o.has v) (λ e. any_assigns e phase_commands) o.round
+        loops phase_commands deep v straight_good straight_ascends indices o.paths straight_together
+
+    pub straight_keeps : KeepsPorts p → (memory bank : ℕ) → spent phase_events memory bank ≤ ports_at (table_of p) memory
     straight_keeps =
-        block_keeps p typed rules keeps declared b table (λ k. any_makes k o.done) (λ path. phase_shares p b (known_of p) path o.done o.has v) (λ e. any_assigns e phase_commands) o.round
+        block_keeps p typed rules declared b table (λ k. any_makes k o.done) (λ path. phase_shares p b (known_of p) path o.done o.has v) (λ e. any_assigns e phase_commands) o.round
         loops phase_commands deep v straight_good straight_ascends indices o.paths straight_together
 
   -- A test.
@@ -153,34 +157,60 @@ module _ (p : Program) (typed : IsTypedProgram p) (rules : KeepsIndexRules p) (k
         tests_ascend q n None = (n, omega arith)
         tests_ascend q n (Some t) = (n + term_accesses t, term_ascends p b (known_of p) q (λ k. test_makes k o.tested) (test_shares p b (known_of p) q o.tested o.has v) v (λ e. false) v n t)
 
-    pub tested_keeps : (memory bank : ℕ) → spent test_made_events memory bank ≤ ports_at (table_of p) memory
-    tested_keeps =
-        block_keeps p typed rules keeps declared b table (λ k. test_makes k o.tested) (λ path. test_shares p b (known_of p) path o.tested o.has v) (λ e. false) o.tested.around
+    pub tested_covered : (entity memory bank : ℕ) → number_in (memories_of p) (Some entity) ≡ Some memory → AreCovered p test_made_events entity memory bank
+    tested_covered =
+        bank_covered p typed rules declared b table (λ k. test_makes k o.tested) (λ path. test_shares p b (known_of p) path o.tested o.has v) (λ e. false) o.tested.around
         loops test_commands test_deep v own_good own_ascends indices o.paths own_together
 
--- A program that is ready and keeps its rules: each of its blocks keeps the ports of every bank.
-module _ (p : Program) (ready : IsReady p) (targets : StoresToAccesses p) (rules : KeepsIndexRules p) (keeps : KeepsPorts p) (declared : AccessesDeclared p) (tells : TellsBlocks p) where
-  typed_program : IsTypedProgram p
-  typed_program = record { names = ready.names; entities = ready.entities; kinds = ready.kinds; suits = ready.suits; widths = ready.of_text.widths }
+    pub tested_keeps : KeepsPorts p → (memory bank : ℕ) → spent test_made_events memory bank ≤ ports_at (table_of p) memory
+    tested_keeps =
+        block_keeps p typed rules declared b table (λ k. test_makes k o.tested) (λ path. test_shares p b (known_of p) path o.tested o.has v) (λ e. false) o.tested.around
+        loops test_commands test_deep v own_good own_ascends indices o.paths own_together
 
+pub typed_program : (p : Program) → IsReady p → IsTypedProgram p
+typed_program p ready = record { names = ready.names; entities = ready.entities; kinds = ready.kinds; suits = ready.suits; widths = ready.of_text.widths }
+
+-- A program that is ready and keeps its rules: what its blocks spend is covered.
+module _ (p : Program) (ready : IsReady p) (rules : KeepsIndexRules p) (declared : AccessesDeclared p) (tells : TellsBlocks p) where
   abbrev begun_with : List (List ℕ) → Begun
   begun_with memories = record { table = (core_of p).table; memories = memories }
 
-  block_within : (loops : List Turning) (block : Block) → StandsIn [] (core_of p).phases loops block → (memories : List (List ℕ)) (v : Variables) → AreInTurn [] loops v → (memory bank : ℕ)
-      → spent (block_run (begun_with memories) (paths_inside loops) block (record { variables = v; events = [] })).events memory bank ≤ ports_at (core_of p).table memory
-  block_within loops block stands memories v turns memory bank = by (ready_blocks p ready targets loops block stands)
+  pub blocks_covered : BlocksCovered p
+  blocks_covered loops block stands memories v turns entity memory bank n = by (tells loops block stands)
     where
-      by : OfStraight p loops block ⊎ OfTest p loops block → spent (block_run (begun_with memories) (paths_inside loops) block (record { variables = v; events = [] })).events memory bank ≤ ports_at (core_of p).table memory
+      by : StraightTold p loops block ⊎ TestTold p loops block → AreCovered p (events_in p loops block memories v) entity memory bank
       by (inl o) =
-          subst (λ (c : Block). spent (block_run (begun_with memories) (paths_inside loops) c (record { variables = v; events = [] })).events memory bank ≤ ports_at (core_of p).table memory) (sym o.is)
-          (straight_keeps p typed_program rules keeps declared ready.of_text.first ready.of_text.numbered (begun_with memories) refl loops v block o (tells.deep loops block stands o) (tells.straight loops block stands o v turns) memory bank)
+          subst (λ (c : Block). AreCovered p (events_in p loops c memories v) entity memory bank) (sym o.of.is)
+          (straight_covered p (typed_program p ready) rules declared ready.of_text.first ready.of_text.numbered (begun_with memories) refl loops v block o.of o.deep (o.indices v turns) entity memory bank n)
       by (inr o) =
-          subst (λ (c : Block). spent (block_run (begun_with memories) (paths_inside loops) c (record { variables = v; events = [] })).events memory bank ≤ ports_at (core_of p).table memory) (sym o.is)
-          (tested_keeps p typed_program rules keeps declared ready.of_text.first ready.of_text.numbered (begun_with memories) refl loops v block o (tells.test loops block stands o v turns) memory bank)
+          subst (λ (c : Block). AreCovered p (events_in p loops c memories v) entity memory bank) (sym o.of.is)
+          (tested_covered p (typed_program p ready) rules declared ready.of_text.first ready.of_text.numbered (begun_with memories) refl loops v block o.of (o.indices v turns) entity memory bank n)
 
-  pub blocks_keep : BlocksKeepPorts (core_of p)
-  blocks_keep = record { within = block_within }
+  -- If it keeps its ports, each block keeps the ports of every bank.
+  module _ (keeps : KeepsPorts p) where
+    block_within : (loops : List Turning) (block : Block) → StandsIn [] (core_of p).phases loops block → (memories : List (List ℕ)) (v : Variables) → AreInTurn [] loops v → (memory bank : ℕ)
+        → spent (block_run (begun_with memories) (paths_inside loops) block (record { variables = v; events = [] })).events memory bank ≤ ports_at (core_of p).table memory
+    block_within loops block stands memories v turns memory bank = by (tells loops block stands)
+      where
+        by : StraightTold p loops block ⊎ TestTold p loops block → spent (block_run (begun_with memories) (paths_inside loops) block (record { variables = v; events = [] })).events memory bank ≤ ports_at (core_of p).table memory
+        by (inl o) =
+            subst (λ (c : Block). spent (block_run (begun_with memories) (paths_inside loops) c (record { variables = v; events = [] })).events memory bank ≤ ports_at (core_of p).table memory) (sym o.of.is)
+            (straight_keeps p (typed_program p ready) rules declared ready.of_text.first ready.of_text.numbered (begun_with memories) refl loops v block o.of o.deep (o.indices v turns) keeps memory bank)
+        by (inr o) =
+            subst (λ (c : Block). spent (block_run (begun_with memories) (paths_inside loops) c (record { variables = v; events = [] })).events memory bank ≤ ports_at (core_of p).table memory) (sym o.of.is)
+            (tested_keeps p (typed_program p ready) rules declared ready.of_text.first ready.of_text.numbered (begun_with memories) refl loops v block o.of (o.indices v turns) keeps memory bank)
 
-  -- and no run of it, from whatever memories, is ever stuck
-  pub never_stuck : (memories : List (List ℕ)) (n memory bank : ℕ) (place : Place) → (run_state (core_of p) memories n).outcome ≡ Stuck memory bank place → ⊥
-  never_stuck = ready_never_stuck p ready blocks_keep
+    pub blocks_keep : BlocksKeepPorts (core_of p)
+    blocks_keep = record { within = block_within }
+
+    -- and no run of it, from whatever memories, is ever stuck
+    pub never_stuck : (memories : List (List ℕ)) (n memory bank : ℕ) (place : Place) → (run_state (core_of p) memories n).outcome ≡ Stuck memory bank place → ⊥
+    never_stuck = ready_never_stuck p ready blocks_keep
+
+-- what is covered keeps the ports of a program that keeps its ports
+pub covered_keep : (p : Program) → BlocksCovered p → KeepsPorts p → BlocksKept p
+covered_keep p covered keeps loops block stands memories v turns entity memory bank n =
+    let c = covered loops block stands memories v turns entity memory bank n in
+    let l = c.covers in
+    let k = keeps c.chosen c.together entity bank in
+    omega (arith, l, k)

@@ -1,7 +1,7 @@
 -- A block that is done in its loops spends of each bank at most the ports of the memory. What is told of its events,
 -- by walks along the trace, by the banks that indices reach and by the keys of reads, is what counting asks; the
--- accesses that were made in one bank are together; and a program that keeps its ports has no set of accesses that
--- are together and charge more.
+-- accesses that were made in one bank are together, and cover what it spends; and a program that keeps its ports has no
+-- set of accesses that are together and charge more.
 use Rattle.std.proofs.Common.{◌≡◌, ◌⊎◌, inl, inr, ℕ, zero, suc, ◌+◌, ◌≤◌, ◌&&◌, nat_eq, Bool, true, false, if◌then◌else◌, List, [], ◌∷◌, length, map, slice_get, Option, Some, None, refl, sym, ◌∙◌, ap, subst, arith}
 use Rattle.std.specs.Option.{option_map}
 use Rattle.std.specs.Cmp.Lexicographic.{pointwise}
@@ -22,9 +22,10 @@ use Rattle.dh_meaning.specs.Paths.{Path, same_path, paths_in}
 use Rattle.dh_meaning.specs.Sites.{Around}
 use Rattle.dh_meets.specs.Charges.{charge, key_of, keys_reaching, reaches, paths_of, factors_of}
 use Rattle.dh_meets.specs.MayMeet.{meets_in}
-use Rattle.dh_meets.specs.Ports.{KeepsPorts, ports_of, memory_ports}
+use Rattle.dh_meets.specs.Ports.{KeepsPorts, memory_ports}
 use Rattle.dh_meets.specs.SourceEvents.{Element, with_indices, in_row, SourceAccess}
 use Rattle.dh_sound.specs.Blocks.{factors, paths_inside}
+use Rattle.dh_sound.specs.BlocksCovered.{AreCovered}
 use Rattle.dh_sound.specs.BlockTold.{IsOfMemory, AccessesDeclared, IndicesTold}
 use Rattle.dh_sound.specs.IndexValues.{IsTypedProgram, IsMade, target_of}
 use Rattle.dh_sound.specs.SameKeys.{IsNearTo}
@@ -130,7 +131,7 @@ was_there (m ∷ ms) n e = by (nat_eq m.number n) refl e (was_there ms n)
     by true f g more = (m, (inl refl, same_number m.number n f))
     by false f g more = let (o, (a, i)) = more g in (o, (inr a, i))
 
-module _ (p : Program) (typed : IsTypedProgram p) (rules : KeepsIndexRules p) (keeps : KeepsPorts p) (declared : AccessesDeclared p)
+module _ (p : Program) (typed : IsTypedProgram p) (rules : KeepsIndexRules p) (declared : AccessesDeclared p)
     (b : Begun) (table : b.table ≡ table_of p) (in_block : ℕ → Bool) (share : Path → (j k : ℕ) → in_one_phase p j k ≡ true → in_block k ≡ true → in_block j ≡ true) (touched : ℕ → Bool) (r : Around)
     (loops : List Turning) (cs : CoreCommands) (deep : AreDeep (length (factors loops)) cs) (v : Variables)
     (good : (path : Path) → Has path (paths_inside loops) → (ev : Event) → Has ev (all_made_by b path cs v) → IsGood p b (known_of p) path in_block (share path) v touched r (all_made_by b path cs v) ev)
@@ -254,42 +255,47 @@ module _ (p : Program) (typed : IsTypedProgram p) (rules : KeepsIndexRules p) (k
         number_made m ev (by_read n place path s e at i) = ap (λ q. q.number) i ∙ sym (ap number_of e)
         number_made m ev (by_write n place path s value e at i) = ap (λ q. q.number) i ∙ sym (ap number_of e)
 
-    -- so the bank spends no more than its ports
-    bank_kept : spent made_events memory bank ≤ ports_of p entity
-    bank_kept =
-        let l = spent_told p entity memory bank made_events told are_once in
-        let t = total_below (charge p entity bank) (made_numbers p entity memory bank made_events told) p in
-        let k = keeps (made_numbers p entity memory bank made_events told) made_together entity bank in
-        omega (arith, l, t, k)
+    -- so what the bank spends is covered
+    pub bank_covered : AreCovered p made_events entity memory bank
+    bank_covered = record {
+      chosen = made_numbers p entity memory bank made_events told;
+      together = made_together;
+      covers = (let l = spent_told p entity memory bank made_events told are_once in
+          let t = total_below (charge p entity bank) (made_numbers p entity memory bank made_events told) p in
+          omega (arith, l, t));
+    }
 
-  -- Of each bank.
-  kept_of : (memory bank entity : ℕ) (m : Memory) → memory_in (memories_of p) (Some entity) ≡ Some m → number_in (memories_of p) (Some entity) ≡ Some memory → spent made_events memory bank ≤ ports_at (table_of p) memory
-  kept_of memory bank entity m e n =
-      let k = bank_kept entity memory bank n in
-      let d = declared_ports (memories_of p) (Some entity) m memory e n in
-      let q = ap memory_ports e in
-      omega (arith, k, d, q)
+  -- Of each bank, where the program keeps its ports.
+  module _ (keeps : KeepsPorts p) where
+    kept_of : (memory bank entity : ℕ) (m : Memory) → memory_in (memories_of p) (Some entity) ≡ Some m → number_in (memories_of p) (Some entity) ≡ Some memory → spent made_events memory bank ≤ ports_at (table_of p) memory
+    kept_of memory bank entity m e n =
+        let c = bank_covered entity memory bank n in
+        let l = c.covers in
+        let k = keeps c.chosen c.together entity bank in
+        let d = declared_ports (memories_of p) (Some entity) m memory e n in
+        let q = ap memory_ports e in
+        omega (arith, l, k, d, q)
 
-  kept_by_event : (memory bank : ℕ) (m : Made) → (ev : Event) × (Has ev made_events × IsMadeThere (key_at p) memory bank m ev) → spent made_events memory bank ≤ ports_at (table_of p) memory
-  kept_by_event memory bank m (ev, (h, is)) = by is
-    where
-      at_memory : (s : Spot) → is_at s memory bank ≡ true → s.memory ≡ memory
-      at_memory s e = same_number s.memory memory (both_true (nat_eq s.memory memory) (nat_eq s.bank bank) e).0
+    kept_by_event : (memory bank : ℕ) (m : Made) → (ev : Event) × (Has ev made_events × IsMadeThere (key_at p) memory bank m ev) → spent made_events memory bank ≤ ports_at (table_of p) memory
+    kept_by_event memory bank m (ev, (h, is)) = by is
+      where
+        at_memory : (s : Spot) → is_at s memory bank ≡ true → s.memory ≡ memory
+        at_memory s e = same_number s.memory memory (both_true (nat_eq s.memory memory) (nat_eq s.bank bank) e).0
 
-      of_leads : (k : ℕ) (a : SourceAccess) (path : Path) (s : Spot) → is_at s memory bank ≡ true → Leads k a path s → spent made_events memory bank ≤ ports_at (table_of p) memory
-      of_leads k a path s e l = kept_of memory bank l.of.entity l.of.memory l.of.declared (at_number k a path s l ∙ ap Some (at_memory s e))
+        of_leads : (k : ℕ) (a : SourceAccess) (path : Path) (s : Spot) → is_at s memory bank ≡ true → Leads k a path s → spent made_events memory bank ≤ ports_at (table_of p) memory
+        of_leads k a path s e l = kept_of memory bank l.of.entity l.of.memory l.of.declared (at_number k a path s l ∙ ap Some (at_memory s e))
 
-      by : IsMadeThere (key_at p) memory bank m ev → spent made_events memory bank ≤ ports_at (table_of p) memory
-      by (by_read n place path s e at i) = let t = read_of n place path s (subst (λ (x : Event). Has x made_events) e h) in of_leads n t.of path s at (read_leads n path s t)
-      by (by_write n place path s value e at i) = let t = write_of n place path s value (subst (λ (x : Event). Has x made_events) e h) in of_leads n t.of path s at (write_leads n path s t)
+        by : IsMadeThere (key_at p) memory bank m ev → spent made_events memory bank ≤ ports_at (table_of p) memory
+        by (by_read n place path s e at i) = let t = read_of n place path s (subst (λ (x : Event). Has x made_events) e h) in of_leads n t.of path s at (read_leads n path s t)
+        by (by_write n place path s value e at i) = let t = write_of n place path s value (subst (λ (x : Event). Has x made_events) e h) in of_leads n t.of path s at (write_leads n path s t)
 
-  -- the block spends of each bank at most its ports
-  pub block_keeps : (memory bank : ℕ) → spent made_events memory bank ≤ ports_at (table_of p) memory
-  block_keeps memory bank = by (made_there (key_at p) memory bank made_events) refl
-    where
-      none : made_there (key_at p) memory bank made_events ≡ [] → spent made_events memory bank ≡ 0
-      none e = spent_there (key_at p) memory bank made_events ∙ ap (λ ms. distinct_count nat_eq (rows_of ms) + writes_of ms) e
+    -- the block spends of each bank at most its ports
+    pub block_keeps : (memory bank : ℕ) → spent made_events memory bank ≤ ports_at (table_of p) memory
+    block_keeps memory bank = by (made_there (key_at p) memory bank made_events) refl
+      where
+        none : made_there (key_at p) memory bank made_events ≡ [] → spent made_events memory bank ≡ 0
+        none e = spent_there (key_at p) memory bank made_events ∙ ap (λ ms. distinct_count nat_eq (rows_of ms) + writes_of ms) e
 
-      by : (ms : List Made) → made_there (key_at p) memory bank made_events ≡ ms → spent made_events memory bank ≤ ports_at (table_of p) memory
-      by [] e = let z = none e in omega (arith, z)
-      by (m ∷ ms) e = kept_by_event memory bank m (made_by_event (key_at p) memory bank made_events m (subst (λ (os : List Made). Among m os) (sym e) (inl refl)))
+        by : (ms : List Made) → made_there (key_at p) memory bank made_events ≡ ms → spent made_events memory bank ≤ ports_at (table_of p) memory
+        by [] e = let z = none e in omega (arith, z)
+        by (m ∷ ms) e = kept_by_event memory bank m (made_by_event (key_at p) memory bank made_events m (subst (λ (os : List Made). Among m os) (sym e) (inl refl)))

@@ -55,10 +55,6 @@ same_part (suc d) (x ∷ p) [] n a = let none : ⊥ = omega (arith, n) in elim n
 same_part (suc d) (x ∷ p) (y ∷ q) n a =
     ap (λ z. z ∷ take d p) (a 0 (omega arith) (first_below d)) ∙ ap (λ r. y ∷ r) (same_part d p q (omega (arith, n)) (λ l small is. a (suc l) (omega (arith, small)) (next_below l d is)))
 
-whole_part : (p : Path) → take (length p) p ≡ p
-whole_part [] = refl
-whole_part (x ∷ p) = ap (λ r. x ∷ r) (whole_part p)
-
 -- behind its end a path has the copy number 0
 past_end : (p : Path) (l : ℕ) → length p ≤ l → slice_index_or p l 0 ≡ 0
 past_end [] l h = refl
@@ -164,10 +160,15 @@ iterator_settled known v0 v w touched p q r loop turn near close n i left here t
 
 -- Variables of full depth.
 
+-- a path is its part of its own length or more
+long_part : (d : ℕ) (p : Path) → length p ≤ d → take d p ≡ p
+long_part zero [] l = refl
+long_part (suc d) [] l = refl
+long_part zero (x ∷ p) l = let none : ⊥ = omega (arith, l) in elim none [ ]
+long_part (suc d) (x ∷ p) l = ap (λ r. x ∷ r) (long_part d p (omega (arith, l)))
+
 -- paths that agree where a variable depends that is declared inside all the loops are one path
-pub full_depth_same : (known : Known) (p q : Path) (r : Ref) (e : ℕ) → r.entity ≡ Some e → IsNoIterator (binding_in known.bindings e) → depth_of known r ≡ length p → length p ≡ length q → NameAgrees known p q r
+pub full_depth_same : (known : Known) (p q : Path) (r : Ref) (e : ℕ) → r.entity ≡ Some e → IsNoIterator (binding_in known.bindings e) → length p ≤ depth_of known r → length p ≡ length q → NameAgrees known p q r
     → p ≡ q
 full_depth_same known p q r e is h full n a =
-    sym (whole_part p)
-    ∙ (subst (λ (d : ℕ). take d p ≡ take d q) full (plain_part known p q r e is h n a)
-    ∙ (ap (λ d. take d q) n ∙ whole_part q))
+    sym (long_part (depth_of known r) p full) ∙ (plain_part known p q r e is h n a ∙ long_part (depth_of known r) q (omega (arith, full, n)))

@@ -183,11 +183,11 @@ straight_in_turn p r loops block s m v0 v path turns near here =
 
 -- and those of a test
 pub test_in_turn : (p : Program) → IsReady p → (loops : List Turning) (block : Block) → StandsIn [] (core_of p).phases loops block → (m : TestMatches p loops block)
-    → (v0 : Variables) (path : Path) → AreInTurn [] loops v0 → IsPath path (paths_inside loops)
-    → (e : Element) → ElementRound (counters_of p) m.of.tested.around.loops e → ElementInTurn (known_of p) (counters_of p) m.of.tested.around.loops path v0 e
-test_in_turn p r loops block s m v0 path turns here =
-    element_in_turn (known_of p) (counters_of p) m.of.tested.around.loops loops v0 v0 (λ e. false) path (turns_at loops v0 turns depths) depths m.loops_match
-    (spared_test loops) (λ e q u. refl) here
+    → (v0 v : Variables) (path : Path) → AreInTurn [] loops v0 → IsNearTo v0 (λ e. false) v → IsPath path (paths_inside loops)
+    → (e : Element) → ElementRound (counters_of p) m.of.tested.around.loops e → ElementInTurn (known_of p) (counters_of p) m.of.tested.around.loops path v e
+test_in_turn p r loops block s m v0 v path turns near here =
+    element_in_turn (known_of p) (counters_of p) m.of.tested.around.loops loops v0 v (λ e. false) path (turns_at loops v0 turns depths) depths m.loops_match
+    (spared_test loops) near here
   where
     depths : HaveDepths [] loops
     depths = (ready_deep p r).depths loops block s
@@ -201,8 +201,8 @@ straight_access p r loops block s m v0 v path turns near here a same h =
     (straight_in_turn p r loops block s m v0 v path turns near here a.element (subst (λ (ls : List Counter). ElementRound (counters_of p) ls a.element) same h))
 
 pub test_access : (p : Program) → IsReady p → (loops : List Turning) (block : Block) → StandsIn [] (core_of p).phases loops block → (m : TestMatches p loops block)
-    → (v0 : Variables) (path : Path) → AreInTurn [] loops v0 → IsPath path (paths_inside loops)
-    → (a : SourceAccess) → a.site.loops ≡ m.of.tested.around.loops → ElementRound (counters_of p) a.site.loops a.element → ElementInTurn (known_of p) (counters_of p) a.site.loops path v0 a.element
-test_access p r loops block s m v0 path turns here a same h =
-    subst (λ (ls : List Counter). ElementInTurn (known_of p) (counters_of p) ls path v0 a.element) (sym same)
-    (test_in_turn p r loops block s m v0 path turns here a.element (subst (λ (ls : List Counter). ElementRound (counters_of p) ls a.element) same h))
+    → (v0 v : Variables) (path : Path) → AreInTurn [] loops v0 → IsNearTo v0 (λ e. false) v → IsPath path (paths_inside loops)
+    → (a : SourceAccess) → a.site.loops ≡ m.of.tested.around.loops → ElementRound (counters_of p) a.site.loops a.element → ElementInTurn (known_of p) (counters_of p) a.site.loops path v a.element
+test_access p r loops block s m v0 v path turns near here a same h =
+    subst (λ (ls : List Counter). ElementInTurn (known_of p) (counters_of p) ls path v a.element) (sym same)
+    (test_in_turn p r loops block s m v0 v path turns near here a.element (subst (λ (ls : List Counter). ElementRound (counters_of p) ls a.element) same h))

@@ -1,5 +1,5 @@
 -- A block of the core of a program as the block of a phase of the source, and what is to be told of each block.
-use Rattle.std.specs.Prelude.{◌≡◌, List, [], ◌∷◌, length, false}
+use Rattle.std.specs.Prelude.{◌≡◌, ◌⊎◌, List, [], ◌∷◌, length, false}
 use Rattle.dh_tree.specs.PlainTrees.{Program}
 use Rattle.dh_meaning.specs.Core.{Turning}
 use Rattle.dh_meaning.specs.CoreOf.{known_of, core_of, core_commands, core_test}
@@ -36,11 +36,18 @@ pub record OfTest (p : Program) (loops : List Turning) (block : Block) : Type 0 
   pub inside : factors loops ≡ factors_of tested.around.loops
   pub paths : paths_inside loops ≡ paths_in (factors_of tested.around.loops)
 
--- What is told of each block of a program that is done while its loops are in turns: its assignments go to variables
--- that have one value for each copy, and what stands in the indices of its accesses.
-pub record TellsBlocks (p : Program) : Type 0 where
-  pub deep : (loops : List Turning) (block : Block) → StandsIn [] (core_of p).phases loops block → (o : OfStraight p loops block) → AreDeep (length (factors loops)) (core_commands (known_of p) o.done)
-  pub straight : (loops : List Turning) (block : Block) → StandsIn [] (core_of p).phases loops block → (o : OfStraight p loops block) → (v : Variables) → AreInTurn [] loops v
-      → IndicesTold p (λ k. any_makes k o.done) (λ e. any_assigns e (core_commands (known_of p) o.done)) (paths_inside loops) v
-  pub test : (loops : List Turning) (block : Block) → StandsIn [] (core_of p).phases loops block → (o : OfTest p loops block) → (v : Variables) → AreInTurn [] loops v
-      → IndicesTold p (λ k. test_makes k o.tested) (λ e. false) (paths_inside loops) v
+-- What is told of a block of straight commands: what it assigns has a value for each copy, and while its loops are in
+-- turns, what stands in the indices of its accesses.
+pub record StraightTold (p : Program) (loops : List Turning) (block : Block) : Type 0 where
+  pub of : OfStraight p loops block
+  pub deep : AreDeep (length (factors loops)) (core_commands (known_of p) of.done)
+  pub indices : (v : Variables) → AreInTurn [] loops v → IndicesTold p (λ k. any_makes k of.done) (λ e. any_assigns e (core_commands (known_of p) of.done)) (paths_inside loops) v
+
+-- And of a test, which assigns nothing.
+pub record TestTold (p : Program) (loops : List Turning) (block : Block) : Type 0 where
+  pub of : OfTest p loops block
+  pub indices : (v : Variables) → AreInTurn [] loops v → IndicesTold p (λ k. test_makes k of.tested) (λ e. false) (paths_inside loops) v
+
+-- each block of a program is that of a phase, of which so much is told
+abbrev pub TellsBlocks : Program → Type 0
+TellsBlocks p = (loops : List Turning) (block : Block) → StandsIn [] (core_of p).phases loops block → StraightTold p loops block ⊎ TestTold p loops block

@@ -24,10 +24,11 @@ use Rattle.dh_tree.specs.Shapes.{IsDim}
 use Rattle.dh_tree.specs.Widths.{HasWidths}
 use Rattle.dh_meaning.specs.Core.{Reach, Target, by_indices, by_row}
 use Rattle.dh_meaning.specs.CoreOf.{Known, known_of, entity_number, depth_of, core_term, core_terms}
-use Rattle.dh_meaning.specs.Effects.{Begun, Variables}
+use Rattle.dh_meaning.specs.Effects.{Begun, Variables, spot_reached}
 use Rattle.dh_meaning.specs.Paths.{Path}
 use Rattle.dh_meets.specs.Charges.{level_of_loop, reaches}
 use Rattle.dh_meets.specs.SourceEvents.{Element, with_indices, in_row, SourceAccess}
+use Rattle.dh_sound.specs.ToldEvents.{access_at}
 
 -- Kinds.
 
@@ -229,3 +230,9 @@ pub record IsMade (p : Program) (b : Begun) (path : Path) (v : Variables) (a : S
 pub record IsReached (p : Program) (a : SourceAccess) (path : Path) (entity : ℕ) (r : Reach) (s : Spot) : Type 0 where
   pub memory : s.memory ≡ r.memory
   pub bank : reaches p a path entity s.bank ≡ true
+
+-- each access that a run makes leads into a bank that the rules take it to reach
+abbrev pub AccessesReachBanks : Program → Type 0
+AccessesReachBanks p =
+    (b : Begun) (path : Path) (v : Variables) (k : ℕ) (a : SourceAccess) (n : ℕ) (r : Reach) (s : Spot)
+    → access_at p k ≡ Some a → (made : IsMade p b path v a r) → spot_reached b v path r (target_of (known_of p) n a.element) ≡ Some s → IsReached p a path made.entity r s

@@ -1,33 +1,25 @@
 -- What soundness is told of: a program that keeps its rules, and that no run of it is stuck.
-use Rattle.std.specs.Prelude.{◌≡◌, ℕ, List, Some}
+use Rattle.std.specs.Prelude.{◌≡◌, ℕ, List}
 use Rattle.dh_base.specs.declared.outcomes.Outcome.TheVariants.{Stuck}
 use Rattle.dh_base.specs.declared.places.Place.{Place}
-use Rattle.dh_tree.specs.Elements.{Spot}
 use Rattle.dh_tree.specs.PlainTrees.{Program}
 use Rattle.dh_tree.specs.Ready.{IsReady}
-use Rattle.dh_meaning.specs.Core.{Reach}
-use Rattle.dh_meaning.specs.CoreOf.{core_of, known_of}
-use Rattle.dh_meaning.specs.Effects.{Begun, Variables, spot_reached}
-use Rattle.dh_meaning.specs.Paths.{Path}
+use Rattle.dh_meaning.specs.CoreOf.{core_of}
 use Rattle.dh_meaning.specs.Runs.{run_state}
 use Rattle.dh_meets.specs.Ports.{KeepsPorts}
-use Rattle.dh_meets.specs.SourceEvents.{SourceAccess}
 use Rattle.dh_sound.specs.BlockTold.{AccessesDeclared}
 use Rattle.dh_sound.specs.BlocksOfPhases.{TellsBlocks}
-use Rattle.dh_sound.specs.IndexValues.{IsMade, IsReached, IsTypedProgram, target_of}
-use Rattle.dh_sound.specs.NamedPrograms.{StoresToAccesses}
 use Rattle.dh_sound.specs.ReducerIndices.{KeepsIndexRules}
 use Rattle.dh_sound.specs.Standing.{IsStanding}
-use Rattle.dh_sound.specs.ToldEvents.{access_at}
 
--- A program of which all is told that soundness rests on.
+-- A program of which all is told that soundness rests on. That it is told of each program that the passes accept is a
+-- law (`Accepted` says what they tell).
 pub record IsTold (p : Program) : Type 0 where
   pub ready : IsReady p
   -- it breaks no rule on indices, in reducers either, and keeps its ports
   pub rules : KeepsIndexRules p
   pub keeps : KeepsPorts p
-  -- each store goes to an access, and each access is of a memory: so it is of the program of every text without views
-  pub targets : StoresToAccesses p
+  -- each access is of a memory
   pub declared : AccessesDeclared p
   -- what is assigned in copies has a value for each copy, and the indices of accesses name what is in scope
   pub tells : TellsBlocks p
@@ -39,10 +31,3 @@ IsNeverStuck p = (memories : List (List ℕ)) (n memory bank : ℕ) (place : Pla
 -- each run of a program stands at a block of it, whose loops are in turns, or is at its end
 abbrev pub StandsAlways : Program → Type 0
 StandsAlways p = (memories : List (List ℕ)) (n : ℕ) → IsStanding (core_of p) (run_state (core_of p) memories n).place (run_state (core_of p) memories n).variables
-
--- the element to which an access of a program leads lies in a bank that the rules take it to reach at its path
-abbrev pub AccessesLieInBanks : Program → Type 0
-AccessesLieInBanks p =
-    (b : Begun) (path : Path) (v : Variables) (k : ℕ) (a : SourceAccess) (n : ℕ) (r : Reach) (s : Spot)
-    → IsTypedProgram p → KeepsIndexRules p → access_at p k ≡ Some a → (made : IsMade p b path v a r)
-    → spot_reached b v path r (target_of (known_of p) n a.element) ≡ Some s → IsReached p a path made.entity r s

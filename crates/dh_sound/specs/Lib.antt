@@ -20,3 +20,8 @@ pub mod KeptPorts
 pub mod Unmet
 pub mod LoopsMatch
 pub mod NamesInScope
+pub mod OuterWrites
+pub mod SimpleForms
+pub mod AssignsInside
+pub mod Accepted
+pub mod BlocksCovered

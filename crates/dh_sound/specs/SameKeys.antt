@@ -84,4 +84,4 @@ pub data NameFacts (known : Known) (v0 : Variables) (touched : ℕ → Bool) (p 
   -- it is the iterator of a loop that is in a turn, and the block does not touch it
   is_turned : (loop : Turning) → (turn : ℕ) → IsIteratorOf known r loop → touched loop.iterator ≡ false → IteratorAt loop turn v0 p → IteratorAt loop turn v0 q → NameFacts known v0 touched p q r
   -- it is no iterator, and is declared inside all the loops; the block may touch it
-  is_full : (e : ℕ) → r.entity ≡ Some e → IsNoIterator (binding_in known.bindings e) → depth_of known r ≡ length p → NameFacts known v0 touched p q r
+  is_full : (e : ℕ) → r.entity ≡ Some e → IsNoIterator (binding_in known.bindings e) → length p ≤ depth_of known r → NameFacts known v0 touched p q r

@@ -2,10 +2,18 @@
 //! together, in which banks they lie, and that a program that keeps its ports is never stuck.
 #![tactic(auto)]
 
+ghost use Rattle.dh_tree.specs.Kinds.{typed};
 ghost use Rattle.dh_tree.specs.PlainTrees.{Program};
 ghost use Rattle.dh_tree.specs.Ready.{IsReady};
+ghost use Rattle.dh_tree.specs.Resolved.{resolved};
 ghost use Rattle.dh_meaning.specs.CoreOf.{core_of};
-ghost use Rattle.dh_sound.specs.KeptPorts.{AccessesLieInBanks, IsTold, IsNeverStuck, StandsAlways};
+ghost use Rattle.dh_meets.specs.Ports.{KeepsPorts};
+ghost use Rattle.dh_sound.specs.Accepted.{IsChecked, IsAccepted};
+ghost use Rattle.dh_sound.specs.BlocksCovered.{BlocksCovered, BlocksKept};
+ghost use Rattle.dh_sound.specs.IndexValues.{IsTypedProgram, AccessesReachBanks};
+ghost use Rattle.dh_sound.specs.KeptPorts.{IsTold, IsNeverStuck, StandsAlways};
+ghost use Rattle.dh_sound.specs.NamedPrograms.{StoresToAccesses};
+ghost use Rattle.dh_sound.specs.ReducerIndices.{KeepsIndexRules};
 ghost use Rattle.dh_sound.specs.Standing.{BlocksKeepPorts};
 ghost use Rattle.dh_sound.specs.Unmet.{StandOpposite, TestsMeet};
 
@@ -24,7 +32,7 @@ pub fn unmet_accesses_stand_opposite()
 /// The element to which an access leads lies in a bank that the rules take it to reach at its path: so it is in
 /// every turn of its loops.
 pub fn accesses_lie_in_their_banks()
-    ensures { (p : Program) → AccessesLieInBanks p }
+    ensures { (p : Program) → IsTypedProgram p → KeepsIndexRules p → AccessesReachBanks p }
 {}
 
 /// Of a program that keeps its ports, each block spends of each bank at most the ports of its memory; so no run of
@@ -32,4 +40,25 @@ pub fn accesses_lie_in_their_banks()
 pub fn kept_ports_are_never_spent()
     ensures blocks { (p : Program) → IsTold p → BlocksKeepPorts (core_of p) }
     ensures stuck { (p : Program) → IsTold p → IsNeverStuck p }
+{}
+
+/// Names and kinds are filled in without changing what stores go to: an access each, as in the tree of every text.
+pub fn passes_keep_stores()
+    ensures resolved { (p : Program) → StoresToAccesses p → StoresToAccesses (resolved p) }
+    ensures typed { (p : Program) → StoresToAccesses p → StoresToAccesses (typed p) }
+{}
+
+/// Of a program that breaks no rule but perhaps those on ports, what a block spends of a bank is no more than some set
+/// of accesses charges of which any two may meet, from any memories and any values of the variables with which the
+/// loops round the block are in turns. So it is no more than the ports, if the program keeps its ports.
+pub fn blocks_spend_what_is_charged()
+    ensures covered { (p : Program) → IsChecked p → BlocksCovered p }
+    ensures kept { (p : Program) → BlocksCovered p → KeepsPorts p → BlocksKept p }
+{}
+
+/// Of a program that the passes accept, each block spends of each bank at most the ports of its memory, and no run, from
+/// whatever memories, is ever stuck.
+pub fn accepted_programs_are_never_stuck()
+    ensures blocks { (p : Program) → IsAccepted p → BlocksKeepPorts (core_of p) }
+    ensures stuck { (p : Program) → IsAccepted p → IsNeverStuck p }
 {}
