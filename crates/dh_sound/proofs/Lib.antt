@@ -72,3 +72,4 @@ pub mod SortsOfNames
 pub mod SortsOfCommands
 pub mod SortsOfPrograms
 pub mod AcceptedPrograms
+pub mod Folds

@@ -27,7 +27,7 @@ use Rattle.dh_sound.specs.AssignsInside.{AssignsInside}
 use Rattle.dh_sound.specs.BlockTold.{IsOfMemory, AccessesDeclared}
 use Rattle.dh_sound.specs.IndexValues.{IsTypedProgram}
 use Rattle.dh_sound.specs.OuterWrites.{outer_breaches_of}
-use Rattle.dh_sound.specs.SimpleForms.{JoinsNone, IsSimple, FormSimple, OtherSimple, GroupsSimple, PartSimple}
+use Rattle.dh_sound.specs.SimpleForms.{JoinsFolds, IsSimple, FormSimple, OtherSimple, GroupsSimple, PartSimple}
 use Rattle.dh_sound.specs.Trails.{EachAccess}
 use Rattle.dh_sound.proofs.DepthsNamed.{deep}
 use Rattle.dh_sound.proofs.FactsGrow.{appended}
@@ -56,11 +56,11 @@ mutual
   simple_form (repeats test body) place e = simple_action body e
   simple_form (counts iterator declared low high factor body combine combine_place) place e =
       let behind = second_none (unchecked_factor factor) _ e in
-      (simple_action body (first_none (unchecked_action body) _ behind), joins_none combine combine_place (second_none (unchecked_action body) _ behind))
+      (simple_action body (first_none (unchecked_action body) _ behind), joins_folds combine combine_place (second_none (unchecked_action body) _ behind))
 
-  joins_none : (m : MaybeAction) (word : Place) → unchecked_combine word m ≡ [] → JoinsNone m
-  joins_none no_action word e = tt
-  joins_none (one_action a) word e = not_none _ _ e
+  joins_folds : (m : MaybeAction) (word : Place) → unchecked_combine word m ≡ [] → JoinsFolds m
+  joins_folds no_action word e = tt
+  joins_folds (one_action a) word e = not_none _ _ e
 
   simple_other : (m : MaybeAction) → unchecked_other m ≡ [] → OtherSimple m
   simple_other no_action e = tt
