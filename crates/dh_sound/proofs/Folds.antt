@@ -1,7 +1,7 @@
 -- The reducers that join copies stand behind the other commands of their block, and make no access: so the events of the
 -- block are those of the other commands, and so are the accesses that it makes. Commands that are run one behind the
 -- other are run as those of the one list and then as those of the other.
-use Rattle.std.proofs.Common.{◌≡◌, ◌⊎◌, inl, inr, ℕ, ◌+◌, ◌&&◌, ◌||◌, nat_le, nat_lt, Bool, true, false, List, [], ◌∷◌, ◌++◌, Option, Some, None, refl, sym, ◌∙◌, ap, arith}
+use Rattle.std.proofs.Common.{◌≡◌, ℕ, ◌+◌, ◌||◌, Bool, true, false, List, [], ◌∷◌, ◌++◌, refl, sym, ◌∙◌, ap, arith}
 use Rattle.std.proofs.lemmas.List.{append-nil}
 use Rattle.std.proofs.lemmas.Bool.Decides.{nat_tests}
 use Rattle.dh_base.specs.declared.places.Place.{Place}
@@ -11,10 +11,10 @@ use Rattle.dh_value.specs.declared.operators.Op.{Op}
 use Rattle.dh_value.specs.declared.operators.Op.TheVariants as op
 use Rattle.dh_tree.specs.Meaning.{wider}
 use Rattle.dh_tree.specs.declared.trees.expressions.Ref.{Ref}
-use Rattle.dh_tree.specs.PlainTrees.{Term, term, number, truth_value, named, accessed, in_bank, applied, converted, Action, action, ActionForm, lets, lets_memory, views, assigns, stores, reduces, calls, blocks, decides, repeats, counts, MaybeAction, no_action, one_action, Actions, no_actions, action_then, Groups, no_groups, group_then}
+use Rattle.dh_tree.specs.PlainTrees.{Term, term, number, truth_value, named, accessed, in_bank, applied, converted, Action, action, ActionForm, lets, lets_memory, views, assigns, stores, reduces, calls, blocks, decides, repeats, counts, Actions, no_actions, action_then, Groups, no_groups, group_then}
 use Rattle.dh_meaning.specs.AccessNumbers.{accesses_of, part_accesses}
 use Rattle.dh_meaning.specs.Bindings.{kind_found}
-use Rattle.dh_meaning.specs.Core.{CoreTerm, variable, CoreCommand, CoreCommands, no_commands, command_and}
+use Rattle.dh_meaning.specs.Core.{CoreTerm, variable, CoreCommands, no_commands, command_and}
 use Rattle.dh_meaning.specs.CoreOf.{Known, entity_number, depth_of, kind_of, extended, extended_both, operation_of, core_term, folded_into, core_action, core_action_form, core_part, core_groups, core_commands}
 use Rattle.dh_meaning.specs.Effects.{Begun, Variables, Effect, term_events, at_each, assigned_at, command_run, commands_run}
 use Rattle.dh_meaning.specs.Levels.{assigns_to, any_assigns}
@@ -25,7 +25,6 @@ use Rattle.dh_meaning.specs.Sites.{Around}
 use Rattle.dh_meets.specs.SourceEvents.{SourceEvent}
 use Rattle.dh_sound.specs.SimpleForms.{IsVariable, IsFoldForm, IsFold, AreFolds}
 use Rattle.dh_sound.specs.Trails.{of_located, Follows}
-use Rattle.dh_sound.proofs.SamePhase.{either}
 
 -- Commands one behind the other.
 

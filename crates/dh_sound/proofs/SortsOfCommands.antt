@@ -198,7 +198,7 @@ module _ (p : Program) where
         subst (λ (i : Option ℕ). AreSorted p (facts ++ of_iterator (iterator_kind declared) ∷ []) (first_inside first factor.value i) (depth_inside d factor.value) (declare s iterator sort.Iterator).visible) own
         (enters facts s first d factor.value (iterator_kind declared) iterator.name l k deep) in
         let one = told body (facts ++ of_iterator (iterator_kind declared) ∷ []) (declare s iterator sort.Iterator) (in_loop r (loop_of iterator low high factor)) (first_inside first factor.value iterator.entity) (depth_inside d factor.value)
-        (next_in_step s facts iterator sort.Iterator (of_iterator (iterator_kind declared)) l) sorted same (first_none (breaches inner body) _ seen) (first_none (action_kind_breaches more body) _ kinds) x.0 o q.1.0
+        (next_in_step s facts iterator sort.Iterator (of_iterator (iterator_kind declared)) l) sorted same (first_none (breaches inner body) _ seen) (first_none (action_kind_breaches more body) _ kinds) x.0 (first_none (outer_breaches (first_inside first factor.value iterator.entity) body) _ o) q.1.0
         (λ m h. w m (has_left m (locals body) (other_locals combine) h)) in
         record {
           names = all_later p facts (facts_after_other (facts_after (facts ++ of_iterator (iterator_kind declared) ∷ []) body) combine) first d s.visible (form_grows facts (counts iterator declared low high factor body combine combine_place)) k;

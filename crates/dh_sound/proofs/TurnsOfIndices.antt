@@ -32,7 +32,7 @@ use Rattle.dh_sound.specs.SameKeys.{IsNearTo}
 use Rattle.dh_sound.specs.Standing.{Spares}
 use Rattle.dh_sound.proofs.IteratorsAt.{turns_at, factors_both}
 use Rattle.dh_sound.proofs.LoopsMatch.{StraightMatches, TestMatches}
-use Rattle.dh_sound.proofs.ReadyKeeps.{ready_keeps, ready_deep}
+use Rattle.dh_sound.proofs.ReadyKeeps.{ready_deep}
 
 -- Counters by number.
 
