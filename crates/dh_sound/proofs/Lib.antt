@@ -73,3 +73,5 @@ pub mod SortsOfCommands
 pub mod SortsOfPrograms
 pub mod AcceptedPrograms
 pub mod Folds
+pub mod JoinsKept
+pub mod ReadyCopied
