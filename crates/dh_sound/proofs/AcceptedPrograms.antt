@@ -25,13 +25,13 @@ module _ (p : Program) (c : IsChecked p) where
   typed_here = typed_program p c.ready
 
   keeps_rules : KeepsIndexRules p
-  keeps_rules = record { indices = c.ready.indices; reducers = c.reducers }
+  keeps_rules = record { indices = c.ready.indices; reducers = c.ready.reducers }
 
   declared_here : AccessesDeclared p
-  declared_here = accesses_declared p c.ready typed_here c.outer
+  declared_here = accesses_declared p c.ready typed_here
 
   tells_blocks : TellsBlocks p
-  tells_blocks = blocks_told p c.ready typed_here (filled_stores p c.filled) (assigns_inside p c.ready typed_here c.outer)
+  tells_blocks = blocks_told p c.ready typed_here (filled_stores p c.filled) (assigns_inside p c.ready typed_here)
 
   -- what the blocks of a program spend that is checked is covered
   pub checked_covered : BlocksCovered p

@@ -1,20 +1,22 @@
 -- Where the commands of the source assign only to variables that are declared inside all the loops round them, so do
--- those of the phases, and what is run of them: there each variable that is assigned has its own depth, which is at
--- least that of the block. So a variable that a block touches is declared inside all its loops.
-use Rattle.std.proofs.Common.{◌≡◌, inl, inr, ℕ, ◌+◌, ◌≤◌, ◌==◌, true, false, List, [], ◌∷◌, sym, subst, arith}
+-- those of the phases, but for the reducers that join copies: these stand behind all others in their phase, since a turn
+-- ends with them. And so does what is run of those others: there each variable that is assigned has its own depth, which
+-- is at least that of the block. So a variable that they touch is declared inside all their loops.
+use Rattle.std.proofs.Common.{◌≡◌, inl, inr, ℕ, ◌+◌, ◌≤◌, ◌==◌, ◌&&◌, Bool, true, false, if◌then◌else◌, List, [], ◌∷◌, ◌++◌, refl, sym, subst, arith}
+use Rattle.std.proofs.lemmas.List.{append-nil}
 use Rattle.std.proofs.lemmas.Bool.Decides.{nat_tests}
 use Rattle.dh_base.specs.declared.places.Place.{Place}
 use Rattle.dh_tree.specs.PlainTrees.{Term, term, number, truth_value, named, accessed, in_bank, applied, converted, Action, action, ActionForm, lets, lets_memory, views, assigns, stores, reduces, calls, blocks, decides, repeats, counts, MaybeAction, no_action, one_action, Actions, no_actions, action_then, Groups, no_groups, group_then}
 use Rattle.dh_meaning.specs.AccessNumbers.{term_accesses, accesses_of, part_accesses}
 use Rattle.dh_meaning.specs.Bindings.{depth_inside, binding_in, depth_bound}
 use Rattle.dh_meaning.specs.Core.{CoreTerm, CoreCommand, store, assign, choose, CoreCommands, no_commands, command_and}
-use Rattle.dh_meaning.specs.CoreOf.{Known, store_to, core_action, core_action_form, core_other, core_part, core_groups, core_term, core_commands, turning_of}
+use Rattle.dh_meaning.specs.CoreOf.{Known, store_to, core_action, core_action_form, core_other, core_part, core_groups, core_term, core_commands, form_of, turning_of}
 use Rattle.dh_meaning.specs.Levels.{assigns_to, any_assigns}
-use Rattle.dh_meaning.specs.Phases.{Located, located, turn_count, phases, form_phases, other_phases, groups_phases, parts_phases}
+use Rattle.dh_meaning.specs.Phases.{Located, located, Phase, straight, turns, repeated, decided, Phases, no_phases, phase, of_list, one_straight, joined, are_straight, one_command, folded, turn_count, turn_phases, choice_phases, phases, form_phases, other_phases, groups_phases, parts_phases}
 use Rattle.dh_meaning.specs.Sites.{Around, in_arm, in_loop, loop_of}
 use Rattle.dh_sound.specs.AssignsInside.{AssignsInside, FormAssignsInside, OtherAssignsInside, GroupsAssignInside, PartAssignsInside}
 use Rattle.dh_sound.specs.Deep.{IsDeep, AreDeep}
-use Rattle.dh_sound.proofs.PhasesHold.{Facts, AllHold, ListHolds, PartsHold, of_list_hold, both_hold, joined_hold, folded_hold, turn_hold, choice_hold}
+use Rattle.dh_sound.specs.SimpleForms.{AreFolds, FoldsOnly, FormFoldsOnly, GroupsFoldOnly, PartFoldsOnly, JoinsFolds}
 use Rattle.dh_sound.proofs.SamePhase.{either}
 
 equal_numbers : (a b : ℕ) → (a == b) ≡ true → a ≡ b
@@ -23,51 +25,273 @@ equal_numbers a b e = grind (arith, nat_tests)
 module _ (known : Known) where
   -- Phases.
 
-  -- each command that is done at this depth assigns to variables of this depth or more
-  abbrev pub assigns_deep : Facts
-  assigns_deep = record {
-    round = ℕ;
-    does = λ d a. AssignsInside known d a;
-    turns_so = λ d form. Unit {0};
-    inside = λ d form. depth_inside d (turning_of known 0 form).factor;
-  }
+  -- each of these commands assigns to variables of this depth or more
+  abbrev pub AllInside : (depth : ℕ) → List Located → Type 0
+  AllInside d [] = Unit {0}
+  AllInside d (c ∷ cs) = AssignsInside known d c.command × AllInside d cs
+
+  -- and so do these, but for reducers behind them
+  pub record IsSplit (depth : ℕ) (cs : List Located) : Type 0 where
+    pub done : List Located
+    pub folds : List Located
+    pub is : cs ≡ done ++ folds
+    pub inside : AllInside depth done
+    pub quiet : AreFolds folds
+
+  -- the depth inside a loop
+  abbrev inner : (depth : ℕ) → Located → ℕ
+  inner d loop = depth_inside d (turning_of known 0 (form_of loop.command)).factor
+
+  -- phases of commands, of which those inside a `for` may have reducers behind them
+  abbrev mutual
+    IsOwn : (depth : ℕ) → Phase → Type 0
+    IsOwn d (straight cs) = AllInside d cs
+    IsOwn d (turns loop count body) = AreSplit (inner d loop) body
+    IsOwn d (repeated loop body) = AreOwn d body
+    IsOwn d (decided choice chosen other) = AreOwn d chosen × AreOwn d other
+
+    AreOwn : (depth : ℕ) → Phases → Type 0
+    AreOwn d no_phases = Unit {0}
+    AreOwn d (phase p ps) = IsOwn d p × AreOwn d ps
+
+    pub PhaseSplit : (depth : ℕ) → Phase → Type 0
+    PhaseSplit d (straight cs) = IsSplit d cs
+    PhaseSplit d (turns loop count body) = AreSplit (inner d loop) body
+    PhaseSplit d (repeated loop body) = AreOwn d body
+    PhaseSplit d (decided choice chosen other) = AreOwn d chosen × AreOwn d other
+
+    pub AreSplit : (depth : ℕ) → Phases → Type 0
+    AreSplit d no_phases = Unit {0}
+    AreSplit d (phase p ps) = PhaseSplit d p × AreSplit d ps
+
+  abbrev ListOwn : (depth : ℕ) → List Phase → Type 0
+  ListOwn d [] = Unit {0}
+  ListOwn d (p ∷ ps) = IsOwn d p × ListOwn d ps
+
+  abbrev pub ListSplit : (depth : ℕ) → List Phase → Type 0
+  ListSplit d [] = Unit {0}
+  ListSplit d (p ∷ ps) = PhaseSplit d p × ListSplit d ps
+
+  abbrev PartsOwn : (depth : ℕ) → List (List Phase) → Type 0
+  PartsOwn d [] = Unit {0}
+  PartsOwn d (ps ∷ parts) = ListOwn d ps × PartsOwn d parts
+
+  -- phases of reducers alone
+  abbrev ListFolds : List Phase → Type 0
+  ListFolds [] = Unit {0}
+  ListFolds (straight cs ∷ ps) = AreFolds cs × ListFolds ps
+  ListFolds (turns loop count body ∷ ps) = ⊥
+  ListFolds (repeated loop body ∷ ps) = ⊥
+  ListFolds (decided choice chosen other ∷ ps) = ⊥
+
+  abbrev PartsFold : List (List Phase) → Type 0
+  PartsFold [] = Unit {0}
+  PartsFold (ps ∷ parts) = ListFolds ps × PartsFold parts
+
+  own_split : (d : ℕ) (cs : List Located) → AllInside d cs → IsSplit d cs
+  own_split d cs h = record { done = cs; folds = []; is = sym (append-nil cs); inside = h; quiet = tt }
+
+  phase_splits : (d : ℕ) (p : Phase) → IsOwn d p → PhaseSplit d p
+  phase_splits d (straight cs) h = own_split d cs h
+  phase_splits d (turns loop count body) h = h
+  phase_splits d (repeated loop body) h = h
+  phase_splits d (decided choice chosen other) h = h
+
+  pub phases_split : (d : ℕ) (ps : Phases) → AreOwn d ps → AreSplit d ps
+  phases_split d no_phases h = tt
+  phases_split d (phase p ps) h = (phase_splits d p h.0, phases_split d ps h.1)
+
+  list_splits : (d : ℕ) (ps : List Phase) → ListOwn d ps → ListSplit d ps
+  list_splits d [] h = tt
+  list_splits d (p ∷ ps) h = (phase_splits d p h.0, list_splits d ps h.1)
+
+  folds_split : (d : ℕ) (cs : List Located) → AreFolds cs → IsSplit d cs
+  folds_split d cs h = record { done = []; folds = cs; is = refl; inside = tt; quiet = h }
+
+  list_folds_split : (d : ℕ) (ps : List Phase) → ListFolds ps → ListSplit d ps
+  list_folds_split d [] h = tt
+  list_folds_split d (straight cs ∷ ps) h = (folds_split d cs h.0, list_folds_split d ps h.1)
+  list_folds_split d (turns loop count body ∷ ps) h = elim h [ ]
+  list_folds_split d (repeated loop body ∷ ps) h = elim h [ ]
+  list_folds_split d (decided choice chosen other ∷ ps) h = elim h [ ]
+
+  own_listed : (d : ℕ) (ps : List Phase) → ListOwn d ps → AreOwn d (of_list ps)
+  own_listed d [] h = tt
+  own_listed d (p ∷ ps) h = (h.0, own_listed d ps h.1)
+
+  split_listed : (d : ℕ) (ps : List Phase) → ListSplit d ps → AreSplit d (of_list ps)
+  split_listed d [] h = tt
+  split_listed d (p ∷ ps) h = (h.0, split_listed d ps h.1)
+
+  -- one behind the other
+
+  all_inside_both : (d : ℕ) (cs ds : List Located) → AllInside d cs → AllInside d ds → AllInside d (cs ++ ds)
+  all_inside_both d [] ds h g = g
+  all_inside_both d (c ∷ cs) ds h g = (h.0, all_inside_both d cs ds h.1 g)
+
+  own_both : (d : ℕ) (ps qs : List Phase) → ListOwn d ps → ListOwn d qs → ListOwn d (ps ++ qs)
+  own_both d [] qs h g = g
+  own_both d (p ∷ ps) qs h g = (h.0, own_both d ps qs h.1 g)
+
+  split_both : (d : ℕ) (ps qs : List Phase) → ListSplit d ps → ListSplit d qs → ListSplit d (ps ++ qs)
+  split_both d [] qs h g = g
+  split_both d (p ∷ ps) qs h g = (h.0, split_both d ps qs h.1 g)
+
+  own_straight : (d : ℕ) (cs : List Located) → AllInside d cs → ListOwn d (one_straight cs)
+  own_straight d [] h = tt
+  own_straight d (c ∷ cs) h = (h, tt)
+
+  split_straight : (d : ℕ) (cs : List Located) → IsSplit d cs → ListSplit d (one_straight cs)
+  split_straight d [] h = tt
+  split_straight d (c ∷ cs) h = (h, tt)
+
+  own_joined : (d : ℕ) (cs : List Located) (parts : List (List Phase)) → AllInside d cs → PartsOwn d parts → ListOwn d (joined cs parts)
+  own_joined d cs [] h g = own_straight d cs h
+  own_joined d cs ([] ∷ parts) h g = own_joined d cs parts h g.1
+  own_joined d cs ((straight ds ∷ []) ∷ parts) h g = own_joined d (cs ++ ds) parts (all_inside_both d cs ds h g.0.0) g.1
+  own_joined d cs ((turns loop count body ∷ []) ∷ parts) h g =
+      own_both d (one_straight cs) (turns loop count body ∷ joined [] parts) (own_straight d cs h) (g.0.0, own_joined d [] parts tt g.1)
+  own_joined d cs ((repeated loop body ∷ []) ∷ parts) h g =
+      own_both d (one_straight cs) (repeated loop body ∷ joined [] parts) (own_straight d cs h) (g.0.0, own_joined d [] parts tt g.1)
+  own_joined d cs ((decided choice chosen other ∷ []) ∷ parts) h g =
+      own_both d (one_straight cs) (decided choice chosen other ∷ joined [] parts) (own_straight d cs h) (g.0.0, own_joined d [] parts tt g.1)
+  own_joined d cs ((p ∷ q ∷ ps) ∷ parts) h g =
+      own_both d (one_straight cs) ((p ∷ q ∷ ps) ++ joined [] parts) (own_straight d cs h)
+      (own_both d (p ∷ q ∷ ps) (joined [] parts) g.0 (own_joined d [] parts tt g.1))
+
+  -- reducers
+
+  folds_both : (cs ds : List Located) → AreFolds cs → AreFolds ds → AreFolds (cs ++ ds)
+  folds_both [] ds h g = g
+  folds_both (c ∷ cs) ds h g = (h.0, folds_both cs ds h.1 g)
+
+  list_folds_both : (ps qs : List Phase) → ListFolds ps → ListFolds qs → ListFolds (ps ++ qs)
+  list_folds_both [] qs h g = g
+  list_folds_both (straight cs ∷ ps) qs h g = (h.0, list_folds_both ps qs h.1 g)
+  list_folds_both (turns loop count body ∷ ps) qs h g = elim h [ ]
+  list_folds_both (repeated loop body ∷ ps) qs h g = elim h [ ]
+  list_folds_both (decided choice chosen other ∷ ps) qs h g = elim h [ ]
+
+  folds_straight : (cs : List Located) → AreFolds cs → ListFolds (one_straight cs)
+  folds_straight [] h = tt
+  folds_straight (c ∷ cs) h = (h, tt)
+
+  folds_joined : (cs : List Located) (parts : List (List Phase)) → AreFolds cs → PartsFold parts → ListFolds (joined cs parts)
+  folds_joined cs [] h g = folds_straight cs h
+  folds_joined cs ([] ∷ parts) h g = folds_joined cs parts h g.1
+  folds_joined cs ((straight ds ∷ []) ∷ parts) h g = folds_joined (cs ++ ds) parts (folds_both cs ds h g.0.0) g.1
+  folds_joined cs ((turns loop count body ∷ []) ∷ parts) h g = elim g.0 [ ]
+  folds_joined cs ((repeated loop body ∷ []) ∷ parts) h g = elim g.0 [ ]
+  folds_joined cs ((decided choice chosen other ∷ []) ∷ parts) h g = elim g.0 [ ]
+  folds_joined cs ((p ∷ q ∷ ps) ∷ parts) h g =
+      list_folds_both (one_straight cs) ((p ∷ q ∷ ps) ++ joined [] parts) (folds_straight cs h)
+      (list_folds_both (p ∷ q ∷ ps) (joined [] parts) g.0 (folds_joined [] parts tt g.1))
 
   mutual
-    pub phases_inside : (a : Action) (d : ℕ) (r : Around) (n : ℕ) → AssignsInside known d a → ListHolds assigns_deep d (phases r n a)
-    phases_inside (action id place form) d r n h = form_phases_inside form d r n id place h
+    fold_phases : (a : Action) (r : Around) (n : ℕ) → FoldsOnly a → ListFolds (phases r n a)
+    fold_phases (action id place form) r n h = fold_form_phases form r n id place h
 
-    form_phases_inside : (form : ActionForm) (d : ℕ) (r : Around) (n id : ℕ) (place : Place) → FormAssignsInside known d form → ListHolds assigns_deep d (form_phases r n id place form)
-    form_phases_inside (lets name declared value) d r n id place h = ((h, tt), tt)
-    form_phases_inside (assigns target value) d r n id place h = ((h, tt), tt)
-    form_phases_inside (stores target value) d r n id place h = ((h, tt), tt)
-    form_phases_inside (reduces target op value) d r n id place h = ((h, tt), tt)
-    form_phases_inside (decides test chosen other) d r n id place h =
-        choice_hold assigns_deep d (located r n (action id place (decides test chosen other))) _ _ h
-        (phases_inside chosen d (in_arm r id true) (n + term_accesses test) h.0)
-        (other_phases_inside other d (in_arm r id false) (n + term_accesses test + accesses_of chosen) h.1)
-    form_phases_inside (repeats test body) d r n id place h = (of_list_hold assigns_deep d _ (phases_inside body d r (n + term_accesses test) h), tt)
-    form_phases_inside (counts iterator declared low high factor body combine combine_place) d r n id place h =
-        turn_hold assigns_deep d (located r n (action id place (counts iterator declared low high factor body combine combine_place))) (turn_count low.value high.value factor.value) _ tt
-        (folded_hold assigns_deep (depth_inside d factor.value) _ _
-        (phases_inside body (depth_inside d factor.value) (in_loop r (loop_of iterator low high factor)) n h.0)
-        (other_phases_inside combine (depth_inside d factor.value) (in_loop r (loop_of iterator low high factor)) (n + accesses_of body) h.1))
-    form_phases_inside (blocks body) d r n id place h = groups_phases_inside body d r n h
-    form_phases_inside (lets_memory name shape shape_places value) d r n id place h = tt
-    form_phases_inside (views name parent form) d r n id place h = tt
-    form_phases_inside (calls function arguments) d r n id place h = tt
+    fold_form_phases : (f : ActionForm) (r : Around) (n id : ℕ) (place : Place) → FormFoldsOnly f → ListFolds (form_phases r n id place f)
+    fold_form_phases (reduces target o value) r n id place h = ((h, tt), tt)
+    fold_form_phases (blocks body) r n id place h = fold_groups_phases body r n h
+    fold_form_phases (lets name declared value) r n id place h = elim h [ ]
+    fold_form_phases (lets_memory name shape shape_places value) r n id place h = elim h [ ]
+    fold_form_phases (views name parent form) r n id place h = elim h [ ]
+    fold_form_phases (assigns target value) r n id place h = elim h [ ]
+    fold_form_phases (stores target value) r n id place h = elim h [ ]
+    fold_form_phases (calls function arguments) r n id place h = elim h [ ]
+    fold_form_phases (decides test chosen other) r n id place h = elim h [ ]
+    fold_form_phases (repeats test body) r n id place h = elim h [ ]
+    fold_form_phases (counts iterator declared low high factor body combine combine_place) r n id place h = elim h [ ]
 
-    other_phases_inside : (m : MaybeAction) (d : ℕ) (r : Around) (n : ℕ) → OtherAssignsInside known d m → ListHolds assigns_deep d (other_phases r n m)
-    other_phases_inside no_action d r n h = tt
-    other_phases_inside (one_action a) d r n h = phases_inside a d r n h
+    fold_groups_phases : (gs : Groups) (r : Around) (n : ℕ) → GroupsFoldOnly gs → ListFolds (groups_phases r n gs)
+    fold_groups_phases no_groups r n h = tt
+    fold_groups_phases (group_then part rest) r n h =
+        list_folds_both (joined [] (parts_phases r n part)) (groups_phases r (n + part_accesses part) rest)
+        (folds_joined [] (parts_phases r n part) tt (fold_parts_phases part r n h.0)) (fold_groups_phases rest r (n + part_accesses part) h.1)
 
-    groups_phases_inside : (gs : Groups) (d : ℕ) (r : Around) (n : ℕ) → GroupsAssignInside known d gs → ListHolds assigns_deep d (groups_phases r n gs)
-    groups_phases_inside no_groups d r n h = tt
-    groups_phases_inside (group_then part rest) d r n h =
-        both_hold assigns_deep d _ _ (joined_hold assigns_deep d [] (parts_phases r n part) tt (parts_phases_inside part d r n h.0)) (groups_phases_inside rest d r (n + part_accesses part) h.1)
+    fold_parts_phases : (part : Actions) (r : Around) (n : ℕ) → PartFoldsOnly part → PartsFold (parts_phases r n part)
+    fold_parts_phases no_actions r n h = tt
+    fold_parts_phases (action_then a rest) r n h = (fold_phases a r n h.0, fold_parts_phases rest r (n + accesses_of a) h.1)
 
-    parts_phases_inside : (part : Actions) (d : ℕ) (r : Around) (n : ℕ) → PartAssignsInside known d part → PartsHold assigns_deep d (parts_phases r n part)
-    parts_phases_inside no_actions d r n h = tt
-    parts_phases_inside (action_then a rest) d r n h = (phases_inside a d r n h.0, parts_phases_inside rest d r (n + accesses_of a) h.1)
+  join_phases : (m : MaybeAction) (r : Around) (n : ℕ) → JoinsFolds m → ListFolds (other_phases r n m)
+  join_phases no_action r n h = tt
+  join_phases (one_action a) r n h = fold_phases a r n h
+
+  -- a turn: the reducers stand behind the commands of its last phase
+  behind_last : (d : ℕ) (cs : List Located) (fold : List Phase) → AllInside d cs → ListFolds fold → ListSplit d (joined cs (fold ∷ []))
+  behind_last d cs [] h g = split_straight d cs (own_split d cs h)
+  behind_last d cs (straight ds ∷ []) h g = split_straight d (cs ++ ds) (record { done = cs; folds = ds; is = refl; inside = h; quiet = g.0 })
+  behind_last d cs (turns loop count body ∷ []) h g = elim g [ ]
+  behind_last d cs (repeated loop body ∷ []) h g = elim g [ ]
+  behind_last d cs (decided choice chosen other ∷ []) h g = elim g [ ]
+  behind_last d cs (p ∷ q ∷ ps) h g =
+      split_both d (one_straight cs) ((p ∷ q ∷ ps) ++ []) (split_straight d cs (own_split d cs h))
+      (split_both d (p ∷ q ∷ ps) [] (list_folds_split d (p ∷ q ∷ ps) g) tt)
+
+  folded_splits : (d : ℕ) (body fold : List Phase) → ListOwn d body → ListFolds fold → ListSplit d (folded body fold)
+  folded_splits d [] fold h g = list_folds_split d fold g
+  folded_splits d (straight cs ∷ []) fold h g = behind_last d cs fold h.0 g
+  folded_splits d (turns loop count body ∷ []) fold h g = (h.0, list_folds_split d fold g)
+  folded_splits d (repeated loop body ∷ []) fold h g = (h.0, list_folds_split d fold g)
+  folded_splits d (decided choice chosen other ∷ []) fold h g = (h.0, list_folds_split d fold g)
+  folded_splits d (p ∷ q ∷ ps) fold h g = (phase_splits d p h.0, folded_splits d (q ∷ ps) fold h.1 g)
+
+  own_turn : (d : ℕ) (loop : Located) (count : ℕ) (turn : List Phase) → ListSplit (inner d loop) turn → ListOwn d (turn_phases loop count turn)
+  own_turn d loop count [] h = tt
+  own_turn d loop count (p ∷ ps) h = by (count == 0)
+    where
+      by : (z : Bool) → ListOwn d (if z then [] else turns loop count (of_list (p ∷ ps)) ∷ [])
+      by true = tt
+      by false = (split_listed (inner d loop) (p ∷ ps) h, tt)
+
+  own_choice : (d : ℕ) (choice : Located) (chosen other : List Phase) → AssignsInside known d choice.command → ListOwn d chosen → ListOwn d other → ListOwn d (choice_phases choice chosen other)
+  own_choice d choice chosen other e h g = by (are_straight chosen && are_straight other)
+    where
+      by : (z : Bool) → ListOwn d (if z then one_command choice else decided choice (of_list chosen) (of_list other) ∷ [])
+      by true = ((e, tt), tt)
+      by false = ((own_listed d chosen h, own_listed d other g), tt)
+
+  -- the phases of a command
+  mutual
+    own_phases : (a : Action) (d : ℕ) (r : Around) (n : ℕ) → AssignsInside known d a → ListOwn d (phases r n a)
+    own_phases (action id place form) d r n h = own_form_phases form d r n id place h
+
+    own_form_phases : (form : ActionForm) (d : ℕ) (r : Around) (n id : ℕ) (place : Place) → FormAssignsInside known d form → ListOwn d (form_phases r n id place form)
+    own_form_phases (lets name declared value) d r n id place h = ((h, tt), tt)
+    own_form_phases (assigns target value) d r n id place h = ((h, tt), tt)
+    own_form_phases (stores target value) d r n id place h = ((h, tt), tt)
+    own_form_phases (reduces target op value) d r n id place h = ((h, tt), tt)
+    own_form_phases (decides test chosen other) d r n id place h =
+        own_choice d (located r n (action id place (decides test chosen other))) _ _ h
+        (own_phases chosen d (in_arm r id true) (n + term_accesses test) h.0)
+        (own_other_phases other d (in_arm r id false) (n + term_accesses test + accesses_of chosen) h.1)
+    own_form_phases (repeats test body) d r n id place h = (own_listed d _ (own_phases body d r (n + term_accesses test) h), tt)
+    own_form_phases (counts iterator declared low high factor body combine combine_place) d r n id place h =
+        own_turn d (located r n (action id place (counts iterator declared low high factor body combine combine_place))) (turn_count low.value high.value factor.value) _
+        (folded_splits (depth_inside d factor.value) _ _
+        (own_phases body (depth_inside d factor.value) (in_loop r (loop_of iterator low high factor)) n h.0)
+        (join_phases combine (in_loop r (loop_of iterator low high factor)) (n + accesses_of body) h.1))
+    own_form_phases (blocks body) d r n id place h = own_groups_phases body d r n h
+    own_form_phases (lets_memory name shape shape_places value) d r n id place h = tt
+    own_form_phases (views name parent form) d r n id place h = tt
+    own_form_phases (calls function arguments) d r n id place h = tt
+
+    own_other_phases : (m : MaybeAction) (d : ℕ) (r : Around) (n : ℕ) → OtherAssignsInside known d m → ListOwn d (other_phases r n m)
+    own_other_phases no_action d r n h = tt
+    own_other_phases (one_action a) d r n h = own_phases a d r n h
+
+    own_groups_phases : (gs : Groups) (d : ℕ) (r : Around) (n : ℕ) → GroupsAssignInside known d gs → ListOwn d (groups_phases r n gs)
+    own_groups_phases no_groups d r n h = tt
+    own_groups_phases (group_then part rest) d r n h =
+        own_both d _ _ (own_joined d [] (parts_phases r n part) tt (own_parts_phases part d r n h.0)) (own_groups_phases rest d r (n + part_accesses part) h.1)
+
+    own_parts_phases : (part : Actions) (d : ℕ) (r : Around) (n : ℕ) → PartAssignsInside known d part → PartsOwn d (parts_phases r n part)
+    own_parts_phases no_actions d r n h = tt
+    own_parts_phases (action_then a rest) d r n h = (own_phases a d r n h.0, own_parts_phases rest d r (n + accesses_of a) h.1)
+
+  pub phases_inside : (a : Action) (d : ℕ) (r : Around) (n : ℕ) → AssignsInside known d a → ListSplit d (phases r n a)
+  phases_inside a d r n h = list_splits d (phases r n a) (own_phases a d r n h)
 
   -- What is run.
 
@@ -123,7 +347,7 @@ module _ (known : Known) where
       part_deep (action_then a behind) n rest h g = action_deep a n (core_part known (n + accesses_of a) behind rest) h.0 (part_deep behind (n + accesses_of a) rest h.1 g)
 
     -- the commands of a phase
-    pub commands_deep : (cs : List Located) → AllHold assigns_deep d cs → AllDeclaredDeep d (core_commands known cs)
+    pub commands_deep : (cs : List Located) → AllInside d cs → AllDeclaredDeep d (core_commands known cs)
     commands_deep [] h = tt
     commands_deep (c ∷ cs) h = action_deep c.command c.first (core_commands known cs) h.0 (commands_deep cs h.1)
 

@@ -6,7 +6,7 @@ use Rattle.std.proofs.Common.{◌≡◌, inl, inr, ℕ, zero, suc, ◌≤◌, Bo
 use Rattle.std.specs.Prelude.{slice_get}
 use Rattle.dh_tree.specs.declared.trees.expressions.Ref.{Ref}
 use Rattle.dh_tree.specs.PlainTrees.{Term, term, number, truth_value, named, accessed, in_bank, applied, converted, Terms, no_terms, term_then, Program}
-use Rattle.dh_tree.specs.Ready.{IsReady}
+use Rattle.dh_sound.specs.Accepted.{IsReadyCopied}
 use Rattle.dh_meaning.specs.Bindings.{binding_in, depth_bound}
 use Rattle.dh_meaning.specs.Core.{Turning, CoreCommands}
 use Rattle.dh_meaning.specs.CoreOf.{Known, known_of, entity_number, depth_of, core_commands, core_of}
@@ -26,6 +26,7 @@ use Rattle.dh_sound.specs.IteratorsAt.{HaveDepths, TurnAt, TurnsAt}
 use Rattle.dh_sound.specs.LoopsMatch.{AreSpared}
 use Rattle.dh_sound.specs.NamedPrograms.{StoresToAccesses}
 use Rattle.dh_sound.specs.NamesInScope.{InScope, is_variable, is_iterator}
+use Rattle.dh_sound.specs.Standing.{Spares}
 use Rattle.dh_sound.specs.SameKeys.{EachName, EachNameOf, EachNameIn, NameFacts, is_plain, is_full}
 use Rattle.dh_sound.specs.Trails.{of_located, Follows}
 use Rattle.dh_sound.proofs.AssignsInside.{commands_deep, as_deep, touched_deep}
@@ -33,7 +34,8 @@ use Rattle.dh_sound.proofs.BlocksFound.{StraightFound, TestFound, block_found}
 use Rattle.dh_sound.proofs.IteratorsAt.{turns_at}
 use Rattle.dh_sound.proofs.LocatedSites.{straight_loops, test_stands_there}
 use Rattle.dh_sound.proofs.OneElement.{turned_name}
-use Rattle.dh_sound.proofs.Pigeons.{Has}
+use Rattle.dh_sound.proofs.Folds.{first_assigned}
+use Rattle.dh_sound.proofs.Pigeons.{Has, has_left}
 use Rattle.dh_sound.proofs.ReadyKeeps.{ready_keeps, ready_deep}
 use Rattle.dh_sound.proofs.RoundPrograms.{loops_round}
 use Rattle.dh_sound.proofs.SamePhase.{either}
@@ -99,6 +101,11 @@ module _ (known : Known) (loops : List Turning) (v : Variables) (touched : ℕ �
   name_facts r (is_iterator i loop at it) =
       turned_name known v touched (paths_inside loops) p q r loop it (spared_at touched loops i loop spared at) (turn_of v (paths_inside loops) loops i loop turns at) h g
 
+-- commands that spare the iterators of loops with others behind them spare them without
+spares_less : (known : Known) (cs ds : List Located) (loops : List Turning) → Spares (core_commands known (cs ++ ds)) loops → Spares (core_commands known cs) loops
+spares_less known cs ds [] h = tt
+spares_less known cs ds (loop ∷ loops) h = (first_assigned known loop.iterator cs ds h.0, spares_less known cs ds loops h.1)
+
 -- Accesses of a block.
 
 -- the command that makes an access
@@ -119,7 +126,7 @@ around_is r before part [] f c h = elim h [ ]
 around_is r before part (d ∷ ds) f c (inl e) = ap (λ (x : Located). x.around) e ∙ f.1.1.1.0.around
 around_is r before part (d ∷ ds) (gap, (rest, (is, (stands, more)))) c (inr h) = around_is r ((before ++ gap) ++ of_located d) rest ds more c h
 
-module _ (p : Program) (ready : IsReady p) (typed : IsTypedProgram p) (loops : List Turning) (block : Block) (stands : StandsIn [] (core_of p).phases loops block) where
+module _ (p : Program) (ready : IsReadyCopied p) (typed : IsTypedProgram p) (loops : List Turning) (block : Block) (stands : StandsIn [] (core_of p).phases loops block) where
   depths : HaveDepths [] loops
   depths = (ready_deep p ready).depths loops block stands
 
@@ -132,7 +139,8 @@ module _ (p : Program) (ready : IsReady p) (typed : IsTypedProgram p) (loops : L
     touched e = any_assigns e done
 
     spared : AreSpared touched loops
-    spared = spared_commands done loops ((ready_keeps p ready).keeps loops done (subst (λ (b : Block). StandsIn [] (core_of p).phases loops b) f.matches.of.is stands))
+    spared = spared_commands done loops (spares_less (known_of p) f.matches.of.done f.matches.of.folds loops
+        ((ready_keeps p ready).keeps loops (core_commands (known_of p) (f.matches.of.done ++ f.matches.of.folds)) (subst (λ (b : Block). StandsIn [] (core_of p).phases loops b) f.matches.of.is stands)))
 
     touched_inside : (e : ℕ) → touched e ≡ true → length (factors loops) ≤ depth_bound (binding_in (known_of p).bindings e)
     touched_inside e t = touched_deep (known_of p) (length (factors loops)) e done (commands_deep (known_of p) (length (factors loops)) f.matches.of.done f.inside) t
@@ -140,7 +148,7 @@ module _ (p : Program) (ready : IsReady p) (typed : IsTypedProgram p) (loops : L
     round_same : (k : ℕ) (a : SourceAccess) → any_makes k f.matches.of.done ≡ true → slice_get (accesses_in (trace p)) k ≡ Some a → a.site.loops ≡ f.matches.of.round.loops
     round_same k a m e =
         let (c, (h, makes_it)) = made_in k f.matches.of.done m in
-        straight_loops k a p e f.matches.of.done c (straight_either (phases_of p) (idle_phases_of p) f.matches.of.done (inl f.matches.of.has)) h makes_it
+        straight_loops k a p e (f.matches.of.done ++ f.matches.of.folds) c (straight_either (phases_of p) (idle_phases_of p) (f.matches.of.done ++ f.matches.of.folds) (inl f.matches.of.has)) (has_left c f.matches.of.done f.matches.of.folds h) makes_it
         ∙ ap (λ (x : Around). x.loops) (around_is f.matches.of.round [] (trace p) f.matches.of.done f.matches.of.follows c h)
 
     straight_told : StraightTold p loops block
@@ -153,7 +161,7 @@ module _ (p : Program) (ready : IsReady p) (typed : IsTypedProgram p) (loops : L
             (name_facts (known_of p) loops v touched spared (turns_at loops v turns depths) touched_inside path other (as_path path (paths_inside loops) h) (as_path other (paths_inside loops) g))
             a.element (f.names k a m e);
         turns = λ k a path w m e h near.
-            straight_access p ready loops block stands f.matches v w path turns near (as_path path (paths_inside loops) h) a (round_same k a m e) (loops_round p typed k a e);
+            straight_access p ready loops block stands f.matches spared v w path turns near (as_path path (paths_inside loops) h) a (round_same k a m e) (loops_round p typed k a e);
       };
     }
 
@@ -177,7 +185,7 @@ module _ (p : Program) (ready : IsReady p) (typed : IsTypedProgram p) (loops : L
     }
 
 -- what is told of the blocks of a ready program that assigns inside
-pub blocks_told : (p : Program) → IsReady p → IsTypedProgram p → StoresToAccesses p → AssignsInside (known_of p) 0 p.body → TellsBlocks p
+pub blocks_told : (p : Program) → IsReadyCopied p → IsTypedProgram p → StoresToAccesses p → AssignsInside (known_of p) 0 p.body → TellsBlocks p
 blocks_told p ready typed stores inside loops block stands =
     elim (block_found p ready stores inside loops block stands) [
       | inl f ↦ inl (straight_told p ready typed loops block stands f)

@@ -1,7 +1,7 @@
 -- What a block of a phase does at one path, as the source tells it: each event is that of an access of the trace that
 -- the phase makes, found by variables that differ from those at the beginning only where the block assigns, and a
 -- read that shares an earlier one leads where that one led, which was made at the same path.
-use Rattle.std.proofs.Common.{◌≡◌, ℕ, ◌<◌, Bool, true, false, List, [], ◌∷◌, refl, sym, ◌∙◌, subst, arith, inl}
+use Rattle.std.proofs.Common.{◌≡◌, ℕ, ◌<◌, Bool, true, false, List, [], ◌∷◌, ◌++◌, refl, sym, ◌∙◌, subst, arith, inl}
 use Rattle.std.proofs.lemmas.List.{append-nil}
 use Rattle.dh_tree.specs.PlainTrees.{Program}
 use Rattle.dh_meaning.specs.Core.{no_commands}
@@ -14,7 +14,9 @@ use Rattle.dh_meaning.specs.Phases.{Located, phases_of, idle_phases_of}
 use Rattle.dh_meaning.specs.Sites.{Around}
 use Rattle.dh_meets.specs.SourceEvents.{trace}
 use Rattle.dh_sound.specs.PhaseFacts.{HasStraight, HasTest}
+use Rattle.dh_sound.specs.SimpleForms.{AreFolds}
 use Rattle.dh_sound.proofs.BlockWalks.{walk_located, walk_test}
+use Rattle.dh_sound.proofs.Folds.{makes_more, makes_less}
 use Rattle.dh_sound.proofs.KnownReads.{knows_none}
 use Rattle.dh_sound.proofs.OnePath.{all_made_by}
 use Rattle.dh_sound.proofs.Pigeons.{Has}
@@ -27,8 +29,8 @@ use Rattle.dh_sound.specs.Trails.{Follows}
 none_before : {A : Type 0} (k : ℕ) → k < 0 → A
 none_before k l = let none : ⊥ = omega (arith, l) in elim none [ ]
 
--- The commands of a Straight phase.
-module _ (p : Program) (b : Begun) (known : Known) (path : Path) (cs : List Located) (inside : HasStraight (phases_of p) cs) (v : Variables) where
+-- The commands of a Straight phase, without the reducers behind them.
+module _ (p : Program) (b : Begun) (known : Known) (path : Path) (cs folds : List Located) (quiet : AreFolds folds) (inside : HasStraight (phases_of p) (cs ++ folds)) (v : Variables) where
   abbrev pub phase_makes : ℕ → Bool
   phase_makes k = any_makes k cs
 
@@ -36,7 +38,8 @@ module _ (p : Program) (b : Begun) (known : Known) (path : Path) (cs : List Loca
   phase_touches e = any_assigns e (core_commands known cs)
 
   pub phase_shares : (j k : ℕ) → in_one_phase p j k ≡ true → phase_makes k ≡ true → phase_makes j ≡ true
-  phase_shares j k e h = straight_has_both p cs j k (straight_either (phases_of p) (idle_phases_of p) cs (inl inside)) h e
+  phase_shares j k e h =
+      makes_less j cs folds quiet (straight_has_both p (cs ++ folds) j k (straight_either (phases_of p) (idle_phases_of p) (cs ++ folds) (inl inside)) (makes_more k cs folds h) e)
 
   abbrev pub IsGoodHere : Around → List Event → Event → Type 0
   IsGoodHere r es ev = IsGood p b known path phase_makes phase_shares v phase_touches r es ev

@@ -72,3 +72,6 @@ pub mod SortsOfNames
 pub mod SortsOfCommands
 pub mod SortsOfPrograms
 pub mod AcceptedPrograms
+pub mod Folds
+pub mod JoinsKept
+pub mod ReadyCopied

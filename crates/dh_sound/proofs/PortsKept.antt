@@ -1,7 +1,7 @@
 -- The blocks of a program that keeps its ports spend of each bank at most its ports, and so no run of it is ever stuck:
 -- those of Straight phases, whose accesses that never meet stand in opposite arms of one `if` outside every unrolled
 -- loop, of which one path takes one; and tests, whose accesses may all meet.
-use Rattle.std.proofs.Common.{◌≡◌, ◌⊎◌, inl, inr, ℕ, ◌+◌, ◌≤◌, Bool, true, false, List, [], length, Option, Some, None, refl, sym, ◌∙◌, ap, subst, arith}
+use Rattle.std.proofs.Common.{◌≡◌, ◌⊎◌, inl, inr, ℕ, ◌+◌, ◌≤◌, Bool, true, false, List, [], ◌++◌, length, Option, Some, None, refl, sym, ◌∙◌, ap, subst, arith}
 use Rattle.std.proofs.lemmas.List.{append-nil}
 use Rattle.dh_tree.specs.Elements.{ports_at}
 use Rattle.dh_tree.specs.Memories.{memories_of, number_in, table_of}
@@ -10,7 +10,7 @@ use Rattle.dh_tree.specs.Numbers.{IsNumbered}
 use Rattle.dh_tree.specs.PlainTrees.{Program, Term}
 use Rattle.dh_meaning.specs.Core.{Turning, CoreCommands}
 use Rattle.dh_meaning.specs.CoreOf.{Known, known_of, core_of, core_commands, core_test, core_test_of, test_of, form_of}
-use Rattle.dh_meaning.specs.Effects.{Begun, Variables, Event, Block, tests, block_run, spent, term_events}
+use Rattle.dh_meaning.specs.Effects.{Begun, Variables, Event, Block, tests, block_run, spent, term_events, commands_run}
 use Rattle.dh_meaning.specs.Levels.{any_assigns}
 use Rattle.dh_meaning.specs.OnePhase.{in_one_phase, any_makes, test_makes}
 use Rattle.dh_meaning.specs.Paths.{Path, paths_in, outer_paths}
@@ -26,7 +26,7 @@ use Rattle.dh_sound.specs.ReducerIndices.{KeepsIndexRules}
 use Rattle.dh_sound.specs.ToldEvents.{access_at}
 use Rattle.dh_base.specs.declared.outcomes.Outcome.TheVariants.{Stuck}
 use Rattle.dh_base.specs.declared.places.Place.{Place}
-use Rattle.dh_tree.specs.Ready.{IsReady}
+use Rattle.dh_sound.specs.Accepted.{IsReadyCopied}
 use Rattle.dh_meaning.specs.AccessNumbers.{term_accesses}
 use Rattle.dh_meaning.specs.Runs.{run_state}
 use Rattle.dh_sound.specs.Standing.{BlocksKeepPorts}
@@ -34,6 +34,7 @@ use Rattle.dh_sound.proofs.ReadyKeeps.{ready_never_stuck}
 use Rattle.dh_sound.proofs.Ascending.{number_of, Ascends, read_number, write_number, located_ascend, term_ascends}
 use Rattle.dh_sound.proofs.BlockEvents.{block_events, made_at, commands_of, test_made}
 use Rattle.dh_sound.proofs.DistinctPaths.{inside_copies}
+use Rattle.dh_sound.proofs.Folds.{makes_more, events_still}
 use Rattle.dh_sound.proofs.GoodEvents.{phase_good, phase_shares, test_good, test_shares}
 use Rattle.dh_sound.proofs.KnownReads.{reach_at}
 use Rattle.dh_sound.proofs.Lockstep.{path_of}
@@ -82,12 +83,12 @@ module _ (p : Program) (typed : IsTypedProgram p) (rules : KeepsIndexRules p) (d
     phase_events = block_events b (length (factors loops)) (paths_inside loops) (inside_copies b loops) phase_commands deep v
 
     straight_good : (path : Path) → Has path (paths_inside loops) → (ev : Event) → Has ev (all_made_by b path phase_commands v)
-        → IsGood p b (known_of p) path (λ k. any_makes k o.done) (phase_shares p b (known_of p) path o.done o.has v) v (λ e. any_assigns e phase_commands) o.round (all_made_by b path phase_commands v) ev
-    straight_good path h ev m = phase_good p b (known_of p) path o.done o.has v o.round o.follows ev m
+        → IsGood p b (known_of p) path (λ k. any_makes k o.done) (phase_shares p b (known_of p) path o.done o.folds o.quiet o.has v) v (λ e. any_assigns e phase_commands) o.round (all_made_by b path phase_commands v) ev
+    straight_good path h ev m = phase_good p b (known_of p) path o.done o.folds o.quiet o.has v o.round o.follows ev m
 
     straight_ascends : (path : Path) → Has path (paths_inside loops) → (low : ℕ) × ((high : ℕ) × Ascends low (all_made_by b path phase_commands v) high)
     straight_ascends path h =
-        (count [], (count [] + count (trace p), located_ascend p b (known_of p) path (λ k. any_makes k o.done) (phase_shares p b (known_of p) path o.done o.has v) v (λ e. any_assigns e phase_commands) o.round [] (trace p) v o.done o.follows))
+        (count [], (count [] + count (trace p), located_ascend p b (known_of p) path (λ k. any_makes k o.done) (phase_shares p b (known_of p) path o.done o.folds o.quiet o.has v) v (λ e. any_assigns e phase_commands) o.round [] (trace p) v o.done o.follows))
 
     straight_together : (x y : Event) → Has x phase_events → Has y phase_events → Apart (meets_in p) (number_of x) (number_of y) → ⊥
     straight_together x y hx hy apart =
@@ -96,14 +97,14 @@ module _ (p : Program) (typed : IsTypedProgram p) (rules : KeepsIndexRules p) (d
         both mx.0 mx.1 my.0 my.1 (straight_good (path_of x) mx.0 x mx.1) (straight_good (path_of y) my.0 y my.1)
       where
         both : Has (path_of x) (paths_inside loops) → Has x (all_made_by b (path_of x) phase_commands v) → Has (path_of y) (paths_inside loops) → Has y (all_made_by b (path_of y) phase_commands v)
-            → IsGood p b (known_of p) (path_of x) (λ k. any_makes k o.done) (phase_shares p b (known_of p) (path_of x) o.done o.has v) v (λ e. any_assigns e phase_commands) o.round (all_made_by b (path_of x) phase_commands v) x
-            → IsGood p b (known_of p) (path_of y) (λ k. any_makes k o.done) (phase_shares p b (known_of p) (path_of y) o.done o.has v) v (λ e. any_assigns e phase_commands) o.round (all_made_by b (path_of y) phase_commands v) y → ⊥
+            → IsGood p b (known_of p) (path_of x) (λ k. any_makes k o.done) (phase_shares p b (known_of p) (path_of x) o.done o.folds o.quiet o.has v) v (λ e. any_assigns e phase_commands) o.round (all_made_by b (path_of x) phase_commands v) x
+            → IsGood p b (known_of p) (path_of y) (λ k. any_makes k o.done) (phase_shares p b (known_of p) (path_of y) o.done o.folds o.quiet o.has v) v (λ e. any_assigns e phase_commands) o.round (all_made_by b (path_of y) phase_commands v) y → ⊥
         both px mx py my gx gy =
-            let lx = good_listed p b (known_of p) (path_of x) (λ k. any_makes k o.done) (phase_shares p b (known_of p) (path_of x) o.done o.has v) v (λ e. any_assigns e phase_commands) o.round (all_made_by b (path_of x) phase_commands v) x gx in
-            let ly = good_listed p b (known_of p) (path_of y) (λ k. any_makes k o.done) (phase_shares p b (known_of p) (path_of y) o.done o.has v) v (λ e. any_assigns e phase_commands) o.round (all_made_by b (path_of y) phase_commands v) y gy in
-            let ix = good_inside p b (known_of p) (path_of x) (λ k. any_makes k o.done) (phase_shares p b (known_of p) (path_of x) o.done o.has v) v (λ e. any_assigns e phase_commands) o.round (all_made_by b (path_of x) phase_commands v) x gx in
-            let iy = good_inside p b (known_of p) (path_of y) (λ k. any_makes k o.done) (phase_shares p b (known_of p) (path_of y) o.done o.has v) v (λ e. any_assigns e phase_commands) o.round (all_made_by b (path_of y) phase_commands v) y gy in
-            let opposite = apart_opposite p o.done (number_of x) (number_of y) o.has ix iy apart gx.of gy.of lx ly in
+            let lx = good_listed p b (known_of p) (path_of x) (λ k. any_makes k o.done) (phase_shares p b (known_of p) (path_of x) o.done o.folds o.quiet o.has v) v (λ e. any_assigns e phase_commands) o.round (all_made_by b (path_of x) phase_commands v) x gx in
+            let ly = good_listed p b (known_of p) (path_of y) (λ k. any_makes k o.done) (phase_shares p b (known_of p) (path_of y) o.done o.folds o.quiet o.has v) v (λ e. any_assigns e phase_commands) o.round (all_made_by b (path_of y) phase_commands v) y gy in
+            let ix = good_inside p b (known_of p) (path_of x) (λ k. any_makes k o.done) (phase_shares p b (known_of p) (path_of x) o.done o.folds o.quiet o.has v) v (λ e. any_assigns e phase_commands) o.round (all_made_by b (path_of x) phase_commands v) x gx in
+            let iy = good_inside p b (known_of p) (path_of y) (λ k. any_makes k o.done) (phase_shares p b (known_of p) (path_of y) o.done o.folds o.quiet o.has v) v (λ e. any_assigns e phase_commands) o.round (all_made_by b (path_of y) phase_commands v) y gy in
+            let opposite = apart_opposite p (o.done ++ o.folds) (number_of x) (number_of y) o.has (makes_more (number_of x) o.done o.folds ix) (makes_more (number_of y) o.done o.folds iy) apart gx.of gy.of lx ly in
             let none : o.round.loops ≡ [] = sym gx.loops ∙ opposite.single in
             let outer : paths_inside loops ≡ outer_paths = o.paths ∙ ap (λ ls. paths_in (factors_of ls)) none in
             let one : path_of x ≡ path_of y = only_path (path_of x) (subst (λ (ps : List Path). Has (path_of x) ps) outer px) ∙ sym (only_path (path_of y) (subst (λ (ps : List Path). Has (path_of y) ps) outer py)) in
@@ -112,12 +113,12 @@ module _ (p : Program) (typed : IsTypedProgram p) (rules : KeepsIndexRules p) (d
 
     pub straight_covered : (entity memory bank : ℕ) → number_in (memories_of p) (Some entity) ≡ Some memory → AreCovered p phase_events entity memory bank
     straight_covered =
-        bank_covered p typed rules declared b table (λ k. any_makes k o.done) (λ path. phase_shares p b (known_of p) path o.done o.has v) (λ e. any_assigns e phase_commands) o.round
+        bank_covered p typed rules declared b table (λ k. any_makes k o.done) (λ path. phase_shares p b (known_of p) path o.done o.folds o.quiet o.has v) (λ e. any_assigns e phase_commands) o.round
         loops phase_commands deep v straight_good straight_ascends indices o.paths straight_together
 
     pub straight_keeps : KeepsPorts p → (memory bank : ℕ) → spent phase_events memory bank ≤ ports_at (table_of p) memory
     straight_keeps =
-        block_keeps p typed rules declared b table (λ k. any_makes k o.done) (λ path. phase_shares p b (known_of p) path o.done o.has v) (λ e. any_assigns e phase_commands) o.round
+        block_keeps p typed rules declared b table (λ k. any_makes k o.done) (λ path. phase_shares p b (known_of p) path o.done o.folds o.quiet o.has v) (λ e. any_assigns e phase_commands) o.round
         loops phase_commands deep v straight_good straight_ascends indices o.paths straight_together
 
   -- A test.
@@ -167,20 +168,27 @@ module _ (p : Program) (typed : IsTypedProgram p) (rules : KeepsIndexRules p) (d
         block_keeps p typed rules declared b table (λ k. test_makes k o.tested) (λ path. test_shares p b (known_of p) path o.tested o.has v) (λ e. false) o.tested.around
         loops test_commands test_deep v own_good own_ascends indices o.paths own_together
 
-pub typed_program : (p : Program) → IsReady p → IsTypedProgram p
+pub typed_program : (p : Program) → IsReadyCopied p → IsTypedProgram p
 typed_program p ready = record { names = ready.names; entities = ready.entities; kinds = ready.kinds; suits = ready.suits; widths = ready.of_text.widths }
 
 -- A program that is ready and keeps its rules: what its blocks spend is covered.
-module _ (p : Program) (ready : IsReady p) (rules : KeepsIndexRules p) (declared : AccessesDeclared p) (tells : TellsBlocks p) where
+module _ (p : Program) (ready : IsReadyCopied p) (rules : KeepsIndexRules p) (declared : AccessesDeclared p) (tells : TellsBlocks p) where
   abbrev begun_with : List (List ℕ) → Begun
   begun_with memories = record { table = (core_of p).table; memories = memories }
+
+  -- the reducers behind straight commands make no events
+  own_events : (loops : List Turning) (block : Block) (o : OfStraight p loops block) (memories : List (List ℕ)) (v : Variables)
+      → events_in p loops block memories v ≡ (commands_run (begun_with memories) (paths_inside loops) (core_commands (known_of p) o.done) (record { variables = v; events = [] })).events
+  own_events loops block o memories v =
+      ap (λ (c : Block). events_in p loops c memories v) o.is
+      ∙ events_still (begun_with memories) (known_of p) (paths_inside loops) o.done o.folds o.quiet (record { variables = v; events = [] })
 
   pub blocks_covered : BlocksCovered p
   blocks_covered loops block stands memories v turns entity memory bank n = by (tells loops block stands)
     where
       by : StraightTold p loops block ⊎ TestTold p loops block → AreCovered p (events_in p loops block memories v) entity memory bank
       by (inl o) =
-          subst (λ (c : Block). AreCovered p (events_in p loops c memories v) entity memory bank) (sym o.of.is)
+          subst (λ (es : List Event). AreCovered p es entity memory bank) (sym (own_events loops block o.of memories v))
           (straight_covered p (typed_program p ready) rules declared ready.of_text.first ready.of_text.numbered (begun_with memories) refl loops v block o.of o.deep (o.indices v turns) entity memory bank n)
       by (inr o) =
           subst (λ (c : Block). AreCovered p (events_in p loops c memories v) entity memory bank) (sym o.of.is)
@@ -194,7 +202,7 @@ module _ (p : Program) (ready : IsReady p) (rules : KeepsIndexRules p) (declared
       where
         by : StraightTold p loops block ⊎ TestTold p loops block → spent (block_run (begun_with memories) (paths_inside loops) block (record { variables = v; events = [] })).events memory bank ≤ ports_at (core_of p).table memory
         by (inl o) =
-            subst (λ (c : Block). spent (block_run (begun_with memories) (paths_inside loops) c (record { variables = v; events = [] })).events memory bank ≤ ports_at (core_of p).table memory) (sym o.of.is)
+            subst (λ (es : List Event). spent es memory bank ≤ ports_at (core_of p).table memory) (sym (own_events loops block o.of memories v))
             (straight_keeps p (typed_program p ready) rules declared ready.of_text.first ready.of_text.numbered (begun_with memories) refl loops v block o.of o.deep (o.indices v turns) keeps memory bank)
         by (inr o) =
             subst (λ (c : Block). spent (block_run (begun_with memories) (paths_inside loops) c (record { variables = v; events = [] })).events memory bank ≤ ports_at (core_of p).table memory) (sym o.of.is)

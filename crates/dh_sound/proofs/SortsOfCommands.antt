@@ -2,7 +2,7 @@
 -- inside all the unrolled loops round it. By recursion over commands, with what each visible name stands for at each
 -- point of the text: a declaration of a variable has the depth of the point; inside a loop of several copies only
 -- what is declared there is numbered from its iterator on, and the rule on outer writes lets nothing else be assigned
--- to. Views, calls, reducers and blocks that join copies are not built.
+-- to. Reducers join copies alone, and make no access. Views and calls are not built.
 use Rattle.std.proofs.Common.{◌≡◌, ℕ, ◌≤◌, nat_lt, true, false, List, [], ◌∷◌, ◌++◌, length, Option, Some, refl, sym, ◌∙◌, ap, subst, arith, inl}
 use Rattle.std.specs.Option.{option_map}
 use Rattle.dh_value.specs.declared.kinds.Kind.{Kind}
@@ -11,18 +11,18 @@ use Rattle.dh_tree.specs.Breaches.{unknown, twice, term_breaches, value_breaches
 use Rattle.dh_tree.specs.KindBreaches.{term_kind_breaches, assigned_breaches, truth_breaches, condition_breaches, target_breaches, iterator_breaches, low_breaches, high_breaches, action_kind_breaches, action_form_kind_breaches, other_kind_breaches, actions_kind_breaches, groups_kind_breaches}
 use Rattle.dh_tree.specs.Kinds.{of_iterator, of_memory, Facts, fact_of, found, place_of, target_kind, variable_fact, iterator_kind, facts_after, facts_after_form, facts_after_other, facts_after_actions, facts_after_groups}
 use Rattle.dh_tree.specs.Memories.{Memory, memories_of, locals, form_locals, other_locals, part_locals, groups_locals}
-use Rattle.dh_tree.specs.PlainTrees.{Action, action, ActionForm, lets, lets_memory, views, assigns, stores, reduces, calls, blocks, decides, repeats, counts, MaybeAction, no_action, one_action, Actions, no_actions, action_then, Groups, no_groups, group_then, Program}
+use Rattle.dh_tree.specs.PlainTrees.{converted, applied, in_bank, accessed, named, truth_value, number, term, Term, Action, action, ActionForm, lets, lets_memory, views, assigns, stores, reduces, calls, blocks, decides, repeats, counts, MaybeAction, no_action, one_action, Actions, no_actions, action_then, Groups, no_groups, group_then, Program}
 use Rattle.dh_tree.specs.Resolved.{resolved_term, resolved_action, resolved_form, resolved_other, resolved_actions, resolved_groups}
 use Rattle.dh_tree.specs.Scopes.{entity_of, bind, Scope, declare, leave, past, at_end, form_at_end, other_at_end, actions_at_end, groups_at_end}
 use Rattle.dh_tree.proofs.UncheckedBuilt.{first_none, second_none}
 use Rattle.dh_meaning.specs.Bindings.{depth_inside, bindings_of, binding_in, depth_bound}
 use Rattle.dh_meaning.specs.CoreOf.{known_of, entity_number}
 use Rattle.dh_meaning.specs.Sites.{Around, in_arm, in_loop, loop_of}
-use Rattle.dh_meets.specs.SourceEvents.{SourceEvent, site_of, term_events, maybe_events, events, command_events, other_events, groups_events, part_events}
+use Rattle.dh_meets.specs.SourceEvents.{Site, SourceEvent, site_of, term_events, maybe_events, events, command_events, other_events, groups_events, part_events}
 use Rattle.dh_sound.specs.AssignsInside.{AssignsInside, FormAssignsInside, OtherAssignsInside, GroupsAssignInside, PartAssignsInside}
 use Rattle.dh_sound.specs.BlockTold.{IsOfMemory}
 use Rattle.dh_sound.specs.OuterWrites.{first_inside, outer_breaches, outer_form_breaches, outer_other_breaches, outer_part_breaches, outer_groups_breaches}
-use Rattle.dh_sound.specs.SimpleForms.{IsSimple, FormSimple, OtherSimple, GroupsSimple, PartSimple}
+use Rattle.dh_sound.specs.SimpleForms.{IsVariable, FoldsOnly, FormFoldsOnly, GroupsFoldOnly, PartFoldsOnly, JoinsFolds, IsSimple, FormSimple, OtherSimple, GroupsSimple, PartSimple}
 use Rattle.dh_sound.specs.Trails.{EachAccess}
 use Rattle.dh_sound.proofs.DepthsNamed.{size, Deep, FormDeep, OtherDeep, GroupsDeep, PartDeep}
 use Rattle.dh_sound.proofs.FactsGrow.{appended, grows, form_grows, InStep, next_in_step, past_in_step, in_step, part_in_step}
@@ -56,6 +56,45 @@ module _ (p : Program) where
       (λ other n e. later_sorted p facts (facts ++ of_iterator k ∷ []) (first_inside first factor (Some (size s))) (depth_inside d factor) n (appended facts (of_iterator k ∷ []))
       (inner_sorted (nat_lt 1 factor) p facts first d n (size s) l (h other n e)))
       (iterator_is k (next_fact facts s (of_iterator k) l) (λ m. no_less _ (depth_inside d factor) q))
+
+  -- reducers that join copies make no access
+  value_told : (t : Term) (site : Site) → IsVariable t → EachAccess (IsOfMemory p) (term_events site t)
+  value_told (term place k (named r)) site h = tt
+  value_told (term place k (number negative y)) site h = elim h [ ]
+  value_told (term place k (truth_value y)) site h = elim h [ ]
+  value_told (term place k (accessed r ts)) site h = elim h [ ]
+  value_told (term place k (in_bank r bank at t)) site h = elim h [ ]
+  value_told (term place k (applied o left right)) site h = elim h [ ]
+  value_told (term place k (converted t to)) site h = elim h [ ]
+
+  mutual
+    folds_told : (a : Action) (r : Around) → FoldsOnly a → EachAccess (IsOfMemory p) (events r a)
+    folds_told (action id place form) r h = form_folds_told form r id h
+
+    form_folds_told : (f : ActionForm) (r : Around) (id : ℕ) → FormFoldsOnly f → EachAccess (IsOfMemory p) (command_events r (site_of r id) f)
+    form_folds_told (reduces target o value) r id h = each_both _ (term_events (site_of r id) value) _ (value_told value (site_of r id) h) tt
+    form_folds_told (blocks body) r id h = groups_folds_told body r h
+    form_folds_told (lets name declared value) r id h = elim h [ ]
+    form_folds_told (lets_memory name shape shape_places value) r id h = elim h [ ]
+    form_folds_told (views name parent form) r id h = elim h [ ]
+    form_folds_told (assigns target value) r id h = elim h [ ]
+    form_folds_told (stores target value) r id h = elim h [ ]
+    form_folds_told (calls function arguments) r id h = elim h [ ]
+    form_folds_told (decides test chosen other) r id h = elim h [ ]
+    form_folds_told (repeats test body) r id h = elim h [ ]
+    form_folds_told (counts iterator declared low high factor body combine combine_place) r id h = elim h [ ]
+
+    groups_folds_told : (gs : Groups) (r : Around) → GroupsFoldOnly gs → EachAccess (IsOfMemory p) (groups_events r gs)
+    groups_folds_told no_groups r h = tt
+    groups_folds_told (group_then part rest) r h = each_both _ (part_events r part) _ (part_folds_told part r h.0) (groups_folds_told rest r h.1)
+
+    part_folds_told : (part : Actions) (r : Around) → PartFoldsOnly part → EachAccess (IsOfMemory p) (part_events r part)
+    part_folds_told no_actions r h = tt
+    part_folds_told (action_then a rest) r h = each_both _ (events r a) _ (folds_told a r h.0) (part_folds_told rest r h.1)
+
+  join_told : (m : MaybeAction) (r : Around) → JoinsFolds m → EachAccess (IsOfMemory p) (other_events r m)
+  join_told no_action r h = tt
+  join_told (one_action a) r h = folds_told a r h
 
   mutual
     pub told : (a : Action) (facts : Facts) (s : Scope) (r : Around) (first d : ℕ) → InStep s facts → AreSorted p facts first d s.visible
@@ -145,8 +184,7 @@ module _ (p : Program) where
               one.events;
           inside = one.inside;
         }
-    form_told (counts iterator declared low high factor body (one_action a) combine_place) facts s r id first d l k e v b x o q w = elim x.1 [ ]
-    form_told (counts iterator declared low high factor body no_action combine_place) facts s r id first d l k e v b x o q w =
+    form_told (counts iterator declared low high factor body combine combine_place) facts s r id first d l k e v b x o q w =
         let j : Kind = iterator_kind declared in
         let more : Facts = facts ++ of_iterator (iterator_kind declared) ∷ [] in
         let inner : Scope = declare s iterator sort.Iterator in
@@ -160,12 +198,12 @@ module _ (p : Program) where
         subst (λ (i : Option ℕ). AreSorted p (facts ++ of_iterator (iterator_kind declared) ∷ []) (first_inside first factor.value i) (depth_inside d factor.value) (declare s iterator sort.Iterator).visible) own
         (enters facts s first d factor.value (iterator_kind declared) iterator.name l k deep) in
         let one = told body (facts ++ of_iterator (iterator_kind declared) ∷ []) (declare s iterator sort.Iterator) (in_loop r (loop_of iterator low high factor)) (first_inside first factor.value iterator.entity) (depth_inside d factor.value)
-        (next_in_step s facts iterator sort.Iterator (of_iterator (iterator_kind declared)) l) sorted same (first_none (breaches inner body) _ seen) (first_none (action_kind_breaches more body) _ kinds) x.0 o q.1.0
-        (λ m h. w m (has_left m (locals body) [] h)) in
+        (next_in_step s facts iterator sort.Iterator (of_iterator (iterator_kind declared)) l) sorted same (first_none (breaches inner body) _ seen) (first_none (action_kind_breaches more body) _ kinds) x.0 (first_none (outer_breaches (first_inside first factor.value iterator.entity) body) _ o) q.1.0
+        (λ m h. w m (has_left m (locals body) (other_locals combine) h)) in
         record {
-          names = all_later p facts (facts_after (facts ++ of_iterator (iterator_kind declared) ∷ []) body) first d s.visible (form_grows facts (counts iterator declared low high factor body no_action combine_place)) k;
-          events = each_both _ (events (in_loop r (loop_of iterator low high factor)) body) _ one.events tt;
-          inside = (one.inside, tt);
+          names = all_later p facts (facts_after_other (facts_after (facts ++ of_iterator (iterator_kind declared) ∷ []) body) combine) first d s.visible (form_grows facts (counts iterator declared low high factor body combine combine_place)) k;
+          events = each_both _ (events (in_loop r (loop_of iterator low high factor)) body) _ one.events (join_told combine (in_loop r (loop_of iterator low high factor)) x.1);
+          inside = (one.inside, x.1);
         }
 
     other_told : (m : MaybeAction) (facts : Facts) (s : Scope) (r : Around) (first d : ℕ) → InStep s facts → AreSorted p facts first d s.visible

@@ -1,24 +1,21 @@
 -- In a program that is checked each access is of a memory, and each assignment goes to a variable that is declared inside
 -- all the unrolled loops round it. Where the body begins, the names that are visible are those of memories from outside,
 -- which have the numbers of their declarations, and of functions; from there on the walk over commands tells it.
-use Rattle.std.proofs.Common.{◌≡◌, ℕ, zero, suc, ◌+◌, ◌&&◌, ◌||◌, Bool, true, false, if◌then◌else◌, List, [], ◌∷◌, length, map, Some, inl, inr, refl, ap, sym, ◌∙◌, subst, arith}
+use Rattle.std.proofs.Common.{◌≡◌, ℕ, zero, suc, ◌+◌, Bool, true, false, if◌then◌else◌, List, [], ◌∷◌, length, map, Some, inl, inr, refl, ap, sym, ◌∙◌, subst, arith}
 use Rattle.std.specs.Prelude.{slice_get}
 use Rattle.std.specs.List.{AllByRecursion}
 use Rattle.std.proofs.lemmas.List.{append-nil}
-use Rattle.dh_base.specs.declared.places.Place.{Place}
-use Rattle.dh_tree.specs.declared.breaches.Breach.{Breach}
 use Rattle.dh_tree.specs.Breaches.{items_breaches, functions_breaches}
-use Rattle.dh_tree.specs.Forms.{unbuilt, unbuilt_functions, form_holds}
+use Rattle.dh_tree.specs.Forms.{unbuilt_functions}
 use Rattle.dh_tree.specs.KindBreaches.{functions_kind_breaches}
 use Rattle.dh_tree.specs.Kinds.{of_memory, Facts, declared_facts, function_fact, first_facts, body_facts, facts_after}
 use Rattle.dh_tree.specs.LeastBreach.{is_before}
 use Rattle.dh_tree.specs.Memories.{outside_memory, memories_of, locals}
-use Rattle.dh_tree.specs.PlainTrees.{Action, action, ActionForm, lets, lets_memory, views, assigns, stores, reduces, calls, blocks, decides, repeats, counts, MaybeAction, no_action, one_action, Actions, no_actions, action_then, Groups, no_groups, group_then, Declared, Defined, Program}
-use Rattle.dh_tree.specs.Ready.{IsReady}
+use Rattle.dh_tree.specs.PlainTrees.{Declared, Defined, Program}
+use Rattle.dh_sound.specs.Accepted.{IsReadyCopied}
 use Rattle.dh_tree.specs.Resolved.{resolved_decls}
 use Rattle.dh_tree.specs.Scopes.{Binding, bind, Item, memory_items, function_items, merged, items_of, after_items, first_scope, body_scope, at_end}
-use Rattle.dh_tree.specs.UncheckedForms.{unchecked_factor, unchecked_combine, unchecked_action, unchecked_form, unchecked_other, unchecked_groups, unchecked_part}
-use Rattle.dh_tree.proofs.UncheckedBuilt.{first_none, second_none, not_none}
+use Rattle.dh_tree.proofs.UncheckedBuilt.{second_none}
 use Rattle.dh_meaning.specs.Bindings.{bindings_of}
 use Rattle.dh_meaning.specs.CoreOf.{known_of}
 use Rattle.dh_meaning.specs.Sites.{nothing_around}
@@ -26,57 +23,14 @@ use Rattle.dh_meets.specs.SourceEvents.{SourceAccess, SourceEvent, accesses, ass
 use Rattle.dh_sound.specs.AssignsInside.{AssignsInside}
 use Rattle.dh_sound.specs.BlockTold.{IsOfMemory, AccessesDeclared}
 use Rattle.dh_sound.specs.IndexValues.{IsTypedProgram}
-use Rattle.dh_sound.specs.OuterWrites.{outer_breaches_of}
-use Rattle.dh_sound.specs.SimpleForms.{JoinsNone, IsSimple, FormSimple, OtherSimple, GroupsSimple, PartSimple}
 use Rattle.dh_sound.specs.Trails.{EachAccess}
 use Rattle.dh_sound.proofs.DepthsNamed.{deep}
 use Rattle.dh_sound.proofs.FactsGrow.{appended}
+use Rattle.dh_sound.proofs.JoinsKept.{simple_kept}
 use Rattle.dh_sound.proofs.KindsOfPrograms.{functions_grow, body_in_step, mapped_at, behind_at, map_long, resolved_body, next_number}
 use Rattle.dh_sound.proofs.Pigeons.{Has, has_right, has_left, has_mapped}
 use Rattle.dh_sound.proofs.SortsOfCommands.{CommandTold, told}
 use Rattle.dh_sound.proofs.SortsOfNames.{memory_found, IsSorted, memory_is, function_is, AreSorted, all_later, bind_sorted}
-
--- Forms that are built.
-
-mutual
-  pub simple_action : (a : Action) → unchecked_action a ≡ [] → IsSimple a
-  simple_action (action id place form) e = simple_form form place e
-
-  simple_form : (f : ActionForm) (place : Place) → unchecked_form place f ≡ [] → FormSimple f
-  simple_form (lets name declared value) place e = tt
-  simple_form (lets_memory name shape shape_places value) place e = tt
-  simple_form (views name parent form) place e = not_none _ _ e
-  simple_form (assigns target value) place e = tt
-  simple_form (stores target value) place e = tt
-  simple_form (reduces target o value) place e = not_none _ _ e
-  simple_form (calls function arguments) place e = not_none _ _ e
-  simple_form (blocks body) place e = simple_groups body e
-  simple_form (decides test chosen other) place e =
-      (simple_action chosen (first_none (unchecked_action chosen) _ e), simple_other other (second_none (unchecked_action chosen) _ e))
-  simple_form (repeats test body) place e = simple_action body e
-  simple_form (counts iterator declared low high factor body combine combine_place) place e =
-      let behind = second_none (unchecked_factor factor) _ e in
-      (simple_action body (first_none (unchecked_action body) _ behind), joins_none combine combine_place (second_none (unchecked_action body) _ behind))
-
-  joins_none : (m : MaybeAction) (word : Place) → unchecked_combine word m ≡ [] → JoinsNone m
-  joins_none no_action word e = tt
-  joins_none (one_action a) word e = not_none _ _ e
-
-  simple_other : (m : MaybeAction) → unchecked_other m ≡ [] → OtherSimple m
-  simple_other no_action e = tt
-  simple_other (one_action a) e = simple_action a e
-
-  simple_groups : (gs : Groups) → unchecked_groups gs ≡ [] → GroupsSimple gs
-  simple_groups no_groups e = tt
-  simple_groups (group_then part rest) e =
-      (simple_part part false (first_none (unchecked_part false part) _ e), simple_groups rest (second_none (unchecked_part false part) _ e))
-
-  simple_part : (part : Actions) (stepped : Bool) → unchecked_part stepped part ≡ [] → PartSimple part
-  simple_part no_actions stepped e = tt
-  simple_part (action_then (action id place form) rest) stepped e =
-      let behind = second_none (unchecked_form place form) _ e in
-      let again : List Breach = (if stepped && form_holds form then unbuilt place else []) in
-      (simple_form form place (first_none (unchecked_form place form) _ e), simple_part rest (stepped || form_holds form) (second_none again _ behind))
 
 -- Where the body begins.
 
@@ -173,13 +127,13 @@ each_at P (accesses x ∷ es) zero a h e = let same : x ≡ a = cc in subst P sa
 each_at P (accesses x ∷ es) (suc k) a h e = each_at P es k a h.1 e
 each_at P (assigned entity ∷ es) k a h e = each_at P es k a h e
 
-module _ (p : Program) (ready : IsReady p) (typed : IsTypedProgram p) (outer : outer_breaches_of p ≡ []) where
+module _ (p : Program) (ready : IsReadyCopied p) (typed : IsTypedProgram p) where
   body_told : CommandTold p (facts_after (body_facts p) p.body) 0 0 (at_end (body_scope p) p.body) (trace p) (AssignsInside (known_of p) 0 p.body)
   body_told =
       told p p.body (body_facts p) (body_scope p) nothing_around 0 0 (body_in_step p) (body_sorted p typed) (resolved_body p typed)
       (second_none (functions_breaches (length p.decls) (first_scope p) p.functions) _ (second_none (items_breaches [] (items_of p)) _ ready.names))
       (second_none (functions_kind_breaches (first_facts p) p.functions) _ ready.suits)
-      (simple_action p.body (second_none (unbuilt_functions p.functions) _ ready.built)) outer
+      (simple_kept p.entities p.body (second_none (unbuilt_functions p.functions) _ ready.built) ready.folds) ready.outer
       (deep (bindings_of p) p.body (body_scope p) 0 [] [] (resolved_body p typed) (sym (append-nil (bindings_of p))) tt)
       (λ m h. has_right m (map outside_memory p.decls) (locals p.body) h)
 

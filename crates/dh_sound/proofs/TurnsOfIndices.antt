@@ -12,7 +12,7 @@ use Rattle.dh_tree.specs.Counters.{counters_of, counter_in}
 use Rattle.dh_tree.specs.Indices.{form_of}
 use Rattle.dh_tree.specs.Memories.{same_entity}
 use Rattle.dh_tree.specs.PlainTrees.{TermForm, number, truth_value, named, accessed, in_bank, applied, converted, Terms, no_terms, term_then, Program}
-use Rattle.dh_tree.specs.Ready.{IsReady}
+use Rattle.dh_sound.specs.Accepted.{IsReadyCopied}
 use Rattle.dh_tree.proofs.SpentAlike.{equal_entities}
 use Rattle.dh_meaning.specs.Bindings.{binding_in, depth_bound}
 use Rattle.dh_meaning.specs.Core.{CoreCommands, Turning}
@@ -32,7 +32,7 @@ use Rattle.dh_sound.specs.SameKeys.{IsNearTo}
 use Rattle.dh_sound.specs.Standing.{Spares}
 use Rattle.dh_sound.proofs.IteratorsAt.{turns_at, factors_both}
 use Rattle.dh_sound.proofs.LoopsMatch.{StraightMatches, TestMatches}
-use Rattle.dh_sound.proofs.ReadyKeeps.{ready_keeps, ready_deep}
+use Rattle.dh_sound.proofs.ReadyKeeps.{ready_deep}
 
 -- Counters by number.
 
@@ -167,22 +167,20 @@ pub spared_test : (loops : List Turning) → AreSpared (λ e. false) loops
 spared_test [] = tt
 spared_test (loop ∷ loops) = (refl, spared_test loops)
 
--- the elements of straight commands in a turn of their loops
-pub straight_in_turn : (p : Program) → IsReady p → (loops : List Turning) (block : Block) → StandsIn [] (core_of p).phases loops block → (m : StraightMatches p loops block)
+-- the elements of straight commands in a turn of their loops, whose iterators they spare
+pub straight_in_turn : (p : Program) → IsReadyCopied p → (loops : List Turning) (block : Block) → StandsIn [] (core_of p).phases loops block → (m : StraightMatches p loops block)
+    → AreSpared (λ e. any_assigns e (core_commands (known_of p) m.of.done)) loops
     → (v0 v : Variables) (path : Path) → AreInTurn [] loops v0 → IsNearTo v0 (λ e. any_assigns e (core_commands (known_of p) m.of.done)) v → IsPath path (paths_inside loops)
     → (e : Element) → ElementRound (counters_of p) m.of.round.loops e → ElementInTurn (known_of p) (counters_of p) m.of.round.loops path v e
-straight_in_turn p r loops block s m v0 v path turns near here =
-    element_in_turn (known_of p) (counters_of p) m.of.round.loops loops v0 v (λ e. any_assigns e done) path (turns_at loops v0 turns depths) depths m.loops_match
-    (spared_commands done loops ((ready_keeps p r).keeps loops done (subst (λ (b : Block). StandsIn [] (core_of p).phases loops b) m.of.is s))) near here
+straight_in_turn p r loops block s m spared v0 v path turns near here =
+    element_in_turn (known_of p) (counters_of p) m.of.round.loops loops v0 v (λ e. any_assigns e (core_commands (known_of p) m.of.done)) path (turns_at loops v0 turns depths) depths m.loops_match
+    spared near here
   where
-    done : CoreCommands
-    done = core_commands (known_of p) m.of.done
-
     depths : HaveDepths [] loops
     depths = (ready_deep p r).depths loops block s
 
 -- and those of a test
-pub test_in_turn : (p : Program) → IsReady p → (loops : List Turning) (block : Block) → StandsIn [] (core_of p).phases loops block → (m : TestMatches p loops block)
+pub test_in_turn : (p : Program) → IsReadyCopied p → (loops : List Turning) (block : Block) → StandsIn [] (core_of p).phases loops block → (m : TestMatches p loops block)
     → (v0 v : Variables) (path : Path) → AreInTurn [] loops v0 → IsNearTo v0 (λ e. false) v → IsPath path (paths_inside loops)
     → (e : Element) → ElementRound (counters_of p) m.of.tested.around.loops e → ElementInTurn (known_of p) (counters_of p) m.of.tested.around.loops path v e
 test_in_turn p r loops block s m v0 v path turns near here =
@@ -193,14 +191,15 @@ test_in_turn p r loops block s m v0 v path turns near here =
     depths = (ready_deep p r).depths loops block s
 
 -- the same for accesses in these loops
-pub straight_access : (p : Program) → IsReady p → (loops : List Turning) (block : Block) → StandsIn [] (core_of p).phases loops block → (m : StraightMatches p loops block)
+pub straight_access : (p : Program) → IsReadyCopied p → (loops : List Turning) (block : Block) → StandsIn [] (core_of p).phases loops block → (m : StraightMatches p loops block)
+    → AreSpared (λ e. any_assigns e (core_commands (known_of p) m.of.done)) loops
     → (v0 v : Variables) (path : Path) → AreInTurn [] loops v0 → IsNearTo v0 (λ e. any_assigns e (core_commands (known_of p) m.of.done)) v → IsPath path (paths_inside loops)
     → (a : SourceAccess) → a.site.loops ≡ m.of.round.loops → ElementRound (counters_of p) a.site.loops a.element → ElementInTurn (known_of p) (counters_of p) a.site.loops path v a.element
-straight_access p r loops block s m v0 v path turns near here a same h =
+straight_access p r loops block s m spared v0 v path turns near here a same h =
     subst (λ (ls : List Counter). ElementInTurn (known_of p) (counters_of p) ls path v a.element) (sym same)
-    (straight_in_turn p r loops block s m v0 v path turns near here a.element (subst (λ (ls : List Counter). ElementRound (counters_of p) ls a.element) same h))
+    (straight_in_turn p r loops block s m spared v0 v path turns near here a.element (subst (λ (ls : List Counter). ElementRound (counters_of p) ls a.element) same h))
 
-pub test_access : (p : Program) → IsReady p → (loops : List Turning) (block : Block) → StandsIn [] (core_of p).phases loops block → (m : TestMatches p loops block)
+pub test_access : (p : Program) → IsReadyCopied p → (loops : List Turning) (block : Block) → StandsIn [] (core_of p).phases loops block → (m : TestMatches p loops block)
     → (v0 v : Variables) (path : Path) → AreInTurn [] loops v0 → IsNearTo v0 (λ e. false) v → IsPath path (paths_inside loops)
     → (a : SourceAccess) → a.site.loops ≡ m.of.tested.around.loops → ElementRound (counters_of p) a.site.loops a.element → ElementInTurn (known_of p) (counters_of p) a.site.loops path v a.element
 test_access p r loops block s m v0 v path turns near here a same h =

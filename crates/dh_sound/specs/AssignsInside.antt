@@ -1,9 +1,10 @@
 -- A command of the source assigns only to variables that are declared inside all the unrolled loops round it, so that
--- they have a value for each copy.
+-- they have a value for each copy; but for reducers in blocks that join copies.
 use Rattle.std.specs.Prelude.{ℕ, ◌≤◌}
 use Rattle.dh_tree.specs.PlainTrees.{Action, action, ActionForm, lets, lets_memory, views, assigns, stores, reduces, calls, blocks, decides, repeats, counts, MaybeAction, no_action, one_action, Actions, no_actions, action_then, Groups, no_groups, group_then}
 use Rattle.dh_meaning.specs.Bindings.{depth_inside}
 use Rattle.dh_meaning.specs.CoreOf.{Known, depth_of}
+use Rattle.dh_sound.specs.SimpleForms.{JoinsFolds}
 
 abbrev mutual
   -- so many unrolled loops stand round it
@@ -22,7 +23,7 @@ abbrev mutual
   FormAssignsInside known d (decides test chosen other) = AssignsInside known d chosen × OtherAssignsInside known d other
   FormAssignsInside known d (repeats test body) = AssignsInside known d body
   FormAssignsInside known d (counts iterator declared low high factor body combine combine_place) =
-      AssignsInside known (depth_inside d factor.value) body × OtherAssignsInside known (depth_inside d factor.value) combine
+      AssignsInside known (depth_inside d factor.value) body × JoinsFolds combine
 
   pub OtherAssignsInside : Known → (depth : ℕ) → MaybeAction → Type 0
   OtherAssignsInside known d no_action = Unit {0}

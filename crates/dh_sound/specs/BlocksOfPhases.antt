@@ -1,5 +1,5 @@
 -- A block of the core of a program as the block of a phase of the source, and what is to be told of each block.
-use Rattle.std.specs.Prelude.{◌≡◌, ◌⊎◌, List, [], ◌∷◌, length, false}
+use Rattle.std.specs.Prelude.{◌≡◌, ◌⊎◌, List, [], ◌∷◌, ◌++◌, length, false}
 use Rattle.dh_tree.specs.PlainTrees.{Program}
 use Rattle.dh_meaning.specs.Core.{Turning}
 use Rattle.dh_meaning.specs.CoreOf.{known_of, core_of, core_commands, core_test}
@@ -15,13 +15,17 @@ use Rattle.dh_sound.specs.Blocks.{factors, paths_inside, StandsIn, AreInTurn}
 use Rattle.dh_sound.specs.BlockTold.{IndicesTold}
 use Rattle.dh_sound.specs.Deep.{AreDeep}
 use Rattle.dh_sound.specs.PhaseFacts.{HasStraight, HasTest}
+use Rattle.dh_sound.specs.SimpleForms.{AreFolds}
 use Rattle.dh_sound.specs.Trails.{Follows}
 
--- A block is that of straight commands, which stand along the trace in its loops.
+-- A block is that of straight commands, which stand along the trace in its loops, and behind them of reducers that join
+-- copies, which make no access.
 pub record OfStraight (p : Program) (loops : List Turning) (block : Block) : Type 0 where
   pub done : List Located
-  pub is : block ≡ commands (core_commands (known_of p) done)
-  pub has : HasStraight (phases_of p) done
+  pub folds : List Located
+  pub quiet : AreFolds folds
+  pub is : block ≡ commands (core_commands (known_of p) (done ++ folds))
+  pub has : HasStraight (phases_of p) (done ++ folds)
   pub round : Around
   pub follows : Follows round [] (trace p) done
   pub inside : factors loops ≡ factors_of round.loops

@@ -25,3 +25,5 @@ pub mod SimpleForms
 pub mod AssignsInside
 pub mod Accepted
 pub mod BlocksCovered
+pub mod CopyForms
+pub mod Joins

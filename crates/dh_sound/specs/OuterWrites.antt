@@ -1,7 +1,8 @@
 -- The breaches of the rule `OuterWrite` (K15) in copies: in the body of a loop of several copies, an assignment to a
 -- variable from outside that body. Entities are numbered in text order, so that those from outside have numbers below
--- that of the loop's iterator. A block that joins copies is none of the body: what may stand there, the rule on
--- reducers (K17) says. Where copies are built, these lines go to the definition of the other placements.
+-- that of the loop's iterator. A block that joins copies is no part of its loop's body, but of a body round the loop;
+-- a reducer is no assignment of this rule. Where copies are built, these lines go to the definition of the other
+-- placements.
 use Rattle.std.specs.Prelude.{ℕ, nat_lt, Bool, false, if◌then◌else◌, List, [], ◌∷◌, ◌++◌, Option, Some, None}
 use Rattle.dh_base.specs.declared.rules.Rule.TheVariants.{OuterWrite}
 use Rattle.dh_tree.specs.declared.breaches.Breach.{Breach}
@@ -36,7 +37,8 @@ abbrev mutual
   outer_form_breaches first (blocks body) = outer_groups_breaches first body
   outer_form_breaches first (decides test chosen other) = outer_breaches first chosen ++ outer_other_breaches first other
   outer_form_breaches first (repeats test body) = outer_breaches first body
-  outer_form_breaches first (counts iterator declared low high factor body combine combine_place) = outer_breaches (first_inside first factor.value iterator.entity) body
+  outer_form_breaches first (counts iterator declared low high factor body combine combine_place) =
+      outer_breaches (first_inside first factor.value iterator.entity) body ++ outer_other_breaches first combine
 
   pub outer_other_breaches : (first : ℕ) → MaybeAction → List Breach
   outer_other_breaches first no_action = []

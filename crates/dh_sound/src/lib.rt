@@ -7,8 +7,8 @@ ghost use Rattle.dh_tree.specs.PlainTrees.{Program};
 ghost use Rattle.dh_tree.specs.Ready.{IsReady};
 ghost use Rattle.dh_tree.specs.Resolved.{resolved};
 ghost use Rattle.dh_meaning.specs.CoreOf.{core_of};
-ghost use Rattle.dh_meets.specs.Ports.{KeepsPorts};
-ghost use Rattle.dh_sound.specs.Accepted.{IsChecked, IsAccepted};
+ghost use Rattle.dh_meets.specs.Ports.{KeepsPorts, KeepsPortRules};
+ghost use Rattle.dh_sound.specs.Accepted.{IsReadyCopied, IsFilledIn, IsChecked, IsAccepted};
 ghost use Rattle.dh_sound.specs.BlocksCovered.{BlocksCovered, BlocksKept};
 ghost use Rattle.dh_sound.specs.IndexValues.{IsTypedProgram, AccessesReachBanks};
 ghost use Rattle.dh_sound.specs.KeptPorts.{IsTold, IsNeverStuck, StandsAlways};
@@ -20,7 +20,8 @@ ghost use Rattle.dh_sound.specs.Unmet.{StandOpposite, TestsMeet};
 /// A run of a ready program stands at a block of a phase, at the paths inside the loops round it, each of which is
 /// in a turn that is one for all its copies; or it is at its end.
 pub fn runs_stand_in_blocks()
-    ensures { (p : Program) → IsReady p → StandsAlways p }
+    ensures ready { (p : Program) → IsReady p → StandsAlways p }
+    ensures copied { (p : Program) → IsReadyCopied p → StandsAlways p }
 {}
 
 /// Two accesses of one phase that never meet stand in opposite arms of an `if`, of which a path takes one.
@@ -57,8 +58,10 @@ pub fn blocks_spend_what_is_charged()
 {}
 
 /// Of a program that the passes accept, each block spends of each bank at most the ports of its memory, and no run, from
-/// whatever memories, is ever stuck.
+/// whatever memories, is ever stuck: so it is of a program whose loops have copies, and of one that is ready without.
 pub fn accepted_programs_are_never_stuck()
     ensures blocks { (p : Program) → IsAccepted p → BlocksKeepPorts (core_of p) }
     ensures stuck { (p : Program) → IsAccepted p → IsNeverStuck p }
+    ensures copied { (p : Program) → IsReady p → IsReadyCopied p }
+    ensures ready { (p : Program) → IsReady p → IsFilledIn p → KeepsPortRules p → IsNeverStuck p }
 {}
