@@ -178,7 +178,7 @@ fn join(
 
 /// The phases of a command.
 #[cycle(phasing)]
-#[tactic(auto, using(crate::proofs::SeenActions::actions_are))]
+#[tactic(auto, using(dh_tree::proofs::SeenActions::actions_are))]
 fn phases_of(alloc: Global, command: &Command) -> Result<Vec<Phase>, NoMemory>
     ensures { GivesPhases result (phases_in (action_seen command.now)) }
 {
@@ -242,7 +242,7 @@ fn phases_of_parts(alloc: Global, parts: &[Vec<Command>]) -> Result<Vec<Phase>, 
 
 /// Finds the first command of a number: this one, or one inside it.
 #[cycle(seeking)]
-#[tactic(auto, using(crate::proofs::SeenActions::actions_are))]
+#[tactic(auto, using(dh_tree::proofs::SeenActions::actions_are))]
 fn find(command: &Command, number: u32) -> Option<&Command>
     ensures { found_seen result ≡ first_of number (action_seen command.now) }
 {
