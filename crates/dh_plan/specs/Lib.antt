@@ -1,0 +1,9 @@
+pub mod PlainPlans
+pub mod SeenPlans
+pub mod ViewElements
+pub mod Blocks
+pub mod Ordered
+pub mod PlanRuns
+pub mod SourceEffects
+pub mod Correspondence
+pub mod PlanPhases

@@ -1,0 +1,18 @@
+//! The plan of a program: what the compiler makes of its phases before there is a netlist. Blocks of operations,
+//! nodes that say in which order they are done, and which of their accesses may meet; the graph of states, the
+//! schedule and the binding of ports that are made of it.
+//! In `specs/` stand the meaning of a plan, what each pass of the compiler states of its result, and what ties the
+//! levels to the program and to the netlist. Nothing of the program stands on this crate yet.
+#![tactic(auto)]
+
+mod graphs;
+mod operations;
+mod plans;
+mod schedules;
+mod viewing;
+
+pub use graphs::{Decision, Graph, Group, State};
+pub use operations::{Operation, OperationForm, PlanBlock, Reach, ReachStep};
+pub use plans::{Meets, Node, Plan};
+pub use schedules::{Binding, Limits, Schedule};
+pub use viewing::{ViewMap, ViewSort};
