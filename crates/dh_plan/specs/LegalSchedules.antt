@@ -1,7 +1,7 @@
 -- Schedules: at which clock of its step each operation stands, and how long each block is. What an operation needs
 -- is there at its clock; a read's value is there one clock later, any other in its operation's own clock. (List
 -- scheduling is a common notion of high-level synthesis; the limits are this project's.)
-use Rattle.std.specs.Prelude.{◌≡◌, ℕ, zero, suc, ◌+◌, ◌-◌, ◌<◌, ◌≤◌, ◌==◌, ◌&&◌, max, Bool, true, false, if◌then◌else◌, List, [], ◌∷◌, ◌++◌, length, map, slice_get, slice_index, Option, Some, None}
+use Rattle.std.specs.Prelude.{◌≡◌, ℕ, zero, suc, ◌+◌, ◌-◌, ◌<◌, ◌≤◌, ◌==◌, ◌&&◌, max, Bool, true, false, if◌then◌else◌, List, [], ◌∷◌, ◌++◌, length, map, take, drop, slice_get, slice_index, Option, Some, None}
 use Rattle.std.specs.List.{AllByRecursion}
 use Rattle.dh_value.specs.declared.operators.Op.{Op}
 use Rattle.dh_value.specs.declared.operators.Op.TheVariants as op
@@ -98,11 +98,7 @@ IsWithin (suc limit) n = n ≤ suc limit
 
 -- the clocks of a block's operations
 abbrev pub clocks_in : PlainPlan → Timing → (block : ℕ) → List ℕ
-clocks_in plan t block = slice_from t.clocks (first_in plan block) (length (operations_in plan block))
-  where
-    slice_from : List ℕ → (from count : ℕ) → List ℕ
-    slice_from ns from zero = []
-    slice_from ns from (suc count) = slice_index ns from ∷ slice_from ns (suc from) count
+clocks_in plan t block = take (length (operations_in plan block)) (drop (first_in plan block) t.clocks)
 
 -- A block's clocks and length are legal.
 pub record IsLegalBlock (limits : Limits) (first : ℕ) (os : List Operation) (clocks : List ℕ) (clocks_long : ℕ) : Type 0 where

@@ -7,3 +7,5 @@ pub mod PlanRuns
 pub mod SourceEffects
 pub mod Correspondence
 pub mod PlanPhases
+pub mod LegalSchedules
+pub mod Ways
