@@ -9,3 +9,6 @@ pub mod Correspondence
 pub mod PlanPhases
 pub mod LegalSchedules
 pub mod Ways
+pub mod PlanKinds
+pub mod SoundPlans
+pub mod BoundPorts
