@@ -1,0 +1,3 @@
+pub mod ValuesAlike
+pub mod BlocksSolved
+pub mod Appends

@@ -12,3 +12,9 @@ pub mod Ways
 pub mod PlanKinds
 pub mod SoundPlans
 pub mod BoundPorts
+pub mod DoneProgram
+pub mod SeenGraphs
+pub mod PlanSizes
+pub mod PlayedPlans
+pub mod Passes
+pub mod BlockLaws

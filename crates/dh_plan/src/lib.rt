@@ -6,12 +6,14 @@
 #![tactic(auto)]
 
 mod graphs;
+mod laws;
 mod operations;
 mod plans;
 mod schedules;
 mod viewing;
 
 pub use graphs::{Decision, Graph, Group, State};
+pub use laws::{blocks_do_by_values, blocks_have_one_solution, pieces_come_in_order};
 pub use operations::{Operation, OperationForm, PlanBlock, Reach, ReachStep};
 pub use plans::{Meets, Node, Plan};
 pub use schedules::{Binding, Limits, Schedule};
