@@ -18,3 +18,4 @@ pub mod PlanSizes
 pub mod PlayedPlans
 pub mod Passes
 pub mod BlockLaws
+pub mod ExamplePlans

@@ -5,6 +5,7 @@
 //! levels to the program and to the netlist. Nothing of the program stands on this crate yet.
 #![tactic(auto)]
 
+mod examples;
 mod graphs;
 mod laws;
 mod operations;
@@ -12,6 +13,10 @@ mod plans;
 mod schedules;
 mod viewing;
 
+pub use examples::{
+    choice_plan_chooses, elements_are_reached, endless_plan_goes_on, faulting_plan_faults, first_fault_is_reported, first_plan_runs,
+    fold_plan_folds, threads_plan_ends,
+};
 pub use graphs::{Decision, Graph, Group, State};
 pub use laws::{blocks_do_by_values, blocks_have_one_solution, pieces_come_in_order};
 pub use operations::{Operation, OperationForm, PlanBlock, Reach, ReachStep};
