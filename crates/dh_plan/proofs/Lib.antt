@@ -1,3 +1,9 @@
 pub mod ValuesAlike
 pub mod BlocksSolved
 pub mod Appends
+pub mod SourceMoves
+pub mod JointPlaces
+pub mod JointEnters
+pub mod JointSteps
+pub mod LeastLegal
+pub mod StoringPlan

@@ -5,15 +5,18 @@ use Rattle.std.specs.List.{AllByRecursion, list_any}
 use Rattle.std.specs.Option.{is_some}
 use Rattle.std.specs.Set.{distinct_count}
 use Rattle.dh_base.specs.declared.outcomes.Outcome.{Outcome}
+use Rattle.dh_base.specs.declared.outcomes.Outcome.TheVariants.{Stuck}
+use Rattle.dh_base.specs.declared.places.Place.{Place}
 use Rattle.dh_value.specs.declared.operators.Op.{Op}
 use Rattle.dh_value.specs.declared.operators.Op.TheVariants as op
 use Rattle.dh_value.specs.declared.words.Word.{Word}
 use Rattle.dh_tree.specs.Meets.{In, Apart, Before}
 use Rattle.dh_tree.specs.Memories.{memories_of, number_in, table_of}
 use Rattle.dh_tree.specs.PlainTrees.{Program}
+use Rattle.dh_tree.specs.Tables.{Fits}
 use Rattle.dh_meaning.specs.AccessNumbers.{accesses_of}
 use Rattle.dh_meaning.specs.Bindings.{bindings_of}
-use Rattle.dh_meaning.specs.Core.{CoreTerm, literal, truth_literal, variable, read, binary, convert, Target, by_indices, by_row, CoreTerms, no_terms, term_and, CoreCommand, store, assign, choose, CoreCommands, no_commands, command_and, Turning}
+use Rattle.dh_meaning.specs.Core.{CoreTerm, literal, truth_literal, variable, read, binary, convert, Target, by_indices, by_row, CoreTerms, no_terms, term_and, CoreCommand, store, assign, choose, CoreCommands, no_commands, command_and, Turning, CoreProgram}
 use Rattle.dh_meaning.specs.CoreOf.{core_of}
 use Rattle.dh_meaning.specs.Effects.{Block, commands, tests}
 use Rattle.dh_meaning.specs.Levels.{block_length}
@@ -40,15 +43,25 @@ use Rattle.dh_plan.specs.Correspondence.{Slots, Round, FitKinds, paths_of_rounds
 use Rattle.dh_plan.specs.LegalSchedules.{is_product, block_clocks}
 use Rattle.dh_plan.specs.PlanPhases.{Tie, AreNodesOf, DoesPhases}
 use Rattle.dh_plan.specs.PlanRuns.{plan_state, start_at, events_of_block, sets_of_block}
-use Rattle.dh_plan.specs.SoundPlans.{use_in, HasUse, IsSound, IsAddressed, plan_charge, IsStepOf, Counting}
+use Rattle.dh_plan.specs.SoundPlans.{use_in, HasUse, IsSound, IsAddressed, plan_charge, IsStepOf, Counting, CountsTurns, KeepsCounter, countings}
 
 -- Runs.
 
 -- from whatever memories and after however many steps, the run of the plan stands as that of the program
-pub record RunsAs (p : Program) (plan : PlainPlan) : Type 0 where
-  pub outcome : (memories : List (List ℕ)) (n : ℕ) → (plan_state plan memories n).outcome ≡ (run_state (core_of p) memories n).outcome
-  pub steps : (memories : List (List ℕ)) (n : ℕ) → (plan_state plan memories n).steps ≡ (run_state (core_of p) memories n).steps
-  pub memories_same : (memories : List (List ℕ)) (n : ℕ) → (plan_state plan memories n).memories ≡ (run_state (core_of p) memories n).memories
+pub record RunsAs (c : CoreProgram) (plan : PlainPlan) : Type 0 where
+  pub outcome : (memories : List (List ℕ)) (n : ℕ) → (plan_state plan memories n).outcome ≡ (run_state c memories n).outcome
+  pub steps : (memories : List (List ℕ)) (n : ℕ) → (plan_state plan memories n).steps ≡ (run_state c memories n).steps
+  pub memories_same : (memories : List (List ℕ)) (n : ℕ) → (plan_state plan memories n).memories ≡ (run_state c memories n).memories
+
+-- no run of a program is stuck: so it is of one that keeps its ports
+abbrev pub NeverStuck : CoreProgram → Type 0
+NeverStuck c = (memories : List (List ℕ)) (n memory bank : ℕ) (place : Place) → (run_state c memories n).outcome ≡ Stuck memory bank place → ⊥
+
+-- A plan that does the phases of a program one for one, with counters of its own for the loops, runs as the program.
+abbrev pub PhasesMakeRuns : CoreProgram → PlainPlan → Slots → Type 0
+PhasesMakeRuns c plan slots =
+    plan.table ≡ c.table → AllByRecursion (CountsTurns plan) (countings plan.body) → AllByRecursion (KeepsCounter plan) (countings plan.body)
+    → DoesPhases plan slots c.phases → NeverStuck c → RunsAs c plan
 
 -- Lengths.
 
@@ -180,7 +193,7 @@ pub record IsPlanOf (p : Program) (plan : PlainPlan) : Type 0 where
   -- registers stand for variables, and each block does its phase
   pub slots : Slots
   pub phases : DoesPhases plan slots (core_of p).phases
-  pub runs : RunsAs p plan
+  pub runs : RunsAs (core_of p) plan
   pub sound : IsSound plan
   pub lengths : HasLengths p plan
   pub products : HasProducts p plan
@@ -212,18 +225,19 @@ pub record DoesTheSame (p q : PlainPlan) (block : ℕ) (registers : List ℕ) (m
   pub sets : first_fault (events_of_block p (start_at p registers memories) block) ≡ None
       → all_set (sets_of_block q (start_at q registers memories) block) registers ≡ all_set (sets_of_block p (start_at p registers memories) block) registers
 
--- so whatever registers and memories hold, with each loop round it in a turn
+-- so whatever registers and memories hold of their kinds, with each loop round it in a turn
 abbrev pub BlocksDoTheSame : PlainPlan → PlainPlan → Type 0
 BlocksDoTheSame p q =
     (block : ℕ) (loops : List Counting) → IsStepOf [] p.body (block ∷ []) loops
-    → (registers : List ℕ) (memories : List (List ℕ)) → FitKinds p.registers registers
+    → (registers : List ℕ) (memories : List (List ℕ)) → FitKinds p.registers registers → Fits p.table memories
     → AllByRecursion (λ c. slice_index registers c.counter < c.turns) loops
     → DoesTheSame p q block registers memories
 
+-- from memories that fit
 pub record RunTheSame (p q : PlainPlan) : Type 0 where
-  pub outcome : (memories : List (List ℕ)) (n : ℕ) → (plan_state q memories n).outcome ≡ (plan_state p memories n).outcome
-  pub steps : (memories : List (List ℕ)) (n : ℕ) → (plan_state q memories n).steps ≡ (plan_state p memories n).steps
-  pub memories_same : (memories : List (List ℕ)) (n : ℕ) → (plan_state q memories n).memories ≡ (plan_state p memories n).memories
+  pub outcome : (memories : List (List ℕ)) (n : ℕ) → Fits p.table memories → (plan_state q memories n).outcome ≡ (plan_state p memories n).outcome
+  pub steps : (memories : List (List ℕ)) (n : ℕ) → Fits p.table memories → (plan_state q memories n).steps ≡ (plan_state p memories n).steps
+  pub memories_same : (memories : List (List ℕ)) (n : ℕ) → Fits p.table memories → (plan_state q memories n).memories ≡ (plan_state p memories n).memories
 
 -- the value of this number is a constant of the block
 pub record IsConstantAt (plan : PlainPlan) (block number : ℕ) : Type 0 where

@@ -19,3 +19,5 @@ pub mod PlayedPlans
 pub mod Passes
 pub mod BlockLaws
 pub mod ExamplePlans
+pub mod ScheduleLaws
+pub mod ExamplePrograms

@@ -16,12 +16,14 @@ use Rattle.dh_plan.specs.PlainPlans.{Node, block_node, turns_node, loop_node, ch
 use Rattle.dh_plan.specs.Blocks.{StepStart, BlockEvent, first_fault, puts_of, all_set}
 use Rattle.dh_plan.specs.PlanRuns.{start_at, events_of_block, sets_of_block}
 use Rattle.dh_plan.specs.SourceEffects.{failure_of, writes_of}
-use Rattle.dh_plan.specs.Correspondence.{Slots, Holding, Round, paths_of_rounds, StandFor}
+use Rattle.dh_plan.specs.Correspondence.{Slots, FitKinds, Holding, Round, paths_of_rounds, StandFor}
 
--- the fault of this number in a plan's list
-abbrev pub fault_named : List (FaultKind × Place) → Option ℕ → Option (FaultKind × Place)
-fault_named faults None = None
-fault_named faults (Some f) = slice_get faults f
+-- the first fault of a block is, by its number in the plan's list, this one of the program
+abbrev pub NamesFault : List (FaultKind × Place) → (fault : Option ℕ) → (failure : Option (FaultKind × Place)) → Type 0
+NamesFault faults None None = Unit {0}
+NamesFault faults (Some f) (Some failure) = slice_get faults f ≡ Some failure
+NamesFault faults None (Some failure) = ⊥
+NamesFault faults (Some f) None = ⊥
 
 -- what a block of the program does at the paths inside loops
 abbrev pub source_effect : List MemEntry → List (List ℕ) → List Round → Block → Variables → Effect
@@ -29,10 +31,11 @@ source_effect table memories rounds b variables =
     block_run (record { table = table; memories = memories }) (paths_of_rounds rounds) b (record { variables = variables; events = [] })
 
 -- In a step that begins so, a block of the plan does what the program did with this effect: its first fault is the
--- program's. Without a fault its writes are the program's, and registers then stand for the program's variables.
+-- program's. Without a fault its writes are the program's, and registers then hold the program's variables.
 pub record DoesEffect (plan : PlainPlan) (slots : Slots) (block : ℕ) (s : StepStart) (e : Effect) : Type 0 where
-  pub fault : fault_named plan.faults (first_fault (events_of_block plan s block)) ≡ failure_of e.events
+  pub fault : NamesFault plan.faults (first_fault (events_of_block plan s block)) (failure_of e.events)
   pub writes : failure_of e.events ≡ None → puts_of (events_of_block plan s block) ≡ writes_of e.events
+  pub fit : failure_of e.events ≡ None → FitKinds s.kinds (all_set (sets_of_block plan s block) s.registers)
   pub holding : failure_of e.events ≡ None → Holding s.kinds slots (all_set (sets_of_block plan s block) s.registers) e.variables
 
 -- so from any memories, and whatever the registers hold, with each loop round the block in a turn
@@ -99,6 +102,11 @@ abbrev pub IsCounterOf : List Round → (register : ℕ) → Type 0
 IsCounterOf [] register = ⊥
 IsCounterOf (r ∷ rs) register = (r.counter ≡ register) ⊎ IsCounterOf rs register
 
+-- it is the iterator of one of these loops
+abbrev pub IsIteratorOf : List Round → (entity : ℕ) → Type 0
+IsIteratorOf [] entity = ⊥
+IsIteratorOf (r ∷ rs) entity = (r.loop.iterator ≡ entity) ⊎ IsIteratorOf rs entity
+
 -- A block of the plan sees only registers of variables that its block of the program mentions, and the counters of
 -- the loops round it; it sets only registers of what that assigns to, and its flag.
 pub record Touches (plan : PlainPlan) (slots : Slots) (rounds : List Round) (b : Block) (flag : Option ℕ) (block : ℕ) : Type 0 where
@@ -106,6 +114,8 @@ pub record Touches (plan : PlainPlan) (slots : Slots) (rounds : List Round) (b :
       → IsRegisterOf slots (λ entity. block_mentions entity b) register ⊎ IsCounterOf rounds register
   pub sets : (i : ℕ) (guard : Option ℕ) (register value : ℕ) → slice_get (operations_in plan block) i ≡ Some (record { guard = guard; form = Set register value })
       → IsRegisterOf slots (λ entity. block_assigns entity b) register ⊎ (flag ≡ Some register)
+  -- and what it does assigns to no iterator of these loops
+  pub spares : (entity : ℕ) → IsIteratorOf rounds entity → block_assigns entity b ≡ false
 
 -- The nodes.
 
@@ -134,17 +144,20 @@ abbrev mutual
       tie.of_test rounds test flag block × (AreNodesOf tie rounds chosen ns × AreNodesOf tie rounds other ms)
   IsNodeOf tie rounds p n = ⊥
 
--- the counter of a loop is no variable's register, and neither is there one for its iterator
-pub record IsLoopRegister (slots : Slots) (loop : Turning) (counter : ℕ) : Type 0 where
+-- The counter of a loop is neither a variable's register nor the counter of a loop round it; its iterator has no
+-- register, and is not that of a loop round it.
+pub record IsLoopRegister (slots : Slots) (rounds : List Round) (loop : Turning) (counter : ℕ) : Type 0 where
   pub iterator : (path : Path) → slots loop.iterator path ≡ None
   pub counter_apart : (entity : ℕ) (path : Path) → slots entity path ≡ Some counter → ⊥
+  pub own_counter : IsCounterOf rounds counter → ⊥
+  pub own_iterator : IsIteratorOf rounds loop.iterator → ⊥
 
 -- each block does its phase
 abbrev pub does_phases : PlainPlan → Slots → Tie
 does_phases plan slots = record {
   of_block = λ rounds cs block. DoesBlock plan slots rounds (commands cs) block × Touches plan slots rounds (commands cs) None block;
   of_test = λ rounds test flag block. DoesBlock plan slots rounds (tests test) block × (SetsFlag plan slots rounds test flag block × Touches plan slots rounds (tests test) (Some flag) block);
-  of_loop = λ rounds loop counter. IsLoopRegister slots loop counter;
+  of_loop = λ rounds loop counter. IsLoopRegister slots rounds loop counter;
 }
 
 -- the plan does these phases, with registers that stand for variables so

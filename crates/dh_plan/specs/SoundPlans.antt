@@ -1,5 +1,5 @@
 -- When a plan is sound: it is well formed, and in no step does it reach a bank more often than its accesses charge,
--- whatever registers and memories hold, and whether or not a run comes there. And when it is addressed.
+-- whatever values of their kinds registers and memories hold, and whether or not a run comes there. And when it is addressed.
 -- (Ports as affine resources are of Nigam and others, PLDI 2020; that a plan carries them is this project's.)
 use Rattle.std.specs.Prelude.{◌≡◌, ◌⊎◌, ℕ, suc, ◌+◌, ◌<◌, ◌≤◌, ◌^◌, ◌==◌, ◌&&◌, max, false, true, if◌then◌else◌, List, [], ◌∷◌, ◌++◌, length, slice_get, slice_index, Bool, Option, Some, None}
 use Rattle.std.specs.List.{AllByRecursion}
@@ -9,6 +9,7 @@ use Rattle.dh_tree.specs.Elements.{Spot}
 use Rattle.dh_tree.specs.Meets.{Meets, In, Distinct, Apart, Before, Together, total}
 use Rattle.dh_tree.specs.Shapes.{IsProgramTable}
 use Rattle.dh_tree.specs.Elements.{ports_at}
+use Rattle.dh_tree.specs.Tables.{Fits}
 use Rattle.dh_plan.specs.declared.operations.Operation.{Operation}
 use Rattle.dh_plan.specs.declared.operations.OperationForm.{OperationForm}
 use Rattle.dh_plan.specs.declared.operations.OperationForm.TheVariants.{Constant, Old, Compute, Convert, Select, Check, Probe, Read, Write, Set}
@@ -167,15 +168,23 @@ abbrev mutual
 
 -- What is of the form of a plan.
 
--- a counter is an unsigned register that has every number below the count, and is of no other loop
+-- a counter is an unsigned register that has every number below the count
+abbrev pub CountsTurns : PlainPlan → Counting → Type 0
+CountsTurns plan c = Names plan.registers c.counter × ((w : ℕ) × ((kind_at plan.registers c.counter ≡ kind.Unsigned w) × (c.turns ≤ 2 ^ w)))
+
+-- each counter is so, and of no other loop
 pub record AreCounters (plan : PlainPlan) (cs : List Counting) : Type 0 where
-  pub wide : AllByRecursion (λ c. Names plan.registers c.counter × ((w : ℕ) × ((kind_at plan.registers c.counter ≡ kind.Unsigned w) × (c.turns ≤ 2 ^ w)))) cs
+  pub wide : AllByRecursion (CountsTurns plan) cs
   pub apart : (i j : ℕ) (c d : Counting) → slice_get cs i ≡ Some c → slice_get cs j ≡ Some d → c.counter ≡ d.counter → i ≡ j
 
 -- no operation sets this register
 abbrev pub IsNeverSet : PlainPlan → (register : ℕ) → Type 0
 IsNeverSet plan register =
     (block i : ℕ) (guard : Option ℕ) (value : ℕ) → slice_get (operations_in plan block) i ≡ Some (record { guard = guard; form = Set register value }) → ⊥
+
+-- no operation sets the counter of a loop
+abbrev pub KeepsCounter : PlainPlan → Counting → Type 0
+KeepsCounter plan c = IsNeverSet plan c.counter
 
 pub record IsFormed (plan : PlainPlan) : Type 0 where
   pub table : IsProgramTable plan.table
@@ -188,7 +197,7 @@ pub record IsFormed (plan : PlainPlan) : Type 0 where
   pub one_memory : (b c i j : ℕ) (r t : Reach) → HasAccess plan b i r → HasAccess plan c j t → r.access ≡ t.access → r.memory ≡ t.memory
   pub threads : ThreadsMeet plan plan.body
   pub counters : AreCounters plan (countings plan.body)
-  pub counters_kept : AllByRecursion (λ c. IsNeverSet plan c.counter) (countings plan.body)
+  pub counters_kept : AllByRecursion (KeepsCounter plan) (countings plan.body)
 
 -- What is of its steps.
 
@@ -272,11 +281,11 @@ pub record KeepsBanks (plan : PlainPlan) (s : StepStart) (blocks : List ℕ) : T
       → WritesAt plan b i → WritesAt plan c j → OperationBefore blocks b i c j
       → Before plan.meets r.access t.access ⊎ ((r.access ≡ t.access) × RisesIn x.bank r.banks t.banks)
 
--- whatever registers and memories hold, with each loop round the blocks in a turn of its own
+-- whatever registers and memories hold of their kinds, with each loop round the blocks in a turn of its own
 abbrev pub StepsKeepBanks : PlainPlan → Type 0
 StepsKeepBanks plan =
     (blocks : List ℕ) (loops : List Counting) → IsStepOf [] plan.body blocks loops
-    → (registers : List ℕ) (memories : List (List ℕ)) → FitKinds plan.registers registers
+    → (registers : List ℕ) (memories : List (List ℕ)) → FitKinds plan.registers registers → Fits plan.table memories
     → AllByRecursion (λ c. slice_index registers c.counter < c.turns) loops
     → KeepsBanks plan (start_at plan registers memories) blocks
 
@@ -307,7 +316,7 @@ pub record IsInRange (plan : PlainPlan) (s : StepStart) (block i : ℕ) (r : Rea
 pub record IsAddressed (plan : PlainPlan) : Type 0 where
   pub forms : (block i : ℕ) (o : Operation) → slice_get (operations_in plan block) i ≡ Some o → FormAddressed o.form
   pub inside : (blocks : List ℕ) (loops : List Counting) → IsStepOf [] plan.body blocks loops
-      → (registers : List ℕ) (memories : List (List ℕ)) → FitKinds plan.registers registers
+      → (registers : List ℕ) (memories : List (List ℕ)) → FitKinds plan.registers registers → Fits plan.table memories
       → AllByRecursion (λ c. slice_index registers c.counter < c.turns) loops
       → (block i : ℕ) (r : Reach) (o : Operation) → IsOneOf block blocks → slice_get (operations_in plan block) i ≡ Some o → use_in o.form ≡ Some r
       → is_on (first_in plan block) (block_values plan (start_at plan registers memories) block) o.guard ≡ true

@@ -5,8 +5,12 @@ ghost use Rattle.std.specs.Prelude.{◌≡◌, [], ◌∷◌};
 ghost use Rattle.dh_base.specs.declared.outcomes.FaultKind.TheVariants.{OutOfRange};
 ghost use Rattle.dh_base.specs.declared.outcomes.Outcome.TheVariants.{Going, Ended, Faulted};
 ghost use Rattle.dh_plan.specs.ExamplePlans.{first_plan, faulting_plan, endless_plan, threads_plan, split_plan, physical_plan, choice_plan, late_fault_plan, fold_plan};
+ghost use Rattle.dh_plan.specs.ExamplePrograms.{storing_program, storing_plan, no_slots};
+ghost use Rattle.dh_plan.specs.DoneProgram.{RunsAs};
 ghost use Rattle.dh_plan.specs.LegalSchedules.{block_clocks};
+ghost use Rattle.dh_plan.specs.PlanPhases.{DoesPhases};
 ghost use Rattle.dh_plan.specs.PlanRuns.{plan_state};
+ghost use Rattle.dh_plan.specs.SoundPlans.{StepsKeepBanks};
 
 /// A store, and behind it a store of what was read.
 pub fn first_plan_runs()
@@ -66,4 +70,12 @@ pub fn fold_plan_folds()
     ensures memories { (plan_state fold_plan ((1 ∷ 2 ∷ 3 ∷ 4 ∷ []) ∷ (0 ∷ []) ∷ []) 3).memories ≡ (1 ∷ 2 ∷ 3 ∷ 4 ∷ []) ∷ (90 ∷ []) ∷ [] }
     ensures ended { (plan_state fold_plan ((1 ∷ 2 ∷ 3 ∷ 4 ∷ []) ∷ (0 ∷ []) ∷ []) 3).outcome ≡ Ended }
     ensures clocks { block_clocks fold_plan 1 ≡ 2 }
+{}
+
+/// A plan of a loop of stores does the phases of its program one for one, runs as it, and keeps its banks in every
+/// step: definitions of these are met.
+pub fn storing_plan_does_its_program()
+    ensures phases { DoesPhases storing_plan no_slots storing_program.phases }
+    ensures runs { RunsAs storing_program storing_plan }
+    ensures banks { StepsKeepBanks storing_plan }
 {}

@@ -2,10 +2,15 @@
 
 ghost use Rattle.std.specs.Prelude.{ℕ, List};
 ghost use Rattle.dh_value.specs.declared.words.Word.{Word};
+ghost use Rattle.dh_meaning.specs.Core.{CoreProgram};
 ghost use Rattle.dh_plan.specs.declared.operations.Operation.{Operation};
 ghost use Rattle.dh_plan.specs.Blocks.{StepStart, Look, BlockEvent, in_memories};
 ghost use Rattle.dh_plan.specs.BlockLaws.{LooksBack, HasOneSolution, DoesByValues, AppendsKeep, EndsInOrder, PutsInOrder, SetsInOrder};
+ghost use Rattle.dh_plan.specs.Correspondence.{Slots};
+ghost use Rattle.dh_plan.specs.DoneProgram.{PhasesMakeRuns};
 ghost use Rattle.dh_plan.specs.Ordered.{IsOrdered};
+ghost use Rattle.dh_plan.specs.PlainPlans.{PlainPlan};
+ghost use Rattle.dh_plan.specs.ScheduleLaws.{LeastIsLegal};
 
 /// Where each operation of a block takes earlier values, its values are the one solution of its equations, whatever
 /// reads show by values before them; in a plan they show what is in memories.
@@ -25,4 +30,15 @@ pub fn pieces_come_in_order()
     ensures ends { (es more : List BlockEvent) → EndsInOrder es more }
     ensures puts { PutsInOrder }
     ensures sets { SetsInOrder }
+{}
+
+/// A plan that does the phases of a program one for one runs as the program, from whatever memories.
+pub fn phases_make_runs()
+    ensures { (c : CoreProgram) (plan : PlainPlan) (slots : Slots) → PhasesMakeRuns c plan slots }
+{}
+
+/// The schedule that puts each operation at the least clock is legal without limits, and gives a block its least
+/// length.
+pub fn least_clocks_are_legal()
+    ensures { LeastIsLegal }
 {}

@@ -1,0 +1,11 @@
+use Rattle.dh_plan.proofs.StoringPlan.{storing_phases, storing_runs, storing_keeps_banks}
+use Rattle.dh_plan.proofs.examples.storing_plan_does_its_program.Goals as goal
+
+pub returns-clause-phases : goal.returns-clause-phases
+returns-clause-phases c = storing_phases
+
+pub returns-clause-runs : goal.returns-clause-runs
+returns-clause-runs c = storing_runs
+
+pub returns-clause-banks : goal.returns-clause-banks
+returns-clause-banks c = storing_keeps_banks
