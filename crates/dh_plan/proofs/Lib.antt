@@ -7,3 +7,4 @@ pub mod JointEnters
 pub mod JointSteps
 pub mod LeastLegal
 pub mod StoringPlan
+pub mod StoringPasses

@@ -21,3 +21,5 @@ pub mod BlockLaws
 pub mod ExamplePlans
 pub mod ScheduleLaws
 pub mod ExamplePrograms
+pub mod ExampleSizes
+pub mod ExamplePasses

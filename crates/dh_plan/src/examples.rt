@@ -6,11 +6,16 @@ ghost use Rattle.dh_base.specs.declared.outcomes.FaultKind.TheVariants.{OutOfRan
 ghost use Rattle.dh_base.specs.declared.outcomes.Outcome.TheVariants.{Going, Ended, Faulted};
 ghost use Rattle.dh_plan.specs.ExamplePlans.{first_plan, faulting_plan, endless_plan, threads_plan, split_plan, physical_plan, choice_plan, late_fault_plan, fold_plan};
 ghost use Rattle.dh_plan.specs.ExamplePrograms.{storing_program, storing_plan, no_slots};
+ghost use Rattle.dh_plan.specs.BoundPorts.{IsBinding};
 ghost use Rattle.dh_plan.specs.DoneProgram.{RunsAs};
+ghost use Rattle.dh_plan.specs.ExamplePasses.{storing_flow, storing_timing, storing_uses};
+ghost use Rattle.dh_plan.specs.ExampleSizes.{shared_reads, two_copies, no_turn};
 ghost use Rattle.dh_plan.specs.LegalSchedules.{block_clocks};
 ghost use Rattle.dh_plan.specs.PlanPhases.{DoesPhases};
 ghost use Rattle.dh_plan.specs.PlanRuns.{plan_state};
+ghost use Rattle.dh_plan.specs.PlanSizes.{plan_size_of};
 ghost use Rattle.dh_plan.specs.SoundPlans.{StepsKeepBanks};
+ghost use Rattle.dh_plan.specs.Ways.{FlowsAs};
 
 /// A store, and behind it a store of what was read.
 pub fn first_plan_runs()
@@ -78,4 +83,18 @@ pub fn storing_plan_does_its_program()
     ensures phases { DoesPhases storing_plan no_slots storing_program.phases }
     ensures runs { RunsAs storing_program storing_plan }
     ensures banks { StepsKeepBanks storing_plan }
+{}
+
+/// What the passes behind it state of its graph, schedule and binding is met, too.
+pub fn storing_plan_passes()
+    ensures flow { FlowsAs storing_flow storing_plan }
+    ensures binding { IsBinding storing_plan storing_timing storing_uses }
+{}
+
+/// Sizes of plans: a read that shares an earlier one charges no bank, each copy counts, and so does a loop without
+/// turns.
+pub fn sizes_are_counted()
+    ensures shared { plan_size_of shared_reads ≡ 6 }
+    ensures copies { plan_size_of two_copies ≡ 12 }
+    ensures no_turns { plan_size_of no_turn ≡ 4 }
 {}
