@@ -11,7 +11,7 @@ use Rattle.dh_meaning.specs.Runs as source
 use Rattle.dh_meaning.specs.Runs.{inner_paths, iterator_value}
 use Rattle.dh_plan.specs.PlainPlans.{Nodes, PlainPlan}
 use Rattle.dh_plan.specs.Correspondence.{Slots, FitKinds, Holding, Round, paths_within, paths_of_rounds, IsCounted, AreCounted, StandFor}
-use Rattle.dh_plan.specs.PlanPhases.{DoesBlock, SetsFlag, Touches, IsCounterOf, IsIteratorOf, IsLoopRegister, AreNodesOf, does_phases}
+use Rattle.dh_plan.specs.PlanPhases.{DoesBlock, SetsFlag, Touches, IsCounterOf, IsIteratorOf, IsLoopRegister, Tie, both_ties, AreNodesOf, does_phases}
 use Rattle.dh_plan.specs.PlanRuns.{Todo, over, nodes_then, turn_then, test_then, again_then, pick_then, Place, ended, at, Next}
 use Rattle.dh_plan.specs.SoundPlans.{CountsTurns, KeepsCounter, IsNeverSet, Counting, countings}
 
@@ -78,32 +78,32 @@ abbrev pub counting : (counter turns : ℕ) → Counting
 counting counter turns = record { counter = counter; turns = turns }
 
 -- the nodes do the phases
-abbrev pub NodesRun : PlainPlan → Slots → List Round → CorePhases → Nodes → Type 0
-NodesRun plan slots rounds ps ns = AreNodesOf (does_phases plan slots) rounds ps ns × GoodCounters plan (countings ns)
+abbrev pub NodesRun : PlainPlan → Slots → Tie → List Round → CorePhases → Nodes → Type 0
+NodesRun plan slots extra rounds ps ns = AreNodesOf (both_ties (does_phases plan slots) extra) rounds ps ns × GoodCounters plan (countings ns)
 
-abbrev pub TestRuns : PlainPlan → Slots → List Round → CoreTerm → (flag block : ℕ) → Type 0
-TestRuns plan slots rounds test flag block =
-    DoesBlock plan slots rounds (tests test) block × (SetsFlag plan slots rounds test flag block × Touches plan slots rounds (tests test) (Some flag) block)
+abbrev pub TestRuns : PlainPlan → Slots → Tie → List Round → CoreTerm → (flag block : ℕ) → Type 0
+TestRuns plan slots extra rounds test flag block =
+    (DoesBlock plan slots rounds (tests test) block × (SetsFlag plan slots rounds test flag block × Touches plan slots rounds (tests test) (Some flag) block)) × extra.of_test rounds test flag block
 
-abbrev pub BlockRuns : PlainPlan → Slots → List Round → CoreCommands → (block : ℕ) → Type 0
-BlockRuns plan slots rounds cs block = DoesBlock plan slots rounds (commands cs) block × Touches plan slots rounds (commands cs) None block
+abbrev pub BlockRuns : PlainPlan → Slots → Tie → List Round → CoreCommands → (block : ℕ) → Type 0
+BlockRuns plan slots extra rounds cs block = (DoesBlock plan slots rounds (commands cs) block × Touches plan slots rounds (commands cs) None block) × extra.of_block rounds cs block
 
 -- all of a joint does what it stands for
-abbrev pub Valid : PlainPlan → Slots → Joint → Type 0
-Valid plan slots j_over = Unit {0}
-Valid plan slots (j_phases ps ns k) = NodesRun plan slots (around k) ps ns × Valid plan slots k
-Valid plan slots (j_turn loop counter turn ps ns k) =
-    (IsLoopRegister slots (around k) loop counter × (CountsTurns plan (counting counter loop.count) × IsNeverSet plan counter))
-    × (NodesRun plan slots (around k ++ round loop counter ∷ []) ps ns × Valid plan slots k)
-Valid plan slots (j_again test ps block flag ns k) =
-    TestRuns plan slots (around k) test flag block × (NodesRun plan slots (around k) ps ns × Valid plan slots k)
+abbrev pub Valid : PlainPlan → Slots → Tie → Joint → Type 0
+Valid plan slots extra j_over = Unit {0}
+Valid plan slots extra (j_phases ps ns k) = NodesRun plan slots extra (around k) ps ns × Valid plan slots extra k
+Valid plan slots extra (j_turn loop counter turn ps ns k) =
+    ((IsLoopRegister slots (around k) loop counter × extra.of_loop (around k) loop counter) × (CountsTurns plan (counting counter loop.count) × IsNeverSet plan counter))
+    × (NodesRun plan slots extra (around k ++ round loop counter ∷ []) ps ns × Valid plan slots extra k)
+Valid plan slots extra (j_again test ps block flag ns k) =
+    TestRuns plan slots extra (around k) test flag block × (NodesRun plan slots extra (around k) ps ns × Valid plan slots extra k)
 
-abbrev pub ValidStand : PlainPlan → Slots → Stand → Type 0
-ValidStand plan slots s_ended = Unit {0}
-ValidStand plan slots (s_block cs block ps ns k) = BlockRuns plan slots (around k) cs block × (NodesRun plan slots (around k) ps ns × Valid plan slots k)
-ValidStand plan slots (s_loop test ps block flag ns k) = TestRuns plan slots (around k) test flag block × (NodesRun plan slots (around k) ps ns × Valid plan slots k)
-ValidStand plan slots (s_pick test chosen other block flag ns ms k) =
-    TestRuns plan slots (around k) test flag block × ((NodesRun plan slots (around k) chosen ns × NodesRun plan slots (around k) other ms) × Valid plan slots k)
+abbrev pub ValidStand : PlainPlan → Slots → Tie → Stand → Type 0
+ValidStand plan slots extra s_ended = Unit {0}
+ValidStand plan slots extra (s_block cs block ps ns k) = BlockRuns plan slots extra (around k) cs block × (NodesRun plan slots extra (around k) ps ns × Valid plan slots extra k)
+ValidStand plan slots extra (s_loop test ps block flag ns k) = TestRuns plan slots extra (around k) test flag block × (NodesRun plan slots extra (around k) ps ns × Valid plan slots extra k)
+ValidStand plan slots extra (s_pick test chosen other block flag ns ms k) =
+    TestRuns plan slots extra (around k) test flag block × ((NodesRun plan slots extra (around k) chosen ns × NodesRun plan slots extra (around k) other ms) × Valid plan slots extra k)
 
 -- a loop is in this turn, and its iterator has the turn's value at these paths
 pub record InTurn (paths : List Path) (loop : Turning) (counter turn : ℕ) (registers : List ℕ) (variables : Variables) : Type 0 where
@@ -122,23 +122,23 @@ Turned (j_again test ps block flag ns k) registers variables = Turned k register
 abbrev pub Idle : PlainPlan → List Round → (registers : List ℕ) → Type 0
 Idle plan rounds registers = (c : ℕ) → IsNeverSet plan c → (IsCounterOf rounds c → ⊥) → slice_index registers c ≡ 0
 
-abbrev pub Live : PlainPlan → Slots → Joint → (registers : List ℕ) → Variables → Type 0
-Live plan slots k registers variables =
+abbrev pub Live : PlainPlan → Slots → Tie → Joint → (registers : List ℕ) → Variables → Type 0
+Live plan slots extra k registers variables =
     (FitKinds plan.registers registers × Holding plan.registers slots registers variables) × (Turned k registers variables × Idle plan (around k) registers)
 
-abbrev pub LiveStand : PlainPlan → Slots → Stand → (registers : List ℕ) → Variables → Type 0
-LiveStand plan slots s_ended registers variables = Unit {0}
-LiveStand plan slots (s_block cs block ps ns k) registers variables = Live plan slots k registers variables
-LiveStand plan slots (s_loop test ps block flag ns k) registers variables = Live plan slots k registers variables
-LiveStand plan slots (s_pick test chosen other block flag ns ms k) registers variables = Live plan slots k registers variables
+abbrev pub LiveStand : PlainPlan → Slots → Tie → Stand → (registers : List ℕ) → Variables → Type 0
+LiveStand plan slots extra s_ended registers variables = Unit {0}
+LiveStand plan slots extra (s_block cs block ps ns k) registers variables = Live plan slots extra k registers variables
+LiveStand plan slots extra (s_loop test ps block flag ns k) registers variables = Live plan slots extra k registers variables
+LiveStand plan slots extra (s_pick test chosen other block flag ns ms k) registers variables = Live plan slots extra k registers variables
 
 -- both go on to one stand
-pub record Met (plan : PlainPlan) (slots : Slots) (n : source.Next) (m : Next) : Type 0 where
+pub record Met (plan : PlainPlan) (slots : Slots) (extra : Tie) (n : source.Next) (m : Next) : Type 0 where
   pub stand : Stand
-  pub valid : ValidStand plan slots stand
+  pub valid : ValidStand plan slots extra stand
   pub source_is : n.place ≡ source_place stand
   pub plan_is : m.place ≡ plan_place stand
-  pub live : LiveStand plan slots stand m.registers n.variables
+  pub live : LiveStand plan slots extra stand m.registers n.variables
 
 -- Loops round a joint.
 
@@ -217,17 +217,17 @@ all_counted (j_turn loop counter turn ps ns k) registers variables h =
         (turn_counted (inner_paths (paths_at k) loop) loop counter turn registers variables h.1))
 all_counted (j_again test ps block flag ns k) registers variables h = all_counted k registers variables h
 
-pub stand_for : (plan : PlainPlan) (slots : Slots) (k : Joint) (registers : List ℕ) (variables : Variables) → Live plan slots k registers variables
+pub stand_for : (plan : PlainPlan) (slots : Slots) (extra : Tie) (k : Joint) (registers : List ℕ) (variables : Variables) → Live plan slots extra k registers variables
     → StandFor plan.registers slots (around k) registers variables
-stand_for plan slots k registers variables l = record { fit = l.0.0; holding = l.0.1; counted = all_counted k registers variables l.1.0 }
+stand_for plan slots extra k registers variables l = record { fit = l.0.0; holding = l.0.1; counted = all_counted k registers variables l.1.0 }
 
 -- no operation sets the counters of the loops round a joint
-pub counters_kept : (plan : PlainPlan) (slots : Slots) (k : Joint) → Valid plan slots k → (c : ℕ) → IsCounterOf (around k) c → IsNeverSet plan c
-counters_kept plan slots j_over h c i = absurd i
-counters_kept plan slots (j_phases ps ns k) h c i = counters_kept plan slots k h.1 c i
-counters_kept plan slots (j_turn loop counter turn ps ns k) h c i =
+pub counters_kept : (plan : PlainPlan) (slots : Slots) (extra : Tie) (k : Joint) → Valid plan slots extra k → (c : ℕ) → IsCounterOf (around k) c → IsNeverSet plan c
+counters_kept plan slots extra j_over h c i = absurd i
+counters_kept plan slots extra (j_phases ps ns k) h c i = counters_kept plan slots extra k h.1 c i
+counters_kept plan slots extra (j_turn loop counter turn ps ns k) h c i =
     elim (counter_split (around k) (round loop counter) c i) [
-      | inl a ↦ counters_kept plan slots k h.1.1 c a
+      | inl a ↦ counters_kept plan slots extra k h.1.1 c a
       | inr b ↦ subst (λ (d : ℕ). IsNeverSet plan d) b h.0.1.1
     ]
-counters_kept plan slots (j_again test ps block flag ns k) h c i = counters_kept plan slots k h.1.1 c i
+counters_kept plan slots extra (j_again test ps block flag ns k) h c i = counters_kept plan slots extra k h.1.1 c i

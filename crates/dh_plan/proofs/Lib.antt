@@ -8,3 +8,5 @@ pub mod JointSteps
 pub mod LeastLegal
 pub mod StoringPlan
 pub mod StoringPasses
+pub mod TiedNodes
+pub mod PlayedProgram

@@ -126,6 +126,21 @@ pub record Tie : Type 1 where
   pub of_test : List Round → CoreTerm → (flag block : ℕ) → Type 0
   pub of_loop : List Round → Turning → (counter : ℕ) → Type 0
 
+-- tied in both ways, and in none
+abbrev pub both_ties : Tie → Tie → Tie
+both_ties a b = record {
+  of_block = λ rounds cs block. a.of_block rounds cs block × b.of_block rounds cs block;
+  of_test = λ rounds test flag block. a.of_test rounds test flag block × b.of_test rounds test flag block;
+  of_loop = λ rounds loop counter. a.of_loop rounds loop counter × b.of_loop rounds loop counter;
+}
+
+abbrev pub no_tie : Tie
+no_tie = record {
+  of_block = λ rounds cs block. Unit {0};
+  of_test = λ rounds test flag block. Unit {0};
+  of_loop = λ rounds loop counter. Unit {0};
+}
+
 abbrev mutual
   -- Nodes are these phases one for one, of the same forms with the same numbers of turns, and each block, test and
   -- loop is tied so.

@@ -1,12 +1,13 @@
 -- What a netlist is of a plan, and of a program: it plays their runs, with the lengths that a schedule or the
 -- program gives its steps.
+use Rattle.std.specs.List.{AllByRecursion}
 use Rattle.std.specs.Prelude.{◌≡◌, ◌↔◌, ℕ, suc, ◌+◌, ◌≤◌, max, true, IsTrue, List, [], ◌∷◌, slice_get, slice_index, Some}
 use Rattle.dh_base.specs.declared.outcomes.Outcome.{Outcome}
 use Rattle.dh_tree.specs.PlainTrees.{Program}
 use Rattle.dh_tree.specs.Memories.{table_of}
 use Rattle.dh_tree.specs.Tables.{Fits}
 use Rattle.dh_meaning.specs.CoreOf.{core_of}
-use Rattle.dh_meaning.specs.Effects.{Block}
+use Rattle.dh_meaning.specs.Effects.{Block, commands, tests}
 use Rattle.dh_meaning.specs.Levels.{block_length}
 use Rattle.dh_meaning.specs.Runs as source
 use Rattle.dh_meaning.specs.Runs.{run_state}
@@ -17,6 +18,10 @@ use Rattle.dh_net.specs.Clock.{State, Settles, ClocksTo, start_of, is_active}
 use Rattle.dh_net.specs.Plays.{Run, clocks_of, HasSteps, Fit, Plays}
 use Rattle.dh_net.specs.Valid.{IsValid}
 use Rattle.dh_plan.specs.PlainPlans.{PlainPlan}
+use Rattle.dh_plan.specs.Correspondence.{Slots}
+use Rattle.dh_plan.specs.DoneProgram.{NeverStuck}
+use Rattle.dh_plan.specs.PlanPhases.{Tie, AreNodesOf, DoesPhases}
+use Rattle.dh_plan.specs.SoundPlans.{CountsTurns, KeepsCounter, countings}
 use Rattle.dh_plan.specs.PlanRuns.{Place, blocks_at, plan_state}
 use Rattle.dh_plan.specs.LegalSchedules.{Timing}
 
@@ -67,3 +72,18 @@ pub record PlaysItsProgram (p : Program) (net : Net) : Type 0 where
   pub valid : IsValid net
   pub table : net.table ≡ table_of p
   pub plays : (start : List (List ℕ)) → Fits (table_of p) start → Plays net (program_run p start) start
+
+-- these lengths of blocks are those of their phases
+abbrev pub times_phases : Program → (lengths : List ℕ) → Tie
+times_phases p lengths = record {
+  of_block = λ rounds cs block. slice_index lengths block ≡ block_length (shared p) (commands cs);
+  of_test = λ rounds test flag block. slice_index lengths block ≡ block_length (shared p) (tests test);
+  of_loop = λ rounds loop counter. Unit {0};
+}
+
+-- A net that plays a plan plays the program whose phases the plan does, in lengths that are those of the phases.
+abbrev pub PlansPlayPrograms : Program → PlainPlan → Slots → (lengths : List ℕ) → Net → Type 0
+PlansPlayPrograms p plan slots lengths net =
+    plan.table ≡ table_of p → AllByRecursion (CountsTurns plan) (countings plan.body) → AllByRecursion (KeepsCounter plan) (countings plan.body)
+    → DoesPhases plan slots (core_of p).phases → AreNodesOf (times_phases p lengths) [] (core_of p).phases plan.body
+    → NeverStuck (core_of p) → PlaysPlan plan lengths net → PlaysItsProgram p net

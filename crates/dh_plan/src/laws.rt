@@ -2,7 +2,9 @@
 
 ghost use Rattle.std.specs.Prelude.{ℕ, List};
 ghost use Rattle.dh_value.specs.declared.words.Word.{Word};
+ghost use Rattle.dh_tree.specs.PlainTrees.{Program};
 ghost use Rattle.dh_meaning.specs.Core.{CoreProgram};
+ghost use Rattle.dh_net.specs.declared.nets.Net.{Net};
 ghost use Rattle.dh_plan.specs.declared.operations.Operation.{Operation};
 ghost use Rattle.dh_plan.specs.Blocks.{StepStart, Look, BlockEvent, in_memories};
 ghost use Rattle.dh_plan.specs.BlockLaws.{LooksBack, HasOneSolution, DoesByValues, AppendsKeep, EndsInOrder, PutsInOrder, SetsInOrder};
@@ -10,6 +12,7 @@ ghost use Rattle.dh_plan.specs.Correspondence.{Slots};
 ghost use Rattle.dh_plan.specs.DoneProgram.{PhasesMakeRuns};
 ghost use Rattle.dh_plan.specs.Ordered.{IsOrdered};
 ghost use Rattle.dh_plan.specs.PlainPlans.{PlainPlan};
+ghost use Rattle.dh_plan.specs.PlayedPlans.{PlansPlayPrograms};
 ghost use Rattle.dh_plan.specs.ScheduleLaws.{LeastIsLegal};
 
 /// Where each operation of a block takes earlier values, its values are the one solution of its equations, whatever
@@ -41,4 +44,10 @@ pub fn phases_make_runs()
 /// length.
 pub fn least_clocks_are_legal()
     ensures { LeastIsLegal }
+{}
+
+/// A net that plays a plan plays the program whose phases the plan does one for one, where the lengths of its blocks
+/// are those of the phases.
+pub fn plans_play_programs()
+    ensures { (p : Program) (plan : PlainPlan) (slots : Slots) (lengths : List ℕ) (net : Net) → PlansPlayPrograms p plan slots lengths net }
 {}
