@@ -10,3 +10,4 @@ pub mod StoringPlan
 pub mod StoringPasses
 pub mod TiedNodes
 pub mod PlayedProgram
+pub mod LeastLengths

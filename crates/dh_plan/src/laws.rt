@@ -13,7 +13,7 @@ ghost use Rattle.dh_plan.specs.DoneProgram.{PhasesMakeRuns};
 ghost use Rattle.dh_plan.specs.Ordered.{IsOrdered};
 ghost use Rattle.dh_plan.specs.PlainPlans.{PlainPlan};
 ghost use Rattle.dh_plan.specs.PlayedPlans.{PlansPlayPrograms};
-ghost use Rattle.dh_plan.specs.ScheduleLaws.{LeastIsLegal};
+ghost use Rattle.dh_plan.specs.ScheduleLaws.{LeastIsLegal, HasLeastLengths};
 
 /// Where each operation of a block takes earlier values, its values are the one solution of its equations, whatever
 /// reads show by values before them; in a plan they show what is in memories.
@@ -40,10 +40,11 @@ pub fn phases_make_runs()
     ensures { (c : CoreProgram) (plan : PlainPlan) (slots : Slots) → PhasesMakeRuns c plan slots }
 {}
 
-/// The schedule that puts each operation at the least clock is legal without limits, and gives a block its least
-/// length.
+/// The schedule that puts each operation where all is there that it takes is legal without limits; and the least
+/// schedule gives each block the length of that one.
 pub fn least_clocks_are_legal()
-    ensures { LeastIsLegal }
+    ensures legal { LeastIsLegal }
+    ensures lengths { HasLeastLengths }
 {}
 
 /// A net that plays a plan plays the program whose phases the plan does one for one, where the lengths of its blocks
