@@ -11,3 +11,4 @@ pub mod StoringPasses
 pub mod TiedNodes
 pub mod PlayedProgram
 pub mod LeastLengths
+pub mod Composed

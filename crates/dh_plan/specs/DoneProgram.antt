@@ -238,6 +238,7 @@ pub record RunTheSame (p q : PlainPlan) : Type 0 where
   pub outcome : (memories : List (List ℕ)) (n : ℕ) → Fits p.table memories → (plan_state q memories n).outcome ≡ (plan_state p memories n).outcome
   pub steps : (memories : List (List ℕ)) (n : ℕ) → Fits p.table memories → (plan_state q memories n).steps ≡ (plan_state p memories n).steps
   pub memories_same : (memories : List (List ℕ)) (n : ℕ) → Fits p.table memories → (plan_state q memories n).memories ≡ (plan_state p memories n).memories
+  pub places : (memories : List (List ℕ)) (n : ℕ) → Fits p.table memories → (plan_state q memories n).place ≡ (plan_state p memories n).place
 
 -- the value of this number is a constant of the block
 pub record IsConstantAt (plan : PlainPlan) (block number : ℕ) : Type 0 where

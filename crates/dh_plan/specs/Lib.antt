@@ -23,3 +23,4 @@ pub mod ScheduleLaws
 pub mod ExamplePrograms
 pub mod ExampleSizes
 pub mod ExamplePasses
+pub mod PassesCompose

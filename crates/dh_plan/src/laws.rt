@@ -11,6 +11,8 @@ ghost use Rattle.dh_plan.specs.BlockLaws.{LooksBack, HasOneSolution, DoesByValue
 ghost use Rattle.dh_plan.specs.Correspondence.{Slots};
 ghost use Rattle.dh_plan.specs.DoneProgram.{PhasesMakeRuns};
 ghost use Rattle.dh_plan.specs.Ordered.{IsOrdered};
+ghost use Rattle.dh_plan.specs.LegalSchedules.{Timing};
+ghost use Rattle.dh_plan.specs.PassesCompose.{PassesCompose};
 ghost use Rattle.dh_plan.specs.PlainPlans.{PlainPlan};
 ghost use Rattle.dh_plan.specs.PlayedPlans.{PlansPlayPrograms};
 ghost use Rattle.dh_plan.specs.ScheduleLaws.{LeastIsLegal, HasLeastLengths};
@@ -51,4 +53,9 @@ pub fn least_clocks_are_legal()
 /// are those of the phases.
 pub fn plans_play_programs()
     ensures { (p : Program) (plan : PlainPlan) (slots : Slots) (lengths : List ℕ) (net : Net) → PlansPlayPrograms p plan slots lengths net }
+{}
+
+/// The contracts of the passes suffice for that of the compiler, where no run of the program is stuck.
+pub fn passes_compose()
+    ensures { (p : Program) (plan addressed : PlainPlan) (t : Timing) (net : Net) → PassesCompose p plan addressed t net }
 {}

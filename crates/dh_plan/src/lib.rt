@@ -18,7 +18,7 @@ pub use examples::{
     fold_plan_folds, sizes_are_counted, storing_plan_does_its_program, storing_plan_passes, threads_plan_ends,
 };
 pub use graphs::{Decision, Graph, Group, State};
-pub use laws::{blocks_do_by_values, blocks_have_one_solution, least_clocks_are_legal, phases_make_runs, pieces_come_in_order,
+pub use laws::{blocks_do_by_values, blocks_have_one_solution, least_clocks_are_legal, passes_compose, phases_make_runs, pieces_come_in_order,
     plans_play_programs};
 pub use operations::{Operation, OperationForm, PlanBlock, Reach, ReachStep};
 pub use plans::{Meets, Node, Plan};
