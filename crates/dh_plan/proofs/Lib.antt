@@ -12,3 +12,4 @@ pub mod TiedNodes
 pub mod PlayedProgram
 pub mod LeastLengths
 pub mod Composed
+pub mod StoringSound

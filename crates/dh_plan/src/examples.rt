@@ -14,7 +14,7 @@ ghost use Rattle.dh_plan.specs.LegalSchedules.{block_clocks};
 ghost use Rattle.dh_plan.specs.PlanPhases.{DoesPhases};
 ghost use Rattle.dh_plan.specs.PlanRuns.{plan_state};
 ghost use Rattle.dh_plan.specs.PlanSizes.{plan_size_of};
-ghost use Rattle.dh_plan.specs.SoundPlans.{StepsKeepBanks};
+ghost use Rattle.dh_plan.specs.SoundPlans.{IsSound};
 ghost use Rattle.dh_plan.specs.Ways.{FlowsAs};
 
 /// A store, and behind it a store of what was read.
@@ -77,12 +77,12 @@ pub fn fold_plan_folds()
     ensures clocks { block_clocks fold_plan 1 ≡ 2 }
 {}
 
-/// A plan of a loop of stores does the phases of its program one for one, runs as it, and keeps its banks in every
-/// step: definitions of these are met.
+/// A plan of a loop of stores does the phases of its program one for one, runs as it, and is sound: definitions of
+/// these are met.
 pub fn storing_plan_does_its_program()
     ensures phases { DoesPhases storing_plan no_slots storing_program.phases }
     ensures runs { RunsAs storing_program storing_plan }
-    ensures banks { StepsKeepBanks storing_plan }
+    ensures sound { IsSound storing_plan }
 {}
 
 /// What the passes behind it state of its graph, schedule and binding is met, too.

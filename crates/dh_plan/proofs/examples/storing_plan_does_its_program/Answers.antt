@@ -1,4 +1,5 @@
-use Rattle.dh_plan.proofs.StoringPlan.{storing_phases, storing_runs, storing_keeps_banks}
+use Rattle.dh_plan.proofs.StoringPlan.{storing_phases, storing_runs}
+use Rattle.dh_plan.proofs.StoringSound.{storing_sound}
 use Rattle.dh_plan.proofs.examples.storing_plan_does_its_program.Goals as goal
 
 pub returns-clause-phases : goal.returns-clause-phases
@@ -7,5 +8,5 @@ returns-clause-phases c = storing_phases
 pub returns-clause-runs : goal.returns-clause-runs
 returns-clause-runs c = storing_runs
 
-pub returns-clause-banks : goal.returns-clause-banks
-returns-clause-banks c = storing_keeps_banks
+pub returns-clause-sound : goal.returns-clause-sound
+returns-clause-sound c = storing_sound
