@@ -13,3 +13,4 @@ pub mod PlayedProgram
 pub mod LeastLengths
 pub mod Composed
 pub mod StoringSound
+pub mod StoringTree

@@ -24,3 +24,4 @@ pub mod ExamplePrograms
 pub mod ExampleSizes
 pub mod ExamplePasses
 pub mod PassesCompose
+pub mod ExampleTree

@@ -5,16 +5,15 @@ ghost use Rattle.std.specs.Prelude.{◌≡◌, [], ◌∷◌};
 ghost use Rattle.dh_base.specs.declared.outcomes.FaultKind.TheVariants.{OutOfRange};
 ghost use Rattle.dh_base.specs.declared.outcomes.Outcome.TheVariants.{Going, Ended, Faulted};
 ghost use Rattle.dh_plan.specs.ExamplePlans.{first_plan, faulting_plan, endless_plan, threads_plan, split_plan, physical_plan, choice_plan, late_fault_plan, fold_plan};
-ghost use Rattle.dh_plan.specs.ExamplePrograms.{storing_program, storing_plan, no_slots};
+ghost use Rattle.dh_plan.specs.ExamplePrograms.{storing_plan};
 ghost use Rattle.dh_plan.specs.BoundPorts.{IsBinding};
-ghost use Rattle.dh_plan.specs.DoneProgram.{RunsAs};
+ghost use Rattle.dh_plan.specs.DoneProgram.{IsPlanOf};
 ghost use Rattle.dh_plan.specs.ExamplePasses.{storing_flow, storing_timing, storing_uses};
 ghost use Rattle.dh_plan.specs.ExampleSizes.{shared_reads, two_copies, no_turn};
+ghost use Rattle.dh_plan.specs.ExampleTree.{storing_tree};
 ghost use Rattle.dh_plan.specs.LegalSchedules.{block_clocks};
-ghost use Rattle.dh_plan.specs.PlanPhases.{DoesPhases};
 ghost use Rattle.dh_plan.specs.PlanRuns.{plan_state};
 ghost use Rattle.dh_plan.specs.PlanSizes.{plan_size_of};
-ghost use Rattle.dh_plan.specs.SoundPlans.{IsSound};
 ghost use Rattle.dh_plan.specs.Ways.{FlowsAs};
 
 /// A store, and behind it a store of what was read.
@@ -77,12 +76,9 @@ pub fn fold_plan_folds()
     ensures clocks { block_clocks fold_plan 1 ≡ 2 }
 {}
 
-/// A plan of a loop of stores does the phases of its program one for one, runs as it, and is sound: definitions of
-/// these are met.
+/// All that is stated of a program's plan is met by that of a loop of stores.
 pub fn storing_plan_does_its_program()
-    ensures phases { DoesPhases storing_plan no_slots storing_program.phases }
-    ensures runs { RunsAs storing_program storing_plan }
-    ensures sound { IsSound storing_plan }
+    ensures { IsPlanOf storing_tree storing_plan }
 {}
 
 /// What the passes behind it state of its graph, schedule and binding is met, too.
