@@ -55,7 +55,7 @@ below_same first own ws vs same o h =
 pub solved_here : (s : StepStart) (look : Look) (first : ℕ) → LooksBack look first → (p : Operation) (os : List Operation) (ws : List Word)
     → TakesEarlier first (first + length ws) p
     → get_or (values_behind s look first ws (p ∷ os)) (length ws) no_word
-      ≡ operation_word s look first (values_behind s look first ws (p ∷ os)) (first + length ws) p
+    ≡ operation_word s look first (values_behind s look first ws (p ∷ os)) (first + length ws) p
 solved_here s look first back p os ws early =
     let w = operation_word s look first ws (first + length ws) p in
     let l = length_more ws w in
@@ -63,12 +63,12 @@ solved_here s look first back p os ws early =
     stays s look first os (ws ++ w ∷ []) (length ws) (omega (arith, l))
     ∙ (get_or-append_seam ws w [] no_word
     ∙ word_same s look first back ws final (first + length ws) p
-      (below_same first (first + length ws) ws final (λ k h. sym (stays s look first (p ∷ os) ws k (omega (arith, h)))) p early))
+    (below_same first (first + length ws) ws final (λ k h. sym (stays s look first (p ∷ os) ws k (omega (arith, h)))) p early))
 
 pub solved_behind : (s : StepStart) (look : Look) (first : ℕ) → LooksBack look first → (os : List Operation) (ws : List Word)
     → IsOrderedFrom first (length ws) os → (i : ℕ) (o : Operation) → slice_get os i ≡ Some o
     → get_or (values_behind s look first ws os) (length ws + i) no_word
-      ≡ operation_word s look first (values_behind s look first ws os) (first + (length ws + i)) o
+    ≡ operation_word s look first (values_behind s look first ws os) (first + (length ws + i)) o
 solved_behind s look first back [] ws h i o e = absurd (cc)
 solved_behind s look first back (p ∷ os) ws h zero o e =
     let same : Some p ≡ Some o = e in
@@ -77,7 +77,7 @@ solved_behind s look first back (p ∷ os) ws h zero o e =
     let none : length ws + 0 ≡ length ws = omega arith in
     let early = subst (λ (k : ℕ). TakesEarlier first (first + k) p) none (h 0 p refl) in
     subst (λ (q : Operation). get_or final (length ws + 0) no_word ≡ operation_word s look first final (first + (length ws + 0)) q) here
-      (subst (λ (k : ℕ). get_or final k no_word ≡ operation_word s look first final (first + k) p) (sym none) (solved_here s look first back p os ws early))
+    (subst (λ (k : ℕ). get_or final k no_word ≡ operation_word s look first final (first + k) p) (sym none) (solved_here s look first back p os ws early))
 solved_behind s look first back (p ∷ os) ws h (suc i) o e =
     let w = operation_word s look first ws (first + length ws) p in
     let l = length_more ws w in
@@ -85,7 +85,7 @@ solved_behind s look first back (p ∷ os) ws h (suc i) o e =
     let ordered = subst (λ (n : ℕ). IsOrderedFrom first n os) (sym l) (ordered_behind first (length ws) p os h) in
     let moved : length (ws ++ w ∷ []) + i ≡ length ws + suc i = omega (arith, l) in
     subst (λ (k : ℕ). get_or final k no_word ≡ operation_word s look first final (first + k) o) moved
-      (solved_behind s look first back os (ws ++ w ∷ []) ordered i o e)
+    (solved_behind s look first back os (ws ++ w ∷ []) ordered i o e)
 
 pub block_solves : (s : StepStart) (look : Look) (first : ℕ) → LooksBack look first → (os : List Operation) → IsOrdered first os
     → AreValues s look first os (values_of s look first os)
@@ -123,7 +123,7 @@ agree_at s look first back os ordered ws vs w v n below =
       | inl found ↦
           equation_at s look first os ws w n found.0 found.2
           ∙ (word_same s look first back ws vs (first + n) found.0
-            (below_same first (first + n) ws vs (λ k h. below k (omega (arith, h))) found.0 (ordered.each n found.0 found.2))
+          (below_same first (first + n) ws vs (λ k h. below k (omega (arith, h))) found.0 (ordered.each n found.0 found.2))
           ∙ sym (equation_at s look first os vs v n found.0 found.2))
       | inr past ↦ get_or_past ws n no_word (omega (arith, w.long, past.0)) ∙ sym (get_or_past vs n no_word (omega (arith, v.long, past.0)))
     ]
@@ -136,7 +136,7 @@ agree_below s look first back os ordered ws vs w v (suc n) k h =
       | inl small ↦ agree_below s look first back os ordered ws vs w v n k small
       | inr here ↦
           subst (λ (x : ℕ). get_or ws x no_word ≡ get_or vs x no_word) (sym here)
-            (agree_at s look first back os ordered ws vs w v n (agree_below s look first back os ordered ws vs w v n))
+          (agree_at s look first back os ordered ws vs w v n (agree_below s look first back os ordered ws vs w v n))
     ]
 
 pub one_solution : (s : StepStart) (look : Look) (first : ℕ) → LooksBack look first → (os : List Operation) → IsOrdered first os → (ws vs : List Word)

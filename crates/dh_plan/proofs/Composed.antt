@@ -28,7 +28,7 @@ use Rattle.dh_plan.proofs.ValuesAlike.{all_left, all_right}
 pub one_run : (u q : PlainPlan) (lengths : List ℕ) (start : List (List ℕ)) → RunTheSame u q → Fits u.table start → plan_run q lengths start ≡ plan_run u lengths start
 one_run u q lengths start same fits =
     same_run (plan_run q lengths start) (plan_run u lengths start) (λ n. same.outcome start n fits) (λ n. same.memories_same start n fits)
-      (λ n. ap (λ (x : Place). longest lengths (blocks_at x)) (same.places start n fits))
+    (λ n. ap (λ (x : Place). longest lengths (blocks_at x)) (same.places start n fits))
 
 -- so a net that plays the one plays the other
 pub plays_before : (u q : PlainPlan) (lengths : List ℕ) (net : Net) → IsAddressingOf u q → PlaysPlan q lengths net → PlaysPlan u lengths net
@@ -51,9 +51,10 @@ mutual
   nodes_timed p u q lengths fits rounds no_core_phases no_nodes h within = tt
   nodes_timed p u q lengths fits rounds no_core_phases (node_then n ns) h within = h
   nodes_timed p u q lengths fits rounds (phase_and c ps) no_nodes h within = h
-  nodes_timed p u q lengths fits rounds (phase_and c ps) (node_then n ns) h within =
-      ( node_timed p u q lengths fits rounds c n h.0 (all_left (λ (b : ℕ). Names q.blocks b) (node_blocks n) (blocks_of ns) within)
-      , nodes_timed p u q lengths fits rounds ps ns h.1 (all_right (λ (b : ℕ). Names q.blocks b) (node_blocks n) (blocks_of ns) within) )
+  nodes_timed p u q lengths fits rounds (phase_and c ps) (node_then n ns) h within = (
+    node_timed p u q lengths fits rounds c n h.0 (all_left (λ (b : ℕ). Names q.blocks b) (node_blocks n) (blocks_of ns) within),
+    nodes_timed p u q lengths fits rounds ps ns h.1 (all_right (λ (b : ℕ). Names q.blocks b) (node_blocks n) (blocks_of ns) within),
+  )
 
   pub node_timed : (p : Program) (u q : PlainPlan) (lengths : List ℕ) → ((block : ℕ) → block < length q.blocks → slice_index lengths block ≡ block_clocks u block)
       → (rounds : List Round) (c : CorePhase) (n : Node) → IsNodeOf (has_lengths p u) rounds c n → AllByRecursion (λ (b : ℕ). Names q.blocks b) (node_blocks n)
@@ -76,14 +77,18 @@ mutual
   node_timed p u q lengths fits rounds (choosing test chosen other) (block_node block) h within = h
   node_timed p u q lengths fits rounds (choosing test chosen other) (turns_node counter turns ms) h within = h
   node_timed p u q lengths fits rounds (choosing test chosen other) (loop_node block flag ms) h within = h
-  node_timed p u q lengths fits rounds (choosing test chosen other) (choice_node block flag ms os) h within = (fits block within.0 ∙ h.0,
-      ( nodes_timed p u q lengths fits rounds chosen ms h.1.0 (all_left (λ (b : ℕ). Names q.blocks b) (blocks_of ms) (blocks_of os) within.1)
-      , nodes_timed p u q lengths fits rounds other os h.1.1 (all_right (λ (b : ℕ). Names q.blocks b) (blocks_of ms) (blocks_of os) within.1) ))
+  node_timed p u q lengths fits rounds (choosing test chosen other) (choice_node block flag ms os) h within = (
+    fits block within.0 ∙ h.0,
+    (
+      nodes_timed p u q lengths fits rounds chosen ms h.1.0 (all_left (λ (b : ℕ). Names q.blocks b) (blocks_of ms) (blocks_of os) within.1),
+      nodes_timed p u q lengths fits rounds other os h.1.1 (all_right (λ (b : ℕ). Names q.blocks b) (blocks_of ms) (blocks_of os) within.1),
+    ),
+  )
   node_timed p u q lengths fits rounds (choosing test chosen other) (threads_node lists) h within = h
 
-pub passes_compose : (p : Program) (u q : PlainPlan) (t : Timing) (net : Net) → PassesCompose p u q t net
+pub passes_compose : (p : Program) → PassesCompose p
 passes_compose p u q t net never plan a schedule plays =
     let within = subst (λ (ns : Nodes). AllByRecursion (λ (b : ℕ). Names q.blocks b) (blocks_of ns)) a.body a.sound.formed.nodes in
     let times = nodes_timed p u q t.lengths (λ block inside. has_least_lengths q t schedule block inside ∙ a.lengths block) [] (core_of p).phases u.body plan.lengths within in
     plans_play_programs p u plan.slots t.lengths net plan.table plan.sound.formed.counters.wide plan.sound.formed.counters_kept plan.phases times never
-      (plays_before u q t.lengths net a plays)
+    (plays_before u q t.lengths net a plays)

@@ -57,9 +57,9 @@ set_fits kinds registers c v fit small =
     record {
       long = length-set registers c v ∙ fit.long;
       small = λ r. elim (cases_eq r c) [
-          | inl same ↦ subst (λ (x : ℕ). slice_index (slice_set registers c v) x < 2 ^ width_of (kind_at kinds x)) (sym same) (set_small registers c v _ small)
-          | inr other ↦ subst (λ (x : ℕ). x < 2 ^ width_of (kind_at kinds r)) (sym (get_or-set_other registers c r v 0 other)) (fit.small r)
-        ];
+        | inl same ↦ subst (λ (x : ℕ). slice_index (slice_set registers c v) x < 2 ^ width_of (kind_at kinds x)) (sym same) (set_small registers c v _ small)
+        | inr other ↦ subst (λ (x : ℕ). x < 2 ^ width_of (kind_at kinds r)) (sym (get_or-set_other registers c r v 0 other)) (fit.small r)
+      ];
     }
 
 -- the variables' registers are not touched
@@ -78,8 +78,8 @@ pub begun_holds : (kinds : List Kind) (slots : Slots) (registers : List ℕ) (lo
 begun_holds kinds slots registers loop turn paths variables free holding entity path r slot =
     holding entity path r slot
     ∙ ap (λ (z : ℤ). word_of (kind_at kinds r) z)
-      (sym (begun_other loop turn paths variables entity path
-        (λ same. some_not_none (slots entity path) r slot (subst (λ (e : ℕ). slots e path ≡ None) (sym same) (free path)))))
+    (sym (begun_other loop turn paths variables entity path
+    (λ same. some_not_none (slots entity path) r slot (subst (λ (e : ℕ). slots e path ≡ None) (sym same) (free path)))))
 
 -- Turns.
 
@@ -98,15 +98,20 @@ pub begin_live : (plan : PlainPlan) (slots : Slots) (extra : Tie) (k : Joint) (l
     → IsLoopRegister slots (around k) loop counter → IsNeverSet plan counter → 0 < loop.count → Live plan slots extra k registers variables
     → Live plan slots extra (j_turn loop counter 0 ps ns k) registers (begins loop (paths_at k) variables)
 begin_live plan slots extra k loop counter ps ns registers variables own kept some l =
-    let vs = turn_begun loop 0 (inner_paths (paths_at k) loop) variables in
-    ( (l.0.0, begun_holds plan.registers slots registers loop 0 (inner_paths (paths_at k) loop) variables own.iterator l.0.1)
-    , ( ( turned_moves k registers registers variables vs (λ c i. refl) (others_stay loop 0 (inner_paths (paths_at k) loop) variables (around k) own.own_iterator) l.1.0
-        , record {
+    let vs = turn_begun loop 0 (inner_paths (paths_at k) loop) variables in (
+      (l.0.0, begun_holds plan.registers slots registers loop 0 (inner_paths (paths_at k) loop) variables own.iterator l.0.1),
+      (
+        (
+          turned_moves k registers registers variables vs (λ c i. refl) (others_stay loop 0 (inner_paths (paths_at k) loop) variables (around k) own.own_iterator) l.1.0,
+          record {
             counts = l.1.1 counter kept own.own_counter;
             below = some;
             values = λ i p there. begun_here loop 0 (inner_paths (paths_at k) loop) variables i p there;
-          } )
-      , λ c never apart. l.1.1 c never (λ i. apart (counter_before (around k) (round loop counter) c i)) ) )
+          },
+        ),
+        λ c never apart. l.1.1 c never (λ i. apart (counter_before (around k) (round loop counter) c i)),
+      ),
+    )
 
 -- the counter after one turn more
 pub counted_here : (plan : PlainPlan) (registers : List ℕ) (counter turns turn : ℕ) → CountsTurns plan (counting counter turns) → FitKinds plan.registers registers
@@ -115,7 +120,7 @@ counted_here plan registers counter turns turn counts fit here more =
     let w = counts.1.0 in
     let wide = counts.1.1.1 in
     let value : (slice_index registers counter + 1) % 2 ^ w ≡ suc turn =
-        ap (λ (x : ℕ). (x + 1) % 2 ^ w) here ∙ (mod-eq_of_lt (omega (arith, more, wide)) ∙ omega arith) in
+    ap (λ (x : ℕ). (x + 1) % 2 ^ w) here ∙ (mod-eq_of_lt (omega (arith, more, wide)) ∙ omega arith) in
     get_or-set_same registers counter _ 0 (let long = fit.long in let there = counts.0 in omega (arith, long, there))
     ∙ subst (λ (k : Kind). (slice_index registers counter + 1) % 2 ^ width_of k ≡ suc turn) (sym counts.1.1.0) value
 
@@ -130,31 +135,43 @@ pub again_live : (plan : PlainPlan) (slots : Slots) (extra : Tie) (k : Joint) (l
 again_live plan slots extra k loop counter turn ps ns registers variables own counts more l =
     let paths = inner_paths (paths_at k) loop in
     let vs = turn_begun loop (suc turn) paths variables in
-    let rs = counted_up plan.registers counter registers in
-    ( ( set_fits plan.registers registers counter _ l.0.0 (counted_small plan.registers counter (slice_index registers counter))
-      , begun_holds plan.registers slots rs loop (suc turn) paths variables own.iterator (set_holds plan.registers slots registers variables counter _ own.counter_apart l.0.1) )
-    , ( ( turned_moves k registers rs variables vs (counters_stay registers counter _ (around k) own.own_counter) (others_stay loop (suc turn) paths variables (around k) own.own_iterator) l.1.0.0
-        , record {
+    let rs = counted_up plan.registers counter registers in (
+      (
+        set_fits plan.registers registers counter _ l.0.0 (counted_small plan.registers counter (slice_index registers counter)),
+        begun_holds plan.registers slots rs loop (suc turn) paths variables own.iterator (set_holds plan.registers slots registers variables counter _ own.counter_apart l.0.1),
+      ),
+      (
+        (
+          turned_moves k registers rs variables vs (counters_stay registers counter _ (around k) own.own_counter) (others_stay loop (suc turn) paths variables (around k) own.own_iterator) l.1.0.0,
+          record {
             counts = counted_here plan registers counter loop.count turn counts l.0.0 l.1.0.1.counts more;
             below = more;
             values = λ i p there. begun_here loop (suc turn) paths variables i p there;
-          } )
-      , λ c never apart. get_or-set_other registers counter c _ 0 (λ same. apart (subst (λ (x : ℕ). IsCounterOf (around k ++ round loop counter ∷ []) x) (sym same) (counter_last (around k) (round loop counter)))) ∙ l.1.1 c never apart ) )
+          },
+        ),
+        λ c never apart. get_or-set_other registers counter c _ 0 (λ same. apart (subst (λ (x : ℕ). IsCounterOf (around k ++ round loop counter ∷ []) x) (sym same) (counter_last (around k) (round loop counter)))) ∙ l.1.1 c never apart,
+      ),
+    )
 
 -- a loop ends, and leaves its counter at 0
 pub leave_live : (plan : PlainPlan) (slots : Slots) (extra : Tie) (k : Joint) (loop : Turning) (counter turn : ℕ) (ps : CorePhases) (ns : Nodes) (registers : List ℕ) (variables : Variables)
     → IsLoopRegister slots (around k) loop counter → CountsTurns plan (counting counter loop.count)
     → Live plan slots extra (j_turn loop counter turn ps ns k) registers variables → Live plan slots extra k (slice_set registers counter 0) variables
-leave_live plan slots extra k loop counter turn ps ns registers variables own counts l =
-    ( ( set_fits plan.registers registers counter 0 l.0.0 (pow_pos (width_of (kind_at plan.registers counter)))
-      , set_holds plan.registers slots registers variables counter 0 own.counter_apart l.0.1 )
-    , ( turned_moves k registers (slice_set registers counter 0) variables variables (counters_stay registers counter 0 (around k) own.own_counter) (λ e i p. refl) l.1.0.0
-      , λ c never apart. elim (cases_eq c counter) [
-          | inl same ↦ subst (λ (x : ℕ). slice_index (slice_set registers counter 0) x ≡ 0) (sym same)
-              (get_or-set_same registers counter 0 0 (let long = l.0.0.long in let there = counts.0 in omega (arith, long, there)))
-          | inr other ↦ get_or-set_other registers counter c 0 0 other
-              ∙ l.1.1 c never (λ i. elim (counter_split (around k) (round loop counter) c i) [ inl a ↦ apart a | inr b ↦ other (sym b) ])
-        ] ) )
+leave_live plan slots extra k loop counter turn ps ns registers variables own counts l = (
+  (
+    set_fits plan.registers registers counter 0 l.0.0 (pow_pos (width_of (kind_at plan.registers counter))),
+    set_holds plan.registers slots registers variables counter 0 own.counter_apart l.0.1,
+  ),
+  (
+    turned_moves k registers (slice_set registers counter 0) variables variables (counters_stay registers counter 0 (around k) own.own_counter) (λ e i p. refl) l.1.0.0,
+    λ c never apart. elim (cases_eq c counter) [
+      | inl same ↦ subst (λ (x : ℕ). slice_index (slice_set registers counter 0) x ≡ 0) (sym same)
+          (get_or-set_same registers counter 0 0 (let long = l.0.0.long in let there = counts.0 in omega (arith, long, there)))
+      | inr other ↦ get_or-set_other registers counter c 0 0 other
+          ∙ l.1.1 c never (λ i. elim (counter_split (around k) (round loop counter) c i) [ inl a ↦ apart a | inr b ↦ other (sym b) ])
+    ],
+  ),
+)
 
 -- Into phases.
 
@@ -182,10 +199,10 @@ into_turns plan slots extra loop body counter turns ms inside k ps ns behind bey
     let counts = subst (λ (t : ℕ). CountsTurns plan (counting counter t)) h.0 good.0.0 in
     let vs = begins loop (paths_at k) variables in
     subst (λ (t : ℕ). Met plan slots extra (if loop.count == 0 then behind else source.enter (inner_paths (paths_at k) loop) body (source.turn_then (paths_at k) loop 0 body (source_todo kj)) behind vs)
-        (if t == 0 then beyond else enter ms (turn_then counter t ms (plan_todo kj)) beyond registers)) (sym h.0)
-      (met_if plan slots extra (loop.count == 0) (loop.count == 0) refl _ _ _ _ (λ none. met)
-        (λ some. inside (j_turn loop counter 0 body ms kj) behind beyond registers vs (h.1.1, (good.0.1, good.1.1)) ((h.1.0, (counts, good.1.0)), ((h.1.1, (good.0.1, good.1.1)), (runs, valid))) met
-          (begin_live plan slots extra kj loop counter body ms registers variables h.1.0.0 good.1.0 (some_turns loop.count some) live)))
+    (if t == 0 then beyond else enter ms (turn_then counter t ms (plan_todo kj)) beyond registers)) (sym h.0)
+    (met_if plan slots extra (loop.count == 0) (loop.count == 0) refl _ _ _ _ (λ none. met)
+    (λ some. inside (j_turn loop counter 0 body ms kj) behind beyond registers vs (h.1.1, (good.0.1, good.1.1)) ((h.1.0, (counts, good.1.0)), ((h.1.1, (good.0.1, good.1.1)), (runs, valid))) met
+    (begin_live plan slots extra kj loop counter body ms registers variables h.1.0.0 good.1.0 (some_turns loop.count some) live)))
 
 mutual
   pub into_nodes : (plan : PlainPlan) (slots : Slots) (extra : Tie) (ps : CorePhases) (ns : Nodes) → IntoNodes plan slots extra ps ns
@@ -242,9 +259,9 @@ behind_met plan slots extra b (j_turn loop counter turn ps ns k) registers varia
     let vs = turn_begun loop (suc turn) (inner_paths (paths_at k) loop) variables in
     let rs = counted_up plan.registers counter registers in
     met_unless plan slots extra (nat_lt (suc turn) loop.count) (slice_index registers counter == loop.count - 1) (last_turn _ turn loop.count live.1.0.1.counts live.1.0.1.below) _ _ _ _
-      (λ more. into_nodes plan slots extra ps ns (j_turn loop counter (suc turn) ps ns k) (source.next source.ended variables) (next ended rs) rs vs valid.1.0 valid (met_end plan slots extra variables rs)
-        (again_live plan slots extra k loop counter turn ps ns registers variables valid.0.0.0 valid.0.1.0 (more_turns turn loop.count more) live))
-      (λ last. behind_met plan slots extra b k (slice_set registers counter 0) variables valid.1.1 (leave_live plan slots extra k loop counter turn ps ns registers variables valid.0.0.0 valid.0.1.0 live))
+    (λ more. into_nodes plan slots extra ps ns (j_turn loop counter (suc turn) ps ns k) (source.next source.ended variables) (next ended rs) rs vs valid.1.0 valid (met_end plan slots extra variables rs)
+    (again_live plan slots extra k loop counter turn ps ns registers variables valid.0.0.0 valid.0.1.0 (more_turns turn loop.count more) live))
+    (λ last. behind_met plan slots extra b k (slice_set registers counter 0) variables valid.1.1 (leave_live plan slots extra k loop counter turn ps ns registers variables valid.0.0.0 valid.0.1.0 live))
 behind_met plan slots extra b (j_again test ps block flag ns k) registers variables valid live =
     record { stand = s_loop test ps block flag ns k; valid = valid; source_is = refl; plan_is = refl; live = live }
 
@@ -255,9 +272,9 @@ pub loop_met : (plan : PlainPlan) (slots : Slots) (extra : Tie) (b : Begun) (tes
     → Met plan slots extra (source.next_of b (source.test_then (paths_at k) test ps (source_todo k)) variables) (next_of plan.registers (test_then block flag ns (plan_todo k)) registers)
 loop_met plan slots extra b test ps block flag ns k registers variables runs nodes valid live tells =
     met_if plan slots extra (goes_on b variables (paths_at k) test) (flag_holds registers flag) tells _ _ _ _
-      (λ holds. into_nodes plan slots extra ps ns (j_again test ps block flag ns k) _ _ registers variables nodes (runs, (nodes, valid))
-        (record { stand = s_loop test ps block flag ns k; valid = (runs, (nodes, valid)); source_is = refl; plan_is = refl; live = live }) live)
-      (λ fails. behind_met plan slots extra b k registers variables valid live)
+    (λ holds. into_nodes plan slots extra ps ns (j_again test ps block flag ns k) _ _ registers variables nodes (runs, (nodes, valid))
+    (record { stand = s_loop test ps block flag ns k; valid = (runs, (nodes, valid)); source_is = refl; plan_is = refl; live = live }) live)
+    (λ fails. behind_met plan slots extra b k registers variables valid live)
 
 -- and behind that of two arms
 pub pick_met : (plan : PlainPlan) (slots : Slots) (extra : Tie) (b : Begun) (test : CoreTerm) (chosen other : CorePhases) (flag : ℕ) (ns ms : Nodes) (k : Joint) (registers : List ℕ) (variables : Variables)
@@ -266,5 +283,5 @@ pub pick_met : (plan : PlainPlan) (slots : Slots) (extra : Tie) (b : Begun) (tes
     → Met plan slots extra (source.next_of b (source.pick_then (paths_at k) test chosen other (source_todo k)) variables) (next_of plan.registers (pick_then flag ns ms (plan_todo k)) registers)
 pick_met plan slots extra b test chosen other flag ns ms k registers variables first second valid live tells =
     met_if plan slots extra (goes_on b variables (paths_at k) test) (flag_holds registers flag) tells _ _ _ _
-      (λ holds. into_nodes plan slots extra chosen ns k _ _ registers variables first valid (behind_met plan slots extra b k registers variables valid live) live)
-      (λ fails. into_nodes plan slots extra other ms k _ _ registers variables second valid (behind_met plan slots extra b k registers variables valid live) live)
+    (λ holds. into_nodes plan slots extra chosen ns k _ _ registers variables first valid (behind_met plan slots extra b k registers variables valid live) live)
+    (λ fails. into_nodes plan slots extra other ms k _ _ registers variables second valid (behind_met plan slots extra b k registers variables valid live) live)

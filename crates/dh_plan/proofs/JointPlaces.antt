@@ -173,13 +173,14 @@ pub turned_moves : (k : Joint) (registers registers' : List ℕ) (variables vari
     → Turned k registers variables → Turned k registers' variables'
 turned_moves j_over rs rs' vs vs' c v h = tt
 turned_moves (j_phases ps ns k) rs rs' vs vs' c v h = turned_moves k rs rs' vs vs' c v h
-turned_moves (j_turn loop counter turn ps ns k) rs rs' vs vs' c v h =
-    ( turned_moves k rs rs' vs vs' (λ d i. c d (counter_before (around k) (round loop counter) d i)) (λ e i p. v e (iterator_before (around k) (round loop counter) e i) p) h.0
-    , record {
-        counts = c counter (counter_last (around k) (round loop counter)) ∙ h.1.counts;
-        below = h.1.below;
-        values = λ i p there. v loop.iterator (iterator_last (around k) (round loop counter)) p ∙ h.1.values i p there;
-      } )
+turned_moves (j_turn loop counter turn ps ns k) rs rs' vs vs' c v h = (
+  turned_moves k rs rs' vs vs' (λ d i. c d (counter_before (around k) (round loop counter) d i)) (λ e i p. v e (iterator_before (around k) (round loop counter) e i) p) h.0,
+  record {
+    counts = c counter (counter_last (around k) (round loop counter)) ∙ h.1.counts;
+    below = h.1.below;
+    values = λ i p there. v loop.iterator (iterator_last (around k) (round loop counter)) p ∙ h.1.values i p there;
+  },
+)
 turned_moves (j_again test ps block flag ns k) rs rs' vs vs' c v h = turned_moves k rs rs' vs vs' c v h
 
 -- The paths at a joint are those inside the loops round it.
@@ -213,8 +214,8 @@ all_counted j_over registers variables h = tt
 all_counted (j_phases ps ns k) registers variables h = all_counted k registers variables h
 all_counted (j_turn loop counter turn ps ns k) registers variables h =
     counted_last outer_paths (around k) (round loop counter) registers variables (all_counted k registers variables h.0)
-      (subst (λ (paths : List Path). IsCounted (inner_paths paths loop) (round loop counter) registers variables) (paths_are k)
-        (turn_counted (inner_paths (paths_at k) loop) loop counter turn registers variables h.1))
+    (subst (λ (paths : List Path). IsCounted (inner_paths paths loop) (round loop counter) registers variables) (paths_are k)
+    (turn_counted (inner_paths (paths_at k) loop) loop counter turn registers variables h.1))
 all_counted (j_again test ps block flag ns k) registers variables h = all_counted k registers variables h
 
 pub stand_for : (plan : PlainPlan) (slots : Slots) (extra : Tie) (k : Joint) (registers : List ℕ) (variables : Variables) → Live plan slots extra k registers variables

@@ -78,7 +78,7 @@ pub does_at : (plan : PlainPlan) (slots : Slots) (extra : Tie) (k : Joint) (blk 
     → DoesEffect plan slots block (start_at plan registers memories) (effect_at plan memories k blk variables)
 does_at plan slots extra k blk block registers memories variables does live =
     subst (λ (paths : List Path). DoesEffect plan slots block (start_at plan registers memories) (block_run (begun plan memories) paths blk (record { variables = variables; events = [] })))
-      (sym (paths_are k)) (does registers memories variables (stand_for plan slots extra k registers variables live))
+    (sym (paths_are k)) (does registers memories variables (stand_for plan slots extra k registers variables live))
 
 pub block_live : (plan : PlainPlan) (slots : Slots) (extra : Tie) (k : Joint) (blk : Block) (flag : Option ℕ) (block : ℕ) (registers : List ℕ) (memories : List (List ℕ)) (variables : Variables)
     → DoesBlock plan slots (around k) blk block → Touches plan slots (around k) blk flag block → Valid plan slots extra k → Live plan slots extra k registers variables
@@ -86,12 +86,15 @@ pub block_live : (plan : PlainPlan) (slots : Slots) (extra : Tie) (k : Joint) (b
     → Live plan slots extra k (all_set (sets_of_block plan (start_at plan registers memories) block) registers) (effect_at plan memories k blk variables).variables
 block_live plan slots extra k blk flag block registers memories variables does touches valid live none =
     let d = does_at plan slots extra k blk block registers memories variables does live in
-    let ws = block_values plan (start_at plan registers memories) block in
-    ( (d.fit none, d.holding none)
-    , ( turned_moves k registers _ variables _
-          (λ c i. sets_stay (first_in plan block) ws (operations_in plan block) c (λ j guard value there. counters_kept plan slots extra k valid c i block j guard value there) registers)
-          (λ e i p. block_spares (begun plan memories) e p (paths_at k) blk (record { variables = variables; events = [] }) (touches.spares e i)) live.1.0
-      , λ c never apart. sets_stay (first_in plan block) ws (operations_in plan block) c (λ j guard value there. never block j guard value there) registers ∙ live.1.1 c never apart ) )
+    let ws = block_values plan (start_at plan registers memories) block in (
+      (d.fit none, d.holding none),
+      (
+        turned_moves k registers _ variables _
+            (λ c i. sets_stay (first_in plan block) ws (operations_in plan block) c (λ j guard value there. counters_kept plan slots extra k valid c i block j guard value there) registers)
+            (λ e i p. block_spares (begun plan memories) e p (paths_at k) blk (record { variables = variables; events = [] }) (touches.spares e i)) live.1.0,
+        λ c never apart. sets_stay (first_in plan block) ws (operations_in plan block) c (λ j guard value there. never block j guard value there) registers ∙ live.1.1 c never apart,
+      ),
+    )
 
 -- States.
 
@@ -161,8 +164,8 @@ pub block_step : (plan : PlainPlan) (slots : Slots) (extra : Tie) (k : Joint) (b
     → Alike plan slots extra (run_at steps memories variables (source.at (paths_at k) blk todo)) (plan_at steps memories registers (at block rest))
     → NotStuck (stop_after plan.table [] (effect_at plan memories k blk variables).events)
     → (failure_of (effect_at plan memories k blk variables).events ≡ None
-      → Met plan slots extra (source.next_of (begun plan memories) todo (effect_at plan memories k blk variables).variables)
-          (next_of plan.registers rest (all_set (sets_of_block plan (start_at plan registers memories) block) registers)))
+    → Met plan slots extra (source.next_of (begun plan memories) todo (effect_at plan memories k blk variables).variables)
+    (next_of plan.registers rest (all_set (sets_of_block plan (start_at plan registers memories) block) registers)))
     → Alike plan slots extra (next_state plan.table (run_at steps memories variables (source.at (paths_at k) blk todo))) (next_plan_state plan (plan_at steps memories registers (at block rest)))
 block_step plan slots extra k blk block todo rest steps memories registers variables does live before free on =
     let s = run_at steps memories variables (source.at (paths_at k) blk todo) in
@@ -172,14 +175,14 @@ block_step plan slots extra k blk block todo rest steps memories registers varia
     let events = events_of_block plan (start_at plan registers memories) block in
     let sets = sets_of_block plan (start_at plan registers memories) block in
     let core = finish plan slots extra s t e events sets (first_fault events) (failure_of e.events) before d.fault
-        (λ none. met_alike plan slots extra (suc steps) (written e.events memories) (all_put (puts_of events) memories) _ _
-          (ap (λ (ps : List Put). all_put ps memories) (d.writes none) ∙ sym (written_is e.events memories)) (on none)) in
+    (λ none. met_alike plan slots extra (suc steps) (written e.events memories) (all_put (puts_of events) memories) _ _
+    (ap (λ (ps : List Put). all_put ps memories) (d.writes none) ∙ sym (written_is e.events memories)) (on none)) in
     subst (λ (stop : Option Outcome). Alike plan slots extra (state_after plan.table s e stop) (plan_state_after plan t (events ++ []) (sets ++ []) (first_fault (events ++ []))))
-      (sym (stops_with plan.table [] e.events free))
-      (subst (λ (es : List BlockEvent). Alike plan slots extra (state_after plan.table s e (outcome_of (failure_of e.events))) (plan_state_after plan t es (sets ++ []) (first_fault es)))
-        (sym (append-nil events))
-        (subst (λ (ss : List RegisterSet). Alike plan slots extra (state_after plan.table s e (outcome_of (failure_of e.events))) (plan_state_after plan t events ss (first_fault events)))
-          (sym (append-nil sets)) core))
+    (sym (stops_with plan.table [] e.events free))
+    (subst (λ (es : List BlockEvent). Alike plan slots extra (state_after plan.table s e (outcome_of (failure_of e.events))) (plan_state_after plan t es (sets ++ []) (first_fault es)))
+    (sym (append-nil events))
+    (subst (λ (ss : List RegisterSet). Alike plan slots extra (state_after plan.table s e (outcome_of (failure_of e.events))) (plan_state_after plan t events ss (first_fault events)))
+    (sym (append-nil sets)) core))
 
 -- the flag tells the test
 
@@ -191,13 +194,13 @@ pub flag_tells : (plan : PlainPlan) (slots : Slots) (extra : Tie) (k : Joint) (t
     → SetsFlag plan slots (around k) test flag block → Live plan slots extra k registers variables
     → failure_of (effect_at plan memories k (tests test) variables).events ≡ None
     → flag_holds (all_set (sets_of_block plan (start_at plan registers memories) block) registers) flag
-      ≡ goes_on (begun plan memories) variables (paths_at k) test
+    ≡ goes_on (begun plan memories) variables (paths_at k) test
 flag_tells plan slots extra k test flag block registers memories variables sets live none =
     let after = all_set (sets_of_block plan (start_at plan registers memories) block) registers in
     holds_if (slice_index after flag) (goes_on (begun plan memories) variables (paths_at k) test)
-      (subst (λ (paths : List Path). failure_of (block_run (begun plan memories) paths (tests test) (record { variables = variables; events = [] })).events ≡ None
-          → slice_index after flag ≡ (if goes_on (begun plan memories) variables paths test then 1 else 0))
-        (sym (paths_are k)) (sets registers memories variables (stand_for plan slots extra k registers variables live)) none)
+    (subst (λ (paths : List Path). failure_of (block_run (begun plan memories) paths (tests test) (record { variables = variables; events = [] })).events ≡ None
+    → slice_index after flag ≡ (if goes_on (begun plan memories) variables paths test then 1 else 0))
+    (sym (paths_are k)) (sets registers memories variables (stand_for plan slots extra k registers variables live)) none)
 
 -- a test leaves the variables as they are
 pub tests_keep : (b : Begun) (test : CoreTerm) (paths : List Path) (e : Effect) → (at_each (tested_at b test) paths e).variables ≡ e.variables
@@ -217,11 +220,11 @@ pub tells_behind : (plan : PlainPlan) (slots : Slots) (extra : Tie) (k : Joint) 
     → SetsFlag plan slots (around k) test flag block → Live plan slots extra k registers variables
     → failure_of (effect_at plan memories k (tests test) variables).events ≡ None
     → flag_holds (all_set (sets_of_block plan (start_at plan registers memories) block) registers) flag
-      ≡ goes_on (begun plan memories) (effect_at plan memories k (tests test) variables).variables (paths_at k) test
+    ≡ goes_on (begun plan memories) (effect_at plan memories k (tests test) variables).variables (paths_at k) test
 tells_behind plan slots extra k test flag block registers memories variables sets live none =
     flag_tells plan slots extra k test flag block registers memories variables sets live none
     ∙ ap (λ (v : Variables). goes_on (begun plan memories) v (paths_at k) test)
-      (sym (tests_keep (begun plan memories) test (paths_at k) (record { variables = variables; events = [] })))
+    (sym (tests_keep (begun plan memories) test (paths_at k) (record { variables = variables; events = [] })))
 
 pub step_alike : (plan : PlainPlan) (slots : Slots) (extra : Tie) (st : Stand) (steps : ℕ) (memories : List (List ℕ)) (registers : List ℕ) (variables : Variables)
     → ValidStand plan slots extra st → LiveStand plan slots extra st registers variables
@@ -231,21 +234,21 @@ step_alike plan slots extra s_ended steps memories registers variables valid liv
     met_alike plan slots extra (suc steps) memories memories _ _ refl (met_end plan slots extra variables registers)
 step_alike plan slots extra (s_block cs block ps ns k) steps memories registers variables valid live free =
     block_step plan slots extra k (commands cs) block (source.phases_then (paths_at k) ps (source_todo k)) (nodes_then ns (plan_todo k)) steps memories registers variables valid.0.0.0 live
-      (alike_here plan slots extra (s_block cs block ps ns k) steps memories registers variables valid live) free
-      (λ none. behind_met plan slots extra (begun plan memories) (j_phases ps ns k) _ _ valid.1
-        (block_live plan slots extra k (commands cs) None block registers memories variables valid.0.0.0 valid.0.0.1 valid.1.1 live none))
+    (alike_here plan slots extra (s_block cs block ps ns k) steps memories registers variables valid live) free
+    (λ none. behind_met plan slots extra (begun plan memories) (j_phases ps ns k) _ _ valid.1
+    (block_live plan slots extra k (commands cs) None block registers memories variables valid.0.0.0 valid.0.0.1 valid.1.1 live none))
 step_alike plan slots extra (s_loop test ps block flag ns k) steps memories registers variables valid live free =
     block_step plan slots extra k (tests test) block (source.test_then (paths_at k) test ps (source_todo k)) (test_then block flag ns (plan_todo k)) steps memories registers variables valid.0.0.0 live
-      (alike_here plan slots extra (s_loop test ps block flag ns k) steps memories registers variables valid live) free
-      (λ none. loop_met plan slots extra (begun plan memories) test ps block flag ns k _ _ valid.0 valid.1.0 valid.1.1
-        (block_live plan slots extra k (tests test) (Some flag) block registers memories variables valid.0.0.0 valid.0.0.1.1 valid.1.1 live none)
-        (tells_behind plan slots extra k test flag block registers memories variables valid.0.0.1.0 live none))
+    (alike_here plan slots extra (s_loop test ps block flag ns k) steps memories registers variables valid live) free
+    (λ none. loop_met plan slots extra (begun plan memories) test ps block flag ns k _ _ valid.0 valid.1.0 valid.1.1
+    (block_live plan slots extra k (tests test) (Some flag) block registers memories variables valid.0.0.0 valid.0.0.1.1 valid.1.1 live none)
+    (tells_behind plan slots extra k test flag block registers memories variables valid.0.0.1.0 live none))
 step_alike plan slots extra (s_pick test chosen other block flag ns ms k) steps memories registers variables valid live free =
     block_step plan slots extra k (tests test) block (source.pick_then (paths_at k) test chosen other (source_todo k)) (pick_then flag ns ms (plan_todo k)) steps memories registers variables valid.0.0.0 live
-      (alike_here plan slots extra (s_pick test chosen other block flag ns ms k) steps memories registers variables valid live) free
-      (λ none. pick_met plan slots extra (begun plan memories) test chosen other flag ns ms k _ _ valid.1.0.0 valid.1.0.1 valid.1.1
-        (block_live plan slots extra k (tests test) (Some flag) block registers memories variables valid.0.0.0 valid.0.0.1.1 valid.1.1 live none)
-        (tells_behind plan slots extra k test flag block registers memories variables valid.0.0.1.0 live none))
+    (alike_here plan slots extra (s_pick test chosen other block flag ns ms k) steps memories registers variables valid live) free
+    (λ none. pick_met plan slots extra (begun plan memories) test chosen other flag ns ms k _ _ valid.1.0.0 valid.1.0.1 valid.1.1
+    (block_live plan slots extra k (tests test) (Some flag) block registers memories variables valid.0.0.0 valid.0.0.1.1 valid.1.1 live none)
+    (tells_behind plan slots extra k test flag block registers memories variables valid.0.0.1.0 live none))
 
 -- Whole states.
 
@@ -282,9 +285,9 @@ step_by plan slots extra Going s t e h free =
     let plan_same = plan_is_at t s.steps s.memories (plan_place h.stand) (h.outcome ∙ e) h.steps h.memories h.plan_is in
     let free_here = subst (λ (x : RunState). IsFree (step_from plan.table x Going)) source_same free in
     subst (λ (x : RunState). Alike plan slots extra (step_from plan.table x Going) (plan_step_from plan t Going)) (sym source_same)
-      (subst (λ (y : PlanState). Alike plan slots extra (step_from plan.table (run_at s.steps s.memories s.variables (source_place h.stand)) Going) (plan_step_from plan y Going)) (sym plan_same)
-        (step_alike plan slots extra h.stand s.steps s.memories t.registers s.variables h.valid h.live
-          (free_step plan.table (run_at s.steps s.memories s.variables (source_place h.stand)) free_here)))
+    (subst (λ (y : PlanState). Alike plan slots extra (step_from plan.table (run_at s.steps s.memories s.variables (source_place h.stand)) Going) (plan_step_from plan y Going)) (sym plan_same)
+    (step_alike plan slots extra h.stand s.steps s.memories t.registers s.variables h.valid h.live
+    (free_step plan.table (run_at s.steps s.memories s.variables (source_place h.stand)) free_here)))
 
 -- the plan's step by the program's outcome
 pub alike_step : (plan : PlainPlan) (slots : Slots) (extra : Tie) (s : RunState) (t : PlanState) → Alike plan slots extra s t → IsFree (next_state plan.table s)
@@ -300,14 +303,17 @@ zero_at (suc n) zero = refl
 zero_at (suc n) (suc r) = zero_at n r
 
 pub first_live : (plan : PlainPlan) (slots : Slots) (extra : Tie) → Live plan slots extra j_over (first_registers plan) unset
-first_live plan slots extra =
-    ( ( record {
-          long = length-replicate (length plan.registers) 0;
-          small = λ r. subst (λ (x : ℕ). x < 2 ^ width_of (kind_at plan.registers r)) (sym (zero_at (length plan.registers) r)) (pow_pos (width_of (kind_at plan.registers r)));
-        }
-      , λ entity path r slot. ap (λ (x : ℕ). with_bits (kind_at plan.registers r) x)
-          (zero_at (length plan.registers) r ∙ sym (mod-eq_of_lt (pow_pos (width_of (kind_at plan.registers r))))) )
-    , (tt, λ c never apart. zero_at (length plan.registers) c) )
+first_live plan slots extra = (
+  (
+    record {
+      long = length-replicate (length plan.registers) 0;
+      small = λ r. subst (λ (x : ℕ). x < 2 ^ width_of (kind_at plan.registers r)) (sym (zero_at (length plan.registers) r)) (pow_pos (width_of (kind_at plan.registers r)));
+    },
+    λ entity path r slot. ap (λ (x : ℕ). with_bits (kind_at plan.registers r) x)
+        (zero_at (length plan.registers) r ∙ sym (mod-eq_of_lt (pow_pos (width_of (kind_at plan.registers r))))),
+  ),
+  (tt, λ c never apart. zero_at (length plan.registers) c),
+)
 
 -- the program, with the plan's table
 abbrev pub over_table : List MemEntry → CorePhases → CoreProgram
@@ -319,7 +325,7 @@ pub runs_alike : (plan : PlainPlan) (slots : Slots) (extra : Tie) (phases : Core
     → Alike plan slots extra (run_state (over_table plan.table phases) memories n) (plan_state plan memories n)
 runs_alike plan slots extra phases does counts kept never memories zero =
     met_alike plan slots extra 0 memories memories _ _ refl
-      (into_nodes plan slots extra phases plan.body j_over _ _ (first_registers plan) unset (does, (counts, kept)) tt (met_end plan slots extra unset (first_registers plan)) (first_live plan slots extra))
+    (into_nodes plan slots extra phases plan.body j_over _ _ (first_registers plan) unset (does, (counts, kept)) tt (met_end plan slots extra unset (first_registers plan)) (first_live plan slots extra))
 runs_alike plan slots extra phases does counts kept never memories (suc n) =
     alike_step plan slots extra _ _ (runs_alike plan slots extra phases does counts kept never memories n) (λ memory bank at_place stuck. never memories (suc n) memory bank at_place stuck)
 
@@ -337,4 +343,4 @@ runs_as plan slots phases does counts kept never =
 pub phases_make_runs : (c : CoreProgram) (plan : PlainPlan) (slots : Slots) → PhasesMakeRuns c plan slots
 phases_make_runs c plan slots same counts kept does never =
     subst (λ (table : List MemEntry). NeverStuck (over_table table c.phases) → RunsAs (over_table table c.phases) plan) same
-      (runs_as plan slots c.phases does counts kept) never
+    (runs_as plan slots c.phases does counts kept) never

@@ -44,8 +44,8 @@ pub needed_same : (first own : ℕ) (os ps : List Operation) (cs ds : List ℕ)
     → (o : Operation) → TakesEarlier first own o → needed_clock first os cs o ≡ needed_clock first ps ds o
 needed_same first own os ps cs ds same o early =
     ap greatest_of (map_same (value_clock first os cs) (value_clock first ps ds) (operation_takes o)
-      (all_map (IsBetween first own) (λ (n : ℕ). value_clock first os cs n ≡ value_clock first ps ds n) (operation_takes o)
-        (λ n b. one_clock first os ps cs ds n (same (n - first) (omega (arith, b)))) early))
+    (all_map (IsBetween first own) (λ (n : ℕ). value_clock first os cs n ≡ value_clock first ps ds n) (operation_takes o)
+    (λ n b. one_clock first os ps cs ds n (same (n - first) (omega (arith, b)))) early))
 
 pub clock_stays : (first : ℕ) (rest before : List Operation) (clocks : List ℕ) (k : ℕ) → k < length clocks
     → get_or (least_clocks first before clocks rest) k 0 ≡ get_or clocks k 0
@@ -65,7 +65,7 @@ needed_here first p rest before clocks long early =
     let final = least_clocks first before clocks (p ∷ rest) in
     let given = clock_stays first rest (before ++ p ∷ []) (clocks ++ c ∷ []) (length clocks) (omega (arith, l)) ∙ get_or-append_seam clocks c [] 0 in
     needed_same first (first + length before) (before ++ p ∷ rest) before final clocks
-      (λ k h. (there_in_first before (p ∷ rest) k (omega (arith, h)), clock_stays first (p ∷ rest) before clocks k (omega (arith, h, long)))) p early
+    (λ k h. (there_in_first before (p ∷ rest) k (omega (arith, h)), clock_stays first (p ∷ rest) before clocks k (omega (arith, h, long)))) p early
     ∙ sym (subst (λ (n : ℕ). get_or final n 0 ≡ c) (sym long) given)
 
 pub needed_behind : (first : ℕ) (rest before : List Operation) (clocks : List ℕ) → length before ≡ length clocks → IsOrderedFrom first (length before) rest
@@ -79,7 +79,7 @@ needed_behind first (p ∷ rest) before clocks long ordered zero o e =
     let none : length before + 0 ≡ length before = omega arith in
     let early = subst (λ (k : ℕ). TakesEarlier first (first + k) p) none (ordered 0 p refl) in
     subst (λ (q : Operation). needed_clock first (before ++ p ∷ rest) final q ≡ get_or final (length before + 0) 0) here
-      (subst (λ (k : ℕ). needed_clock first (before ++ p ∷ rest) final p ≡ get_or final k 0) (sym none) (needed_here first p rest before clocks long early))
+    (subst (λ (k : ℕ). needed_clock first (before ++ p ∷ rest) final p ≡ get_or final k 0) (sym none) (needed_here first p rest before clocks long early))
 needed_behind first (p ∷ rest) before clocks long ordered (suc i) o e =
     let c = needed_clock first before clocks p in
     let lb = length_one_more before p in
@@ -89,7 +89,7 @@ needed_behind first (p ∷ rest) before clocks long ordered (suc i) o e =
     let further = subst (λ (n : ℕ). IsOrderedFrom first n rest) (sym lb) (ordered_behind first (length before) p rest ordered) in
     let so = needed_behind first rest (before ++ p ∷ []) (clocks ++ c ∷ []) (lb ∙ (ap suc long ∙ sym lc)) further i o e in
     subst (λ (os : List Operation). needed_clock first os final o ≡ get_or final (length before + suc i) 0) (append_assoc before (p ∷ []) rest)
-      (subst (λ (k : ℕ). needed_clock first ((before ++ p ∷ []) ++ rest) final o ≡ get_or final k 0) moved so)
+    (subst (λ (k : ℕ). needed_clock first ((before ++ p ∷ []) ++ rest) final o ≡ get_or final k 0) moved so)
 
 pub all_within : (ns : List ℕ) → AllByRecursion (IsWithin 0) ns
 all_within [] = tt

@@ -54,16 +54,16 @@ runs_same p plan slots lengths table counts kept does times never start =
     let both = nodes_zip (does_phases plan slots) (times_phases p lengths) [] (core_of p).phases plan.body does times in
     let free = subst (λ (t : List MemEntry). NeverStuck (over_table t (core_of p).phases)) (sym table) never in
     let alike = subst (λ (t : List MemEntry). (n : ℕ) → Alike plan slots (times_phases p lengths) (run_state (over_table t (core_of p).phases) start n) (plan_state plan start n)) table
-        (λ n. runs_alike plan slots (times_phases p lengths) (core_of p).phases both counts kept free start n) in
+    (λ n. runs_alike plan slots (times_phases p lengths) (core_of p).phases both counts kept free start n) in
     same_run (plan_run plan lengths start) (program_run p start) (λ n. (alike n).outcome) (λ n. (alike n).memories)
-      (λ n. alike_length p plan slots lengths _ _ (alike n))
+    (λ n. alike_length p plan slots lengths _ _ (alike n))
 
-pub plans_play_programs : (p : Program) (plan : PlainPlan) (slots : Slots) (lengths : List ℕ) (net : Net) → PlansPlayPrograms p plan slots lengths net
+pub plans_play_programs : (p : Program) → PlansPlayPrograms p
 plans_play_programs p plan slots lengths net table counts kept does times never plays =
     record {
       valid = plays.valid;
       table = plays.table ∙ table;
       plays = λ start fits.
           subst (λ (r : Run). Plays net r start) (runs_same p plan slots lengths table counts kept does times never start)
-            (plays.plays start (subst (λ (t : List MemEntry). Fits t start) (sym table) fits));
+          (plays.plays start (subst (λ (t : List MemEntry). Fits t start) (sym table) fits));
     }

@@ -43,10 +43,10 @@ pub stops_with : (table : List MemEntry) (before es : List Event) → NotStuck (
 stops_with table before [] h = refl
 stops_with table before (reads number place path spot ∷ es) h =
     unless_stuck (is_beyond table (before ++ reads number place path spot ∷ []) spot) spot.memory spot.bank place _ _ h
-      (stops_with table (before ++ reads number place path spot ∷ []) es)
+    (stops_with table (before ++ reads number place path spot ∷ []) es)
 stops_with table before (writes number place path spot value ∷ es) h =
     unless_stuck (is_beyond table (before ++ writes number place path spot value ∷ []) spot) spot.memory spot.bank place _ _ h
-      (stops_with table (before ++ writes number place path spot value ∷ []) es)
+    (stops_with table (before ++ writes number place path spot value ∷ []) es)
 stops_with table before (faults number place path kind ∷ es) h = refl
 
 -- Variables that stay.
@@ -156,5 +156,5 @@ begun_here loop turn (path ∷ paths) variables zero p h =
     let same : Some path ≡ Some p = h in
     let here : path ≡ p = cc in
     subst (λ (q : Path). turn_begun loop turn (path ∷ paths) variables loop.iterator q ≡ pos (iterator_value loop turn q)) here
-      (begun_stays loop turn paths _ path (set_here variables loop.iterator path (pos (iterator_value loop turn path))))
+    (begun_stays loop turn paths _ path (set_here variables loop.iterator path (pos (iterator_value loop turn path))))
 begun_here loop turn (path ∷ paths) variables (suc i) p h = begun_here loop turn paths _ i p h

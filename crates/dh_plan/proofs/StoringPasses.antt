@@ -35,13 +35,13 @@ led_by false a b c d e f = f
 
 pub storing_each : (state : ℕ) (registers : List ℕ)
     → leads_to storing_flow.states behind_state behind_fork (resolve storing_plan.registers (way_of_stop (slice_get storing_flow.states state)) registers)
-      ≡ next_of storing_plan.registers (behind_state state) registers
+    ≡ next_of storing_plan.registers (behind_state state) registers
 storing_each zero registers = led_by (slice_index registers 0 == 2) _ _ _ _ refl refl
 storing_each (suc state) registers = refl
 
 pub storing_joined : (fork : ℕ) (registers : List ℕ)
     → leads_to storing_flow.states behind_state behind_fork (resolve storing_plan.registers (way_of_join (slice_get storing_flow.joins fork)) registers)
-      ≡ next_of storing_plan.registers (behind_fork fork) registers
+    ≡ next_of storing_plan.registers (behind_fork fork) registers
 storing_joined zero registers = refl
 storing_joined (suc fork) registers = refl
 
@@ -69,14 +69,14 @@ listed_zero r bank n same h =
 pub charge_fits : (r : Reach) (bank : ℕ) → the_write ≡ r → 0 ≡ bank → 0 + plan_charge storing_plan r.memory bank r.access ≤ ports_at storing_plan.table r.memory
 charge_fits r bank same zero_bank =
     subst (λ (q : Reach). 0 + plan_charge storing_plan q.memory bank q.access ≤ ports_at storing_plan.table q.memory) same
-      (subst (λ (k : ℕ). 0 + plan_charge storing_plan 0 k 0 ≤ 1) zero_bank (let one : 1 ≤ 1 = omega arith in one))
+    (subst (λ (k : ℕ). 0 + plan_charge storing_plan 0 k 0 ≤ 1) zero_bank (let one : 1 ≤ 1 = omega arith in one))
 
 pub port_is : (b i bank n : ℕ) → b ≡ 0 → i ≡ 3 → 0 ≡ bank → 0 ≡ n → port_used storing_plan storing_uses b i bank ≡ Some (0 + n)
 port_is b i bank n here there zero_bank zero_place =
     subst (λ (c : ℕ). port_used storing_plan storing_uses c i bank ≡ Some (0 + n)) (sym here)
-      (subst (λ (j : ℕ). port_used storing_plan storing_uses 0 j bank ≡ Some (0 + n)) (sym there)
-        (subst (λ (k : ℕ). port_used storing_plan storing_uses 0 3 k ≡ Some (0 + n)) zero_bank
-          (subst (λ (m : ℕ). port_used storing_plan storing_uses 0 3 0 ≡ Some (0 + m)) zero_place refl)))
+    (subst (λ (j : ℕ). port_used storing_plan storing_uses 0 j bank ≡ Some (0 + n)) (sym there)
+    (subst (λ (k : ℕ). port_used storing_plan storing_uses 0 3 k ≡ Some (0 + n)) zero_bank
+    (subst (λ (m : ℕ). port_used storing_plan storing_uses 0 3 0 ≡ Some (0 + m)) zero_place refl)))
 
 pub storing_granted : AreGranted storing_plan storing_uses (λ access bank. 0)
 storing_granted =
@@ -98,12 +98,12 @@ storing_ports =
           inr (ap (λ (q : Reach). q.access) (sym u.1.1 ∙ v.1.1), sym x ∙ y));
       rising = λ b i c j bank m n p q r t both first second used used' later.
           absurd (elim later [
-              | inl before ↦ before.0
-              | inr greater ↦
-                  (let u = use_found b i r both.first in let v = use_found c j t both.second in
-                  let x = (listed_zero r bank m u.1.1 both.in_first).1 in let y = (listed_zero t bank n v.1.1 both.in_second).1 in
-                  let less = greater.1 in omega (arith, x, y, less))
-            ]);
+            | inl before ↦ before.0
+            | inr greater ↦
+                (let u = use_found b i r both.first in let v = use_found c j t both.second in
+                let x = (listed_zero r bank m u.1.1 both.in_first).1 in let y = (listed_zero t bank n v.1.1 both.in_second).1 in
+                let less = greater.1 in omega (arith, x, y, less))
+          ]);
     }
 
 pub no_product : (b i : ℕ) (o : Operation) → slice_get (operations_in storing_plan b) i ≡ Some o → is_product o.form ≡ true → ⊥

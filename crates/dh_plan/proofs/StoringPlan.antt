@@ -60,17 +60,26 @@ never_set (suc block) i guard register value e = absurd (cc)
 -- Phases and runs.
 
 pub storing_phases : DoesPhases storing_plan no_slots storing_program.phases
-storing_phases =
-    ( ( refl
-      , ( record { iterator = λ path. refl; counter_apart = λ entity path h. (cc); own_counter = λ h. h; own_iterator = λ h. h }
-        , ( ( (λ registers memories variables st. record { fault = tt; writes = λ none. refl; fit = λ none. st.fit; holding = λ none entity path r slot. absurd (cc) })
-            , record {
-                sees = λ i guard register e. absurd (never_old i guard register e);
-                sets = λ i guard register value e. absurd (never_set 0 i guard register value e);
-                spares = λ entity h. refl;
-              } )
-          , tt ) ) )
-    , tt )
+storing_phases = (
+  (
+    refl,
+    (
+      record { iterator = λ path. refl; counter_apart = λ entity path h. (cc); own_counter = λ h. h; own_iterator = λ h. h },
+      (
+        (
+          (λ registers memories variables st. record { fault = tt; writes = λ none. refl; fit = λ none. st.fit; holding = λ none entity path r slot. absurd (cc) }),
+          record {
+            sees = λ i guard register e. absurd (never_old i guard register e);
+            sets = λ i guard register value e. absurd (never_set 0 i guard register value e);
+            spares = λ entity h. refl;
+          },
+        ),
+        tt,
+      ),
+    ),
+  ),
+  tt,
+)
 
 pub over_since : (memories : List (List ℕ)) (n : ℕ) → run_state storing_program memories (suc (suc (suc n))) ≡ run_state storing_program memories 3
 over_since memories zero = refl
@@ -86,9 +95,9 @@ storing_goes memories (suc (suc (suc n))) memory bank p e =
 pub storing_runs : RunsAs storing_program storing_plan
 storing_runs =
     phases_make_runs storing_program storing_plan no_slots refl
-      (((let small : 0 < 1 = omega arith in small), (2, (refl, (let few : 3 ≤ 4 = omega arith in few)))), tt)
-      ((λ block i guard value e. never_set block i guard 0 value e), tt)
-      storing_phases storing_goes
+    (((let small : 0 < 1 = omega arith in small), (2, (refl, (let few : 3 ≤ 4 = omega arith in few)))), tt)
+    ((λ block i guard value e. never_set block i guard 0 value e), tt)
+    storing_phases storing_goes
 
 -- Banks.
 
@@ -154,15 +163,15 @@ keeps_banks registers memories =
           ((w b i r x first).block ∙ sym (w c j t y second).block, (w b i r x first).place ∙ sym (w c j t y second).place);
       ordered = λ b i c j r t x y first second bank write_first write_second before.
           absurd (elim before [
-              | inl blocks ↦ elim blocks [ inl a ↦ a.1 | inr none ↦ none ]
-              | inr places ↦ (let p = (w b i r x first).place in let q = (w c j t y second).place in let less = places.1 in omega (arith, p, q, less))
-            ]);
+            | inl blocks ↦ elim blocks [ inl a ↦ a.1 | inr none ↦ none ]
+            | inr places ↦ (let p = (w b i r x first).place in let q = (w c j t y second).place in let less = places.1 in omega (arith, p, q, less))
+          ]);
     }
 
 pub storing_keeps_banks : StepsKeepBanks storing_plan
 storing_keeps_banks blocks loops h registers memories fit fits below =
     let one : blocks ≡ 0 ∷ [] = (elim h [
-        | inl inside ↦ elim inside [ inl here ↦ here.0 | inr none ↦ absurd none ]
-        | inr none ↦ absurd none
-      ]) in
+      | inl inside ↦ elim inside [ inl here ↦ here.0 | inr none ↦ absurd none ]
+      | inr none ↦ absurd none
+    ]) in
     subst (λ (bs : List ℕ). KeepsBanks storing_plan (start_at storing_plan registers memories) bs) (sym one) (keeps_banks registers memories)

@@ -24,20 +24,21 @@ not_reserved h = (let f : false ≡ true = list_any-from_Contains nat_list_eq_eq
 pub storing_table : IsProgramTable storing_plan.table
 storing_table =
     record {
-      entries =
-          ( record {
-              name = record { word = (inl ((let a : 65 ≤ 65 = omega arith in a), (let b : 65 ≤ 90 = omega arith in b)), tt); free = not_reserved };
-              shape = record {
-                integer = ((let a : 1 ≤ 8 = omega arith in a), (let b : 8 ≤ 64 = omega arith in b));
-                least_ports = (let a : 1 ≤ 1 = omega arith in a);
-                most = (let a : 1 ≤ 8 = omega arith in a);
-                least_dims = (let a : 1 ≤ 1 = omega arith in a);
-                few_dims = (let a : 1 ≤ 6 = omega arith in a);
-                dims = (record { size = (let a : 1 ≤ 2 = omega arith in a); banks = (let a : 1 ≤ 1 = omega arith in a); divides = refl }, tt);
-                few_banks = (let a : 1 ≤ 64 = omega arith in a);
-              };
-            }
-          , tt );
+      entries = (
+        record {
+          name = record { word = (inl ((let a : 65 ≤ 65 = omega arith in a), (let b : 65 ≤ 90 = omega arith in b)), tt); free = not_reserved };
+          shape = record {
+            integer = ((let a : 1 ≤ 8 = omega arith in a), (let b : 8 ≤ 64 = omega arith in b));
+            least_ports = (let a : 1 ≤ 1 = omega arith in a);
+            most = (let a : 1 ≤ 8 = omega arith in a);
+            least_dims = (let a : 1 ≤ 1 = omega arith in a);
+            few_dims = (let a : 1 ≤ 6 = omega arith in a);
+            dims = (record { size = (let a : 1 ≤ 2 = omega arith in a); banks = (let a : 1 ≤ 1 = omega arith in a); divides = refl }, tt);
+            few_banks = (let a : 1 ≤ 64 = omega arith in a);
+          };
+        },
+        tt,
+      );
       names = (tt, tt);
       locals = ((λ h. absurd (cc)), tt);
       elements = (let a : 2 ≤ 1048576 = omega arith in a);
@@ -88,34 +89,36 @@ reach_zero r t e a m =
 pub storing_suits : (i : ℕ) (o : Operation) → slice_get (operations_in storing_plan 0) i ≡ Some o → OperationSuits storing_plan 0 (kinds_of storing_plan 0) o
 storing_suits i o e =
     by_place (λ (n : ℕ) (x : Operation). OperationSuits storing_plan 0 (kinds_of storing_plan 0) x) _ _ _ _
-      (record { guard = tt; form = record { sized = ((let a : 1 ≤ 8 = omega arith in a), (let b : 8 ≤ 64 = omega arith in b)); fits = (let a : 7 < 256 = omega arith in a) } })
-      (record { guard = tt; form = record { sized = ((let a : 1 ≤ 32 = omega arith in a), (let b : 32 ≤ 64 = omega arith in b)); fits = (let a : 1 < 4294967296 = omega arith in a) } })
-      (record {
-        guard = tt;
-        form =
-            ( record {
-                memory = (let a : 0 < 1 = omega arith in a);
-                banks = record { there = tt; once = λ j k b c h g same. absurd (cc) };
-                indices = (((let a : 1 ≤ 32 = omega arith in a), (let b : 32 ≤ 64 = omega arith in b)), tt);
-                select = tt;
-                row = tt;
-                element = (dims_at storing_plan.table 0, (refl, refl));
-              }
-            , (refl, (let a : 0 < 1 = omega arith in a)) );
-      })
-      (record {
-        guard = tt;
-        form =
-            ( record {
-                memory = (let a : 0 < 1 = omega arith in a);
-                banks = record { there = ((let a : 0 < 1 = omega arith in a), tt); once = one_listed };
-                indices = (((let a : 1 ≤ 32 = omega arith in a), (let b : 32 ≤ 64 = omega arith in b)), tt);
-                select = tt;
-                row = tt;
-                element = (dims_at storing_plan.table 0, (refl, refl));
-              }
-            , (tt, refl) );
-      }) i o e
+    (record { guard = tt; form = record { sized = ((let a : 1 ≤ 8 = omega arith in a), (let b : 8 ≤ 64 = omega arith in b)); fits = (let a : 7 < 256 = omega arith in a) } })
+    (record { guard = tt; form = record { sized = ((let a : 1 ≤ 32 = omega arith in a), (let b : 32 ≤ 64 = omega arith in b)); fits = (let a : 1 < 4294967296 = omega arith in a) } })
+    (record {
+      guard = tt;
+      form = (
+        record {
+          memory = (let a : 0 < 1 = omega arith in a);
+          banks = record { there = tt; once = λ j k b c h g same. absurd (cc) };
+          indices = (((let a : 1 ≤ 32 = omega arith in a), (let b : 32 ≤ 64 = omega arith in b)), tt);
+          select = tt;
+          row = tt;
+          element = (dims_at storing_plan.table 0, (refl, refl));
+        },
+        (refl, (let a : 0 < 1 = omega arith in a)),
+      );
+    })
+    (record {
+      guard = tt;
+      form = (
+        record {
+          memory = (let a : 0 < 1 = omega arith in a);
+          banks = record { there = ((let a : 0 < 1 = omega arith in a), tt); once = one_listed };
+          indices = (((let a : 1 ≤ 32 = omega arith in a), (let b : 32 ≤ 64 = omega arith in b)), tt);
+          select = tt;
+          row = tt;
+          element = (dims_at storing_plan.table 0, (refl, refl));
+        },
+        (tt, refl),
+      );
+    }) i o e
 
 pub storing_block : (block : ℕ) → IsFormedBlock storing_plan block
 storing_block zero = record { ordered = storing_ordered; suits = storing_suits }
@@ -125,7 +128,7 @@ storing_block (suc block) = record { ordered = record { each = λ i o e. absurd 
 pub access_zero : (b i : ℕ) (r : Reach) → HasAccess storing_plan b i r → (r.access ≡ 0) × (r.memory ≡ 0)
 access_zero zero i r h =
     by_place (λ (n : ℕ) (x : Operation). access_in x.form ≡ Some r → (r.access ≡ 0) × (r.memory ≡ 0)) _ _ _ _
-      (λ u. absurd (let f : None ≡ Some r = u in cc)) (λ u. absurd (let f : None ≡ Some r = u in cc)) (λ u. reach_zero _ r u refl refl) (λ u. reach_zero _ r u refl refl) i h.operation h.there h.accesses
+    (λ u. absurd (let f : None ≡ Some r = u in cc)) (λ u. absurd (let f : None ≡ Some r = u in cc)) (λ u. reach_zero _ r u refl refl) (λ u. reach_zero _ r u refl refl) i h.operation h.there h.accesses
 access_zero (suc b) i r h = absurd (let f : None ≡ Some h.operation = h.there in cc)
 
 pub one_counter : AreCounters storing_plan (countings storing_plan.body)

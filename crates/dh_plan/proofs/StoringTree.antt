@@ -44,12 +44,12 @@ inner = one (all (all (access 0) nothing) nothing) nothing
 pub no_apart : (a b : ℕ) → Apart (meets_in storing_tree) a b → ⊥
 no_apart a b h =
     all_apart (access 0) a b (all_apart (all (access 0) nothing) a b (one_apart (all (all (access 0) nothing) nothing) a b
-      (all_apart inner a b (all_apart (all inner nothing) a b (one_apart (all (all inner nothing) nothing) a b h)))))
+    (all_apart inner a b (all_apart (all inner nothing) a b (one_apart (all (all inner nothing) nothing) a b h)))))
 
 pub no_before : (a b : ℕ) → Before (meets_in storing_tree) a b → ⊥
 no_before a b h =
     all_before (access 0) a b (all_before (all (access 0) nothing) a b (one_before (all (all (access 0) nothing) nothing) a b
-      (all_before inner a b (all_before (all inner nothing) a b (one_before (all (all inner nothing) nothing) a b h)))))
+    (all_before inner a b (all_before (all inner nothing) a b (one_before (all (all inner nothing) nothing) a b h)))))
 
 pub storing_meets : MeetsAs storing_tree storing_plan
 storing_meets =
@@ -99,20 +99,20 @@ pub charge_here : (entity memory bank number : ℕ) → number ≡ 0 → bank �
     → plan_charge storing_plan memory bank number ≤ charge storing_tree entity bank number
 charge_here entity memory bank number n b e =
     subst (λ (x : ℕ). plan_charge storing_plan memory bank number ≤ charge storing_tree x bank number) (sym e)
-      (subst (λ (x : ℕ). plan_charge storing_plan memory x number ≤ charge storing_tree 0 x number) (sym b)
-        (subst (λ (x : ℕ). plan_charge storing_plan memory 0 x ≤ charge storing_tree 0 0 x) (sym n) (most_one true (0 == memory) true)))
+    (subst (λ (x : ℕ). plan_charge storing_plan memory x number ≤ charge storing_tree 0 x number) (sym b)
+    (subst (λ (x : ℕ). plan_charge storing_plan memory 0 x ≤ charge storing_tree 0 0 x) (sym n) (most_one true (0 == memory) true)))
 
 pub storing_charges : ChargesWithin storing_tree storing_plan
 storing_charges entity memory bank number h =
     elim (cases_eq number 0) [
       | inr other ↦ none_less _ _ (ap (λ (b : Bool). charge_by b (0 == memory) (0 == bank)) (not_same number other))
       | inl here ↦ elim (cases_eq bank 0) [
-          | inr other ↦ none_less _ _ (ap (λ (b : Bool). charge_by (0 == number) (0 == memory) b) (not_same bank other) ∙ third_off (0 == number) (0 == memory))
-          | inl there ↦ elim (cases_eq entity 0) [
-              | inr other ↦ absurd (no_memory entity memory other h)
-              | inl same ↦ charge_here entity memory bank number here there same
-            ]
+        | inr other ↦ none_less _ _ (ap (λ (b : Bool). charge_by (0 == number) (0 == memory) b) (not_same bank other) ∙ third_off (0 == number) (0 == memory))
+        | inl there ↦ elim (cases_eq entity 0) [
+          | inr other ↦ absurd (no_memory entity memory other h)
+          | inl same ↦ charge_here entity memory bank number here there same
         ]
+      ]
     ]
 
 -- Uses and probes.

@@ -5,7 +5,7 @@ use Rattle.std.specs.List.{AllByRecursion}
 use Rattle.dh_value.specs.declared.words.Word.{Word}
 use Rattle.dh_plan.specs.declared.operations.Operation.{Operation}
 use Rattle.dh_plan.specs.declared.operations.Reach.{Reach}
-use Rattle.dh_plan.specs.Blocks.{StepStart, Look, word_at, values_of, Solves, AreValues, BlockEvent, block_events, RegisterSet, block_sets, first_fault, Put, puts_of, all_put, all_set}
+use Rattle.dh_plan.specs.Blocks.{StepStart, Look, word_at, in_memories, values_of, Solves, AreValues, BlockEvent, block_events, RegisterSet, block_sets, first_fault, Put, puts_of, all_put, all_set}
 use Rattle.dh_plan.specs.Ordered.{reach_takes, operation_takes, IsOrdered}
 
 -- both lists have one value at a number
@@ -52,3 +52,14 @@ PutsInOrder = (ps more : List Put) (memories : List (List ℕ)) → all_put (ps 
 
 abbrev pub SetsInOrder : Type 0
 SetsInOrder = (ss more : List RegisterSet) (registers : List ℕ) → all_set (ss ++ more) registers ≡ all_set more (all_set ss registers)
+
+-- where operations take earlier values, and reads show by values before them, a block has one solution
+abbrev pub BlocksHaveOneSolution : Type 0
+BlocksHaveOneSolution = (s : StepStart) (look : Look) (first : ℕ) (os : List Operation) → LooksBack look first → IsOrdered first os → HasOneSolution s look first os
+
+-- in a plan reads show what is in memories, by values before them
+abbrev pub MemoriesLookBack : Type 0
+MemoriesLookBack = (s : StepStart) (first : ℕ) → LooksBack (in_memories s first) first
+
+abbrev pub BlocksDoByValues : Type 0
+BlocksDoByValues = (s : StepStart) (first : ℕ) (ws vs : List Word) (os : List Operation) → DoesByValues s first ws vs os

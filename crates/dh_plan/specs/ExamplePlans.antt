@@ -1,7 +1,9 @@
 -- Plans of small programs, written out by hand: what definitions of plans are tried on.
-use Rattle.std.specs.Prelude.{ℕ, ◌+◌, true, List, [], ◌∷◌, ◌++◌, Option, Some, None, replicate}
+use Rattle.std.specs.Prelude.{ℕ, ◌+◌, true, List, [], ◌∷◌, ◌++◌, map, replicate, slice_set, Option, Some, None}
 use Rattle.dh_base.specs.declared.outcomes.FaultKind.{FaultKind}
 use Rattle.dh_base.specs.declared.outcomes.FaultKind.TheVariants.{OutOfRange}
+use Rattle.dh_base.specs.declared.outcomes.Outcome.{Outcome}
+use Rattle.dh_base.specs.declared.outcomes.Outcome.TheVariants.{Faulted}
 use Rattle.dh_base.specs.declared.places.Place.{Place}
 use Rattle.dh_value.specs.declared.kinds.Kind.{Kind}
 use Rattle.dh_value.specs.declared.kinds.Kind.TheVariants.{Bool, Unsigned}
@@ -69,6 +71,41 @@ nodes (n ∷ ns) = node_then n (nodes ns)
 abbrev pub at_place : (line column : ℕ) → FaultKind × Place
 at_place line column = (OutOfRange, record { line = line; column = column })
 
+-- Memories and outcomes.
+
+-- memories of these sizes, all zeros
+abbrev pub zeros : List ℕ → List (List ℕ)
+zeros sizes = map (λ n. replicate n 0) sizes
+
+abbrev pub two_cells : (first second : ℕ) → List (List ℕ)
+two_cells first second = (first ∷ []) ∷ (second ∷ []) ∷ []
+
+abbrev pub five_zeros : List (List ℕ)
+five_zeros = zeros (4 ∷ 1 ∷ [])
+
+abbrev pub ones_and_twos : List (List ℕ)
+ones_and_twos = replicate 3 1 ∷ replicate 5 2 ∷ []
+
+-- one memory of zeros but for an element
+abbrev pub element_set : (size position value : ℕ) → List (List ℕ)
+element_set size position value = slice_set (replicate size 0) position value ∷ []
+
+-- two zeros, and a number that a test looks at
+abbrev pub told : ℕ → List (List ℕ)
+told n = (0 ∷ 0 ∷ []) ∷ (n ∷ []) ∷ []
+
+-- two memories of four zeros, and an index that neither has
+abbrev pub far_index : List (List ℕ)
+far_index = replicate 4 0 ∷ replicate 4 0 ∷ (9 ∷ []) ∷ []
+
+-- four numbers, and where their fold goes
+abbrev pub to_fold : ℕ → List (List ℕ)
+to_fold n = (1 ∷ 2 ∷ 3 ∷ 4 ∷ []) ∷ (n ∷ []) ∷ []
+
+-- the fault of an access at a place that is out of range
+abbrev pub outside_at : (row column : ℕ) → Outcome
+outside_at row column = Faulted OutOfRange (record { line = row; column = column })
+
 -- `decl A: ubit<32>[1]; decl B: ubit<32>[1]; A[0] := 7 --- B[0] := A[0] + 1;`
 abbrev pub first_plan : PlainPlan
 first_plan = record {
@@ -78,7 +115,7 @@ first_plan = record {
   blocks =
       block (constant 32 7 ∷ constant 32 0 ∷ probes 0 0 (1 ∷ []) 0 ∷ writes_at 0 0 (1 ∷ []) 0 ∷ [])
       ∷ block (constant 32 0 ∷ probes 1 0 (4 ∷ []) 1 ∷ reads_at 1 0 (4 ∷ []) ∷ constant 32 1 ∷ always (Compute op.Add 6 7)
-        ∷ constant 32 0 ∷ probes 2 1 (9 ∷ []) 2 ∷ writes_at 2 1 (9 ∷ []) 8 ∷ [])
+      ∷ constant 32 0 ∷ probes 2 1 (9 ∷ []) 2 ∷ writes_at 2 1 (9 ∷ []) 8 ∷ [])
       ∷ [];
   body = nodes (block_node 0 ∷ block_node 1 ∷ []);
   meets = one (access 0) (one (all (access 1) (access 2)) nothing);
@@ -94,7 +131,7 @@ faulting_plan = record {
   blocks =
       block (constant 8 9 ∷ always (Set 0 0) ∷ [])
       ∷ block (constant 8 1 ∷ constant 32 0 ∷ probes 0 1 (3 ∷ []) 0 ∷ writes_at 0 1 (3 ∷ []) 2
-        ∷ constant 8 1 ∷ always (Old 0) ∷ probes 1 0 (7 ∷ []) 1 ∷ writes_at 1 0 (7 ∷ []) 6 ∷ [])
+      ∷ constant 8 1 ∷ always (Old 0) ∷ probes 1 0 (7 ∷ []) 1 ∷ writes_at 1 0 (7 ∷ []) 6 ∷ [])
       ∷ [];
   body = nodes (block_node 0 ∷ block_node 1 ∷ []);
   meets = one nothing (one (all (access 0) (access 1)) nothing);
@@ -145,9 +182,9 @@ split_plan = record {
   registers = [];
   blocks =
       block (constant 8 9 ∷ constant 32 1 ∷ constant 32 3
-        ∷ always (Probe (record { access = 0; memory = 0; indices = 1 ∷ 2 ∷ []; steps = record { view = 0; offsets = [] } ∷ []; banks = []; select = None; row = None }) 0)
-        ∷ always (Write (record { access = 0; memory = 0; indices = 1 ∷ 2 ∷ []; steps = record { view = 0; offsets = [] } ∷ []; banks = (3, 0) ∷ []; select = None; row = None }) 0)
-        ∷ [])
+      ∷ always (Probe (record { access = 0; memory = 0; indices = 1 ∷ 2 ∷ []; steps = record { view = 0; offsets = [] } ∷ []; banks = []; select = None; row = None }) 0)
+      ∷ always (Write (record { access = 0; memory = 0; indices = 1 ∷ 2 ∷ []; steps = record { view = 0; offsets = [] } ∷ []; banks = (3, 0) ∷ []; select = None; row = None }) 0)
+      ∷ [])
       ∷ [];
   body = nodes (block_node 0 ∷ []);
   meets = access 0;
@@ -162,9 +199,9 @@ physical_plan = record {
   registers = [];
   blocks =
       block (constant 8 9 ∷ constant 32 0
-        ∷ always (Probe (record { access = 0; memory = 0; indices = []; steps = []; banks = []; select = None; row = Some 1 }) 0)
-        ∷ always (Write (record { access = 0; memory = 0; indices = []; steps = []; banks = (3, 0) ∷ []; select = None; row = Some 1 }) 0)
-        ∷ [])
+      ∷ always (Probe (record { access = 0; memory = 0; indices = []; steps = []; banks = []; select = None; row = Some 1 }) 0)
+      ∷ always (Write (record { access = 0; memory = 0; indices = []; steps = []; banks = (3, 0) ∷ []; select = None; row = Some 1 }) 0)
+      ∷ [])
       ∷ [];
   body = nodes (block_node 0 ∷ []);
   meets = access 0;
@@ -198,7 +235,7 @@ late_fault_plan = record {
   blocks =
       block (constant 8 4 ∷ always (Set 0 0) ∷ [])
       ∷ block (constant 32 0 ∷ probes 0 2 (2 ∷ []) 0 ∷ reads_at 0 2 (2 ∷ []) ∷ probes 1 0 (4 ∷ []) 1 ∷ reads_at 1 0 (4 ∷ []) ∷ always (Set 1 6)
-        ∷ always (Old 0) ∷ probes 2 1 (8 ∷ []) 2 ∷ reads_at 2 1 (8 ∷ []) ∷ always (Set 2 10) ∷ [])
+      ∷ always (Old 0) ∷ probes 2 1 (8 ∷ []) 2 ∷ reads_at 2 1 (8 ∷ []) ∷ always (Set 2 10) ∷ [])
       ∷ [];
   body = nodes (block_node 0 ∷ block_node 1 ∷ []);
   meets = one nothing (one (all (access 0) (all (access 1) (access 2))) nothing);
@@ -224,7 +261,7 @@ fold_plan = record {
   blocks =
       block (constant 8 100 ∷ always (Set 0 0) ∷ [])
       ∷ block (copy_reads 2 0 ++ (copy_reads 5 1 ++ (copy_reads 8 2 ++ (copy_reads 11 3
-        ++ always (Old 0) ∷ always (Compute op.Sub 14 4) ∷ always (Compute op.Sub 15 7) ∷ always (Compute op.Sub 16 10) ∷ always (Compute op.Sub 17 13) ∷ always (Set 0 18) ∷ []))))
+      ++ always (Old 0) ∷ always (Compute op.Sub 14 4) ∷ always (Compute op.Sub 15 7) ∷ always (Compute op.Sub 16 10) ∷ always (Compute op.Sub 17 13) ∷ always (Set 0 18) ∷ []))))
       ∷ block (always (Old 0) ∷ constant 32 0 ∷ probes 1 1 (21 ∷ []) 1 ∷ writes_at 1 1 (21 ∷ []) 20 ∷ [])
       ∷ [];
   body = nodes (block_node 0 ∷ turns_node 1 1 (nodes (block_node 1 ∷ [])) ∷ block_node 2 ∷ []);

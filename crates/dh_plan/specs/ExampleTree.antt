@@ -9,7 +9,7 @@ abbrev pub storing_tree : Program
 storing_tree =
     whole (pair 1 ∷ [])
     (action_then
-      (loop_over 1 3 1 (block_of 2 (action_then
-        (action 3 here (stores
-          (term (record { line = 2; column = 22 }) (Some (Unsigned 8)) (accessed (called 65 0) (term_then (term here (Some (Unsigned 32)) (number false 1)) no_terms)))
-          (term here (Some (Unsigned 8)) (number false 7)))) no_actions))) no_actions)
+    (loop_over 1 3 1 (block_of 2 (action_then
+    (action 3 here (stores
+    (term (record { line = 2; column = 22 }) (Some (Unsigned 8)) (accessed (called 65 0) (term_then (term here (Some (Unsigned 32)) (number false 1)) no_terms)))
+    (term here (Some (Unsigned 8)) (number false 7)))) no_actions))) no_actions)

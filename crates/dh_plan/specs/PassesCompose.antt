@@ -10,7 +10,8 @@ use Rattle.dh_plan.specs.ScheduleLaws.{without_limits}
 
 -- A net that plays the addressed plan of a program's plan, with the lengths of the least schedule without limits,
 -- plays the program.
-abbrev pub PassesCompose : Program → (plan addressed : PlainPlan) → Timing → Net → Type 0
-PassesCompose p plan addressed t net =
-    NeverStuck (core_of p) → IsPlanOf p plan → IsAddressingOf plan addressed → IsLeastSchedule addressed without_limits t
+abbrev pub PassesCompose : Program → Type 0
+PassesCompose p =
+    (plan addressed : PlainPlan) (t : Timing) (net : Net)
+    → NeverStuck (core_of p) → IsPlanOf p plan → IsAddressingOf plan addressed → IsLeastSchedule addressed without_limits t
     → PlaysPlan addressed t.lengths net → PlaysItsProgram p net

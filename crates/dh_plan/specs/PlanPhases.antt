@@ -50,7 +50,7 @@ SetsFlag plan slots rounds test flag block =
     (registers : List ℕ) (memories : List (List ℕ)) (variables : Variables) → StandFor plan.registers slots rounds registers variables
     → failure_of (source_effect plan.table memories rounds (tests test) variables).events ≡ None
     → slice_index (all_set (sets_of_block plan (start_at plan registers memories) block) registers) flag
-      ≡ (if goes_on (record { table = plan.table; memories = memories }) variables (paths_of_rounds rounds) test then 1 else 0)
+    ≡ (if goes_on (record { table = plan.table; memories = memories }) variables (paths_of_rounds rounds) test then 1 else 0)
 
 -- What a block sees and sets.
 

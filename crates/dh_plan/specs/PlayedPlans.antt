@@ -82,8 +82,9 @@ times_phases p lengths = record {
 }
 
 -- A net that plays a plan plays the program whose phases the plan does, in lengths that are those of the phases.
-abbrev pub PlansPlayPrograms : Program → PlainPlan → Slots → (lengths : List ℕ) → Net → Type 0
-PlansPlayPrograms p plan slots lengths net =
-    plan.table ≡ table_of p → AllByRecursion (CountsTurns plan) (countings plan.body) → AllByRecursion (KeepsCounter plan) (countings plan.body)
+abbrev pub PlansPlayPrograms : Program → Type 0
+PlansPlayPrograms p =
+    (plan : PlainPlan) (slots : Slots) (lengths : List ℕ) (net : Net)
+    → plan.table ≡ table_of p → AllByRecursion (CountsTurns plan) (countings plan.body) → AllByRecursion (KeepsCounter plan) (countings plan.body)
     → DoesPhases plan slots (core_of p).phases → AreNodesOf (times_phases p lengths) [] (core_of p).phases plan.body
     → NeverStuck (core_of p) → PlaysPlan plan lengths net → PlaysItsProgram p net

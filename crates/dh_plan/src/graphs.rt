@@ -6,14 +6,27 @@ use dh_base::Items;
 #[derive(Debug, Drop)]
 pub enum Decision {
     /// To a state.
-    Go { state: u64 },
+    Go {
+        state: u64,
+    },
     /// By a flag.
-    Test { flag: u64, yes: Box<Decision>, no: Box<Decision> },
+    Test {
+        flag: u64,
+        yes: Box<Decision>,
+        no: Box<Decision>,
+    },
     /// By a counter: at its last value it becomes 0 and this goes on past the loop, else it becomes one more and
     /// this goes on with the next turn.
-    Count { counter: u64, last: u64, again: Box<Decision>, past: Box<Decision> },
+    Count {
+        counter: u64,
+        last: u64,
+        again: Box<Decision>,
+        past: Box<Decision>,
+    },
     /// Begins these groups, and goes on when all of them rest.
-    Fork { groups: Vec<u64> },
+    Fork {
+        groups: Vec<u64>,
+    },
     /// Ends the thread.
     Rest,
 }

@@ -1,17 +1,13 @@
 //! Laws on plans, stated on functions that do nothing.
 
-ghost use Rattle.std.specs.Prelude.{ℕ, List};
-ghost use Rattle.dh_value.specs.declared.words.Word.{Word};
+ghost use Rattle.std.specs.Prelude.{List};
 ghost use Rattle.dh_tree.specs.PlainTrees.{Program};
 ghost use Rattle.dh_meaning.specs.Core.{CoreProgram};
-ghost use Rattle.dh_net.specs.declared.nets.Net.{Net};
 ghost use Rattle.dh_plan.specs.declared.operations.Operation.{Operation};
-ghost use Rattle.dh_plan.specs.Blocks.{StepStart, Look, BlockEvent, in_memories};
-ghost use Rattle.dh_plan.specs.BlockLaws.{LooksBack, HasOneSolution, DoesByValues, AppendsKeep, EndsInOrder, PutsInOrder, SetsInOrder};
+ghost use Rattle.dh_plan.specs.Blocks.{BlockEvent};
+ghost use Rattle.dh_plan.specs.BlockLaws.{BlocksHaveOneSolution, MemoriesLookBack, BlocksDoByValues, AppendsKeep, EndsInOrder, PutsInOrder, SetsInOrder};
 ghost use Rattle.dh_plan.specs.Correspondence.{Slots};
 ghost use Rattle.dh_plan.specs.DoneProgram.{PhasesMakeRuns};
-ghost use Rattle.dh_plan.specs.Ordered.{IsOrdered};
-ghost use Rattle.dh_plan.specs.LegalSchedules.{Timing};
 ghost use Rattle.dh_plan.specs.PassesCompose.{PassesCompose};
 ghost use Rattle.dh_plan.specs.PlainPlans.{PlainPlan};
 ghost use Rattle.dh_plan.specs.PlayedPlans.{PlansPlayPrograms};
@@ -20,13 +16,13 @@ ghost use Rattle.dh_plan.specs.ScheduleLaws.{LeastIsLegal, HasLeastLengths};
 /// Where each operation of a block takes earlier values, its values are the one solution of its equations, whatever
 /// reads show by values before them; in a plan they show what is in memories.
 pub fn blocks_have_one_solution()
-    ensures solution { (s : StepStart) (look : Look) (first : ℕ) (os : List Operation) → LooksBack look first → IsOrdered first os → HasOneSolution s look first os }
-    ensures memories { (s : StepStart) (first : ℕ) → LooksBack (in_memories s first) first }
+    ensures solution { BlocksHaveOneSolution }
+    ensures memories { MemoriesLookBack }
 {}
 
 /// What a block does is a function of the values that its operations take.
 pub fn blocks_do_by_values()
-    ensures { (s : StepStart) (first : ℕ) (ws vs : List Word) (os : List Operation) → DoesByValues s first ws vs os }
+    ensures { BlocksDoByValues }
 {}
 
 /// Blocks are put together piece by piece.
@@ -52,10 +48,10 @@ pub fn least_clocks_are_legal()
 /// A net that plays a plan plays the program whose phases the plan does one for one, where the lengths of its blocks
 /// are those of the phases.
 pub fn plans_play_programs()
-    ensures { (p : Program) (plan : PlainPlan) (slots : Slots) (lengths : List ℕ) (net : Net) → PlansPlayPrograms p plan slots lengths net }
+    ensures { (p : Program) → PlansPlayPrograms p }
 {}
 
 /// The contracts of the passes suffice for that of the compiler, where no run of the program is stuck.
 pub fn passes_compose()
-    ensures { (p : Program) (plan addressed : PlainPlan) (t : Timing) (net : Net) → PassesCompose p plan addressed t net }
+    ensures { (p : Program) → PassesCompose p }
 {}

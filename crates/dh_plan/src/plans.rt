@@ -1,6 +1,5 @@
 //! Plans: blocks, the nodes that say in which order they are done, and which accesses may meet.
 
-
 use crate::operations::PlanBlock;
 use crate::viewing::ViewMap;
 use dh_base::{FaultKind, Items, Place};
@@ -11,15 +10,32 @@ use dh_value::Kind;
 #[derive(Debug, Drop)]
 pub enum Node {
     /// A block that is done in one logical step.
-    Step { block: u64 },
+    Step {
+        block: u64,
+    },
     /// So many turns of a body. The counter holds the number of the turn, from 0, and 0 outside.
-    Turns { counter: u64, count: u64, body: Vec<Node> },
+    Turns {
+        counter: u64,
+        count: u64,
+        body: Vec<Node>,
+    },
     /// A test block, and where the flag is then true the body and the whole again.
-    Loop { test: u64, flag: u64, body: Vec<Node> },
+    Loop {
+        test: u64,
+        flag: u64,
+        body: Vec<Node>,
+    },
     /// A test block, and where the flag is then true the first arm, else the second.
-    Choice { test: u64, flag: u64, then: Vec<Node>, other: Vec<Node> },
+    Choice {
+        test: u64,
+        flag: u64,
+        then: Vec<Node>,
+        other: Vec<Node>,
+    },
     /// Lists of nodes side by side, which ends when all have ended.
-    Threads { lists: Vec<Vec<Node>> },
+    Threads {
+        lists: Vec<Vec<Node>>,
+    },
 }
 
 /// Which accesses may meet: two may unless their lowest common node is a One.

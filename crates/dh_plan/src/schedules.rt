@@ -1,6 +1,5 @@
 //! Schedules and bindings: the clock of each operation, and the ports and multipliers that operations use.
 
-
 use dh_base::Items;
 
 /// What a schedule is limited to; 0 is no limit.

@@ -2,4 +2,4 @@ use Rattle.dh_plan.proofs.PlayedProgram.{plans_play_programs}
 use Rattle.dh_plan.proofs.laws.plans_play_programs.Goals as goal
 
 pub returns : goal.returns
-returns c p plan slots lengths net = plans_play_programs p plan slots lengths net
+returns c p = plans_play_programs p
