@@ -1,0 +1,16 @@
+pub mod ValuesAlike
+pub mod BlocksSolved
+pub mod Appends
+pub mod SourceMoves
+pub mod JointPlaces
+pub mod JointEnters
+pub mod JointSteps
+pub mod LeastLegal
+pub mod StoringPlan
+pub mod StoringPasses
+pub mod TiedNodes
+pub mod PlayedProgram
+pub mod LeastLengths
+pub mod Composed
+pub mod StoringSound
+pub mod StoringTree

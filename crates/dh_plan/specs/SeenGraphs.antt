@@ -1,0 +1,83 @@
+-- What a graph of the code stands for: its ways, where a fork shows the ways of the groups that it begins. And what
+-- the pass that makes graphs states of its graph.
+use Rattle.std.specs.Prelude.{◌≡◌, ℕ, ◌<◌, List, [], ◌∷◌, length, map, slice_get, Option, Some, None}
+use Rattle.dh_plan.specs.declared.graphs.Decision.{Decision}
+use Rattle.dh_plan.specs.declared.graphs.Decision.TheVariants.{Go, Test', Count', Fork, Rest}
+use Rattle.dh_plan.specs.declared.graphs.State.{State}
+use Rattle.dh_plan.specs.declared.graphs.Group.{Group}
+use Rattle.dh_plan.specs.declared.graphs.Graph.{Graph}
+use Rattle.dh_plan.specs.PlainPlans.{PlainPlan}
+use Rattle.dh_plan.specs.Ways.{Way, to_state, by_flag, by_count, to_fork, to_end, AllWays, no_ways, way_then, Stop, Flow, FlowsAs}
+
+-- the first of these is this one
+abbrev pub HasFirst : ℕ → List ℕ → Type 0
+HasFirst n [] = ⊥
+HasFirst n (m ∷ ms) = m ≡ n
+
+-- how a group begins, where there is one
+abbrev pub OfFirst : Option Group → (Decision → Type 0) → Type 0
+OfFirst None so = ⊥
+OfFirst (Some g) so = so g.first
+
+unfoldable mutual
+  -- a decision of the code, among these groups, is this way
+  pub IsWay : List Group → Decision → Way → Type 0
+  IsWay groups (Go state) (to_state s) = state ≡ s
+  IsWay groups (Test' flag at a at' b) (by_flag f w v) = (flag ≡ f) × (IsWay groups a w × IsWay groups b v)
+  IsWay groups (Count' counter last at a at' b) (by_count c l w v) = ((counter ≡ c) × (last ≡ l)) × (IsWay groups a w × IsWay groups b v)
+  IsWay groups (Fork forked) (to_fork f ws) = HasFirst f forked.items × AreWays groups forked.items ws
+  IsWay groups Rest to_end = Unit {0}
+  IsWay groups d w = ⊥
+
+  -- these groups begin with these ways
+  pub AreWays : List Group → (forked : List ℕ) → AllWays → Type 0
+  AreWays groups [] no_ways = Unit {0}
+  AreWays groups (g ∷ gs) (way_then w ws) = OfFirst (slice_get groups g) (λ d. IsWay groups d w) × AreWays groups gs ws
+  AreWays groups gs ws = ⊥
+
+-- a state of the code
+pub record IsStop (groups : List Group) (s : State) (stop : Stop) : Type 0 where
+  pub block : s.block ≡ stop.block
+  pub next : IsWay groups s.next stop.way
+
+-- where the parent of a group goes on
+abbrev pub IsJoin : List Group → Option Decision → Option Way → Type 0
+IsJoin groups None None = Unit {0}
+IsJoin groups (Some d) (Some w) = IsWay groups d w
+IsJoin groups after join = ⊥
+
+-- a graph of the code stands for this one
+pub record IsFlowOf (g : Graph) (f : Flow) : Type 0 where
+  pub states : length g.states.items ≡ length f.states
+  pub each : (i : ℕ) (s : State) (stop : Stop) → slice_get g.states.items i ≡ Some s → slice_get f.states i ≡ Some stop → IsStop g.groups.items s stop
+  -- group 0 is the program's own
+  pub first : OfFirst (slice_get g.groups.items 0) (λ d. IsWay g.groups.items d f.first)
+  pub groups : length g.groups.items ≡ length f.joins
+  pub joins : (i : ℕ) (group : Group) (join : Option Way) → slice_get g.groups.items i ≡ Some group → slice_get f.joins i ≡ Some join
+      → IsJoin g.groups.items group.after join
+
+abbrev mutual
+  -- a way leads to states that are there, by registers that are there
+  pub WayWithin : (states registers : ℕ) → Way → Type 0
+  WayWithin states registers (to_state state) = state < states
+  WayWithin states registers (by_flag flag w v) = (flag < registers) × (WayWithin states registers w × WayWithin states registers v)
+  WayWithin states registers (by_count counter last w v) = (counter < registers) × (WayWithin states registers w × WayWithin states registers v)
+  WayWithin states registers (to_fork fork ws) = WaysWithin states registers ws
+  WayWithin states registers to_end = Unit {0}
+
+  pub WaysWithin : (states registers : ℕ) → AllWays → Type 0
+  WaysWithin states registers no_ways = Unit {0}
+  WaysWithin states registers (way_then w ws) = WayWithin states registers w × WaysWithin states registers ws
+
+pub record FlowWithin (plan : PlainPlan) (f : Flow) : Type 0 where
+  pub blocks : (i : ℕ) (s : Stop) → slice_get f.states i ≡ Some s → s.block < length plan.blocks
+  pub first : WayWithin (length f.states) (length plan.registers) f.first
+  pub states : (i : ℕ) (s : Stop) → slice_get f.states i ≡ Some s → WayWithin (length f.states) (length plan.registers) s.way
+  pub joins : (i : ℕ) (w : Way) → slice_get f.joins i ≡ Some (Some w) → WayWithin (length f.states) (length plan.registers) w
+
+-- What the pass that makes graphs states of its graph: it does the phases of the plan.
+pub record IsGraphOf (plan : PlainPlan) (g : Graph) : Type 0 where
+  pub flow : Flow
+  pub shows : IsFlowOf g flow
+  pub within : FlowWithin plan flow
+  pub does : FlowsAs flow plan

@@ -1,0 +1,57 @@
+//! Laws on plans, stated on functions that do nothing.
+
+ghost use Rattle.std.specs.Prelude.{List};
+ghost use Rattle.dh_tree.specs.PlainTrees.{Program};
+ghost use Rattle.dh_meaning.specs.Core.{CoreProgram};
+ghost use Rattle.dh_plan.specs.declared.operations.Operation.{Operation};
+ghost use Rattle.dh_plan.specs.Blocks.{BlockEvent};
+ghost use Rattle.dh_plan.specs.BlockLaws.{BlocksHaveOneSolution, MemoriesLookBack, BlocksDoByValues, AppendsKeep, EndsInOrder, PutsInOrder, SetsInOrder};
+ghost use Rattle.dh_plan.specs.Correspondence.{Slots};
+ghost use Rattle.dh_plan.specs.DoneProgram.{PhasesMakeRuns};
+ghost use Rattle.dh_plan.specs.PassesCompose.{PassesCompose};
+ghost use Rattle.dh_plan.specs.PlainPlans.{PlainPlan};
+ghost use Rattle.dh_plan.specs.PlayedPlans.{PlansPlayPrograms};
+ghost use Rattle.dh_plan.specs.ScheduleLaws.{LeastIsLegal, HasLeastLengths};
+
+/// Where each operation of a block takes earlier values, its values are the one solution of its equations, whatever
+/// reads show by values before them; in a plan they show what is in memories.
+pub fn blocks_have_one_solution()
+    ensures solution { BlocksHaveOneSolution }
+    ensures memories { MemoriesLookBack }
+{}
+
+/// What a block does is a function of the values that its operations take.
+pub fn blocks_do_by_values()
+    ensures { BlocksDoByValues }
+{}
+
+/// Blocks are put together piece by piece.
+pub fn pieces_come_in_order()
+    ensures appends { (os more : List Operation) → AppendsKeep os more }
+    ensures ends { (es more : List BlockEvent) → EndsInOrder es more }
+    ensures puts { PutsInOrder }
+    ensures sets { SetsInOrder }
+{}
+
+/// A plan that does the phases of a program one for one runs as the program, from whatever memories.
+pub fn phases_make_runs()
+    ensures { (c : CoreProgram) (plan : PlainPlan) (slots : Slots) → PhasesMakeRuns c plan slots }
+{}
+
+/// The schedule that puts each operation where all is there that it takes is legal without limits; and the least
+/// schedule gives each block the length of that one.
+pub fn least_clocks_are_legal()
+    ensures legal { LeastIsLegal }
+    ensures lengths { HasLeastLengths }
+{}
+
+/// A net that plays a plan plays the program whose phases the plan does one for one, where the lengths of its blocks
+/// are those of the phases.
+pub fn plans_play_programs()
+    ensures { (p : Program) → PlansPlayPrograms p }
+{}
+
+/// The contracts of the passes suffice for that of the compiler, where no run of the program is stuck.
+pub fn passes_compose()
+    ensures { (p : Program) → PassesCompose p }
+{}
