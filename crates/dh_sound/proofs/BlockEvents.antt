@@ -4,7 +4,7 @@ use Rattle.std.proofs.Common.{◌≡◌, ◌⊎◌, inl, inr, ℕ, Bool, true, f
 use Rattle.std.proofs.lemmas.List.{append-nil}
 use Rattle.std.proofs.lemmas.Cmp.{nat_list_eq_equiv}
 use Rattle.dh_meaning.specs.Core.{CoreTerm, choose, CoreCommands, no_commands, command_and}
-use Rattle.dh_meaning.specs.Effects.{Begun, Variables, Event, Effect, term_events, holds_at, commands_run, Block, commands, tests, block_run}
+use Rattle.dh_meaning.specs.Effects.{Begun, Variables, Event, term_events, holds_at, commands_run, Block, commands, tests}
 use Rattle.dh_meaning.specs.Paths.{Path, same_path}
 use Rattle.dh_sound.proofs.Ascending.{Ascends}
 use Rattle.dh_sound.proofs.Counting.{same_list}
@@ -18,10 +18,6 @@ use Rattle.dh_sound.specs.Deep.{AreDeep}
 abbrev pub commands_of : Block → CoreCommands
 commands_of (commands cs) = cs
 commands_of (tests t) = command_and (choose t no_commands no_commands) no_commands
-
-pub as_commands : (b : Begun) (ps : List Path) (block : Block) (e : Effect) → block_run b ps block e ≡ commands_run b ps (commands_of block) e
-as_commands b ps (commands cs) e = refl
-as_commands b ps (tests t) e = refl
 
 nothing_more : (x : Bool) (es : List Event) → (es ++ (if x then [] else [])) ++ [] ≡ es
 nothing_more true es = append-nil (es ++ []) ∙ append-nil es

@@ -1,8 +1,7 @@
 -- The depth of each iterator where a program is run is the number of the unrolled loops round it and its own. Entities
 -- are numbered in text order; so among all variables of a program the first with the number of an iterator is the
 -- one that its loop declares, with the depth there: those before it have smaller numbers. By one walk over the
--- body. Then for the phases, which have the same loops round them, and for what is run. So is the factor of its loop
--- declared of it.
+-- body. Then for the phases, which have the same loops round them, and for what is run.
 use Rattle.std.proofs.Common.{◌≡◌, inl, inr, ℕ, suc, ◌+◌, ◌<◌, ◌≤◌, nat_lt, Bool, true, false, if◌then◌else◌, List, [], ◌∷◌, ◌++◌, length, Option, Some, None, refl, sym, ◌∙◌, ap, subst, arith, length-append}
 use Rattle.std.proofs.lemmas.Bool.Decides.{nat_tests}
 use Rattle.std.proofs.lemmas.List.{append_assoc, append-nil}
@@ -23,7 +22,7 @@ use Rattle.dh_meaning.specs.CoreOf.{Known, known_of, entity_number, form_of, tur
 use Rattle.dh_meaning.specs.Effects.{Block}
 use Rattle.dh_sound.specs.Blocks.{factors, StandsIn, StandsInPhase}
 use Rattle.dh_sound.specs.IteratorsAt.{HaveDepths, KeepsDepths}
-use Rattle.dh_sound.specs.LoopsDeclared.{IsFoundWith, IsDeclaredLoop, AreDeclared}
+use Rattle.dh_sound.specs.LoopsDeclared.{IsFoundWith}
 use Rattle.dh_sound.proofs.IteratorsAt.{factors_both}
 use Rattle.dh_sound.proofs.IteratorsNamed.{on_long, declared_on, past_on, goes_on, other_on, part_on, groups_on}
 use Rattle.dh_sound.proofs.PhasesHold.{Facts, PhaseHolds, PhasesHold, ListHolds, PartsHold, of_list_hold, both_hold, joined_hold, folded_hold, turn_hold, choice_hold}
@@ -263,7 +262,7 @@ module _ (known : Known) where
   has_depths = record {
     round = ℕ;
     does = λ d a. Unit {0};
-    turns_so = λ d form. ((turning_of known 0 form).depth ≡ depth_inside d (turning_of known 0 form).factor) × IsDeclaredLoop known.bindings (turning_of known 0 form);
+    turns_so = λ d form. (turning_of known 0 form).depth ≡ depth_inside d (turning_of known 0 form).factor;
     inside = λ d form. depth_inside d (turning_of known 0 form).factor;
   }
 
@@ -283,7 +282,7 @@ module _ (known : Known) where
     form_phases_deep (repeats test body) d r n id place h = (of_list_hold has_depths d _ (phases_deep body d r (n + term_accesses test) h), tt)
     form_phases_deep (counts iterator declared low high factor body combine combine_place) d r n id place h =
         turn_hold has_depths d (located r n (action id place (counts iterator declared low high factor body combine combine_place))) (turn_count low.value high.value factor.value) _
-        (ap depth_bound h.0.bound ∙ h.0.depth_is, record { binding = h.0.binding; bound = h.0.bound; depth = sym (ap depth_bound h.0.bound); iterates = h.0.iterates })
+        (ap depth_bound h.0.bound ∙ h.0.depth_is)
         (folded_hold has_depths (depth_inside d factor.value) _ _
         (phases_deep body (depth_inside d factor.value) (in_loop r (loop_of iterator low high factor)) n h.1.0)
         (other_phases_deep combine (depth_inside d factor.value) (in_loop r (loop_of iterator low high factor)) (n + accesses_of body) h.1.1))
@@ -360,7 +359,7 @@ module _ (known : Known) where
         phases_have body (round ++ turning_of known count (form_of loop.command) ∷ [])
         (subst (λ (d : ℕ). PhasesHold (has_depths known) d body) (sym (inside_count round count (form_of loop.command))) h.1)
         (one_more [] round (turning_of known count (form_of loop.command)) g
-        (depth_same count (form_of loop.command) ∙ (h.0.0 ∙ sym (inside_count round count (form_of loop.command)))))
+        (depth_same count (form_of loop.command) ∙ (h.0 ∙ sym (inside_count round count (form_of loop.command)))))
         loops b s
     phase_has (repeated loop body) round h g loops b (inl s) = subst (λ (ls : List Turning). HaveDepths [] ls) (sym s.0) g
     phase_has (repeated loop body) round h g loops b (inr s) = phases_have body round h g loops b s
@@ -374,44 +373,6 @@ module _ (known : Known) where
     phases_have (phase p ps) round h g loops b (inl s) = phase_has p round h.0 g loops b s
     phases_have (phase p ps) round h g loops b (inr s) = phases_have ps round h.1 g loops b s
 
-  -- The same for what is declared of loops.
-
-  declared_same : (count : ℕ) (form : ActionForm) → IsDeclaredLoop known.bindings (turning_of known 0 form) → IsDeclaredLoop known.bindings (turning_of known count form)
-  declared_same count (counts iterator declared low high factor body combine combine_place) h = record { binding = h.binding; bound = h.bound; depth = h.depth; iterates = h.iterates }
-  declared_same count (decides test chosen other) h = h
-  declared_same count (repeats test body) h = h
-  declared_same count (lets name declared value) h = h
-  declared_same count (lets_memory name shape shape_places value) h = h
-  declared_same count (views name parent form) h = h
-  declared_same count (assigns target value) h = h
-  declared_same count (stores target value) h = h
-  declared_same count (reduces target o value) h = h
-  declared_same count (calls function arguments) h = h
-  declared_same count (blocks body) h = h
-
-  also_declared : (loops : List Turning) (loop : Turning) → AreDeclared known.bindings loops → IsDeclaredLoop known.bindings loop → AreDeclared known.bindings (loops ++ loop ∷ [])
-  also_declared [] loop h e = (e, tt)
-  also_declared (l ∷ ls) loop h e = (h.0, also_declared ls loop h.1 e)
-
-  mutual
-    phase_declared : (p : Phase) (d : ℕ) (round : List Turning) → PhaseHolds (has_depths known) d p → AreDeclared known.bindings round → (loops : List Turning) (b : Block)
-        → StandsInPhase round (core_phase known p) loops b → AreDeclared known.bindings loops
-    phase_declared (straight cs) d round h g loops b s = subst (λ (ls : List Turning). AreDeclared known.bindings ls) (sym s.0) g
-    phase_declared (turns loop count body) d round h g loops b s =
-        phases_declared body _ (round ++ turning_of known count (form_of loop.command) ∷ []) h.1
-        (also_declared round (turning_of known count (form_of loop.command)) g (declared_same count (form_of loop.command) h.0.1)) loops b s
-    phase_declared (repeated loop body) d round h g loops b (inl s) = subst (λ (ls : List Turning). AreDeclared known.bindings ls) (sym s.0) g
-    phase_declared (repeated loop body) d round h g loops b (inr s) = phases_declared body d round h g loops b s
-    phase_declared (decided choice chosen other) d round h g loops b (inl s) = subst (λ (ls : List Turning). AreDeclared known.bindings ls) (sym s.0) g
-    phase_declared (decided choice chosen other) d round h g loops b (inr (inl s)) = phases_declared chosen d round h.0 g loops b s
-    phase_declared (decided choice chosen other) d round h g loops b (inr (inr s)) = phases_declared other d round h.1 g loops b s
-
-    phases_declared : (ps : Phases) (d : ℕ) (round : List Turning) → PhasesHold (has_depths known) d ps → AreDeclared known.bindings round → (loops : List Turning) (b : Block)
-        → StandsIn round (core_phases known ps) loops b → AreDeclared known.bindings loops
-    phases_declared no_phases d round h g loops b s = elim s [ ]
-    phases_declared (phase p ps) d round h g loops b (inl s) = phase_declared p d round h.0 g loops b s
-    phases_declared (phase p ps) d round h g loops b (inr s) = phases_declared ps d round h.1 g loops b s
-
 all_hold : (p : Program) → HasEntities p → PhasesHold (has_depths (known_of p)) 0 (of_list (phases_of p))
 all_hold p h =
     of_list_hold (has_depths (known_of p)) 0 (phases_of p)
@@ -421,7 +382,3 @@ all_hold p h =
 -- a program whose names have their entities keeps the depths of its iterators where it is run
 pub depths_kept : (p : Program) → HasEntities p → KeepsDepths (core_of p)
 depths_kept p h = record { depths = λ loops b s. phases_have (known_of p) (of_list (phases_of p)) [] (all_hold p h) tt loops b s }
-
--- and the iterators of its loops are declared with their depths and factors
-pub loops_declared : (p : Program) → HasEntities p → (loops : List Turning) (b : Block) → StandsIn [] (core_of p).phases loops b → AreDeclared (known_of p).bindings loops
-loops_declared p h loops b s = phases_declared (known_of p) (of_list (phases_of p)) 0 [] (all_hold p h) tt loops b s

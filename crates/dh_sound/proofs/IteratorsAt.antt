@@ -5,11 +5,10 @@ use Rattle.std.proofs.Common.{◌≡◌, ℕ, suc, ◌+◌, ◌*◌, ◌-◌, �
 use Rattle.std.specs.Prelude.{take, slice_index_or, pos}
 use Rattle.std.proofs.lemmas.List.{append_assoc, length-append}
 use Rattle.dh_meaning.specs.Paths.{Path, paths_in}
-use Rattle.dh_meaning.specs.Core.{Turning, CoreProgram}
-use Rattle.dh_meaning.specs.Effects.{Variables, Block}
+use Rattle.dh_meaning.specs.Core.{Turning}
+use Rattle.dh_meaning.specs.Effects.{Variables}
 use Rattle.dh_sound.specs.Blocks.{factors, paths_inside, IsPath, InTurn, AreInTurn}
-use Rattle.dh_sound.specs.Standing.{StandsInTurn}
-use Rattle.dh_sound.specs.IteratorsAt.{HaveDepths, KeepsDepths, IteratorAt, TurnAt, TurnsAt}
+use Rattle.dh_sound.specs.IteratorsAt.{HaveDepths, IteratorAt, TurnAt, TurnsAt}
 use Rattle.dh_sound.proofs.PathParts.{outer_path, copy_below, last_of_outer}
 
 pub factors_both : (a b : List Turning) → factors (a ++ b) ≡ factors a ++ factors b
@@ -92,8 +91,3 @@ turns_upto round (loop ∷ loops) whole variables e t d =
 -- loops that are in a turn, at the paths inside all of them
 pub turns_at : (loops : List Turning) (variables : Variables) → AreInTurn [] loops variables → HaveDepths [] loops → TurnsAt loops variables (paths_inside loops)
 turns_at loops variables t d = turns_upto [] loops loops variables refl t d
-
--- and the loops in which a run stands
-pub standing_turns : (c : CoreProgram) (paths : List Path) (b : Block) (variables : Variables) → KeepsDepths c → (s : StandsInTurn c paths b variables) → TurnsAt s.loops variables paths
-standing_turns c paths b variables keeps s =
-    subst (λ (ps : List Path). TurnsAt s.loops variables ps) (sym s.copies) (turns_at s.loops variables s.turns (keeps.depths s.loops b s.block))

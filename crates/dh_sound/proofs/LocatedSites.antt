@@ -3,16 +3,16 @@
 use Rattle.std.proofs.Common.{◌≡◌, ℕ, ◌+◌, true, List, ◌++◌, Some, slice_get, ap, subst, arith}
 use Rattle.dh_tree.specs.PlainTrees.{Action, action, lets, lets_memory, views, assigns, stores, reduces, calls, blocks, decides, repeats, counts, Program}
 use Rattle.dh_meaning.specs.AccessNumbers.{term_accesses, accesses_of}
-use Rattle.dh_meaning.specs.Sites.{Arm, Around}
+use Rattle.dh_meaning.specs.Sites.{Around}
 use Rattle.dh_meaning.specs.Phases.{Located, phases_of, idle_phases_of}
 use Rattle.dh_meaning.specs.OnePhase.{makes, tests_make, test_makes}
 use Rattle.dh_meets.specs.SourceEvents.{SourceAccess, SourceEvent, accesses_in, site_of, term_events, events, trace}
-use Rattle.dh_sound.specs.PhaseFacts.{HasStraight, HasTest, StandsAmong, HasArm}
+use Rattle.dh_sound.specs.PhaseFacts.{HasStraight, HasTest, StandsAmong}
 use Rattle.dh_sound.proofs.Pigeons.{Has}
 use Rattle.dh_sound.proofs.EventCounts.{term_counted, events_counted}
 use Rattle.dh_sound.proofs.Sums.{Within}
 use Rattle.dh_sound.proofs.Slices.{straight_stands, test_stands}
-use Rattle.dh_sound.proofs.Sited.{At, at_left, at_right, at_slice, term_site, arms_kept, made_loops, within_span, makes_within}
+use Rattle.dh_sound.proofs.Sited.{At, at_left, at_right, at_slice, term_site, made_loops, within_span, makes_within}
 
 module _ (k : ℕ) (a : SourceAccess) where
   -- an access with a number of a command is one of its events
@@ -60,13 +60,6 @@ module _ (k : ℕ) (a : SourceAccess) where
     pub straight_loops : (cs : List Located) (c : Located)
         → HasStraight (phases_of p ++ idle_phases_of p) cs → Has c cs → makes k c.first c.command ≡ true → a.site.loops ≡ c.around.loops
     straight_loops cs c h g m = made_loops k a c.around c.first c.command m (located_at (trace p) c (straight_stands p cs c h g) (makes_within k c.first c.command m) is)
-
-    -- it stands in the arms round the command
-    pub straight_arms : (cs : List Located) (c : Located) (arm : Arm)
-        → HasStraight (phases_of p ++ idle_phases_of p) cs → Has c cs → makes k c.first c.command ≡ true
-        → HasArm arm c.around.arms → HasArm arm a.site.arms
-    straight_arms cs c arm h g m d =
-        arms_kept k a arm c.around d c.command c.first (located_at (trace p) c (straight_stands p cs c h g) (makes_within k c.first c.command m) is)
 
     -- an access that a test makes stands where the command of the test does
     pub test_stands_there : (c : Located) → HasTest (phases_of p ++ idle_phases_of p) c → test_makes k c ≡ true → a.site ≡ site_of c.around (number_of c.command)

@@ -12,11 +12,10 @@ use Rattle.dh_tree.specs.declared.trees.counters.Counter.{Counter}
 use Rattle.dh_tree.specs.declared.trees.expressions.Ref.{Ref}
 use Rattle.dh_tree.specs.PlainTrees.{Placed, Unrolled, Action, action, ActionForm, lets, lets_memory, views, assigns, stores, reduces, calls, blocks, decides, repeats, counts, MaybeAction, no_action, one_action, Actions, no_actions, action_then, Groups, no_groups, group_then, Program}
 use Rattle.dh_meaning.specs.AccessNumbers.{term_accesses, accesses_of, part_accesses}
-use Rattle.dh_meaning.specs.Bindings.{binding_in, depth_bound}
 use Rattle.dh_meaning.specs.Phases.{Located, Phase, straight, turns, repeated, decided, Phases, no_phases, phase, of_list, one_straight, joined, are_straight, one_command, folded, turn_count, turn_phases, choice_phases, phases, form_phases, other_phases, groups_phases, parts_phases}
 use Rattle.dh_meaning.specs.Sites.{Around, in_arm, in_loop, loop_of}
 use Rattle.dh_meaning.specs.Core.{Turning}
-use Rattle.dh_meaning.specs.CoreOf.{Known, known_of, entity_number, depth_of, form_of, turning_of}
+use Rattle.dh_meaning.specs.CoreOf.{Known, known_of, entity_number, form_of, turning_of}
 use Rattle.dh_meaning.specs.Effects.{Block}
 use Rattle.dh_meets.specs.Charges.{factors_of}
 use Rattle.dh_meets.specs.SourceEvents.{SourceEvent}
@@ -64,13 +63,6 @@ matched_factors known (l ∷ ls) (c ∷ cs) h = ap (λ n. n ∷ turning_factors 
 -- loops that match have the same factors
 pub match_factors : (known : Known) (loops : List Turning) (cs : List Counter) → LoopsMatch known loops cs → factors loops ≡ factors_of cs
 match_factors known loops cs h = unrolled_factors loops ∙ matched_factors known (unrolled loops) cs h
-
--- the number of the iterator, and the depth of each name that stands for it
-pub match_number : (known : Known) (l : Turning) (c : Counter) → LoopMatches known l c → l.iterator ≡ entity_number c.entity
-match_number known l c m = sym (ap entity_number m.iterator)
-
-pub match_depth : (known : Known) (l : Turning) (c : Counter) (r : Ref) → LoopMatches known l c → r.entity ≡ c.entity → l.depth ≡ depth_of known r
-match_depth known l c r m same = m.depth ∙ ap (λ n. depth_bound (binding_in known.bindings n)) (match_number known l c m ∙ ap entity_number (sym same))
 
 -- a loop comes to those round it where it is unrolled
 loop_matches : (known : Known) (r : Around) (c : Counter) (ts : List Turning) (own : Turning) → LoopMatches known own c → EachMatches known ts r.loops

@@ -10,7 +10,6 @@ use Rattle.dh_base.specs.declared.rules.Rule.TheVariants.{UnknownName}
 use Rattle.dh_tree.specs.declared.trees.programs.Sort.TheVariants.{Iterator}
 use Rattle.dh_tree.specs.Breaches.{unknown, twice, term_breaches, term_form_breaches, terms_breaches, value_breaches, breaches, form_breaches, other_breaches, actions_breaches, groups_breaches, functions_breaches, items_breaches}
 use Rattle.dh_tree.specs.LeastBreach.{breach}
-use Rattle.dh_tree.specs.Numbers.{IsNumbered}
 use Rattle.dh_tree.specs.PlainTrees.{Term, term, TermForm, number, truth_value, named, accessed, in_bank, applied, converted, Terms, no_terms, term_then, Action, action, ActionForm, lets, lets_memory, views, assigns, stores, reduces, calls, blocks, decides, repeats, counts, MaybeAction, no_action, one_action, Actions, no_actions, action_then, Groups, no_groups, group_then, Program}
 use Rattle.dh_sound.specs.Accepted.{IsReadyCopied}
 use Rattle.dh_tree.specs.Resolved.{resolved_term, resolved_term_form, resolved_terms, resolved_action, resolved_form, resolved_other, resolved_actions, resolved_groups}
@@ -146,7 +145,3 @@ pub ready_named : (p : Program) → IsReadyCopied p → StoresToAccesses p → I
 ready_named p r t =
     named_action p.body (body_scope p) (ap (λ (x : Program). x.body) r.entities)
     (second_none (functions_breaches (length p.decls) (first_scope p) p.functions) _ (second_none (items_breaches [] (items_of p)) _ r.names)) t.targets
-
--- and its numbers
-pub ready_numbered : (p : Program) → IsReadyCopied p → (first : ℕ) × IsNumbered first p.body
-ready_numbered p r = (r.of_text.first, r.of_text.numbered)

@@ -3,7 +3,7 @@
 use Rattle.std.proofs.Common.{◌≡◌, ◌⊎◌, inl, inr, ℕ, suc, ◌<◌, ◌≤◌, Bool, true, false, if◌then◌else◌, List, [], ◌∷◌, ◌++◌, refl, ◌∙◌, ap, subst, arith}
 use Rattle.std.proofs.lemmas.Cmp.{nat_list_eq_equiv}
 use Rattle.dh_meaning.specs.Core.{CoreTerm, CoreCommand, store, assign, choose, CoreCommands, no_commands, command_and}
-use Rattle.dh_meaning.specs.Effects.{Begun, Event, Effect, term_events, store_events, stored_at, assigned_at, tested_at, at_each, paths_where, holds_at, command_run, commands_run, Block, commands, tests, block_run}
+use Rattle.dh_meaning.specs.Effects.{Begun, Event, Effect, term_events, store_events, stored_at, assigned_at, tested_at, at_each, paths_where, holds_at, command_run, commands_run}
 use Rattle.dh_meaning.specs.Paths.{Path, same_path}
 use Rattle.dh_sound.proofs.Ascending.{number_of, Ascends}
 use Rattle.dh_sound.proofs.Lockstep.{path_of, events_at, AllAt, term_at, store_at}
@@ -124,7 +124,3 @@ module _ (b : Begun) where
     pub commands_stay : (ps : List Path) (cs : CoreCommands) (e : Effect) → Stays ps e (commands_run b ps cs e)
     commands_stay ps no_commands e = λ ev h. inl h
     commands_stay ps (command_and c cs) e = stays_then ps ps e (command_run b ps c e) (commands_run b ps cs (command_run b ps c e)) (λ path k. k) (command_stays ps c e) (commands_stay ps cs (command_run b ps c e))
-
-  pub block_stays : (ps : List Path) (block : Block) (e : Effect) → Stays ps e (block_run b ps block e)
-  block_stays ps (commands cs) e = commands_stay ps cs e
-  block_stays ps (tests t) e = tests_stay t ps e

@@ -3,30 +3,23 @@
 -- which agree there have one part that leads to it. If it is the iterator of a loop that is in a turn, its value at
 -- a path is that of the turn and of the path's copy in this loop, on which it depends where there is more than one.
 -- A variable that the block touches is declared inside all the loops, so that paths which agree where it
--- depends are one path. That an iterator is declared with the depth and the factor of its loop holds of all loops of a
--- program whose names have their entities.
-use Rattle.std.proofs.Common.{◌≡◌, inl, inr, ℕ, zero, suc, ◌+◌, ◌*◌, ◌-◌, ◌<◌, ◌≤◌, ◌&&◌, nat_lt, ◌==◌, Bool, true, false, if◌then◌else◌, List, [], ◌∷◌, ◌++◌, length, Option, Some, None, refl, sym, ◌∙◌, ap, subst, arith}
+-- depends are one path.
+use Rattle.std.proofs.Common.{◌≡◌, inl, inr, ℕ, zero, suc, ◌+◌, ◌*◌, ◌-◌, ◌<◌, ◌≤◌, ◌&&◌, nat_lt, ◌==◌, Bool, true, false, if◌then◌else◌, List, [], ◌∷◌, length, Option, Some, None, refl, sym, ◌∙◌, ap, subst, arith}
 use Rattle.std.specs.Prelude.{take, slice_index_or, pos}
 use Rattle.std.proofs.lemmas.Bool.{cases_lt}
-use Rattle.std.proofs.lemmas.List.{length-append}
 use Rattle.std.proofs.lemmas.Bool.Decides.{nat_tests}
 use Rattle.dh_tree.specs.declared.trees.expressions.Ref.{Ref}
-use Rattle.dh_tree.specs.PlainTrees.{Program}
-use Rattle.dh_tree.specs.Resolved.{HasEntities}
 use Rattle.dh_meaning.specs.Bindings.{Binding, binding_in, depth_bound}
 use Rattle.dh_meaning.specs.Core.{Turning}
-use Rattle.dh_meaning.specs.CoreOf.{Known, known_of, entity_number, depth_of, core_of}
-use Rattle.dh_meaning.specs.Effects.{Variables, Block}
+use Rattle.dh_meaning.specs.CoreOf.{Known, entity_number, depth_of}
+use Rattle.dh_meaning.specs.Effects.{Variables}
 use Rattle.dh_meaning.specs.Paths.{Path}
 use Rattle.dh_meaning.specs.Runs.{iterator_value}
 use Rattle.dh_meets.specs.Charges.{iterator_depends, variable_depends, binding_depends, entity_depends}
-use Rattle.dh_sound.specs.Blocks.{factors, paths_inside, IsPath, StandsIn}
-use Rattle.dh_sound.specs.IteratorsAt.{HaveDepths, IteratorAt}
-use Rattle.dh_sound.specs.LoopsDeclared.{IsDeclaredLoop, AreDeclared}
-use Rattle.dh_sound.proofs.DepthsNamed.{depths_kept, loops_declared}
-use Rattle.dh_sound.proofs.IteratorsAt.{factors_both}
+use Rattle.dh_sound.specs.Blocks.{factors, paths_inside, IsPath}
+use Rattle.dh_sound.specs.IteratorsAt.{IteratorAt}
 use Rattle.dh_sound.proofs.PathParts.{Fits, path_fits}
-use Rattle.dh_sound.specs.SameKeys.{CopiesAgree, NameAgrees, IsSettled, IsNearTo, IsNoIterator, IsIteratorOf, AreIterators}
+use Rattle.dh_sound.specs.SameKeys.{CopiesAgree, NameAgrees, IsSettled, IsNearTo, IsNoIterator, IsIteratorOf}
 
 -- Paths.
 
@@ -86,29 +79,6 @@ plain_settled known v0 v w touched p q r e near close n is left h a =
     untouched = ap (λ o. touched (entity_number o)) is ∙ left
 
 -- Iterators.
-
--- an unrolled loop counts in its own depth
-pub unrolled_deep : (round : List Turning) (loop : Turning) → loop.depth ≡ length (factors (round ++ loop ∷ [])) → 1 < loop.factor → 1 ≤ loop.depth
-unrolled_deep round loop e many = by (nat_lt 1 loop.factor) many_is (e ∙ (ap length (factors_both round (loop ∷ [])) ∙ length-append (factors round) (factors (loop ∷ []))))
-  where
-    many_is : nat_lt 1 loop.factor ≡ true
-    many_is = grind (arith, nat_tests)
-
-    by : (t : Bool) → t ≡ true → loop.depth ≡ length (factors round) + length (if t then loop.factor ∷ [] else []) → 1 ≤ loop.depth
-    by true h l = omega (arith, l)
-    by false h l = cc
-
--- the iterators of loops that are declared with their depths and factors
-pub iterators_named : (known : Known) (round loops : List Turning) → HaveDepths round loops → AreDeclared known.bindings loops → AreIterators known loops
-iterators_named known round [] h d = tt
-iterators_named known round (loop ∷ loops) h d = (named d.0, iterators_named known (round ++ loop ∷ []) loops h.1 d.1)
-  where
-    named : IsDeclaredLoop known.bindings loop → (r : Ref) → r.entity ≡ Some loop.iterator → IsIteratorOf known r loop
-    named c r e = record { entity = e; binding = c.binding; bound = c.bound; depth = c.depth; iterates = c.iterates; deep = unrolled_deep round loop h.0 }
-
--- those of the loops round a block of a program whose names have their entities
-pub program_iterators : (p : Program) → HasEntities p → (loops : List Turning) (b : Block) → StandsIn [] (core_of p).phases loops b → AreIterators (known_of p) loops
-program_iterators p h loops b s = iterators_named (known_of p) [] loops ((depths_kept p h).depths loops b s) (loops_declared p h loops b s)
 
 -- paths that agree where an iterator depends have one copy in its loop
 same_last : (factor depth : ℕ) (p q : Path) → (1 < factor → 1 ≤ depth) → length p ≡ length q → CopiesAgree (λ l. iterator_depends depth l factor) p q

@@ -2,7 +2,7 @@
 -- variable has one value at two paths wherever the copy numbers of these agree in all loops on which the variable
 -- depends. And what is known of the variables of a block: they are near those with which the block began, and an
 -- iterator's name is declared with the depth and the factor of its loop.
-use Rattle.std.specs.Prelude.{◌≡◌, ℕ, ◌<◌, ◌≤◌, Bool, true, false, List, [], ◌∷◌, length, take, slice_index_or, Option, Some, None}
+use Rattle.std.specs.Prelude.{◌≡◌, ℕ, ◌<◌, ◌≤◌, Bool, true, false, length, take, slice_index_or, Option, Some, None}
 use Rattle.dh_tree.specs.declared.trees.expressions.Ref.{Ref}
 use Rattle.dh_tree.specs.PlainTrees.{Term, term, TermForm, number, truth_value, named, accessed, in_bank, applied, converted, Terms, no_terms, term_then}
 use Rattle.dh_meaning.specs.Bindings.{Binding, binding_in}
@@ -71,11 +71,6 @@ pub record IsIteratorOf (known : Known) (r : Ref) (loop : Turning) : Type 0 wher
   pub iterates : binding.iterates ≡ Some loop.factor
   -- an unrolled loop counts in its own depth
   pub deep : 1 < loop.factor → 1 ≤ loop.depth
-
--- a name that stands for the iterator of one of these loops is declared as such
-abbrev pub AreIterators : Known → List Turning → Type 0
-AreIterators known [] = Unit {0}
-AreIterators known (loop ∷ loops) = ((r : Ref) → r.entity ≡ Some loop.iterator → IsIteratorOf known r loop) × AreIterators known loops
 
 -- What is given of a name in the indices of an access that a block makes at two paths of one length.
 pub data NameFacts (known : Known) (v0 : Variables) (touched : ℕ → Bool) (p q : Path) (r : Ref) : Type 0 where

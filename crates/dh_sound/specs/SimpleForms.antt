@@ -1,7 +1,6 @@
 -- Commands without views and calls, whose reducers stand in blocks that join copies alone, with a variable each on the
--- right: a program that is ready has neither views nor calls nor reducers, since these forms are not built. What is
--- told here of such programs alone is to be told of views and calls as they are built; of reducers the rule `Reducer`
--- (K17) will tell it.
+-- right: the commands of a program whose forms are built, and that breaks no rule on reducers. What is told of such
+-- programs alone is to be told of views and calls as they are built.
 use Rattle.std.specs.Prelude.{List, [], ◌∷◌}
 use Rattle.dh_tree.specs.PlainTrees.{Term, term, number, truth_value, named, accessed, in_bank, applied, converted, Action, action, ActionForm, lets, lets_memory, views, assigns, stores, reduces, calls, blocks, decides, repeats, counts, MaybeAction, no_action, one_action, Actions, no_actions, action_then, Groups, no_groups, group_then}
 use Rattle.dh_meaning.specs.Phases.{Located}
