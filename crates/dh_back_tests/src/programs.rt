@@ -1,20 +1,6 @@
 //! Programs of any length, and what the passes make of them.
 
-ghost use Rattle.std.specs.Prelude.{◌≤◌, IfOk, length};
-ghost use Rattle.dh_check.specs.Acceptance.{IsCompilable};
-ghost use Rattle.dh_net.specs.Valid.{IsValid};
-ghost use Rattle.dh_tree.specs.Ready.{IsReady};
-ghost use Rattle.dh_tree.specs.Seen.{program_seen};
-ghost use Rattle.dh_tree.specs.Shapes.{IsProgramTable};
-ghost use Rattle.dh_tree.specs.Tables.{Fits};
-
-use dh_check::{Forms, check, check_without_ports};
-use dh_compile::compile;
-use dh_data::read;
-use dh_net::Net;
-use dh_tree::{MemTable, Memories, Typed};
 use std::alloc::{AllocError, Global};
-use std::test::Fail;
 
 /// The second part reads what the first wrote.
 pub const PROGRAM: &str =
@@ -49,36 +35,4 @@ pub fn zeros(alloc: Global, count: u64) -> Result<String, AllocError> {
     }
     text.push_str("]}}")?;
     Ok(text)
-}
-
-/// The typed program of a text, whatever its ports.
-pub fn typed_of(alloc: Global, text: &str) -> Result<Typed, Fail>
-    ensures { IfOk result (λ t. IsReady (program_seen t)) }
-{
-    let bytes = text.as_bytes();
-    if bytes.len() > 1_048_576 {
-        return Err("too long")?;
-    }
-    Ok(check_without_ports(alloc, bytes, Forms::Unchecked)?)
-}
-
-/// The net of a text.
-pub fn net_of(alloc: Global, text: &str) -> Result<Net, Fail>
-    ensures valid { IfOk result (λ n. IsValid n) }
-    ensures table { IfOk result (λ n. IsProgramTable n.table) }
-{
-    let bytes = text.as_bytes();
-    if bytes.len() > 1_048_576 {
-        return Err("too long")?;
-    }
-    let accepted = check(alloc, bytes, Forms::Compiled)?;
-    Ok(compile(alloc, &accepted)?)
-}
-
-/// The memories of a data file.
-pub fn memories_of(alloc: Global, table: &MemTable, data: &str) -> Result<Memories, Fail>
-    requires { IsProgramTable table.now }
-    ensures { IfOk result (λ m. Fits table.now m) }
-{
-    Ok(read(alloc, table, data.as_bytes())?)
 }
