@@ -10,6 +10,7 @@ use Rattle.dh_base.specs.declared.places.Place.{Place}
 use Rattle.dh_value.specs.declared.operators.Op.{Op}
 use Rattle.dh_value.specs.declared.operators.Op.TheVariants as op
 use Rattle.dh_value.specs.declared.words.Word.{Word}
+use Rattle.dh_tree.specs.Elements.{Spot}
 use Rattle.dh_tree.specs.Meets.{In, Apart, Before}
 use Rattle.dh_tree.specs.Memories.{memories_of, number_in, table_of}
 use Rattle.dh_tree.specs.PlainTrees.{Program}
@@ -38,12 +39,12 @@ use Rattle.dh_plan.specs.declared.viewing.ViewMap.{ViewMap}
 use Rattle.dh_plan.specs.declared.viewing.ViewSort.{ViewSort}
 use Rattle.dh_plan.specs.declared.viewing.ViewSort.TheVariants.{Shrink, Split, Suffix, Shift}
 use Rattle.dh_plan.specs.PlainPlans.{PlainPlan, first_in, operations_in}
-use Rattle.dh_plan.specs.Blocks.{StepStart, first_fault, puts_of, all_set}
+use Rattle.dh_plan.specs.Blocks.{first_fault, puts_of, all_set, spot_of_reach}
 use Rattle.dh_plan.specs.Correspondence.{Slots, Round, FitKinds, paths_of_rounds}
 use Rattle.dh_plan.specs.LegalSchedules.{is_product, block_clocks}
 use Rattle.dh_plan.specs.PlanPhases.{Tie, AreNodesOf, DoesPhases}
-use Rattle.dh_plan.specs.PlanRuns.{plan_state, start_at, events_of_block, sets_of_block}
-use Rattle.dh_plan.specs.SoundPlans.{use_in, HasUse, IsSound, IsAddressed, plan_charge, IsStepOf, Counting, CountsTurns, KeepsCounter, countings}
+use Rattle.dh_plan.specs.PlanRuns.{plan_state, start_at, block_values, events_of_block, sets_of_block}
+use Rattle.dh_plan.specs.SoundPlans.{use_in, HasAccess, HasUse, IsSound, IsAddressed, plan_charge, IsStepOf, Counting, CountsTurns, KeepsCounter, countings}
 
 -- Runs.
 
@@ -264,20 +265,37 @@ abbrev pub IsStill : Option ViewMap → Type 0
 IsStill None = ⊥
 IsStill (Some v) = IsStillSort v.sort
 
--- indices that are constants, through no view that moves
-pub record HasLiterals (plan : PlainPlan) (block : ℕ) (r : Reach) : Type 0 where
-  pub by_indices : r.row ≡ None
-  pub indices : AllByRecursion (IsConstantAt plan block) r.indices
-  pub still : AllByRecursion (λ s. IsStill (slice_get plan.views s.view)) r.steps
+-- the element is named by constants: by indices through no view that moves, or by a row
+abbrev pub NamedByConstants : PlainPlan → (block : ℕ) → Reach → (row : Option ℕ) → Type 0
+NamedByConstants plan block r None = AllByRecursion (IsConstantAt plan block) r.indices × AllByRecursion (λ s. IsStill (slice_get plan.views s.view)) r.steps
+NamedByConstants plan block r (Some row) = IsConstantAt plan block row
 
--- such an access has no check in the new plan, and its bank and row are constants there
+-- an access leads to an element, whatever registers and memories hold
+abbrev pub IsAlwaysInside : PlainPlan → (block : ℕ) → Reach → Type 0
+IsAlwaysInside plan block r =
+    (registers : List ℕ) (memories : List (List ℕ))
+    → (spot : Spot) × (spot_of_reach (start_at plan registers memories) (first_in plan block) (block_values plan (start_at plan registers memories) block) r ≡ Some spot)
+
+-- so is an access of a literal: every literal index of an accepted program is within its memory's sizes
+pub record HasLiterals (plan : PlainPlan) (block : ℕ) (r : Reach) : Type 0 where
+  pub constants : NamedByConstants plan block r r.row
+  pub inside : IsAlwaysInside plan block r
+
+-- a fault that probes of such accesses alone can have
+pub record IsOfLiterals (plan : PlainPlan) (fault : ℕ) : Type 0 where
+  pub probes : (b i : ℕ) (guard : Option ℕ) (r : Reach) → slice_get (operations_in plan b) i ≡ Some (record { guard = guard; form = Probe r fault }) → HasLiterals plan b r
+  pub checks : (b i ok : ℕ) (guard : Option ℕ) → slice_get (operations_in plan b) i ≡ Some (record { guard = guard; form = Check ok fault }) → ⊥
+
+-- an access of the program of which all copies are so
+abbrev pub IsLiteralAccess : PlainPlan → (number : ℕ) → Type 0
+IsLiteralAccess plan number = (b i : ℕ) (r : Reach) → HasAccess plan b i r → r.access ≡ number → HasLiterals plan b r
+
+-- no check of the new plan has such a fault, and the banks and rows of such an access are constants there
 pub record KeepsLiterals (p q : PlainPlan) : Type 0 where
-  pub unchecked : (b c i j fault ok : ℕ) (guard guard' : Option ℕ) (r : Reach)
-      → slice_get (operations_in p b) i ≡ Some (record { guard = guard; form = Probe r fault }) → HasLiterals p b r
-      → slice_get (operations_in q c) j ≡ Some (record { guard = guard'; form = Check ok fault }) → ⊥
-  pub rows : (b c i j fault : ℕ) (guard : Option ℕ) (r t : Reach)
-      → slice_get (operations_in p b) i ≡ Some (record { guard = guard; form = Probe r fault }) → HasLiterals p b r
-      → HasUse q c j t → t.access ≡ r.access → IsConstantOr q c t.row × IsConstantOr q c t.select
+  pub unchecked : (fault c j ok : ℕ) (guard : Option ℕ) → IsOfLiterals p fault
+      → slice_get (operations_in q c) j ≡ Some (record { guard = guard; form = Check ok fault }) → ⊥
+  pub rows : (number c j : ℕ) (t : Reach) → IsLiteralAccess p number → HasUse q c j t → t.access ≡ number
+      → IsConstantOr q c t.row × IsConstantOr q c t.select
 
 pub record IsAddressingOf (p q : PlainPlan) : Type 0 where
   pub table : q.table ≡ p.table
