@@ -1,10 +1,10 @@
 -- Pieces of blocks one after the other: each by recursion on the first piece.
-use Rattle.std.proofs.Common.{◌≡◌, ℕ, zero, suc, Some, None, List, length, refl, sym, ap, ◌∙◌, arith}
+use Rattle.std.proofs.Common.{◌≡◌, ℕ, zero, suc, Some, List, refl, sym, ap, ◌∙◌}
 use Rattle.std.specs.Prelude.{[], ◌∷◌, ◌++◌, slice_get}
 use Rattle.std.proofs.lemmas.List.{append_assoc}
 use Rattle.dh_value.specs.declared.words.Word.{Word}
 use Rattle.dh_plan.specs.declared.operations.Operation.{Operation}
-use Rattle.dh_plan.specs.Blocks.{StepStart, Look, Solves, BlockEvent, fails, puts, operation_events, block_events, RegisterSet, operation_sets, block_sets, first_fault, Put, puts_of, all_put, all_set}
+use Rattle.dh_plan.specs.Blocks.{StepStart, BlockEvent, fails, puts, operation_events, block_events, RegisterSet, operation_sets, block_sets, first_fault, Put, puts_of}
 use Rattle.dh_plan.specs.BlockLaws.{fault_or, AppendsKeep, EndsInOrder, PutsInOrder, SetsInOrder}
 
 pub events_behind : (s : StepStart) (first : ℕ) (ws : List Word) (os more : List Operation)

@@ -3,16 +3,15 @@
 -- A value that is made stays as more are appended (`stays`). So the value of operation i is made of values that
 -- stay, and the equation at i holds of the whole list. That there is one solution is an induction on the number of
 -- values that two solutions agree on.
-use Rattle.std.proofs.Common.{◌≡◌, ℕ, zero, suc, ◌+◌, ◌-◌, ◌<◌, ◌≤◌, ◌⊎◌, inl, inr, Some, None, List, length, get_or, refl, sym, ap, subst, ◌∙◌, arith}
-use Rattle.std.specs.Prelude.{[], ◌∷◌, ◌++◌, slice_get, Option}
-use Rattle.std.specs.List.{AllByRecursion}
+use Rattle.std.proofs.Common.{◌≡◌, ℕ, zero, suc, ◌+◌, ◌-◌, ◌<◌, ◌⊎◌, inl, inr, Some, List, length, get_or, refl, sym, ap, subst, ◌∙◌, arith}
+use Rattle.std.specs.Prelude.{[], ◌∷◌, ◌++◌, slice_get}
 use Rattle.std.proofs.Math.Nat.{add-sub_cancel_left}
 use Rattle.std.proofs.Math.Seq.{get_or-append_seam}
 use Rattle.std.proofs.lemmas.List.{get_or_append_left, get_or_past, ext_get_or}
 use Rattle.std.proofs.lemmas.Option.{slice_get_cases}
 use Rattle.dh_value.specs.declared.words.Word.{Word}
 use Rattle.dh_plan.specs.declared.operations.Operation.{Operation}
-use Rattle.dh_plan.specs.Blocks.{StepStart, Look, no_word, word_at, operation_word, values_behind, values_of, Solves, AreValues}
+use Rattle.dh_plan.specs.Blocks.{StepStart, Look, no_word, operation_word, values_behind, values_of, AreValues}
 use Rattle.dh_plan.specs.Ordered.{operation_takes, IsBetween, TakesEarlier, IsOrdered}
 use Rattle.dh_plan.specs.BlockLaws.{SameAt, SameAtAll, LooksBack, HasOneSolution}
 use Rattle.dh_plan.proofs.ValuesAlike.{all_map, word_same}

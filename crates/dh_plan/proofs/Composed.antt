@@ -1,6 +1,6 @@
 -- The passes compose: a plan of a program, made over to rows of banks, with the least schedule of that, and a net
 -- that plays it, make a net that plays the program.
-use Rattle.std.proofs.Common.{◌≡◌, ℕ, ◌<◌, List, length, refl, sym, ap, subst, ◌∙◌}
+use Rattle.std.proofs.Common.{◌≡◌, ℕ, ◌<◌, List, length, sym, ap, subst, ◌∙◌}
 use Rattle.std.specs.Prelude.{[], ◌∷◌, ◌++◌, slice_index}
 use Rattle.std.specs.List.{AllByRecursion}
 use Rattle.dh_tree.specs.declared.tables.MemEntry.{MemEntry}
@@ -11,14 +11,14 @@ use Rattle.dh_meaning.specs.CoreOf.{core_of}
 use Rattle.dh_net.specs.declared.nets.Net.{Net}
 use Rattle.dh_net.specs.Plays.{Run, Plays}
 use Rattle.dh_plan.specs.Correspondence.{Round}
-use Rattle.dh_plan.specs.DoneProgram.{RunTheSame, IsPlanOf, IsAddressingOf, NeverStuck, has_lengths}
-use Rattle.dh_plan.specs.LegalSchedules.{Timing, IsLeastSchedule, block_clocks}
+use Rattle.dh_plan.specs.DoneProgram.{RunTheSame, IsAddressingOf, has_lengths}
+use Rattle.dh_plan.specs.LegalSchedules.{block_clocks}
 use Rattle.dh_plan.specs.PassesCompose.{PassesCompose}
 use Rattle.dh_plan.specs.PlainPlans.{Node, block_node, turns_node, loop_node, choice_node, threads_node, Nodes, no_nodes, node_then, PlainPlan}
 use Rattle.dh_plan.specs.PlanKinds.{Names}
 use Rattle.dh_plan.specs.PlanPhases.{AreNodesOf, IsNodeOf}
 use Rattle.dh_plan.specs.PlanRuns.{Place, blocks_at}
-use Rattle.dh_plan.specs.PlayedPlans.{longest, plan_run, times_phases, WritesLast, PlaysPlan, PlaysItsProgram}
+use Rattle.dh_plan.specs.PlayedPlans.{longest, plan_run, times_phases, WritesLast, PlaysPlan}
 use Rattle.dh_plan.specs.SoundPlans.{blocks_of, node_blocks}
 use Rattle.dh_plan.proofs.LeastLengths.{has_least_lengths}
 use Rattle.dh_plan.proofs.PlayedProgram.{same_run, plans_play_programs}

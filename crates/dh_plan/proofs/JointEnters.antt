@@ -1,9 +1,8 @@
 -- Program and plan go on together: into phases, to the next turn, and behind a test; by recursion on the joint, and
 -- on phases with their nodes. A loop begins with its counter at 0, since no operation sets it and each loop leaves
 -- its own at 0.
-use Rattle.std.proofs.Common.{◌≡◌, ◌≢◌, ℕ, zero, suc, ◌+◌, ◌-◌, ◌<◌, ◌≤◌, ◌⊎◌, inl, inr, Some, None, List, length, get_or, refl, sym, ap, subst, ◌∙◌, arith}
-use Rattle.std.specs.Prelude.{[], ◌∷◌, ◌++◌, ◌==◌, ◌%◌, ◌^◌, nat_lt, not, Bool, true, false, if◌then◌else◌, slice_get, slice_index, slice_set, Option, ℤ, pos}
-use Rattle.std.specs.List.{AllByRecursion}
+use Rattle.std.proofs.Common.{◌≡◌, ℕ, suc, ◌+◌, ◌-◌, ◌<◌, inl, inr, Some, None, List, length, refl, sym, ap, subst, ◌∙◌, arith}
+use Rattle.std.specs.Prelude.{[], ◌∷◌, ◌++◌, ◌==◌, ◌%◌, ◌^◌, nat_lt, not, Bool, true, false, if◌then◌else◌, slice_index, slice_set, Option, ℤ}
 use Rattle.std.proofs.Math.Nat.{mod-lt, mod-eq_of_lt}
 use Rattle.std.proofs.lemmas.Bool.Decides.{nat_tests}
 use Rattle.std.proofs.lemmas.Bool.{cases_eq, cases_lt}
@@ -11,20 +10,20 @@ use Rattle.std.proofs.lemmas.List.{get_or-set_same, get_or-set_other, length-set
 use Rattle.std.proofs.lemmas.Nat.{pow_pos}
 use Rattle.dh_value.specs.declared.kinds.Kind.{Kind}
 use Rattle.dh_value.specs.Words.{width_of, with_bits, word_of}
-use Rattle.dh_meaning.specs.Core.{CoreTerm, CoreCommands, Turning, CorePhase, straightly, turning, looping, choosing, CorePhases, no_core_phases, phase_and}
-use Rattle.dh_meaning.specs.Effects.{Begun, Variables, Block, commands, tests}
-use Rattle.dh_meaning.specs.Paths.{Path, outer_paths}
+use Rattle.dh_meaning.specs.Core.{CoreTerm, Turning, CorePhase, straightly, turning, looping, choosing, CorePhases, no_core_phases, phase_and}
+use Rattle.dh_meaning.specs.Effects.{Begun, Variables}
+use Rattle.dh_meaning.specs.Paths.{Path}
 use Rattle.dh_meaning.specs.Runs as source
 use Rattle.dh_meaning.specs.Runs.{inner_paths, iterator_value, turn_begun, begins, goes_on}
 use Rattle.dh_plan.specs.PlainPlans.{Node, block_node, turns_node, loop_node, choice_node, threads_node, Nodes, no_nodes, node_then, PlainPlan}
-use Rattle.dh_plan.specs.Blocks.{kind_at, register_word}
+use Rattle.dh_plan.specs.Blocks.{kind_at}
 use Rattle.dh_plan.specs.Correspondence.{Slots, FitKinds, Holding, Round}
-use Rattle.dh_plan.specs.PlanPhases.{IsCounterOf, IsIteratorOf, IsLoopRegister, AreNodesOf, IsNodeOf, Tie, both_ties, does_phases}
-use Rattle.dh_plan.specs.PlanRuns.{Todo, over, nodes_then, turn_then, test_then, again_then, pick_then, Place, ended, at, Next, next, enter, enter_node, next_of, flag_holds, counted_up}
-use Rattle.dh_plan.specs.SoundPlans.{CountsTurns, KeepsCounter, IsNeverSet, Counting, countings, node_countings}
+use Rattle.dh_plan.specs.PlanPhases.{IsCounterOf, IsIteratorOf, IsLoopRegister, IsNodeOf, Tie, both_ties, does_phases}
+use Rattle.dh_plan.specs.PlanRuns.{turn_then, test_then, pick_then, ended, Next, next, enter, enter_node, next_of, flag_holds, counted_up}
+use Rattle.dh_plan.specs.SoundPlans.{CountsTurns, KeepsCounter, IsNeverSet, countings, node_countings}
 use Rattle.dh_plan.proofs.ValuesAlike.{all_left, all_right}
 use Rattle.dh_plan.proofs.SourceMoves.{begun_other, begun_here}
-use Rattle.dh_plan.proofs.JointPlaces.{Joint, j_over, j_phases, j_turn, j_again, round, around, paths_at, source_todo, plan_todo, s_ended, s_block, s_loop, s_pick, GoodCounters, counting, NodesRun, TestRuns, Valid, InTurn, Turned, Idle, Live, Met, counter_before, counter_last, counter_split, iterator_before, turned_moves}
+use Rattle.dh_plan.proofs.JointPlaces.{Joint, j_over, j_phases, j_turn, j_again, round, around, paths_at, source_todo, plan_todo, s_ended, s_block, s_loop, s_pick, GoodCounters, counting, NodesRun, TestRuns, Valid, Live, Met, counter_before, counter_last, counter_split, turned_moves}
 
 -- both take the same arm
 pub met_if : (plan : PlainPlan) (slots : Slots) (extra : Tie) (t u : Bool) → u ≡ t → (a b : source.Next) (c d : Next) → (t ≡ true → Met plan slots extra a c) → (t ≡ false → Met plan slots extra b d)

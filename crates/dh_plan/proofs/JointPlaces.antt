@@ -1,11 +1,11 @@
 -- Where a run of the program and one of its plan stand together. A joint is what is still to come of both, loop by
 -- loop and phase by phase; the program's part and the plan's are read off it, so that the two need never be
 -- compared. A stand is a joint place. What a joint keeps of registers and variables is `Live`.
-use Rattle.std.proofs.Common.{◌≡◌, ℕ, zero, suc, ◌+◌, ◌<◌, ◌⊎◌, inl, inr, Some, None, List, length, refl, sym, ap, subst, ◌∙◌, arith}
-use Rattle.std.specs.Prelude.{[], ◌∷◌, ◌++◌, slice_get, slice_index, slice_set, Option, pos}
+use Rattle.std.proofs.Common.{◌≡◌, ℕ, ◌<◌, ◌⊎◌, inl, inr, Some, None, List, refl, sym, ap, subst, ◌∙◌}
+use Rattle.std.specs.Prelude.{[], ◌∷◌, ◌++◌, slice_get, slice_index, pos}
 use Rattle.std.specs.List.{AllByRecursion}
 use Rattle.dh_meaning.specs.Core.{CoreTerm, CoreCommands, Turning, CorePhases}
-use Rattle.dh_meaning.specs.Effects.{Begun, Variables, Block, commands, tests}
+use Rattle.dh_meaning.specs.Effects.{Variables, commands, tests}
 use Rattle.dh_meaning.specs.Paths.{Path, outer_paths}
 use Rattle.dh_meaning.specs.Runs as source
 use Rattle.dh_meaning.specs.Runs.{inner_paths, iterator_value}

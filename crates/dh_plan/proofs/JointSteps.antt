@@ -1,7 +1,7 @@
 -- One logical step of the program and of its plan, from a stand of both: they fault together, or write the same and
 -- go on to one stand. And so their runs, step by step.
-use Rattle.std.proofs.Common.{◌≡◌, ℕ, zero, suc, ◌+◌, ◌<◌, ◌⊎◌, inl, inr, Some, None, List, length, get_or, refl, sym, ap, subst, ◌∙◌, arith}
-use Rattle.std.specs.Prelude.{[], ◌∷◌, ◌++◌, ◌==◌, ◌^◌, Bool, true, false, if◌then◌else◌, replicate, slice_get, slice_index, slice_set, Option, ℤ, pos}
+use Rattle.std.proofs.Common.{◌≡◌, ℕ, zero, suc, ◌<◌, Some, None, List, length, refl, sym, ap, subst, ◌∙◌}
+use Rattle.std.specs.Prelude.{[], ◌∷◌, ◌++◌, ◌==◌, ◌^◌, Bool, true, false, if◌then◌else◌, replicate, slice_get, slice_index, Option}
 use Rattle.std.specs.List.{AllByRecursion}
 use Rattle.std.proofs.Math.Nat.{mod-eq_of_lt}
 use Rattle.std.proofs.lemmas.List.{append-nil, get_or-set_other, length-replicate}
@@ -10,30 +10,29 @@ use Rattle.dh_base.specs.declared.outcomes.FaultKind.{FaultKind}
 use Rattle.dh_base.specs.declared.outcomes.Outcome.{Outcome}
 use Rattle.dh_base.specs.declared.outcomes.Outcome.TheVariants.{Going, Ended, Faulted, Stuck}
 use Rattle.dh_base.specs.declared.places.Place as place
-use Rattle.dh_value.specs.declared.kinds.Kind.{Kind}
 use Rattle.dh_value.specs.declared.words.Word.{Word}
-use Rattle.dh_value.specs.Words.{width_of, with_bits, word_of, residue}
+use Rattle.dh_value.specs.Words.{width_of, with_bits}
 use Rattle.dh_tree.specs.declared.tables.MemEntry.{MemEntry}
-use Rattle.dh_meaning.specs.Core.{CoreTerm, CoreCommands, Turning, CorePhases, CoreProgram}
-use Rattle.dh_meaning.specs.Effects.{Begun, Variables, unset, Effect, Event, Block, commands, tests, block_run, at_each, tested_at, written, stop_after}
-use Rattle.dh_meaning.specs.Paths.{Path, outer_paths}
+use Rattle.dh_meaning.specs.Core.{CoreTerm, CorePhases, CoreProgram}
+use Rattle.dh_meaning.specs.Effects.{Begun, Variables, unset, Effect, Block, commands, tests, block_run, at_each, tested_at, written, stop_after}
+use Rattle.dh_meaning.specs.Paths.{Path}
 use Rattle.dh_meaning.specs.Runs as source
 use Rattle.dh_meaning.specs.Runs.{RunState, stands_at, state_after, step_effect, begun_at, step_from, next_state, first_state, run_state, goes_on}
 use Rattle.dh_plan.specs.declared.operations.Operation.{Operation}
 use Rattle.dh_plan.specs.declared.operations.OperationForm.{OperationForm}
 use Rattle.dh_plan.specs.declared.operations.OperationForm.TheVariants.{Constant, Old, Compute, Convert, Select, Check, Probe, Read, Write, Set}
-use Rattle.dh_plan.specs.PlainPlans.{Nodes, PlainPlan, operations_in, first_in}
-use Rattle.dh_plan.specs.Blocks.{StepStart, kind_at, word_at, is_on, BlockEvent, first_fault, puts_of, Put, all_put, RegisterSet, all_set, form_sets, operation_sets, block_sets}
-use Rattle.dh_plan.specs.Correspondence.{Slots, FitKinds, Holding, Round, paths_of_rounds}
+use Rattle.dh_plan.specs.PlainPlans.{PlainPlan, operations_in, first_in}
+use Rattle.dh_plan.specs.Blocks.{kind_at, is_on, BlockEvent, first_fault, puts_of, Put, all_put, RegisterSet, all_set, form_sets, operation_sets, block_sets}
+use Rattle.dh_plan.specs.Correspondence.{Slots}
 use Rattle.dh_plan.specs.DoneProgram.{RunsAs, NeverStuck, PhasesMakeRuns}
-use Rattle.dh_plan.specs.PlanPhases.{NamesFault, DoesEffect, DoesBlock, SetsFlag, Touches, DoesPhases, IsCounterOf, Tie, both_ties, no_tie, AreNodesOf, does_phases, source_effect}
-use Rattle.dh_plan.specs.PlanRuns.{Todo, over, nodes_then, test_then, pick_then, Place, ended, at, Next, next, enter, PlanState, plan_stands_at, plan_state_after, step_done, plan_step_from, next_plan_state, first_registers, first_plan_state, plan_state, start_at, events_of_block, sets_of_block, block_values, outcome_named, next_of, flag_holds}
-use Rattle.dh_plan.specs.SoundPlans.{IsNeverSet, CountsTurns, KeepsCounter, countings}
-use Rattle.dh_plan.specs.SourceEffects.{failure_of, writes_of}
+use Rattle.dh_plan.specs.PlanPhases.{NamesFault, DoesEffect, DoesBlock, SetsFlag, Touches, DoesPhases, Tie, both_ties, no_tie, AreNodesOf, does_phases}
+use Rattle.dh_plan.specs.PlanRuns.{Todo, nodes_then, test_then, pick_then, Place, at, Next, next, PlanState, plan_stands_at, plan_state_after, plan_step_from, next_plan_state, first_registers, plan_state, start_at, events_of_block, sets_of_block, block_values, outcome_named, next_of, flag_holds}
+use Rattle.dh_plan.specs.SoundPlans.{CountsTurns, KeepsCounter, countings}
+use Rattle.dh_plan.specs.SourceEffects.{failure_of}
 use Rattle.dh_plan.proofs.Appends.{sets_in_order}
 use Rattle.dh_plan.proofs.SourceMoves.{written_is, outcome_of, NotStuck, stops_with, block_spares}
 use Rattle.dh_plan.proofs.TiedNodes.{nodes_zip, nodes_free}
-use Rattle.dh_plan.proofs.JointPlaces.{Joint, j_over, j_phases, Stand, s_ended, s_block, s_loop, s_pick, around, paths_at, source_todo, plan_todo, source_place, plan_place, NodesRun, TestRuns, Valid, ValidStand, Turned, Idle, Live, LiveStand, Met, turned_moves, paths_are, stand_for, counters_kept}
+use Rattle.dh_plan.proofs.JointPlaces.{Joint, j_over, j_phases, Stand, s_ended, s_block, s_loop, s_pick, around, paths_at, source_todo, plan_todo, source_place, plan_place, Valid, ValidStand, Live, LiveStand, Met, turned_moves, paths_are, stand_for, counters_kept}
 use Rattle.dh_plan.proofs.JointEnters.{met_end, into_nodes, behind_met, loop_met, pick_met}
 
 -- Registers that no operation sets.

@@ -1,16 +1,15 @@
 -- A schedule that puts each operation at the clock from which on all is there that it takes is legal without limits.
 -- Clocks that are given stay as more are given, and an operation takes earlier values; so what is needed of the
 -- operations before it is needed of the whole block.
-use Rattle.std.proofs.Common.{◌≡◌, ℕ, zero, suc, ◌+◌, ◌-◌, ◌<◌, ◌≤◌, ◌⊎◌, inl, inr, Some, None, List, length, get_or, map, refl, sym, ap, subst, ◌∙◌, arith}
-use Rattle.std.specs.Prelude.{[], ◌∷◌, ◌++◌, slice_get, slice_index, Option}
+use Rattle.std.proofs.Common.{◌≡◌, ℕ, zero, suc, ◌+◌, ◌-◌, ◌<◌, ◌≤◌, Some, List, length, get_or, map, refl, sym, ap, subst, ◌∙◌, arith}
+use Rattle.std.specs.Prelude.{[], ◌∷◌, ◌++◌, slice_get}
 use Rattle.std.specs.List.{AllByRecursion}
 use Rattle.std.proofs.Math.Seq.{get_or-append_seam}
 use Rattle.std.proofs.lemmas.List.{get_or_append_left, append_assoc}
 use Rattle.dh_plan.specs.declared.operations.Operation.{Operation}
-use Rattle.dh_plan.specs.declared.schedules.Limits.{Limits}
-use Rattle.dh_plan.specs.LegalSchedules.{there_from, value_clock, greatest_of, needed_clock, last_clock, products_at, depths_in, IsWithin, IsLegalBlock, least_clocks, least_length}
-use Rattle.dh_plan.specs.Ordered.{operation_takes, IsBetween, TakesEarlier, IsOrdered}
-use Rattle.dh_plan.specs.ScheduleLaws.{without_limits, LeastIsLegal}
+use Rattle.dh_plan.specs.LegalSchedules.{value_clock, greatest_of, needed_clock, depths_in, IsWithin, least_clocks}
+use Rattle.dh_plan.specs.Ordered.{operation_takes, IsBetween, TakesEarlier}
+use Rattle.dh_plan.specs.ScheduleLaws.{LeastIsLegal}
 use Rattle.dh_plan.proofs.ValuesAlike.{all_map}
 use Rattle.dh_plan.proofs.BlocksSolved.{IsOrderedFrom, ordered_behind}
 

@@ -1,11 +1,11 @@
 -- Without limits the schedule in which each operation stands at the least clock that it may is the one that puts it
 -- where all is there that it takes: so each block has its least length.
-use Rattle.std.proofs.Common.{◌≡◌, ℕ, zero, suc, ◌+◌, ◌-◌, ◌<◌, ◌≤◌, List, length, refl, sym, ap, subst, ◌∙◌, arith}
-use Rattle.std.specs.Prelude.{[], ◌∷◌, ◌++◌, take, drop, slice_get, slice_index, Some, None}
+use Rattle.std.proofs.Common.{◌≡◌, ℕ, zero, suc, ◌+◌, ◌<◌, ◌≤◌, List, length, sym, ap, ◌∙◌, arith}
+use Rattle.std.specs.Prelude.{[], ◌∷◌, ◌++◌, drop, slice_get}
 use Rattle.std.proofs.lemmas.List.{append-nil, append_assoc, length-take-le, length-drop}
 use Rattle.dh_plan.specs.declared.operations.Operation.{Operation}
 use Rattle.dh_plan.specs.declared.operations.PlanBlock.{PlanBlock}
-use Rattle.dh_plan.specs.LegalSchedules.{Timing, needed_clock, last_clock, clocks_in, MayStandAt, AreLeast, IsLeastSchedule, least_clocks}
+use Rattle.dh_plan.specs.LegalSchedules.{Timing, needed_clock, last_clock, clocks_in, MayStandAt, AreLeast, least_clocks}
 use Rattle.dh_plan.specs.PlainPlans.{PlainPlan, operations_before, block_operations, operations_in, first_in, operation_count}
 use Rattle.dh_plan.specs.ScheduleLaws.{without_limits, HasLeastLengths}
 

@@ -1,24 +1,21 @@
 -- A net that plays a plan plays its program: the two runs are one, step by step, in outcome, memories and length.
-use Rattle.std.proofs.Common.{◌≡◌, ℕ, zero, suc, List, refl, sym, ap, subst, ◌∙◌, arith}
-use Rattle.std.specs.Prelude.{[], ◌∷◌, max, slice_index}
+use Rattle.std.proofs.Common.{◌≡◌, ℕ, List, refl, sym, ap, subst, ◌∙◌, arith}
+use Rattle.std.specs.Prelude.{[], max, slice_index}
 use Rattle.std.specs.List.{AllByRecursion}
-use Rattle.dh_base.specs.declared.outcomes.Outcome.{Outcome}
 use Rattle.dh_tree.specs.declared.tables.MemEntry.{MemEntry}
 use Rattle.dh_tree.specs.Memories.{table_of}
 use Rattle.dh_tree.specs.PlainTrees.{Program}
 use Rattle.dh_tree.specs.Tables.{Fits}
 use Rattle.dh_meaning.specs.CoreOf.{core_of}
-use Rattle.dh_meaning.specs.Core.{CorePhases, CoreProgram}
 use Rattle.dh_meaning.specs.Runs as source
 use Rattle.dh_meaning.specs.Runs.{run_state}
-use Rattle.dh_net.specs.declared.nets.Net.{Net}
 use Rattle.dh_net.specs.Plays.{Run, Plays}
 use Rattle.dh_plan.specs.PlainPlans.{PlainPlan}
 use Rattle.dh_plan.specs.Correspondence.{Slots}
 use Rattle.dh_plan.specs.DoneProgram.{NeverStuck}
-use Rattle.dh_plan.specs.PlanPhases.{Tie, both_ties, AreNodesOf, DoesPhases, does_phases}
+use Rattle.dh_plan.specs.PlanPhases.{AreNodesOf, DoesPhases, does_phases}
 use Rattle.dh_plan.specs.PlanRuns.{Place, blocks_at, plan_state}
-use Rattle.dh_plan.specs.PlayedPlans.{longest, plan_run, place_length, program_run, PlaysPlan, PlaysItsProgram, times_phases, PlansPlayPrograms}
+use Rattle.dh_plan.specs.PlayedPlans.{longest, plan_run, place_length, program_run, times_phases, PlansPlayPrograms}
 use Rattle.dh_plan.specs.SoundPlans.{CountsTurns, KeepsCounter, countings}
 use Rattle.dh_plan.proofs.JointPlaces.{Stand, s_ended, s_block, s_loop, s_pick, source_place, plan_place, ValidStand}
 use Rattle.dh_plan.proofs.JointSteps.{Alike, over_table, runs_alike}

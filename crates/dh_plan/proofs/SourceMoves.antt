@@ -1,6 +1,6 @@
 -- What a step of the program does, in the words of the plan: its writes and its first fault; which variables a block
 -- leaves as they were; and the values of an iterator as a turn begins.
-use Rattle.std.proofs.Common.{◌≡◌, ℕ, zero, suc, ◌<◌, ◌⊎◌, inl, inr, Some, None, List, length, refl, sym, ap, subst, ◌∙◌, arith}
+use Rattle.std.proofs.Common.{◌≡◌, ℕ, zero, suc, Some, None, List, refl, sym, ap, subst, ◌∙◌}
 use Rattle.std.specs.Prelude.{[], ◌∷◌, ◌++◌, ◌==◌, ◌&&◌, ◌||◌, nat_eq, Bool, true, false, if◌then◌else◌, slice_get, Option, ℤ, pos, take}
 use Rattle.std.proofs.lemmas.Bool.{ne_eqb, eq-eqb, eqb-true}
 use Rattle.dh_base.specs.declared.outcomes.FaultKind.{FaultKind}
@@ -8,12 +8,12 @@ use Rattle.dh_base.specs.declared.outcomes.Outcome.{Outcome}
 use Rattle.dh_base.specs.declared.outcomes.Outcome.TheVariants.{Faulted, Stuck}
 use Rattle.dh_base.specs.declared.places.Place.{Place}
 use Rattle.dh_tree.specs.declared.tables.MemEntry.{MemEntry}
-use Rattle.dh_meaning.specs.Core.{Turning, CoreTerm, CoreCommand, store, assign, choose, CoreCommands, no_commands, command_and}
+use Rattle.dh_meaning.specs.Core.{Turning, CoreCommand, store, assign, choose, CoreCommands, no_commands, command_and}
 use Rattle.dh_meaning.specs.Effects.{Begun, Variables, set_variable, Event, reads, writes, faults, Effect, Block, commands, tests, command_run, commands_run, block_run, at_each, stored_at, assigned_at, tested_at, paths_where, holds_at, put_element, written, is_beyond, stop_after}
 use Rattle.dh_meaning.specs.Levels.{assigns_to, any_assigns}
 use Rattle.dh_meaning.specs.Paths.{Path, same_path}
 use Rattle.dh_meaning.specs.Runs.{iterator_value, turn_begun}
-use Rattle.dh_plan.specs.Blocks.{Put, all_put}
+use Rattle.dh_plan.specs.Blocks.{all_put}
 use Rattle.dh_plan.specs.PlanPhases.{block_assigns}
 use Rattle.dh_plan.specs.SourceEffects.{failure_of, writes_of}
 

@@ -1,18 +1,18 @@
 -- A graph, a schedule and a binding of the plan of three stores, each as its pass states it.
-use Rattle.std.proofs.Common.{◌≡◌, ℕ, zero, suc, ◌+◌, ◌-◌, ◌<◌, ◌≤◌, ◌⊎◌, inl, inr, Some, None, List, length, refl, sym, ap, subst, ◌∙◌, arith}
-use Rattle.std.specs.Prelude.{[], ◌∷◌, ◌==◌, Bool, true, false, if◌then◌else◌, slice_get, slice_index, slice_set, Option}
+use Rattle.std.proofs.Common.{◌≡◌, ℕ, zero, suc, ◌+◌, ◌<◌, ◌≤◌, inl, inr, Some, None, List, refl, sym, ap, subst, ◌∙◌, arith}
+use Rattle.std.specs.Prelude.{[], ◌∷◌, ◌==◌, Bool, true, false, if◌then◌else◌, slice_get, slice_index}
 use Rattle.dh_tree.specs.Elements.{ports_at}
 use Rattle.dh_plan.specs.declared.operations.Operation.{Operation}
 use Rattle.dh_plan.specs.declared.operations.Reach.{Reach}
-use Rattle.dh_plan.specs.BoundPorts.{Uses, port_used, BothList, AreGranted, ArePorts, AreUnits, IsBinding, IsLaterUse}
-use Rattle.dh_plan.specs.ExamplePlans.{one_bank, nodes}
+use Rattle.dh_plan.specs.BoundPorts.{port_used, AreGranted, ArePorts, IsBinding}
+use Rattle.dh_plan.specs.ExamplePlans.{nodes}
 use Rattle.dh_plan.specs.ExamplePasses.{storing_flow, storing_timing, storing_uses}
 use Rattle.dh_plan.specs.ExamplePrograms.{storing_plan}
-use Rattle.dh_plan.specs.LegalSchedules.{Timing, is_product}
+use Rattle.dh_plan.specs.LegalSchedules.{is_product}
 use Rattle.dh_plan.specs.PlainPlans.{block_node, no_nodes, operations_in}
-use Rattle.dh_plan.specs.PlanRuns.{Todo, over, nodes_then, turn_then, Next, next, at, ended, next_of}
-use Rattle.dh_plan.specs.SoundPlans.{HasUse, IsListed, WritesAt, plan_charge}
-use Rattle.dh_plan.specs.Ways.{Flow, FlowsAs, Led, leads_to, resolve, way_of_stop, way_of_join}
+use Rattle.dh_plan.specs.PlanRuns.{Todo, over, nodes_then, turn_then, Next, next_of}
+use Rattle.dh_plan.specs.SoundPlans.{HasUse, IsListed, plan_charge}
+use Rattle.dh_plan.specs.Ways.{FlowsAs, Led, leads_to, resolve, way_of_stop, way_of_join}
 use Rattle.dh_plan.proofs.StoringPlan.{absent, the_write, write_found}
 
 -- The graph.

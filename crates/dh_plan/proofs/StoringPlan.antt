@@ -1,26 +1,22 @@
 -- The plan of three stores does the phases of its program, runs as it, and keeps its banks: so none of these
 -- definitions is empty. All values are constants, so that each fact is computed, whatever registers and memories hold.
-use Rattle.std.proofs.Common.{◌≡◌, ℕ, zero, suc, ◌+◌, ◌<◌, ◌≤◌, ◌⊎◌, inl, inr, Some, None, List, length, refl, sym, ap, subst, ◌∙◌, arith}
-use Rattle.std.specs.Prelude.{[], ◌∷◌, ◌++◌, ◌||◌, Bool, true, false, slice_get, Option}
-use Rattle.dh_base.specs.declared.outcomes.Outcome.{Outcome}
+use Rattle.std.proofs.Common.{◌≡◌, ℕ, zero, suc, ◌<◌, ◌≤◌, inl, inr, Some, None, List, refl, sym, ap, subst, ◌∙◌, arith}
+use Rattle.std.specs.Prelude.{[], ◌∷◌, ◌||◌, Bool, true, false, slice_get, Option}
 use Rattle.dh_base.specs.declared.outcomes.Outcome.TheVariants.{Going, Ended, Stuck}
-use Rattle.dh_base.specs.declared.places.Place as place
 use Rattle.dh_tree.specs.Elements.{Spot}
-use Rattle.dh_meaning.specs.Effects.{Variables}
 use Rattle.dh_meaning.specs.Runs.{RunState, next_state, run_state}
 use Rattle.dh_plan.specs.declared.operations.Operation.{Operation}
 use Rattle.dh_plan.specs.declared.operations.OperationForm.{OperationForm}
-use Rattle.dh_plan.specs.declared.operations.OperationForm.TheVariants.{Constant, Old, Compute, Convert, Select, Check, Probe, Read, Write, Set}
+use Rattle.dh_plan.specs.declared.operations.OperationForm.TheVariants.{Old, Set}
 use Rattle.dh_plan.specs.declared.operations.Reach.{Reach}
-use Rattle.dh_plan.specs.Blocks.{StepStart, spot_of_reach}
-use Rattle.dh_plan.specs.Correspondence.{StandFor}
+use Rattle.dh_plan.specs.Blocks.{spot_of_reach}
 use Rattle.dh_plan.specs.DoneProgram.{NeverStuck, RunsAs}
 use Rattle.dh_plan.specs.ExamplePlans.{by_indices, one_bank}
 use Rattle.dh_plan.specs.ExamplePrograms.{storing_program, storing_plan, no_slots}
 use Rattle.dh_plan.specs.PlainPlans.{operations_in, first_in}
 use Rattle.dh_plan.specs.PlanPhases.{DoesPhases}
 use Rattle.dh_plan.specs.PlanRuns.{start_at, block_values}
-use Rattle.dh_plan.specs.SoundPlans.{use_in, IsListed, IsNeverSet, KeepsBanks, Reaches, StepsKeepBanks}
+use Rattle.dh_plan.specs.SoundPlans.{use_in, IsListed, KeepsBanks, Reaches, StepsKeepBanks}
 use Rattle.dh_plan.proofs.SourceMoves.{or_left, or_right}
 use Rattle.dh_plan.proofs.JointSteps.{phases_make_runs}
 

@@ -1,17 +1,16 @@
 -- The plan of three stores is well formed, and so sound.
-use Rattle.std.proofs.Common.{◌≡◌, ℕ, zero, suc, ◌+◌, ◌<◌, ◌≤◌, ◌⊎◌, inl, inr, Some, None, List, length, refl, sym, ap, subst, ◌∙◌, arith}
-use Rattle.std.specs.Prelude.{[], ◌∷◌, ◌++◌, Bool, true, false, slice_get, Option, Contains}
-use Rattle.std.specs.List.{AllByRecursion}
+use Rattle.std.proofs.Common.{◌≡◌, ℕ, zero, suc, ◌+◌, ◌<◌, ◌≤◌, inl, Some, None, refl, sym, subst, ◌∙◌, arith}
+use Rattle.std.specs.Prelude.{[], ◌∷◌, true, false, slice_get, Contains}
 use Rattle.std.proofs.lemmas.Cmp.{nat_list_eq_equiv}
 use Rattle.std.proofs.lemmas.Map.Views.{list_any-from_Contains}
 use Rattle.dh_tree.specs.Elements.{dims_at}
-use Rattle.dh_tree.specs.Names.{reserved, IsName}
-use Rattle.dh_tree.specs.Shapes.{IsProgramTable, IsMemory, IsShape, IsDim}
+use Rattle.dh_tree.specs.Names.{reserved}
+use Rattle.dh_tree.specs.Shapes.{IsProgramTable}
 use Rattle.dh_plan.specs.declared.operations.Operation.{Operation}
 use Rattle.dh_plan.specs.declared.operations.Reach.{Reach}
 use Rattle.dh_plan.specs.ExamplePrograms.{storing_plan}
 use Rattle.dh_plan.specs.Ordered.{TakesEarlier, IsOrdered}
-use Rattle.dh_plan.specs.PlainPlans.{operations_in, first_in}
+use Rattle.dh_plan.specs.PlainPlans.{operations_in}
 use Rattle.dh_plan.specs.PlanKinds.{IsFormedBlock, OperationSuits, kinds_of}
 use Rattle.dh_plan.specs.SoundPlans.{access_in, HasAccess, Counting, countings, AreCounters, IsFormed, IsSound}
 use Rattle.dh_plan.proofs.StoringPlan.{never_set, storing_keeps_banks}

@@ -1,17 +1,16 @@
 -- The plan of three stores is one of its program, by all that is stated of such a plan.
-use Rattle.std.proofs.Common.{◌≡◌, ◌↔◌, ℕ, zero, suc, ◌+◌, ◌<◌, ◌≤◌, ◌⊎◌, inl, inr, Some, None, List, length, refl, sym, ap, subst, ◌∙◌, arith}
-use Rattle.std.specs.Prelude.{[], ◌∷◌, ◌==◌, ◌&&◌, max, Bool, true, false, if◌then◌else◌, slice_get, Option, option_map}
+use Rattle.std.proofs.Common.{◌≡◌, ℕ, zero, suc, ◌≤◌, inl, inr, Some, None, length, refl, sym, ap, subst, ◌∙◌, arith}
+use Rattle.std.specs.Prelude.{◌==◌, ◌&&◌, max, Bool, true, false, if◌then◌else◌}
 use Rattle.std.proofs.lemmas.Bool.{ne_eqb, cases_eq}
-use Rattle.dh_tree.specs.Meets.{Meets, nothing, access, all, one, In, Apart, Before}
+use Rattle.dh_tree.specs.Meets.{Meets, nothing, access, all, one, Apart, Before}
 use Rattle.dh_tree.specs.Memories.{memories_of, number_in}
 use Rattle.dh_meets.specs.Charges.{charge, paths_of}
 use Rattle.dh_meets.specs.MayMeet.{meets_in}
-use Rattle.dh_meets.specs.SourceEvents.{SourceAccess, accesses_in, trace}
-use Rattle.dh_plan.specs.DoneProgram.{IsPlanOf, MeetsAs, ChargesWithin, UsesByKeys, ProbesByPaths, is_made, uses_of, uses_wanted, probes_of}
-use Rattle.dh_plan.specs.ExamplePlans.{one_bank}
+use Rattle.dh_meets.specs.SourceEvents.{SourceAccess}
+use Rattle.dh_plan.specs.DoneProgram.{IsPlanOf, MeetsAs, ChargesWithin, UsesByKeys, ProbesByPaths, uses_of, uses_wanted, probes_of}
 use Rattle.dh_plan.specs.ExamplePrograms.{storing_plan, no_slots}
 use Rattle.dh_plan.specs.ExampleTree.{storing_tree}
-use Rattle.dh_plan.specs.SoundPlans.{plan_charge, place_charge}
+use Rattle.dh_plan.specs.SoundPlans.{plan_charge}
 use Rattle.dh_plan.proofs.StoringPlan.{storing_phases, storing_runs}
 use Rattle.dh_plan.proofs.StoringSound.{storing_sound}
 

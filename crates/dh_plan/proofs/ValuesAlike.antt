@@ -1,17 +1,16 @@
 -- An operation takes few values, and what it gives and does depends on these alone: two lists of values that agree
 -- at what an operation takes give it the same value, and have it do the same.
-use Rattle.std.proofs.Common.{◌≡◌, ℕ, suc, ◌+◌, ◌<◌, ◌≤◌, Some, None, List, length, refl, sym, ap, ◌∙◌, arith}
-use Rattle.std.specs.Prelude.{[], ◌∷◌, ◌++◌, map, slice_get, Option, Bool, if◌then◌else◌}
+use Rattle.std.proofs.Common.{◌≡◌, ℕ, Some, None, List, refl, ap}
+use Rattle.std.specs.Prelude.{[], ◌∷◌, ◌++◌, Option}
 use Rattle.std.specs.List.{AllByRecursion}
 use Rattle.dh_value.specs.declared.words.Word.{Word}
 use Rattle.dh_value.specs.Words.{value_of}
-use Rattle.dh_tree.specs.Elements.{Spot}
 use Rattle.dh_plan.specs.declared.operations.Operation.{Operation}
 use Rattle.dh_plan.specs.declared.operations.OperationForm.{OperationForm}
 use Rattle.dh_plan.specs.declared.operations.OperationForm.TheVariants.{Constant, Old, Compute, Convert, Select, Check, Probe, Read, Write, Set}
 use Rattle.dh_plan.specs.declared.operations.Reach.{Reach}
 use Rattle.dh_plan.specs.declared.operations.ReachStep.{ReachStep}
-use Rattle.dh_plan.specs.Blocks.{StepStart, Look, word_at, is_on, numbers_at, passages, bank_picked, spot_in_row, spot_of_reach, in_memories, form_word, guarded, operation_word, form_events, operation_events, block_events, form_sets, operation_sets, block_sets}
+use Rattle.dh_plan.specs.Blocks.{StepStart, Look, is_on, numbers_at, passages, bank_picked, spot_in_row, spot_of_reach, in_memories, form_word, operation_word, form_events, operation_events, block_events, form_sets, operation_sets, block_sets}
 use Rattle.dh_plan.specs.BlockLaws.{SameAt, SameAtAll, LooksBack, DoesByValues}
 use Rattle.dh_plan.specs.Ordered.{one_or_none, offsets_taken, reach_takes, form_takes, operation_takes}
 

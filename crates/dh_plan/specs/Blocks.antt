@@ -1,7 +1,7 @@
 -- What the operations of a block give and do in a step. The values are a list, one word for each operation in
 -- order; all that a block does is a function of this list. Registers and memories are read as the step began.
 -- (Blocks are this project's; after single-assignment form.)
-use Rattle.std.specs.Prelude.{◌≡◌, ℕ, ◌+◌, ◌-◌, Bool, true, false, if◌then◌else◌, List, [], ◌∷◌, ◌++◌, length, map, slice_get, slice_index, slice_set, slice_index_or, Option, Some, None, ℤ, unsigned_abs}
+use Rattle.std.specs.Prelude.{◌≡◌, ℕ, ◌+◌, ◌-◌, Bool, true, if◌then◌else◌, List, [], ◌∷◌, ◌++◌, length, map, slice_get, slice_index, slice_set, slice_index_or, Option, Some, None, ℤ}
 use Rattle.dh_value.specs.declared.kinds.Kind.{Kind}
 use Rattle.dh_value.specs.declared.kinds.Kind.TheVariants as kind
 use Rattle.dh_value.specs.declared.words.Word.{Word}

@@ -1,7 +1,7 @@
 -- Which ports of a bank, and which multipliers, the operations of a plan use. Each access of a plan is granted ports
 -- of a bank as the check of ports spends them: as many as it charges, from a first one on. (Ports as affine
 -- resources are of Nigam and others, PLDI 2020.)
-use Rattle.std.specs.Prelude.{◌≡◌, ◌⊎◌, ℕ, ◌+◌, ◌<◌, ◌≤◌, ◌==◌, true, if◌then◌else◌, List, [], ◌∷◌, length, map, slice_get, slice_index, slice_index_or, Option, Some, None}
+use Rattle.std.specs.Prelude.{◌≡◌, ◌⊎◌, ℕ, ◌+◌, ◌<◌, ◌≤◌, ◌==◌, true, if◌then◌else◌, List, [], ◌∷◌, length, slice_get, slice_index, slice_index_or, Option, Some, None}
 use Rattle.dh_tree.specs.Elements.{ports_at}
 use Rattle.dh_tree.specs.Meets.{Apart, Before}
 use Rattle.dh_plan.specs.declared.operations.Operation.{Operation}

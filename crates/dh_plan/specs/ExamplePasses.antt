@@ -1,5 +1,5 @@
 -- A graph, a schedule and a binding of the plan of three stores.
-use Rattle.std.specs.Prelude.{ℕ, List, [], ◌∷◌, None}
+use Rattle.std.specs.Prelude.{[], ◌∷◌, None}
 use Rattle.dh_plan.specs.BoundPorts.{Uses}
 use Rattle.dh_plan.specs.LegalSchedules.{Timing}
 use Rattle.dh_plan.specs.Ways.{to_state, by_count, to_end, Flow}

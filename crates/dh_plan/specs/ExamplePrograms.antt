@@ -1,6 +1,5 @@
 -- A program and its plan on which definitions are shown to be met: three turns of a store.
-use Rattle.std.specs.Prelude.{ℕ, false, List, [], ◌∷◌, Option, None}
-use Rattle.dh_base.specs.declared.places.Place.{Place}
+use Rattle.std.specs.Prelude.{false, [], ◌∷◌, None}
 use Rattle.dh_value.specs.declared.kinds.Kind.TheVariants.{Unsigned}
 use Rattle.dh_tree.specs.Meets.{access}
 use Rattle.dh_meaning.specs.Core.{Reach, literal, by_indices, no_terms, term_and, store, no_commands, command_and, Turning, straightly, turning, no_core_phases, phase_and, CoreProgram}

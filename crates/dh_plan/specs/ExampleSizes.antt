@@ -1,5 +1,5 @@
 -- Small programs, as trees, on which the size of a plan is tried.
-use Rattle.std.specs.Prelude.{ℕ, true, false, List, [], ◌∷◌, Option, Some, None}
+use Rattle.std.specs.Prelude.{ℕ, false, List, [], ◌∷◌, Some, None}
 use Rattle.dh_base.specs.declared.places.Place.{Place}
 use Rattle.dh_value.specs.declared.kinds.Kind.TheVariants.{Unsigned, Signed}
 use Rattle.dh_tree.specs.declared.trees.expressions.Ref.{Ref}

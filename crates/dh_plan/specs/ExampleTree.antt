@@ -1,5 +1,5 @@
 -- The program of three stores as a tree.
-use Rattle.std.specs.Prelude.{ℕ, false, List, [], ◌∷◌, Option, Some, None}
+use Rattle.std.specs.Prelude.{false, [], ◌∷◌, Some}
 use Rattle.dh_value.specs.declared.kinds.Kind.TheVariants.{Unsigned}
 use Rattle.dh_tree.specs.PlainTrees.{term, number, accessed, no_terms, term_then, action, stores, no_actions, action_then, Program}
 use Rattle.dh_plan.specs.ExampleSizes.{here, called, pair, block_of, whole, loop_over}

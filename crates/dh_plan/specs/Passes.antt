@@ -4,7 +4,7 @@
 --   flow: IsGraphOf               schedule: IsLeastSchedule     legal: DecidesLegal
 --   bind: IsBinding               build: PlaysPlan              compile: PlaysItsProgram, IsTooLarge
 --   plan_size: size_reported
-use Rattle.std.specs.Prelude.{◌≡◌, ◌↔◌, ℕ, ◌+◌, ◌<◌, ◌≤◌, Bool, IsTrue, List, [], ◌∷◌, ◌++◌, length, map, slice_get, slice_index, slice_index_or, Option, Some, None}
+use Rattle.std.specs.Prelude.{◌≡◌, ◌↔◌, ℕ, ◌+◌, ◌<◌, ◌≤◌, Bool, IsTrue, Some}
 use Rattle.dh_tree.specs.PlainTrees.{Program}
 use Rattle.dh_tree.specs.Memories.{table_of}
 use Rattle.dh_tree.specs.Ready.{IsReady}
@@ -15,10 +15,9 @@ use Rattle.dh_plan.specs.declared.schedules.Schedule.{Schedule}
 use Rattle.dh_plan.specs.declared.schedules.Binding.{Binding}
 use Rattle.dh_plan.specs.declared.graphs.Graph.{Graph}
 use Rattle.dh_plan.specs.declared.operations.Reach.{Reach}
-use Rattle.dh_plan.specs.PlainPlans.{PlainPlan, operations_in, first_in}
+use Rattle.dh_plan.specs.PlainPlans.{PlainPlan}
 use Rattle.dh_plan.specs.BoundPorts.{Uses, IsBinding, port_used}
-use Rattle.dh_plan.specs.DoneProgram.{IsPlanOf, IsAddressingOf}
-use Rattle.dh_plan.specs.LegalSchedules.{Timing, IsLegal, IsLeastSchedule, block_clocks}
+use Rattle.dh_plan.specs.LegalSchedules.{Timing, IsLegal}
 use Rattle.dh_plan.specs.PlanSizes.{plan_size_of, size_reported, most_plan}
 use Rattle.dh_plan.specs.SeenGraphs.{IsGraphOf}
 use Rattle.dh_plan.specs.SoundPlans.{IsSound, IsAddressed, KeepsItsPorts, HasUse, IsListed}

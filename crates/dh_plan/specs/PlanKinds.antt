@@ -1,10 +1,10 @@
 -- The kinds of a block's values, and what a plan must be formed like: its numbers name what is there, and each
 -- value has the kind that its use needs.
-use Rattle.std.specs.Prelude.{◌≡◌, ℕ, ◌+◌, ◌-◌, ◌<◌, ◌≤◌, ◌^◌, ◌*◌, List, [], ◌∷◌, ◌++◌, length, slice_get, slice_index_or, Option, Some, None, option_map}
+use Rattle.std.specs.Prelude.{◌≡◌, ℕ, ◌-◌, ◌<◌, ◌≤◌, ◌*◌, List, [], ◌∷◌, ◌++◌, length, slice_get, slice_index_or, Option, Some, None}
 use Rattle.std.specs.List.{AllByRecursion}
 use Rattle.dh_value.specs.declared.kinds.Kind.{Kind}
 use Rattle.dh_value.specs.declared.kinds.Kind.TheVariants as kind
-use Rattle.dh_value.specs.Words.{IsInteger, IsKind, IsWord, width_of}
+use Rattle.dh_value.specs.Words.{IsInteger, IsWord}
 use Rattle.dh_value.specs.Operations.{Suits, result_of}
 use Rattle.dh_tree.specs.declared.tables.Dim.{Dim}
 use Rattle.dh_tree.specs.declared.tables.MemEntry.{MemEntry}

@@ -5,15 +5,13 @@ use Rattle.dh_base.specs.declared.outcomes.FaultKind.{FaultKind}
 use Rattle.dh_base.specs.declared.places.Place.{Place}
 use Rattle.dh_tree.specs.declared.tables.MemEntry.{MemEntry}
 use Rattle.dh_meaning.specs.Core.{Turning, CoreTerm, literal, truth_literal, variable, read, binary, convert, Target, by_indices, by_row, CoreTerms, no_terms, term_and, CoreCommand, store, assign, choose, CoreCommands, no_commands, command_and, CorePhase, straightly, turning, looping, choosing, CorePhases, no_core_phases, phase_and}
-use Rattle.dh_meaning.specs.Effects as effects
-use Rattle.dh_meaning.specs.Effects.{Begun, Variables, Effect, Block, commands, tests, block_run}
+use Rattle.dh_meaning.specs.Effects.{Variables, Effect, Block, commands, tests, block_run}
 use Rattle.dh_meaning.specs.Levels.{any_assigns}
 use Rattle.dh_meaning.specs.Paths.{Path}
 use Rattle.dh_meaning.specs.Runs.{goes_on}
-use Rattle.dh_plan.specs.declared.operations.Operation.{Operation}
 use Rattle.dh_plan.specs.declared.operations.OperationForm.TheVariants.{Old, Set}
-use Rattle.dh_plan.specs.PlainPlans.{Node, block_node, turns_node, loop_node, choice_node, threads_node, Nodes, no_nodes, node_then, PlainPlan, operations_in}
-use Rattle.dh_plan.specs.Blocks.{StepStart, BlockEvent, first_fault, puts_of, all_set}
+use Rattle.dh_plan.specs.PlainPlans.{Node, block_node, turns_node, loop_node, choice_node, Nodes, no_nodes, node_then, PlainPlan, operations_in}
+use Rattle.dh_plan.specs.Blocks.{StepStart, first_fault, puts_of, all_set}
 use Rattle.dh_plan.specs.PlanRuns.{start_at, events_of_block, sets_of_block}
 use Rattle.dh_plan.specs.SourceEffects.{failure_of, writes_of}
 use Rattle.dh_plan.specs.Correspondence.{Slots, FitKinds, Holding, Round, paths_of_rounds, StandFor}

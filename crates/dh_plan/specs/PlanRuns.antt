@@ -10,7 +10,6 @@ use Rattle.dh_base.specs.declared.places.Place as source
 use Rattle.dh_value.specs.declared.kinds.Kind.{Kind}
 use Rattle.dh_value.specs.declared.words.Word.{Word}
 use Rattle.dh_value.specs.Words.{width_of}
-use Rattle.dh_plan.specs.declared.operations.Operation.{Operation}
 use Rattle.dh_plan.specs.PlainPlans.{Node, block_node, turns_node, loop_node, choice_node, threads_node, Nodes, no_nodes, node_then, NodeLists, no_lists, list_then, PlainPlan, first_in, operations_in}
 use Rattle.dh_plan.specs.Blocks.{StepStart, kind_at, in_memories, values_of, BlockEvent, block_events, RegisterSet, block_sets, first_fault, puts_of, all_put, all_set}
 

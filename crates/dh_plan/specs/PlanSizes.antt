@@ -1,10 +1,10 @@
 -- The size of a program's plan, and its limit. Each command counts 1, a block among them, and so do each operator
 -- and each cast and reducer; an access counts 1 and the banks that it charges. Everything counts once for each
 -- copy, and loops without turns count, too. (This profile.)
-use Rattle.std.specs.Prelude.{ℕ, zero, suc, ◌+◌, ◌*◌, ◌<◌, nat_lt, min, Bool, true, false, if◌then◌else◌, List, [], ◌∷◌, ◌++◌, length, Option, Some, None}
+use Rattle.std.specs.Prelude.{ℕ, zero, suc, ◌+◌, ◌*◌, ◌<◌, nat_lt, min, if◌then◌else◌, List, [], ◌∷◌, length, Option, Some, None}
 use Rattle.dh_tree.specs.Elements.{banks_of}
 use Rattle.dh_tree.specs.Memories.{memory_in, memories_of, Memory}
-use Rattle.dh_tree.specs.PlainTrees.{Term, term, TermForm, number, truth_value, named, accessed, in_bank, applied, converted, Terms, no_terms, term_then, ViewPlan, shrinks, splits, suffixes, shifts, Action, action, ActionForm, lets, lets_memory, views, assigns, stores, reduces, calls, blocks, decides, repeats, counts, MaybeAction, no_action, one_action, Actions, no_actions, action_then, Groups, no_groups, group_then, Program}
+use Rattle.dh_tree.specs.PlainTrees.{Term, term, TermForm, number, truth_value, named, accessed, in_bank, applied, converted, Terms, no_terms, term_then, Action, action, ActionForm, lets, lets_memory, views, assigns, stores, reduces, calls, blocks, decides, repeats, counts, MaybeAction, no_action, one_action, Actions, no_actions, action_then, Groups, no_groups, group_then, Program}
 use Rattle.dh_meets.specs.Charges.{charge, paths_of}
 use Rattle.dh_meets.specs.SourceEvents.{SourceAccess, accesses_in, trace}
 

@@ -1,13 +1,12 @@
 -- What a netlist is of a plan, and of a program: it plays their runs, with the lengths that a schedule or the
 -- program gives its steps.
 use Rattle.std.specs.List.{AllByRecursion}
-use Rattle.std.specs.Prelude.{◌≡◌, ◌↔◌, ℕ, suc, ◌+◌, ◌≤◌, max, true, IsTrue, List, [], ◌∷◌, slice_get, slice_index, Some}
-use Rattle.dh_base.specs.declared.outcomes.Outcome.{Outcome}
+use Rattle.std.specs.Prelude.{◌≡◌, ℕ, suc, max, true, List, [], ◌∷◌, slice_get, slice_index, Some}
 use Rattle.dh_tree.specs.PlainTrees.{Program}
 use Rattle.dh_tree.specs.Memories.{table_of}
 use Rattle.dh_tree.specs.Tables.{Fits}
 use Rattle.dh_meaning.specs.CoreOf.{core_of}
-use Rattle.dh_meaning.specs.Effects.{Block, commands, tests}
+use Rattle.dh_meaning.specs.Effects.{commands, tests}
 use Rattle.dh_meaning.specs.Levels.{block_length}
 use Rattle.dh_meaning.specs.Runs as source
 use Rattle.dh_meaning.specs.Runs.{run_state}
@@ -22,8 +21,7 @@ use Rattle.dh_plan.specs.Correspondence.{Slots}
 use Rattle.dh_plan.specs.DoneProgram.{NeverStuck}
 use Rattle.dh_plan.specs.PlanPhases.{Tie, AreNodesOf, DoesPhases}
 use Rattle.dh_plan.specs.SoundPlans.{CountsTurns, KeepsCounter, countings}
-use Rattle.dh_plan.specs.PlanRuns.{Place, blocks_at, plan_state}
-use Rattle.dh_plan.specs.LegalSchedules.{Timing}
+use Rattle.dh_plan.specs.PlanRuns.{blocks_at, plan_state}
 
 -- the longest of these blocks
 abbrev pub longest : (lengths : List ℕ) → (blocks : List ℕ) → ℕ

@@ -1,6 +1,6 @@
 -- What a graph of the code stands for: its ways, where a fork shows the ways of the groups that it begins. And what
 -- the pass that makes graphs states of its graph.
-use Rattle.std.specs.Prelude.{◌≡◌, ℕ, ◌<◌, List, [], ◌∷◌, length, map, slice_get, Option, Some, None}
+use Rattle.std.specs.Prelude.{◌≡◌, ℕ, ◌<◌, List, [], ◌∷◌, length, slice_get, Option, Some, None}
 use Rattle.dh_plan.specs.declared.graphs.Decision.{Decision}
 use Rattle.dh_plan.specs.declared.graphs.Decision.TheVariants.{Go, Test', Count', Fork, Rest}
 use Rattle.dh_plan.specs.declared.graphs.State.{State}

@@ -1,5 +1,5 @@
 -- Which plain plan a plan of the code stands for.
-use Rattle.std.specs.Prelude.{ℕ, List, [], ◌∷◌}
+use Rattle.std.specs.Prelude.{List, [], ◌∷◌}
 use Rattle.dh_tree.specs.Meets as meets
 use Rattle.dh_plan.specs.PlainPlans as plain
 use Rattle.dh_plan.specs.PlainPlans.{PlainPlan}

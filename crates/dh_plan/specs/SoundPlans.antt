@@ -1,12 +1,11 @@
 -- When a plan is sound: it is well formed, and in no step does it reach a bank more often than its accesses charge,
 -- whatever values of their kinds registers and memories hold, and whether or not a run comes there. And when it is addressed.
 -- (Ports as affine resources are of Nigam and others, PLDI 2020; that a plan carries them is this project's.)
-use Rattle.std.specs.Prelude.{◌≡◌, ◌⊎◌, ℕ, suc, ◌+◌, ◌<◌, ◌≤◌, ◌^◌, ◌==◌, ◌&&◌, max, false, true, if◌then◌else◌, List, [], ◌∷◌, ◌++◌, length, slice_get, slice_index, Bool, Option, Some, None}
+use Rattle.std.specs.Prelude.{◌≡◌, ◌⊎◌, ℕ, suc, ◌<◌, ◌≤◌, ◌^◌, ◌==◌, ◌&&◌, max, true, if◌then◌else◌, List, [], ◌∷◌, ◌++◌, slice_get, slice_index, Bool, Option, Some, None}
 use Rattle.std.specs.List.{AllByRecursion}
-use Rattle.dh_value.specs.declared.kinds.Kind.{Kind}
 use Rattle.dh_value.specs.declared.kinds.Kind.TheVariants as kind
 use Rattle.dh_tree.specs.Elements.{Spot}
-use Rattle.dh_tree.specs.Meets.{Meets, In, Distinct, Apart, Before, Together, total}
+use Rattle.dh_tree.specs.Meets.{In, Distinct, Apart, Before, Together, total}
 use Rattle.dh_tree.specs.Shapes.{IsProgramTable}
 use Rattle.dh_tree.specs.Elements.{ports_at}
 use Rattle.dh_tree.specs.Tables.{Fits}

@@ -1,6 +1,6 @@
 -- What a block of the program does in a step, in the words in which a plan's block does it: its first fault, and
 -- its writes in order.
-use Rattle.std.specs.Prelude.{ℕ, List, [], ◌∷◌, Option, Some, None}
+use Rattle.std.specs.Prelude.{List, [], ◌∷◌, Option, Some, None}
 use Rattle.dh_base.specs.declared.outcomes.FaultKind.{FaultKind}
 use Rattle.dh_base.specs.declared.places.Place.{Place}
 use Rattle.dh_meaning.specs.Effects.{Event, reads, writes, faults}

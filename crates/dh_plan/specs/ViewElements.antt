@@ -1,7 +1,7 @@
 -- Which element of its parent the index of a view names, in whole numbers, where nothing wraps; and through all
 -- views on the way, which element of the memory. (The names of the four views are of Nigam and others, PLDI 2020;
 -- which element an index names is this profile's.)
-use Rattle.std.specs.Prelude.{ℕ, ◌+◌, ◌*◌, ◌/◌, ◌%◌, Bool, if◌then◌else◌, List, [], ◌∷◌, map, slice_get, slice_index, Option, Some, None, ℤ, pos, ◌+ℤ◌, ◌*ℤ◌, unsigned_abs}
+use Rattle.std.specs.Prelude.{ℕ, ◌+◌, ◌*◌, ◌/◌, ◌%◌, if◌then◌else◌, List, [], ◌∷◌, slice_get, slice_index, Option, Some, None, ℤ, pos, ◌+ℤ◌, ◌*ℤ◌, unsigned_abs}
 use Rattle.dh_tree.specs.declared.tables.Dim.{Dim}
 use Rattle.dh_meaning.specs.Effects.{is_inside}
 use Rattle.dh_plan.specs.declared.viewing.ViewMap.{ViewMap}

@@ -1,6 +1,6 @@
 -- Graphs of states, and when a graph does the phases of a plan: whatever the registers hold, the decision behind a
 -- block leads where the plan goes on. (State graphs with forks and joins are common in high-level synthesis.)
-use Rattle.std.specs.Prelude.{◌≡◌, ℕ, ◌<◌, ◌==◌, if◌then◌else◌, List, [], ◌∷◌, slice_get, slice_index, slice_set, Option, Some, None}
+use Rattle.std.specs.Prelude.{◌≡◌, ℕ, ◌==◌, if◌then◌else◌, List, slice_get, slice_index, slice_set, Option, Some, None}
 use Rattle.dh_value.specs.declared.kinds.Kind.{Kind}
 use Rattle.dh_plan.specs.PlainPlans.{PlainPlan}
 use Rattle.dh_plan.specs.PlanRuns.{Todo, over, nodes_then, Place, ended, at, inside, Places, no_places, place_then, Next, next, next_of, flag_holds, counted_up}
