@@ -1,7 +1,7 @@
 -- The memories of a ready program whose forms are compiled are a table that a net can have: each is from
 -- outside, of a number kind and of one dimension in one bank with one port.
 use Rattle.std.proofs.Common.{◌≡◌, ℕ, ◌≤◌, Option, Some, None, List, [], ◌∷◌, ◌++◌, map, refl, ap, sym, ◌∙◌, subst}
-use Rattle.std.specs.Prelude.{Bool, true, false, ◌&&◌, ◌||◌, if◌then◌else◌}
+use Rattle.std.specs.Prelude.{Bool, false, ◌&&◌, ◌||◌, if◌then◌else◌}
 use Rattle.std.specs.List.{AllByRecursion}
 use Rattle.std.proofs.lemmas.List.{append-nil}
 use Rattle.dh_base.specs.declared.places.Place.{Place}
@@ -9,7 +9,7 @@ use Rattle.dh_tree.specs.declared.tables.Dim.{Dim}
 use Rattle.dh_tree.specs.declared.tables.MemEntry.{MemEntry}
 use Rattle.dh_tree.specs.declared.trees.programs.DimPlaces.{DimPlaces}
 use Rattle.dh_tree.specs.Forms.{is_word, unbuilt, unbuilt_where, further_dims, unbuilt_dims, unbuilt_decl, unbuilt_decls, unbuilt_functions, form_holds, unbuilt_action, unbuilt_form, unbuilt_groups, unbuilt_part, unbuilt_forms}
-use Rattle.dh_tree.specs.Memories.{Memory, outside_memory, locals, form_locals, groups_locals, part_locals, memories_of, entry_of, table_of}
+use Rattle.dh_tree.specs.Memories.{outside_memory, locals, form_locals, groups_locals, part_locals, entry_of, table_of}
 use Rattle.dh_tree.specs.PlainTrees.{Action, action, ActionForm, lets, lets_memory, views, assigns, stores, reduces, calls, blocks, decides, repeats, counts, Actions, no_actions, action_then, Groups, no_groups, group_then, Declared, Program}
 use Rattle.dh_tree.specs.Ready.{IsReady}
 use Rattle.dh_tree.specs.Shapes.{IsDim, IsMemory, outside_of, IsProgramTable}

@@ -67,6 +67,7 @@ wider_text n m p within h = record {
   numbered = h.numbered;
   names = let k = h.names in omega (arith, k, within);
   widths = h.widths;
+  targets = h.targets;
 }
 
 wider : (n m : ℕ) (p : Program) → n ≤ m → IsWritten n p → IsWritten m p

@@ -1,4 +1,3 @@
 pub mod Acceptance
 pub mod Verdicts
 pub mod Ready
-pub mod Held

@@ -2,14 +2,14 @@
 
 ghost use Rattle.std.specs.Prelude.{◌≡◌, map, None, false, if◌then◌else◌, []};
 ghost use Rattle.dh_tree.specs.LeastBreach.{least_of};
-ghost use Rattle.dh_tree.specs.Seen.{term_seen, form_seen, action_seen, action_form_seen, declared_seen, defined_seen, program_seen};
-ghost use Rattle.dh_check.specs.Held.{parts_seen, terms_seen};
+ghost use Rattle.dh_tree.specs.Seen.{term_seen, form_seen, action_seen, action_form_seen, declared_seen, defined_seen, program_seen, all_parts_seen, all_terms_seen};
 ghost use Rattle.dh_tree.specs.Forms as forms;
 ghost use Rattle.dh_tree.specs.Forms.{unbuilt, unbuilt_where, further_dims, unbuilt_dims, unbuilt_decl, unbuilt_decls, unbuilt_functions, further_indices, unbuilt_index, unbuilt_indices, unbuilt_access, unbuilt_sum, unbuilt_value, unbuilt_action, unbuilt_part, unbuilt_groups, unbuilt_forms, holds_steps, form_holds, part_holds, groups_hold};
 
 use dh_base::{Place, Rule};
 use dh_tree::{
-    Breach, Command, CommandForm, Decl, DimPlaces, Expr, ExprForm, Function, Tree, keep_least,
+    Breach, Command, CommandForm, Decl, DimPlaces, Expr, ExprForm, Function, Tree, has_dashes,
+    keep_least,
 };
 use dh_value::{Kind, Op};
 
@@ -141,7 +141,7 @@ fn is_access(value: &Expr) -> bool
 /// Indices behind the first.
 #[tactic(auto, using(dh_tree::proofs::SeenTerms::terms_are, dh_tree::proofs::Leasts::least_append))]
 fn keep_further_indices(kept: &mut Option<Breach>, indices: &[Expr])
-    ensures { kept.new ≡ least_of kept.old (further_indices (terms_seen indices.now)) }
+    ensures { kept.new ≡ least_of kept.old (further_indices (all_terms_seen indices.now)) }
 {
     for index in indices {
         keep_unbuilt(kept, index.place);
@@ -158,7 +158,7 @@ fn keep_index(kept: &mut Option<Breach>, index: &Expr)
 
 #[tactic(auto, using(dh_tree::proofs::SeenTerms::terms_are, dh_tree::proofs::Leasts::least_append))]
 fn keep_indices(kept: &mut Option<Breach>, place: Place, indices: &[Expr])
-    ensures { kept.new ≡ least_of kept.old (unbuilt_indices place (terms_seen indices.now)) }
+    ensures { kept.new ≡ least_of kept.old (unbuilt_indices place (all_terms_seen indices.now)) }
 {
     match indices {
         [] => keep_unbuilt(kept, place),
@@ -221,13 +221,6 @@ fn keep_value(kept: &mut Option<Breach>, value: &Expr)
     }
 }
 
-/// Whether the parts have a `---` between them.
-pub(crate) fn has_dashes(parts: &[Vec<Command>]) -> bool
-    ensures { result ≡ forms.has_dashes (parts_seen parts.now) }
-{
-    parts.len() > 1
-}
-
 /// What of a command is not built; whether it holds a `---`, a loop or a call.
 #[cycle(unbuilt)]
 #[tactic(auto, using(dh_tree::proofs::SeenActions::actions_are, dh_tree::proofs::Leasts::least_append))]
@@ -271,8 +264,8 @@ pub(crate) fn keep_whole(kept: &mut Option<Breach>, place: Place, form: &Command
 #[cycle(unbuilt)]
 #[tactic(auto, using(dh_tree::proofs::SeenActions::actions_are, dh_tree::proofs::Leasts::least_append))]
 fn keep_groups(kept: &mut Option<Breach>, parts: &[Vec<Command>]) -> bool
-    ensures kept { kept.new ≡ least_of kept.old (unbuilt_groups (parts_seen parts.now)) }
-    ensures steps { result ≡ groups_hold (parts_seen parts.now) }
+    ensures kept { kept.new ≡ least_of kept.old (unbuilt_groups (all_parts_seen parts.now)) }
+    ensures steps { result ≡ groups_hold (all_parts_seen parts.now) }
 {
     let mut holds = false;
     for part in parts {
@@ -340,7 +333,7 @@ fn takes_steps(form: &CommandForm) -> bool
 #[cycle(steps)]
 #[tactic(auto, using(dh_tree::proofs::SeenActions::actions_are))]
 fn parts_take_steps(parts: &[Vec<Command>]) -> bool
-    ensures { result ≡ groups_hold (parts_seen parts.now) }
+    ensures { result ≡ groups_hold (all_parts_seen parts.now) }
 {
     for part in parts {
         for command in part {

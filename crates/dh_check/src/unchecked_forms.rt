@@ -2,14 +2,13 @@
 
 ghost use Rattle.std.specs.Prelude.{◌≡◌, None};
 ghost use Rattle.dh_tree.specs.LeastBreach.{least_of};
-ghost use Rattle.dh_tree.specs.Seen.{action_seen, program_seen, unrolled};
-ghost use Rattle.dh_check.specs.Held.{other_seen, parts_seen};
+ghost use Rattle.dh_tree.specs.Seen.{action_seen, program_seen, unrolled, maybe_block_seen, all_parts_seen};
 ghost use Rattle.dh_tree.specs.Forms.{holds_steps, other_holds, groups_hold};
 ghost use Rattle.dh_tree.specs.UncheckedForms.{unchecked_factor, unchecked_combine, unchecked_action, unchecked_other, unchecked_groups, unchecked_forms};
 
-use crate::forms::{has_dashes, keep_functions, keep_second, keep_unbuilt, keep_whole};
+use crate::forms::{keep_functions, keep_second, keep_unbuilt, keep_whole};
 use dh_base::Place;
-use dh_tree::{Breach, Command, CommandForm, Tree};
+use dh_tree::{Breach, Command, CommandForm, Tree, has_dashes};
 
 /// The word `unroll`, with another number than 1.
 fn keep_factor(kept: &mut Option<Breach>, factor: u64, place: Place, word: Place)
@@ -22,7 +21,7 @@ fn keep_factor(kept: &mut Option<Breach>, factor: u64, place: Place, word: Place
 
 /// The word `combine`.
 fn keep_combine(kept: &mut Option<Breach>, word: Place, combine: &Option<Box<Command>>)
-    ensures { kept.new ≡ least_of kept.old (unchecked_combine word (other_seen combine.now)) }
+    ensures { kept.new ≡ least_of kept.old (unchecked_combine word (maybe_block_seen combine.now)) }
 {
     if combine.is_some() {
         keep_unbuilt(kept, word);
@@ -78,8 +77,8 @@ fn keep_command(kept: &mut Option<Breach>, command: &Command) -> bool
 #[cycle(unbuilt)]
 #[tactic(auto, using(dh_tree::proofs::SeenActions::actions_are, dh_tree::proofs::Leasts::least_append))]
 fn keep_other(kept: &mut Option<Breach>, other: &Option<Box<Command>>) -> bool
-    ensures kept { kept.new ≡ least_of kept.old (unchecked_other (other_seen other.now)) }
-    ensures steps { result ≡ other_holds (other_seen other.now) }
+    ensures kept { kept.new ≡ least_of kept.old (unchecked_other (maybe_block_seen other.now)) }
+    ensures steps { result ≡ other_holds (maybe_block_seen other.now) }
 {
     match other {
         Some(block) => keep_command(kept, block),
@@ -92,8 +91,8 @@ fn keep_other(kept: &mut Option<Breach>, other: &Option<Box<Command>>) -> bool
 #[cycle(unbuilt)]
 #[tactic(auto, using(dh_tree::proofs::SeenActions::actions_are, dh_tree::proofs::Leasts::least_append))]
 fn keep_groups(kept: &mut Option<Breach>, parts: &[Vec<Command>]) -> bool
-    ensures kept { kept.new ≡ least_of kept.old (unchecked_groups (parts_seen parts.now)) }
-    ensures steps { result ≡ groups_hold (parts_seen parts.now) }
+    ensures kept { kept.new ≡ least_of kept.old (unchecked_groups (all_parts_seen parts.now)) }
+    ensures steps { result ≡ groups_hold (all_parts_seen parts.now) }
 {
     let mut holds = false;
     for part in parts {

@@ -13,7 +13,7 @@ use Rattle.dh_base.specs.declared.limits.Excess.{Excess}
 use Rattle.dh_base.specs.declared.limits.Limit.TheVariants as limit
 use Rattle.std.proofs.lemmas.Bool.Decides.{nat_tests}
 use Rattle.dh_tree.specs.Elements.{banks_of}
-use Rattle.dh_tree.specs.Excesses.{or_else, first_above, first_excess}
+use Rattle.dh_tree.specs.Excesses.{or_else, first_above, copies_excess, first_excess}
 use Rattle.dh_tree.specs.Tables.{elements_in, most_elements}
 use Rattle.dh_tree.specs.Resolved.{resolved_decls}
 use Rattle.dh_tree.specs.Forms.{unbuilt, form_holds, unbuilt_action, unbuilt_form, unbuilt_groups, unbuilt_part}
@@ -78,7 +78,8 @@ pub few_elements : (p : Program) → first_excess p ≡ None → elements_in (ta
 few_elements p e =
     let behind_dims = last_none (first_above limit.Dimensions (λ m. length m.shape.dims) (memories_of p)) _ e in
     let behind_banks = last_none (first_above limit.Banks (λ m. banks_of m.shape.dims) (memories_of p)) _ behind_dims in
-    let last = last_none (first_above limit.Ports (λ m. m.shape.ports) (memories_of p)) _ behind_banks in
+    let behind_ports = last_none (first_above limit.Ports (λ m. m.shape.ports) (memories_of p)) _ behind_banks in
+    let last = last_none (copies_excess 1 p.body) _ behind_ports in
     not_above (elements_in (table_of p)) (greatest_of limit.Elements) (nat_lt (greatest_of limit.Elements) (elements_in (table_of p))) _ refl last
 
 -- the entities of declarations are numbers that follow one another

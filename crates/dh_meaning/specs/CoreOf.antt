@@ -14,6 +14,7 @@ use Rattle.dh_tree.specs.Meaning.{wider}
 use Rattle.dh_tree.specs.PlainTrees as plain
 use Rattle.dh_tree.specs.PlainTrees.{Action, action, ActionForm, lets, lets_memory, views, assigns, stores, reduces, calls, blocks, decides, repeats, counts, MaybeAction, no_action, one_action, Actions, no_actions, action_then, Groups, no_groups, group_then, Program}
 use Rattle.dh_tree.specs.Memories.{Memory, memories_of, number_in, table_of}
+pub use Rattle.dh_tree.specs.Scopes.{entity_number}
 use Rattle.dh_meaning.specs.Phases as source
 use Rattle.dh_meaning.specs.Phases.{Located, phases_of}
 use Rattle.dh_meaning.specs.Core.{Reach, CoreTerm, literal, truth_literal, variable, read, binary, convert, Target, by_indices, by_row, CoreTerms, no_terms, term_and, CoreCommand, store, assign, choose, CoreCommands, no_commands, command_and, Turning, CorePhase, straightly, turning, looping, choosing, CorePhases, no_core_phases, phase_and, CoreProgram}
@@ -25,11 +26,6 @@ pub record Known : Type 0 where
 
 abbrev pub known_of : Program → Known
 known_of p = record { memories = memories_of p; bindings = bindings_of p }
-
--- the number of what a name stands for; every name of a resolved program stands for something
-abbrev pub entity_number : Option ℕ → ℕ
-entity_number None = 0
-entity_number (Some n) = n
 
 -- the number of the memory that a name stands for
 abbrev pub memory_of : Known → Ref → ℕ

@@ -11,10 +11,9 @@ use Rattle.dh_tree.specs.LeastBreach.{least_of}
 use Rattle.dh_tree.specs.Scopes.{Binding, Scope, declare, leave, past, at_end, form_at_end, other_at_end, actions_at_end, groups_at_end}
 use Rattle.dh_tree.specs.Breaches.{twice, breaches, form_breaches, other_breaches, actions_breaches, groups_breaches}
 use Rattle.dh_tree.specs.Resolved.{declares, resolved_action, resolved_form, resolved_other, resolved_actions, resolved_groups}
-use Rattle.dh_tree.specs.Seen.{action_seen, action_form_seen, part_seen}
+use Rattle.dh_tree.specs.Seen.{action_seen, action_form_seen, part_seen, maybe_block_seen}
 use Rattle.dh_tree.specs.NameCounts.{declared_in, declared_in_form, declared_in_other, declared_in_actions}
 use Rattle.dh_names.specs.Visible.{visible}
-use Rattle.dh_names.specs.InTrees.{optional_seen}
 use Rattle.dh_names.specs.declared.walks.Walk.{Walk}
 
 -- whether a command is a block
@@ -98,7 +97,7 @@ NumbersForm old new a b =
 
 abbrev pub NumbersOptional : (old new : Walk) → (a b : Option (Box Command Global)) → Type 0
 NumbersOptional old new a b =
-    Room (state_of old) (declared_in_other (optional_seen a)) → ResolvesOther (state_of old) (state_of new) (optional_seen a) (optional_seen b)
+    Room (state_of old) (declared_in_other (maybe_block_seen a)) → ResolvesOther (state_of old) (state_of new) (maybe_block_seen a) (maybe_block_seen b)
 
 abbrev pub NumbersInner : (old new : Walk) → (a b : Command) → Type 0
 NumbersInner old new a b = Room (state_of old) (declared_in (action_seen a)) → ResolvesInner (state_of old) (state_of new) (action_seen a) (action_seen b)

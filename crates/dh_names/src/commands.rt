@@ -1,9 +1,8 @@
 //! The names within commands.
 
 ghost use Rattle.std.specs.Prelude.{◌≡◌, ◌<◌, MatchResult};
-ghost use Rattle.dh_tree.specs.Seen.{action_seen, action_form_seen, part_seen};
+ghost use Rattle.dh_tree.specs.Seen.{action_seen, action_form_seen, part_seen, maybe_block_seen};
 ghost use Rattle.dh_tree.specs.NameCounts.{declared_in, declared_in_form, declared_in_other, declared_in_actions};
-ghost use Rattle.dh_names.specs.InTrees.{optional_seen};
 ghost use Rattle.dh_names.specs.Walks.{is_blocks, NumbersCommand, NumbersForm, NumbersInner, NumbersOptional, NumbersListed, NumbersPart};
 
 use crate::walks::Walk;
@@ -176,7 +175,7 @@ impl Walk {
         block: Option<Box<Command>>,
     ) -> Result<Option<Box<Command>>, NoMemory>
         ensures { MatchResult result (λ done. NumbersOptional self.old self.new block done)
-            (λ _. 0 < declared_in_other (optional_seen block)) }
+            (λ _. 0 < declared_in_other (maybe_block_seen block)) }
     {
         match block {
             Some(mut command) => {

@@ -1,11 +1,11 @@
 //! The names within expressions.
 
 ghost use Rattle.std.specs.Prelude.{◌≡◌};
-ghost use Rattle.dh_tree.specs.Seen.{term_seen, form_seen};
+ghost use Rattle.dh_tree.specs.Seen.{term_seen, form_seen, expressions_seen};
 ghost use Rattle.dh_tree.specs.Breaches.{term_breaches, term_form_breaches, list_breaches};
 ghost use Rattle.dh_tree.specs.Resolved.{resolved_term_form};
 ghost use Rattle.dh_names.specs.Visible.{visible, LeastBy};
-ghost use Rattle.dh_names.specs.InTrees.{items_seen, ResolvesTerm, ResolvesTerms};
+ghost use Rattle.dh_names.specs.InTrees.{ResolvesTerm, ResolvesTerms};
 
 use crate::scopes::{Names, resolve_use};
 use dh_tree::{Breach, Expr, ExprForm};
@@ -78,7 +78,7 @@ fn resolved_form(names: &Names, least: &mut Option<Breach>, form: ExprForm) -> E
 #[cycle(expressions)]
 pub fn resolve_terms(names: &Names, least: &mut Option<Breach>, terms: &mut Vec<Expr>)
     ensures tree { ResolvesTerms (visible names.now) terms.old terms.new }
-    ensures least { LeastBy list_breaches names.now least.old least.new (items_seen terms.old) }
+    ensures least { LeastBy list_breaches names.now least.old least.new (expressions_seen terms.old) }
 {
     for term in terms.iter_mut() {
         resolve_term(names, least, term);

@@ -1,11 +1,11 @@
 //! A walk through the text of a program.
 
 ghost use Rattle.std.specs.Prelude.{◌≡◌, ◌+◌, ◌-◌, ◌^◌, min, OnOk, option_map, length};
-ghost use Rattle.dh_tree.specs.Seen.{term_seen};
+ghost use Rattle.dh_tree.specs.Seen.{term_seen, expressions_seen};
 ghost use Rattle.dh_tree.specs.Breaches.{unknown, term_breaches, value_breaches, list_breaches};
 ghost use Rattle.dh_tree.specs.Resolved.{used};
 ghost use Rattle.dh_names.specs.Visible.{visible};
-ghost use Rattle.dh_names.specs.InTrees.{items_seen, ResolvesTerm, ResolvesTerms, ResolvesValue};
+ghost use Rattle.dh_names.specs.InTrees.{ResolvesTerm, ResolvesTerms, ResolvesValue};
 ghost use Rattle.dh_names.specs.Walks.{state_of, cut, FindsBy, NumbersName, DeclaresName};
 
 use crate::expressions::{resolve_term, resolve_terms};
@@ -59,7 +59,7 @@ impl Walk {
     /// Gives the names of expressions in order their numbers.
     pub fn expressions(&mut self, terms: &mut Vec<Expr>)
         ensures tree { ResolvesTerms (visible self.old.names) terms.old terms.new }
-        ensures state { FindsBy list_breaches self.old self.new (items_seen terms.old) }
+        ensures state { FindsBy list_breaches self.old self.new (expressions_seen terms.old) }
     {
         resolve_terms(&self.names, &mut self.least, terms);
     }

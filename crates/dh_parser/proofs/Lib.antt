@@ -22,6 +22,7 @@ pub mod AlikeExpressions
 pub mod AlikePrograms
 pub mod PlacedTokens
 pub mod TextWidths
+pub mod TextTargets
 pub mod TextNames
 pub mod TextLocals
 pub mod TextNumbers

@@ -1,18 +1,36 @@
--- What parts of a program's tree break of the rules on where memories stand and what is assigned to.
-use Rattle.std.specs.Prelude.{Bool, List, Option, map, option_map, Vec}
+-- What parts of a program's tree break of the rules on where memories stand, what is assigned to, and what
+-- stands in copies.
+use Rattle.std.specs.Prelude.{ℕ, List, Option, Vec}
 use Rattle.std.specs.Global.{Global, Box}
 use Rattle.dh_tree.specs.declared.breaches.Breach.{Breach}
 use Rattle.dh_tree.specs.declared.trees.commands.Command.{Command}
 use Rattle.dh_tree.specs.declared.trees.programs.Entity.{Entity}
+use Rattle.dh_tree.specs.PhaseKinds.{phase_kind, other_phase_kind, groups_phase_kind}
+use Rattle.dh_tree.specs.Placements as placements
 use Rattle.dh_tree.specs.Placements.{action_placement_breaches, other_placement_breaches, groups_placement_breaches}
-use Rattle.dh_tree.specs.Seen.{action_seen, groups, part_seen, maybe_seen}
+use Rattle.dh_tree.specs.Seen.{action_seen, all_parts_seen, maybe_block_seen}
+use Rattle.dh_rules.specs.declared.contexts.Context.{Context}
+
+-- what is round a command, as the definitions see it
+abbrev pub context_seen : Context → placements.Context
+context_seen c = record { within = c.within; copied = c.copied; first = c.first; joins = c.joins }
 
 -- the breaches in a command, in a block that may lack, and in the parts of a block
-abbrev pub command_broken : List Entity → (within : Bool) → Command → List Breach
-command_broken entities within c = action_placement_breaches entities within (action_seen c)
+abbrev pub command_broken : List Entity → Context → Command → List Breach
+command_broken entities context c = action_placement_breaches entities (context_seen context) (action_seen c)
 
-abbrev pub other_broken : List Entity → Option (Box Command) → List Breach
-other_broken entities block = other_placement_breaches entities (maybe_seen (option_map (λ b. action_seen b.value) block))
+abbrev pub other_broken : List Entity → Context → Option (Box Command) → List Breach
+other_broken entities context block = other_placement_breaches entities (context_seen context) (maybe_block_seen block)
 
-abbrev pub parts_broken : List Entity → (within : Bool) → List (Vec Command Global) → List Breach
-parts_broken entities within parts = groups_placement_breaches entities within (groups (map part_seen parts))
+abbrev pub parts_broken : List Entity → Context → List (Vec Command Global) → List Breach
+parts_broken entities context parts = groups_placement_breaches entities (context_seen context) (all_parts_seen parts)
+
+-- how many phases they have: none, one straight phase, or others
+abbrev pub command_steps : Command → ℕ
+command_steps c = phase_kind (action_seen c)
+
+abbrev pub other_steps : Option (Box Command) → ℕ
+other_steps block = other_phase_kind (maybe_block_seen block)
+
+abbrev pub parts_steps : List (Vec Command Global) → ℕ
+parts_steps parts = groups_phase_kind (all_parts_seen parts)

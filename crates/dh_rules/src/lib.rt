@@ -1,8 +1,13 @@
-//! The pass over where memories are declared and what is assigned to: it refuses a program whose
-//! memories stand where none may stand, and an assignment to an iterator.
+//! The pass over where memories are declared, what is assigned to, and what stands in copies of a loop's
+//! body: it refuses a program whose memories stand where none may stand, an assignment to an iterator or out
+//! of a body of several copies, steps that copies would not take together, and reducers that join no copies.
 //! Stands on `dh_tree` and `dh_base`. docs/LANGUAGE.md tells the rules.
 #![tactic(auto)]
 
+mod contexts;
+mod keeping;
 mod placements;
+mod reducers;
+mod steps;
 
 pub use placements::rules;

@@ -1,5 +1,5 @@
 -- Counts that stop at a bound.
-use Rattle.std.proofs.Common.{◌≡◌, ℕ, zero, suc, ◌+◌, ◌*◌, ◌<◌, ◌≤◌, inl, inr, nat_lt, Bool, true, List, [], ◌∷◌, map, min, length, Some, None, refl, sym, ap, ◌∙◌, arith, if◌then◌else◌, subst, Ok, Err, drop, get_or, add-one}
+use Rattle.std.proofs.Common.{◌≡◌, ℕ, zero, suc, ◌+◌, ◌*◌, ◌<◌, ◌≤◌, inl, inr, nat_lt, Bool, true, List, [], ◌∷◌, map, min, length, Option, Some, None, refl, sym, ap, ◌∙◌, arith, if◌then◌else◌, subst, Ok, Err, drop, get_or, add-one}
 use Rattle.std.proofs.lemmas.Bool.{cases_lt}
 use Rattle.std.proofs.lemmas.Bool.Decides.{nat_tests}
 use Rattle.std.proofs.Math.Nat.{min-eq_left, min-eq_right, le-mul_of_pos_right, min-le_right, one-mul, mul-zero, mul_assoc}
@@ -8,7 +8,7 @@ use Rattle.dh_base.specs.declared.limits.Excess.{Excess}
 use Rattle.dh_base.specs.declared.limits.Limit.{Limit}
 use Rattle.dh_base.specs.declared.limits.Limit.TheVariants as limit
 use Rattle.dh_tree.specs.Elements.{banks_of}
-use Rattle.dh_tree.specs.Excesses.{most_counted, excess_at, or_else, first_above, first_excess}
+use Rattle.dh_tree.specs.Excesses.{most_counted, excess_at, or_else, first_above, copies_excess, first_excess}
 use Rattle.dh_tree.specs.Memories.{Memory, entry_of, memories_of, table_of}
 use Rattle.dh_tree.specs.declared.tables.MemEntry.{MemEntry}
 use Rattle.dh_tree.specs.PlainTrees.{Program}
@@ -111,17 +111,25 @@ pub ports_above : (ms : List Memory) → first_above limit.Ports (λ m. m.shape.
 ports_above [] = refl
 ports_above (m ∷ ms) = ap (λ x. or_else (excess_at limit.Ports m.shape.ports) x) (ports_above ms)
 
-pub told_of_table : (p : Program) → first_excess p ≡ excess_of (table_of p)
+-- the last limits: ports, copies and elements
+abbrev behind_banks : Program → (ports : Option Excess) → Option Excess
+behind_banks p ports = or_else ports (or_else (copies_excess 1 p.body) (excess_at limit.Elements (elements_in (table_of p))))
+
+pub told_of_table : (p : Program) → first_excess p ≡ excess_of (copies_excess 1 p.body) (table_of p)
 told_of_table p =
-    ap (λ x. or_else x (or_else (first_above limit.Banks (λ m. banks_of m.shape.dims) (memories_of p)) (or_else (first_above limit.Ports (λ m. m.shape.ports) (memories_of p)) (excess_at limit.Elements (elements_in (table_of p)))))) (dimensions_above (memories_of p))
-    ∙ (ap (λ x. or_else (first_in measure.Dimensions (table_of p)) (or_else x (or_else (first_above limit.Ports (λ m. m.shape.ports) (memories_of p)) (excess_at limit.Elements (elements_in (table_of p)))))) (banks_above (memories_of p))
-    ∙ ap (λ x. or_else (first_in measure.Dimensions (table_of p)) (or_else (first_in measure.Banks (table_of p)) (or_else x (excess_at limit.Elements (elements_in (table_of p)))))) (ports_above (memories_of p)))
+    ap (λ x. or_else x (or_else (first_above limit.Banks (λ m. banks_of m.shape.dims) (memories_of p)) (behind_banks p (first_above limit.Ports (λ m. m.shape.ports) (memories_of p))))) (dimensions_above (memories_of p))
+    ∙ (ap (λ x. or_else (first_in measure.Dimensions (table_of p)) (or_else x (behind_banks p (first_above limit.Ports (λ m. m.shape.ports) (memories_of p))))) (banks_above (memories_of p))
+    ∙ ap (λ x. or_else (first_in measure.Dimensions (table_of p)) (or_else (first_in measure.Banks (table_of p)) (behind_banks p x))) (ports_above (memories_of p)))
 
-pub excess_told : (A : Type 0) (p : Program) (es : List MemEntry) (e : Excess) → es ≡ table_of p → excess_of es ≡ Some e → TellsExcess {A = A} (first_excess p) (Err e)
-excess_told A p es e same is = subst (λ o. TellsExcess {A = A} o (Err e)) (sym (told_of_table p ∙ (ap excess_of (sym same) ∙ is))) refl
+-- what is told of the table and of the copies of the body
+told_of_both : (p : Program) (copies : Option Excess) (es : List MemEntry) (o : Option Excess) → copies ≡ copies_excess 1 p.body → es ≡ table_of p → excess_of copies es ≡ o → first_excess p ≡ o
+told_of_both p copies es o walked same is = told_of_table p ∙ (ap (λ l. excess_of (copies_excess 1 p.body) l) (sym same) ∙ (ap (λ x. excess_of x es) (sym walked) ∙ is))
 
-pub none_told : {A : Type 0} (p : Program) (es : List MemEntry) (a : A) → es ≡ table_of p → excess_of es ≡ None → TellsExcess {A = A} (first_excess p) (Ok a)
-none_told {A = A} p es a same is = subst (λ o. TellsExcess {A = A} o (Ok a)) (sym (told_of_table p ∙ (ap excess_of (sym same) ∙ is))) tt
+pub excess_told : (A : Type 0) (p : Program) (copies : Option Excess) (es : List MemEntry) (e : Excess) → copies ≡ copies_excess 1 p.body → es ≡ table_of p → excess_of copies es ≡ Some e → TellsExcess {A = A} (first_excess p) (Err e)
+excess_told A p copies es e walked same is = subst (λ o. TellsExcess {A = A} o (Err e)) (sym (told_of_both p copies es (Some e) walked same is)) refl
+
+pub none_told : {A : Type 0} (p : Program) (copies : Option Excess) (es : List MemEntry) (a : A) → copies ≡ copies_excess 1 p.body → es ≡ table_of p → excess_of copies es ≡ None → TellsExcess {A = A} (first_excess p) (Ok a)
+none_told {A = A} p copies es a walked same is = subst (λ o. TellsExcess {A = A} o (Ok a)) (sym (told_of_both p copies es None walked same is)) tt
 
 -- a count so far, cut off at a bound, of which the rest makes the whole
 pub record Counting (cap count whole rest : ℕ) : Type 0 where

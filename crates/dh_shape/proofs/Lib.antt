@@ -1,3 +1,4 @@
 pub mod Spots
 pub mod Counts
 pub mod Loops
+pub mod CopiesWalked

@@ -1,8 +1,10 @@
 //! Shapes of memories: what an index of an access is, where an element lies, and which limits the
-//! memories of a program exceed.
+//! memories and copies of a program exceed.
 //! Stands on `dh_tree`, `dh_value` and `dh_base`. docs/LANGUAGE.md tells the rules.
 #![tactic(auto)]
 
+mod copies;
+mod counting;
 mod indices;
 mod limits;
 mod places;

@@ -1,17 +1,16 @@
-//! Which limits the memories of a program exceed.
+//! Which limits the memories and copies of a program exceed.
 
-ghost use Rattle.std.specs.Prelude.{◌≡◌, ◌+◌, ◌*◌, min};
+ghost use Rattle.std.specs.Prelude.{◌≡◌, ◌*◌, min};
 ghost use Rattle.dh_tree.specs.Elements.{banks_of};
-ghost use Rattle.dh_tree.specs.Excesses.{most_counted, excess_at, first_excess};
+ghost use Rattle.dh_tree.specs.Excesses.{most_counted, first_excess};
 ghost use Rattle.dh_tree.specs.Seen.{program_seen};
 ghost use Rattle.dh_tree.specs.Tables.{elements_of, elements_in};
 ghost use Rattle.dh_shape.specs.Above.{excess_in, first_in, excess_of, TellsExcess};
 
+use crate::copies::copies_above;
+use crate::counting::{excess, product, total};
 use dh_base::{Excess, Limit};
 use dh_tree::{Dim, MemEntry, Shape, Typed};
-
-/// Counts that are reported stop here.
-const MOST_COUNTED: u64 = 1_000_000_000;
 
 /// What is counted of a memory by itself.
 #[derive(Clone, Copy)]
@@ -19,34 +18,6 @@ enum Measure {
     Dimensions,
     Banks,
     Ports,
-}
-
-/// A count, where it is above its limit.
-fn excess(limit: Limit, count: u64) -> Option<Excess>
-    ensures { result ≡ excess_at limit count }
-{
-    if limit.greatest() < count {
-        Some(Excess {
-            limit,
-            count: count.min(MOST_COUNTED),
-        })
-    } else {
-        None
-    }
-}
-
-/// The product, as far as counts go.
-fn product(left: u64, right: u64) -> u64
-    ensures { result ≡ min (left * right) most_counted }
-{
-    left.saturating_mul(right).min(MOST_COUNTED)
-}
-
-/// The sum, as far as counts go.
-fn total(left: u64, right: u64) -> u64
-    ensures { result ≡ min (left + right) most_counted }
-{
-    left.saturating_add(right).min(MOST_COUNTED)
 }
 
 /// A count times the banks of a dimension, as far as counts go.
@@ -120,9 +91,9 @@ fn first_above(measure: Measure, entries: &[MemEntry]) -> Option<Excess>
     None
 }
 
-/// The first excess of a table.
-fn table_excess(entries: &[MemEntry]) -> Option<Excess>
-    ensures { result ≡ excess_of entries.now }
+/// The first excess of a table, with that of copies in its place.
+fn table_excess(entries: &[MemEntry], copies: Option<Excess>) -> Option<Excess>
+    ensures { result ≡ excess_of copies entries.now }
 {
     if let Some(excess) = first_above(Measure::Dimensions, entries) {
         return Some(excess);
@@ -133,20 +104,25 @@ fn table_excess(entries: &[MemEntry]) -> Option<Excess>
     if let Some(excess) = first_above(Measure::Ports, entries) {
         return Some(excess);
     }
+    if let Some(excess) = copies {
+        return Some(excess);
+    }
     excess(Limit::Elements, all_elements(entries))
 }
 
-/// Tells whether the memories of a program keep the limits. Takes no memory.
+/// Tells whether the memories and copies of a program keep the limits. Takes no memory.
 ///
 /// # Errors
 ///
 /// The first excess: of the dimensions of a memory, then of its banks over all dimensions, then of the
-/// ports of a bank, each of the first memory that has too many; then of the elements of all memories
-/// together. Counts stop at 1,000,000,000.
+/// ports of a bank, each of the first memory that has too many; then of the copies of one place, of the
+/// first loop inside which there are too many; then of the elements of all memories together. Counts stop
+/// at 1,000,000,000.
 pub fn within(typed: &Typed) -> Result<(), Excess>
     ensures { TellsExcess (first_excess (program_seen typed.now)) result }
 {
-    match table_excess(typed.memories().as_slice()) {
+    let copies = copies_above(1, &typed.tree().body);
+    match table_excess(typed.memories().as_slice(), copies) {
         Some(excess) => Err(excess),
         None => Ok(()),
     }

@@ -20,7 +20,7 @@ use Rattle.dh_meaning.specs.Effects.{Begun, Variables, spot_reached}
 use Rattle.dh_meaning.specs.Paths.{Path}
 use Rattle.dh_meets.specs.SourceEvents.{SourceAccess, accesses_in, trace}
 use Rattle.dh_sound.specs.IndexValues.{HasCopy, IsTypedProgram, IsAccess, IsMade, IsReached, target_of}
-use Rattle.dh_sound.specs.ReducerIndices.{KeepsIndexRules}
+use Rattle.dh_sound.specs.IndexRules.{KeepsIndexRules}
 use Rattle.dh_sound.proofs.BanksReached.{first_none, second_none, access_reaches}
 use Rattle.dh_sound.proofs.IndicesKeep.{access_keeps}
 use Rattle.dh_sound.proofs.IteratorsKnown.{both_all}
@@ -93,7 +93,7 @@ loops_have_copies p e = copies (known_of p) p.body (second_none (decls_shape_bre
 abbrev pub access_of : (p : Program) (b : Begun) (path : Path) (v : Variables) (k : ℕ) (a : SourceAccess) (n : ℕ) (r : Reach) → IsTypedProgram p → KeepsIndexRules p → slice_get (accesses_in (trace p)) k ≡ Some a → IsMade p b path v a r → IsAccess p b path v a n r
 access_of p b path v k a n r typed rules at made =
     let here : memory_in (memories_of p) a.entity ≡ Some made.memory = ap (memory_in (memories_of p)) made.is ∙ made.declared in
-    let keeps = access_keeps p rules.indices rules.reducers k a at made.memory here in
+    let keeps = access_keeps p rules.indices k a at made.memory here in
     record {
       entity = made.entity;
       is = made.is;

@@ -17,7 +17,6 @@ use Rattle.dh_meets.specs.SourceEvents.{trace}
 use Rattle.dh_sound.specs.AssignsInside.{AssignsInside}
 use Rattle.dh_sound.specs.Blocks.{factors, StandsIn, StandsInPhase}
 use Rattle.dh_sound.specs.LoopsMatch.{unrolled, EachMatches}
-use Rattle.dh_sound.specs.NamedPrograms.{StoresToAccesses}
 use Rattle.dh_sound.specs.NamesInScope.{IsScoped}
 use Rattle.dh_sound.specs.Trails.{Follows}
 use Rattle.dh_sound.specs.PhaseFacts.{HasStraightIn, HaveStraight, HasStraight, HasTestIn, HaveTest, HasTest}
@@ -116,14 +115,14 @@ pub record TestFound (p : Program) (loops : List Turning) (block : Block) : Type
   pub names : TestNames p loops matches.of.tested
 
 -- each block of a ready program is one of these
-pub block_found : (p : Program) → IsReadyCopied p → StoresToAccesses p → AssignsInside (known_of p) 0 p.body → (loops : List Turning) (block : Block)
+pub block_found : (p : Program) → IsReadyCopied p → AssignsInside (known_of p) 0 p.body → (loops : List Turning) (block : Block)
     → StandsIn [] (core_of p).phases loops block → StraightFound p loops block ⊎ TestFound p loops block
-block_found p r t inside loops block s =
-    by (find_listed (known_of p) (phases_of p) [] loops block (action_inside (known_of p) nothing_around [] 0 p.body (ready_named p r t) tt)
-    (action_scoped (known_of p) nothing_around [] 0 p.body (body_scoped p r t)) (phases_inside (known_of p) p.body 0 nothing_around 0 inside) s)
+block_found p r inside loops block s =
+    by (find_listed (known_of p) (phases_of p) [] loops block (action_inside (known_of p) nothing_around [] 0 p.body (ready_named p r) tt)
+    (action_scoped (known_of p) nothing_around [] 0 p.body (body_scoped p r)) (phases_inside (known_of p) p.body 0 nothing_around 0 inside) s)
   where
     tops : Tops nothing_around [] (trace p) (phases_of p)
-    tops = phases_follow p r.of_text.first r.of_text.numbered (ready_named p r t)
+    tops = phases_follow p r.of_text.first r.of_text.numbered (ready_named p r)
 
     by : Found (known_of p) (HasStraight (phases_of p)) (HasTest (phases_of p)) loops block → StraightFound p loops block ⊎ TestFound p loops block
     by (inl (cs, (is, (has, (matched, (names, split)))))) =
@@ -144,7 +143,7 @@ block_found p r t inside loops block s =
             };
             loops_match = w.1.1;
           };
-          names = λ k a m g. any_named p r t loops k a g cs cs has (λ c h. h) names (subst (λ (x : List Located). any_makes k x ≡ true) (sym split.is) (makes_more k split.done split.folds m));
+          names = λ k a m g. any_named p r loops k a g cs cs has (λ c h. h) names (subst (λ (x : List Located). any_makes k x ≡ true) (sym split.is) (makes_more k split.done split.folds m));
           inside = split.inside;
         })
     by (inr (c, (is, (has, (matched, names))))) =
@@ -152,5 +151,5 @@ block_found p r t inside loops block s =
         let same : factors loops ≡ factors_of c.around.loops = match_factors (known_of p) loops c.around.loops matched in
         inr (record {
           matches = record { of = record { tested = c; is = is; has = has; follows = f; inside = same; paths = ap paths_in same }; loops_match = matched };
-          names = λ k a m g. test_named p r t loops k a g c has names m;
+          names = λ k a m g. test_named p r loops k a g c has names m;
         })

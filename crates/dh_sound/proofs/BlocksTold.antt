@@ -24,7 +24,6 @@ use Rattle.dh_sound.specs.BlockTold.{IsPathOf}
 use Rattle.dh_sound.specs.IndexValues.{IsTypedProgram}
 use Rattle.dh_sound.specs.IteratorsAt.{HaveDepths, TurnAt, TurnsAt}
 use Rattle.dh_sound.specs.LoopsMatch.{AreSpared}
-use Rattle.dh_sound.specs.NamedPrograms.{StoresToAccesses}
 use Rattle.dh_sound.specs.NamesInScope.{InScope, is_variable, is_iterator}
 use Rattle.dh_sound.specs.Standing.{Spares}
 use Rattle.dh_sound.specs.SameKeys.{EachName, EachNameOf, EachNameIn, NameFacts, is_plain, is_full}
@@ -185,9 +184,9 @@ module _ (p : Program) (ready : IsReadyCopied p) (typed : IsTypedProgram p) (loo
     }
 
 -- what is told of the blocks of a ready program that assigns inside
-pub blocks_told : (p : Program) → IsReadyCopied p → IsTypedProgram p → StoresToAccesses p → AssignsInside (known_of p) 0 p.body → TellsBlocks p
-blocks_told p ready typed stores inside loops block stands =
-    elim (block_found p ready stores inside loops block stands) [
+pub blocks_told : (p : Program) → IsReadyCopied p → IsTypedProgram p → AssignsInside (known_of p) 0 p.body → TellsBlocks p
+blocks_told p ready typed inside loops block stands =
+    elim (block_found p ready inside loops block stands) [
       | inl f ↦ inl (straight_told p ready typed loops block stands f)
       | inr f ↦ inr (test_told p ready typed loops block stands f)
     ]

@@ -16,7 +16,6 @@ use Rattle.dh_tree.proofs.SuitedMemories.{shape_without}
 use Rattle.dh_meaning.specs.Sites.{Around, nothing_around, in_arm, in_loop, loop_of}
 use Rattle.dh_meets.specs.SourceEvents.{Element, with_indices, in_row, Site, SourceAccess, SourceEvent, accesses, assigned, one_access, term_events, terms_events, maybe_events, write_events, site_of, events, command_events, other_events, groups_events, part_events, accesses_in, trace}
 use Rattle.dh_sound.specs.IndexValues.{element_breaches}
-use Rattle.dh_sound.specs.ReducerIndices.{reducer_breaches, reducer_form_breaches, reducer_other_breaches, reducer_part_breaches, reducer_groups_breaches, reducer_breaches_of}
 use Rattle.dh_sound.proofs.BanksReached.{first_none, second_none}
 use Rattle.dh_sound.proofs.IteratorsKnown.{both_all}
 use Rattle.dh_sound.proofs.ValuesOfIndices.{both_true}
@@ -164,50 +163,50 @@ module _ (known : Known) where
   maybe_keeps site (Some t) e = term_keeps site t e
 
   mutual
-    events_keep : (r : Around) (a : Action) → action_index_breaches known a ≡ [] → reducer_breaches known a ≡ [] → EventsKeep known (events r a)
-    events_keep r (action id place form) e f = form_keeps r (site_of r id) form e f
+    events_keep : (r : Around) (a : Action) → action_index_breaches known a ≡ [] → EventsKeep known (events r a)
+    events_keep r (action id place form) e = form_keeps r (site_of r id) form e
 
-    form_keeps : (r : Around) (site : Site) (a : ActionForm) → action_form_index_breaches known a ≡ [] → reducer_form_breaches known a ≡ [] → EventsKeep known (command_events r site a)
-    form_keeps r site (lets name declared value) e f = both_keep (maybe_events site value) (assigned name.entity ∷ []) (maybe_keeps site value e) tt
-    form_keeps r site (lets_memory name shape shape_places value) e f = tt
-    form_keeps r site (views name parent form) e f = tt
-    form_keeps r site (assigns target value) e f = both_keep (term_events site value) (assigned target.entity ∷ []) (term_keeps site value e) tt
-    form_keeps r site (stores target value) e f =
+    form_keeps : (r : Around) (site : Site) (a : ActionForm) → action_form_index_breaches known a ≡ [] → EventsKeep known (command_events r site a)
+    form_keeps r site (lets name declared value) e = both_keep (maybe_events site value) (assigned name.entity ∷ []) (maybe_keeps site value e) tt
+    form_keeps r site (lets_memory name shape shape_places value) e = tt
+    form_keeps r site (views name parent form) e = tt
+    form_keeps r site (assigns target value) e = both_keep (term_events site value) (assigned target.entity ∷ []) (term_keeps site value e) tt
+    form_keeps r site (stores target value) e =
         both_keep (term_events site value) (write_events site target) (term_keeps site value (second_none (term_index_breaches known target) _ e)) (write_keeps site target (first_none (term_index_breaches known target) _ e))
-    form_keeps r site (reduces target o value) e f = both_keep (term_events site value) (assigned target.entity ∷ []) (term_keeps site value f) tt
-    form_keeps r site (calls function arguments) e f = tt
-    form_keeps r site (blocks body) e f = groups_keep r body e f
-    form_keeps r site (decides test chosen other) e f =
+    form_keeps r site (reduces target o value) e = both_keep (term_events site value) (assigned target.entity ∷ []) (term_keeps site value e) tt
+    form_keeps r site (calls function arguments) e = tt
+    form_keeps r site (blocks body) e = groups_keep r body e
+    form_keeps r site (decides test chosen other) e =
         let below = second_none (term_index_breaches known test) _ e in
         both_keep (term_events site test) _ (term_keeps site test (first_none (term_index_breaches known test) _ e))
         (both_keep (events (in_arm r site.command true) chosen) _
-        (events_keep (in_arm r site.command true) chosen (first_none (action_index_breaches known chosen) _ below) (first_none (reducer_breaches known chosen) _ f))
-        (other_keep (in_arm r site.command false) other (second_none (action_index_breaches known chosen) _ below) (second_none (reducer_breaches known chosen) _ f)))
-    form_keeps r site (repeats test body) e f =
-        both_keep (term_events site test) (events r body) (term_keeps site test (first_none (term_index_breaches known test) _ e)) (events_keep r body (second_none (term_index_breaches known test) _ e) f)
-    form_keeps r site (counts iterator declared low high factor body combine combine_place) e f =
+        (events_keep (in_arm r site.command true) chosen (first_none (action_index_breaches known chosen) _ below))
+        (other_keep (in_arm r site.command false) other (second_none (action_index_breaches known chosen) _ below)))
+    form_keeps r site (repeats test body) e =
+        both_keep (term_events site test) (events r body) (term_keeps site test (first_none (term_index_breaches known test) _ e)) (events_keep r body (second_none (term_index_breaches known test) _ e))
+    form_keeps r site (counts iterator declared low high factor body combine combine_place) e =
         let below = second_none (turns_breaches low high factor) _ e in
         both_keep (events (in_loop r (loop_of iterator low high factor)) body) _
-        (events_keep (in_loop r (loop_of iterator low high factor)) body (first_none (action_index_breaches known body) _ below) (first_none (reducer_breaches known body) _ f))
-        (other_keep (in_loop r (loop_of iterator low high factor)) combine (second_none (action_index_breaches known body) _ below) (second_none (reducer_breaches known body) _ f))
+        (events_keep (in_loop r (loop_of iterator low high factor)) body (first_none (action_index_breaches known body) _ below))
+        (other_keep (in_loop r (loop_of iterator low high factor)) combine (second_none (action_index_breaches known body) _ below))
 
-    other_keep : (r : Around) (m : MaybeAction) → other_index_breaches known m ≡ [] → reducer_other_breaches known m ≡ [] → EventsKeep known (other_events r m)
-    other_keep r no_action e f = tt
-    other_keep r (one_action a) e f = events_keep r a e f
+    other_keep : (r : Around) (m : MaybeAction) → other_index_breaches known m ≡ [] → EventsKeep known (other_events r m)
+    other_keep r no_action e = tt
+    other_keep r (one_action a) e = events_keep r a e
 
-    part_keeps : (r : Around) (p : Actions) → actions_index_breaches known p ≡ [] → reducer_part_breaches known p ≡ [] → EventsKeep known (part_events r p)
-    part_keeps r no_actions e f = tt
-    part_keeps r (action_then a rest) e f =
+    part_keeps : (r : Around) (p : Actions) → actions_index_breaches known p ≡ [] → EventsKeep known (part_events r p)
+    part_keeps r no_actions e = tt
+    part_keeps r (action_then a rest) e =
         both_keep (events r a) (part_events r rest)
-        (events_keep r a (first_none (action_index_breaches known a) _ e) (first_none (reducer_breaches known a) _ f))
-        (part_keeps r rest (second_none (action_index_breaches known a) _ e) (second_none (reducer_breaches known a) _ f))
+        (events_keep r a (first_none (action_index_breaches known a) _ e))
+        (part_keeps r rest (second_none (action_index_breaches known a) _ e))
 
-    groups_keep : (r : Around) (g : Groups) → groups_index_breaches known g ≡ [] → reducer_groups_breaches known g ≡ [] → EventsKeep known (groups_events r g)
-    groups_keep r no_groups e f = tt
-    groups_keep r (group_then part rest) e f =
+    groups_keep : (r : Around) (g : Groups) → groups_index_breaches known g ≡ [] → EventsKeep known (groups_events r g)
+    groups_keep r no_groups e = tt
+    groups_keep r (group_then part rest) e =
         both_keep (part_events r part) (groups_events r rest)
-        (part_keeps r part (first_none (actions_index_breaches known part) _ e) (first_none (reducer_part_breaches known part) _ f))
-        (groups_keep r rest (second_none (actions_index_breaches known part) _ e) (second_none (reducer_part_breaches known part) _ f))
+        (part_keeps r part (first_none (actions_index_breaches known part) _ e))
+        (groups_keep r rest (second_none (actions_index_breaches known part) _ e))
 
 keeps_at : (known : Known) (es : List SourceEvent) (k : ℕ) (a : SourceAccess) → EventsKeep known es → slice_get (accesses_in es) k ≡ Some a → ElementKeeps known a.entity a.element
 keeps_at known [] k a h e = absurd cc
@@ -220,10 +219,10 @@ pub record KeepsIn (cs : List Counter) (m : Memory) (element : Element) : Type 0
   pub dims : AllByRecursion IsDim m.shape.dims
   pub none : element_breaches cs m.shape.dims element ≡ []
 
-pub access_keeps : (p : Program) → index_breaches_of p ≡ [] → reducer_breaches_of p ≡ [] → (k : ℕ) (a : SourceAccess) → slice_get (accesses_in (trace p)) k ≡ Some a → (m : Memory) → memory_in (memories_of p) a.entity ≡ Some m → KeepsIn (known_of p).counters m a.element
-access_keeps p e f k a g m h =
+pub access_keeps : (p : Program) → index_breaches_of p ≡ [] → (k : ℕ) (a : SourceAccess) → slice_get (accesses_in (trace p)) k ≡ Some a → (m : Memory) → memory_in (memories_of p) a.entity ≡ Some m → KeepsIn (known_of p).counters m a.element
+access_keeps p e k a g m h =
     let shape = memory_keeps p a.entity m e h in
     record {
       dims = dims_are m.shape.dims (both_true (not (m.shape.ports == 0)) (dims_keep m.shape.dims) shape).1;
-      none = keeps_at (known_of p) (trace p) k a (events_keep (known_of p) nothing_around p.body (second_none (decls_shape_breaches p.decls) _ e) f) g m h shape;
+      none = keeps_at (known_of p) (trace p) k a (events_keep (known_of p) nothing_around p.body (second_none (decls_shape_breaches p.decls) _ e)) g m h shape;
     }

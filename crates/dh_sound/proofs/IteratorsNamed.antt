@@ -2,10 +2,11 @@
 -- the next number, so that it is none of the iterators round it, whose numbers are smaller. And what a command
 -- assigns to is visible and no iterator, while each number round it is one of an iterator. By one walk over
 -- the body, with the point of the text that stands before each command.
-use Rattle.std.proofs.Common.{◌≡◌, ℕ, ◌<◌, ◌≤◌, Bool, true, false, if◌then◌else◌, List, [], ◌∷◌, ◌++◌, length, Option, Some, None, refl, sym, ◌∙◌, ap, subst, arith, length-append}
+use Rattle.std.proofs.Common.{◌≡◌, ℕ, ◌<◌, ◌≤◌, ◌||◌, Bool, true, false, if◌then◌else◌, List, [], ◌∷◌, ◌++◌, length, Option, Some, None, refl, sym, ◌∙◌, ap, subst, arith, length-append}
 use Rattle.std.specs.Prelude.{slice_get}
 use Rattle.std.specs.Option.{is_some}
 use Rattle.std.proofs.lemmas.List.{append_assoc, append-nil}
+use Rattle.dh_base.specs.declared.places.Place.{Place}
 use Rattle.dh_tree.specs.declared.breaches.Breach.{Breach}
 use Rattle.dh_tree.specs.declared.trees.expressions.Ref.{Ref}
 use Rattle.dh_tree.specs.declared.trees.programs.Entity.{Entity}
@@ -14,7 +15,7 @@ use Rattle.dh_tree.specs.declared.trees.programs.Sort.TheVariants.{Variable, Ite
 use Rattle.dh_tree.specs.declared.trees.programs.Sort.TheVariants.{Memory as MemorySort}
 use Rattle.dh_tree.specs.Breaches.{unknown, twice, term_breaches, breaches, form_breaches, other_breaches, actions_breaches, groups_breaches, items_breaches, functions_breaches}
 use Rattle.dh_tree.specs.Kinds.{when}
-use Rattle.dh_tree.specs.Placements.{entity_iterates, names_iterator, action_placement_breaches, form_placement_breaches, other_placement_breaches, actions_placement_breaches, groups_placement_breaches, decls_placement_breaches}
+use Rattle.dh_tree.specs.Placements.{Context, nothing_round, branched, in_body, in_combine, is_outer_write, joined_breaches, entity_iterates, names_iterator, action_placement_breaches, form_placement_breaches, other_placement_breaches, actions_placement_breaches, groups_placement_breaches, decls_placement_breaches}
 use Rattle.dh_tree.specs.PlainTrees.{Action, action, ActionForm, lets, lets_memory, views, assigns, stores, reduces, calls, blocks, decides, repeats, counts, MaybeAction, no_action, one_action, Actions, no_actions, action_then, Groups, no_groups, group_then, Program}
 use Rattle.dh_tree.specs.Resolved.{resolved_action, resolved_form, resolved_other, resolved_actions, resolved_groups}
 use Rattle.dh_tree.specs.Scopes.{entity_of, is_visible, Scope, entity, declare, leave, past, at_end, form_at_end, other_at_end, actions_at_end, groups_at_end, items_of, first_scope, body_scope, last_scope}
@@ -101,6 +102,10 @@ visible_is : (b : Bool) (x : Breach) → (if b then [] else x ∷ []) ≡ [] →
 visible_is true x e = refl
 visible_is false x e = not_none _ _ e
 
+left_false : (a b : Bool) → (a || b) ≡ false → a ≡ false
+left_false false b e = refl
+left_false true b e = cc
+
 pub none_when : (b : Bool) (x : Breach) → when b (x ∷ []) ≡ [] → b ≡ false
 none_when true x e = not_none _ _ e
 none_when false x e = refl
@@ -160,41 +165,44 @@ module _ (es : List Entity) where
       (ap entity_iterates (ap (λ x. slice_get x (length s.entities)) on.is ∙ at_next s.entities (entity r Iterator) on.more)))
 
   mutual
-    leaves : (a : Action) (s : Scope) (within : Bool) (is : List ℕ) → resolved_action s a ≡ a → breaches s a ≡ [] → action_placement_breaches es within a ≡ []
+    leaves : (a : Action) (s : Scope) (c : Context) (is : List ℕ) → resolved_action s a ≡ a → breaches s a ≡ [] → action_placement_breaches es c a ≡ []
         → FoldsElsewhere es a → GoesOn (at_end s a).entities es → AreRound (length s.entities) is → Leaves is a
-    leaves (action id place form) s within is e n p f on round =
-        let same : resolved_form s form ≡ form = cc in form_leaves form s within is same n p f on round
+    leaves (action id place form) s c is e n p f on round =
+        let same : resolved_form s form ≡ form = cc in form_leaves form s c place is same n p f on round
 
-    form_leaves : (form : ActionForm) (s : Scope) (within : Bool) (is : List ℕ) → resolved_form s form ≡ form → form_breaches s form ≡ []
-        → form_placement_breaches es within form ≡ [] → FormFoldsElsewhere es form → GoesOn (form_at_end s form).entities es → AreRound (length s.entities) is → FormLeaves is form
-    form_leaves (lets name declared value) s within is e n p f on round =
+    form_leaves : (form : ActionForm) (s : Scope) (c : Context) (place : Place) (is : List ℕ) → resolved_form s form ≡ form → form_breaches s form ≡ []
+        → form_placement_breaches es c place form ≡ [] → FormFoldsElsewhere es form → GoesOn (form_at_end s form).entities es → AreRound (length s.entities) is → FormLeaves is form
+    form_leaves (lets name declared value) s c place is e n p f on round =
         let named : Some (length s.entities) ≡ name.entity = cc in new_name s is name round named
-    form_leaves (lets_memory name shape shape_places value) s within is e n p f on round = tt
-    form_leaves (views name parent form) s within is e n p f on round = tt
-    form_leaves (assigns target value) s within is e n p f on round =
+    form_leaves (lets_memory name shape shape_places value) s c place is e n p f on round = tt
+    form_leaves (views name parent form) s c place is e n p f on round = tt
+    form_leaves (assigns target value) s c place is e n p f on round =
         let named : entity_of s.visible target.name ≡ target.entity = cc in
-        used_name s is target round named (first_none (unknown s.visible target) _ n) (none_when (names_iterator es target.entity) _ p)
-    form_leaves (stores target value) s within is e n p f on round = tt
-    form_leaves (reduces target o value) s within is e n p f on round =
+        used_name s is target round named (first_none (unknown s.visible target) _ n) (left_false (names_iterator es target.entity) _ (none_when (is_outer_write es c.first target.entity) _ p))
+    form_leaves (stores target value) s c place is e n p f on round = tt
+    form_leaves (reduces target o value) s c place is e n p f on round =
         let named : entity_of s.visible target.name ≡ target.entity = cc in
         used_name s is target round named (first_none (unknown s.visible target) _ n) f
-    form_leaves (calls function arguments) s within is e n p f on round = tt
-    form_leaves (blocks body) s within is e n p f on round = groups_leave body s within is (let g = e in cc) n p f on round
-    form_leaves (decides test chosen other) s within is e n p f on round =
+    form_leaves (calls function arguments) s c place is e n p f on round = tt
+    form_leaves (blocks body) s c place is e n p f on round = groups_leave body s c is (let g = e in cc) n p f on round
+    form_leaves (decides test chosen other) s c place is e n p f on round =
         let inner : Scope = leave s (at_end s chosen) in
         let first : resolved_action s chosen ≡ chosen = cc in
         let second : resolved_other inner other ≡ other = cc in
         let arms = second_none (term_breaches s.visible test) _ n in (
-          leaves chosen s true is first (first_none (breaches s chosen) _ arms) (first_none (action_placement_breaches es true chosen) _ p) f.0
+          leaves chosen s (branched c) is first (first_none (breaches s chosen) _ arms) (first_none (action_placement_breaches es (branched c) chosen) _ p) f.0
               (then_on (at_end s chosen).entities (other_at_end inner other).entities es (other_on other inner) on) round,
-          other_leaves other inner is second (second_none (breaches s chosen) _ arms) (second_none (action_placement_breaches es true chosen) _ p) f.1 on
+          other_leaves other inner (branched c) is second (second_none (breaches s chosen) _ arms)
+              (first_none (other_placement_breaches es (branched c) other) _ (second_none (action_placement_breaches es (branched c) chosen) _ p)) f.1 on
               (round_grows (length s.entities) (length (at_end s chosen).entities) is (on_long _ _ (goes_on chosen s)) round),
         )
-    form_leaves (repeats test body) s within is e n p f on round =
+    form_leaves (repeats test body) s c place is e n p f on round =
         let same : resolved_action s body ≡ body = cc in
-        leaves body s true is same (second_none (term_breaches s.visible test) _ n) p f on round
-    form_leaves (counts iterator declared low high factor body combine combine_place) s within is e n p f on round =
+        leaves body s (branched c) is same (second_none (term_breaches s.visible test) _ n) (first_none (action_placement_breaches es (branched c) body) _ p) f on round
+    form_leaves (counts iterator declared low high factor body combine combine_place) s c place is e n p f on round =
         let d : Scope = declare s iterator Iterator in
+        let c_body : Context = in_body c factor.value iterator.entity in
+        let c_combine : Context = in_combine c iterator.entity in
         let named : Some (length s.entities) ≡ iterator.entity = cc in
         let first : resolved_action d body ≡ body = cc in
         let second : resolved_other (at_end d body) combine ≡ combine = cc in
@@ -203,22 +211,23 @@ module _ (es : List Entity) where
         let inside = loop_round s is iterator round named (then_on d.entities (at_end d body).entities es (goes_on body d) behind) in (
           new_name s is iterator round named,
           (
-            leaves body d true (also is iterator) first (first_none (breaches d body) _ both) (first_none (action_placement_breaches es true body) _ p) f.0 behind inside,
-            other_leaves combine (at_end d body) (also is iterator) second (second_none (breaches d body) _ both) (second_none (action_placement_breaches es true body) _ p) f.1 on
+            leaves body d c_body (also is iterator) first (first_none (breaches d body) _ both) (first_none (action_placement_breaches es c_body body) _ p) f.0 behind inside,
+            other_leaves combine (at_end d body) c_combine (also is iterator) second (second_none (breaches d body) _ both)
+                (first_none (other_placement_breaches es c_combine combine) _ (second_none (action_placement_breaches es c_body body) _ p)) f.1 on
                 (round_grows (length d.entities) (length (at_end d body).entities) (also is iterator) (on_long _ _ (goes_on body d)) inside),
           ),
         )
 
-    other_leaves : (m : MaybeAction) (s : Scope) (is : List ℕ) → resolved_other s m ≡ m → other_breaches s m ≡ [] → other_placement_breaches es m ≡ []
+    other_leaves : (m : MaybeAction) (s : Scope) (c : Context) (is : List ℕ) → resolved_other s m ≡ m → other_breaches s m ≡ [] → other_placement_breaches es c m ≡ []
         → OtherFoldsElsewhere es m → GoesOn (other_at_end s m).entities es → AreRound (length s.entities) is → OtherLeaves is m
-    other_leaves no_action s is e n p f on round = tt
-    other_leaves (one_action a) s is e n p f on round =
-        let same : resolved_action s a ≡ a = cc in leaves a s true is same n p f on round
+    other_leaves no_action s c is e n p f on round = tt
+    other_leaves (one_action a) s c is e n p f on round =
+        let same : resolved_action s a ≡ a = cc in leaves a s c is same n p f on round
 
-    part_leaves : (part : Actions) (s : Scope) (within : Bool) (is : List ℕ) → resolved_actions s part ≡ part → actions_breaches s part ≡ []
-        → actions_placement_breaches es within part ≡ [] → PartFoldsElsewhere es part → GoesOn (actions_at_end s part).entities es → AreRound (length s.entities) is → PartLeaves is part
-    part_leaves no_actions s within is e n p f on round = tt
-    part_leaves (action_then a rest) s within is e n p f on round =
+    part_leaves : (part : Actions) (s : Scope) (c : Context) (is : List ℕ) → resolved_actions s part ≡ part → actions_breaches s part ≡ []
+        → actions_placement_breaches es c part ≡ [] → PartFoldsElsewhere es part → GoesOn (actions_at_end s part).entities es → AreRound (length s.entities) is → PartLeaves is part
+    part_leaves no_actions s c is e n p f on round = tt
+    part_leaves (action_then a rest) s c is e n p f on round =
         let after : Scope = past s a (at_end s a) in
         let first : resolved_action s a ≡ a = cc in
         let second : resolved_actions after rest ≡ rest = cc in
@@ -226,29 +235,29 @@ module _ (es : List Entity) where
         let behind = then_on after.entities (actions_at_end after rest).entities es (part_on rest after) on in
         let long = on_long _ _ (goes_on a s) in
         let size = ap length same in (
-          leaves a s within is first (first_none (breaches s a) _ n) (first_none (action_placement_breaches es within a) _ p) f.0
+          leaves a s c is first (first_none (breaches s a) _ n) (first_none (action_placement_breaches es c a) _ p) f.0
               (subst (λ (x : List Entity). GoesOn x es) same behind) round,
-          part_leaves rest after within is second (second_none (breaches s a) _ n) (second_none (action_placement_breaches es within a) _ p) f.1 on
+          part_leaves rest after c is second (second_none (breaches s a) _ n) (second_none (joined_breaches c.joins a) _ (second_none (action_placement_breaches es c a) _ p)) f.1 on
               (round_grows (length s.entities) (length after.entities) is (omega (arith, long, size)) round),
         )
 
-    groups_leave : (gs : Groups) (s : Scope) (within : Bool) (is : List ℕ) → resolved_groups s gs ≡ gs → groups_breaches s gs ≡ []
-        → groups_placement_breaches es within gs ≡ [] → GroupsFoldElsewhere es gs → GoesOn (groups_at_end s gs).entities es → AreRound (length s.entities) is → GroupsLeave is gs
-    groups_leave no_groups s within is e n p f on round = tt
-    groups_leave (group_then g rest) s within is e n p f on round =
+    groups_leave : (gs : Groups) (s : Scope) (c : Context) (is : List ℕ) → resolved_groups s gs ≡ gs → groups_breaches s gs ≡ []
+        → groups_placement_breaches es c gs ≡ [] → GroupsFoldElsewhere es gs → GoesOn (groups_at_end s gs).entities es → AreRound (length s.entities) is → GroupsLeave is gs
+    groups_leave no_groups s c is e n p f on round = tt
+    groups_leave (group_then g rest) s c is e n p f on round =
         let after : Scope = actions_at_end s g in
         let first : resolved_actions s g ≡ g = cc in
         let second : resolved_groups after rest ≡ rest = cc in (
-          part_leaves g s within is first (first_none (actions_breaches s g) _ n) (first_none (actions_placement_breaches es within g) _ p) f.0
+          part_leaves g s c is first (first_none (actions_breaches s g) _ n) (first_none (actions_placement_breaches es c g) _ p) f.0
               (then_on after.entities (groups_at_end after rest).entities es (groups_on rest after) on) round,
-          groups_leave rest after within is second (second_none (actions_breaches s g) _ n) (second_none (actions_placement_breaches es within g) _ p) f.1 on
+          groups_leave rest after c is second (second_none (actions_breaches s g) _ n) (second_none (actions_placement_breaches es c g) _ p) f.1 on
               (round_grows (length s.entities) (length after.entities) is (on_long _ _ (part_on g s)) round),
         )
 
 -- a program that breaks no rule keeps its iterators
 pub names_keep : (p : Program) → KeepsItsNames p → LeavesIterators p
 names_keep p k =
-    leaves p.entities p.body (body_scope p) false [] (ap (λ (x : Program). x.body) k.entities)
+    leaves p.entities p.body (body_scope p) nothing_round [] (ap (λ (x : Program). x.body) k.entities)
     (second_none (functions_breaches (length p.decls) (first_scope p) p.functions) _ (second_none (items_breaches [] (items_of p)) _ k.names))
     (second_none (decls_placement_breaches p.decls) _ k.placements)
     k.folds

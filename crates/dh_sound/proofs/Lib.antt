@@ -55,7 +55,8 @@ pub mod OneElement
 pub mod OneArm
 pub mod BlocksOfPhases
 pub mod NamedPrograms
-pub mod TargetsKept
+pub mod PlacementsSplit
+pub mod StraightKinds
 pub mod DistinctPaths
 pub mod ArmsOnce
 pub mod PortsOfBlocks

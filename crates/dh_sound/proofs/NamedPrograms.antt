@@ -1,7 +1,6 @@
--- A program that is ready is numbered and named: its commands are numbered from a first number on, as in the tree of
--- any text; each name that it uses as a variable stands for something, since every name has the entity that it stands
--- for where it stands (the tree is resolved) and is visible there (no rule on names is broken); a name that is
--- declared has the next number. By one walk over the body, with the names that are visible at each command.
+-- The names of a program that is ready: each that it uses as a variable stands for something, since every name has the
+-- entity that it stands for where it stands (the tree is resolved) and is visible there (no rule on names is broken);
+-- a name that is declared has the next number. By one walk over the body, with the names that are visible at each command.
 use Rattle.std.proofs.Common.{◌≡◌, ℕ, if◌then◌else◌, List, [], ◌∷◌, length, Option, Some, None, refl, sym, ◌∙◌, ap}
 use Rattle.std.specs.Option.{is_some, option_map}
 use Rattle.dh_tree.specs.declared.breaches.Breach.{Breach}
@@ -15,7 +14,7 @@ use Rattle.dh_sound.specs.Accepted.{IsReadyCopied}
 use Rattle.dh_tree.specs.Resolved.{resolved_term, resolved_term_form, resolved_terms, resolved_action, resolved_form, resolved_other, resolved_actions, resolved_groups}
 use Rattle.dh_tree.specs.Scopes.{Binding, entity_of, Scope, declare, leave, past, at_end, actions_at_end, first_scope, body_scope, items_of}
 use Rattle.dh_tree.proofs.UncheckedBuilt.{first_none, second_none}
-use Rattle.dh_sound.specs.NamedPrograms.{IsAccess, HasTargets, FormHasTargets, OtherHasTargets, GroupsHaveTargets, PartHasTargets, StoresToAccesses}
+use Rattle.dh_tree.specs.Targets.{IsAccess, HasTargets, FormHasTargets, OtherHasTargets, GroupsHaveTargets, PartHasTargets}
 use Rattle.dh_sound.specs.Straight.{Stands, IsNamedTerm, IsNamedTermForm, AreNamedTerms, MaybeNamed, IsTarget, IsNamedAction, IsNamedForm, IsNamedOther, AreNamedGroups, AreNamedActions}
 
 -- what is visible has a number
@@ -141,7 +140,7 @@ mutual
       (named_action a s first (first_none (breaches s a) _ h) t.0, named_part rest after second (second_none (breaches s a) _ h) t.1)
 
 -- the names of a ready program
-pub ready_named : (p : Program) → IsReadyCopied p → StoresToAccesses p → IsNamedAction p.body
-ready_named p r t =
+pub ready_named : (p : Program) → IsReadyCopied p → IsNamedAction p.body
+ready_named p r =
     named_action p.body (body_scope p) (ap (λ (x : Program). x.body) r.entities)
-    (second_none (functions_breaches (length p.decls) (first_scope p) p.functions) _ (second_none (items_breaches [] (items_of p)) _ r.names)) t.targets
+    (second_none (functions_breaches (length p.decls) (first_scope p) p.functions) _ (second_none (items_breaches [] (items_of p)) _ r.names)) r.of_text.targets

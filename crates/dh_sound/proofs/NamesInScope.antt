@@ -22,7 +22,6 @@ use Rattle.dh_meaning.specs.OnePhase.{makes, any_makes, test_makes}
 use Rattle.dh_meaning.specs.Phases.{Located, located, Phase, straight, turns, repeated, decided, Phases, no_phases, phase, of_list, one_straight, joined, are_straight, one_command, folded, turn_count, turn_phases, choice_phases, phases, form_phases, other_phases, groups_phases, parts_phases, phases_of, idle_phases_of}
 use Rattle.dh_meaning.specs.Sites.{Around, in_arm, in_loop, loop_of}
 use Rattle.dh_meets.specs.SourceEvents.{SourceAccess, accesses_in, trace}
-use Rattle.dh_sound.specs.NamedPrograms.{StoresToAccesses}
 use Rattle.dh_sound.specs.NamesInScope.{InScope, IsScoped, FormScoped, OtherScoped, GroupsScoped, PartScoped}
 use Rattle.dh_sound.specs.PhaseFacts.{HasStraight, HasTest}
 use Rattle.dh_sound.specs.SameKeys.{EachNameIn}
@@ -218,7 +217,7 @@ items_visible known k bs [] out h v = v
 items_visible known k bs (i ∷ is) out h v =
     items_visible known k (bind bs i.name.name i.entity) is out h.1 (bind_in known [] bs i.name.name i.entity v (plain_in known [] i.entity None (out i.entity h.0) tt))
 
-module _ (p : Program) (r : IsReadyCopied p) (t : StoresToAccesses p) where
+module _ (p : Program) (r : IsReadyCopied p) where
   same_body : resolved_action (body_scope p) p.body ≡ p.body
   same_body = ap (λ (x : Program). x.body) r.entities
 
@@ -231,7 +230,7 @@ module _ (p : Program) (r : IsReadyCopied p) (t : StoresToAccesses p) where
 
   -- the names of the body are in scope
   pub body_scoped : IsScoped (known_of p) [] p.body
-  body_scoped = (scoped (known_of p) p.body (body_scope p) 0 [] [] [] same_body (ready_named p r t) (sym (append-nil (bindings_of p))) tt tt begins).0
+  body_scoped = (scoped (known_of p) p.body (body_scope p) 0 [] [] [] same_body (ready_named p r) (sym (append-nil (bindings_of p))) tt tt begins).0
 
   -- Accesses.
   module _ (loops : List Turning) (k : ℕ) (a : SourceAccess) (is : slice_get (accesses_in (trace p)) k ≡ Some a) where

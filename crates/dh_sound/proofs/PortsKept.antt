@@ -22,7 +22,7 @@ use Rattle.dh_meets.specs.SourceEvents.{trace}
 use Rattle.dh_sound.specs.Blocks.{factors, paths_inside, StandsIn, AreInTurn}
 use Rattle.dh_sound.specs.BlockTold.{AccessesDeclared, IndicesTold}
 use Rattle.dh_sound.specs.IndexValues.{IsTypedProgram}
-use Rattle.dh_sound.specs.ReducerIndices.{KeepsIndexRules}
+use Rattle.dh_sound.specs.IndexRules.{KeepsIndexRules}
 use Rattle.dh_sound.specs.ToldEvents.{access_at}
 use Rattle.dh_base.specs.declared.outcomes.Outcome.TheVariants.{Stuck}
 use Rattle.dh_base.specs.declared.places.Place.{Place}

@@ -30,7 +30,7 @@ use Rattle.dh_sound.specs.BlockTold.{IsOfMemory, AccessesDeclared, IndicesTold}
 use Rattle.dh_sound.specs.IndexValues.{IsTypedProgram, IsMade, target_of}
 use Rattle.dh_sound.specs.SameKeys.{IsNearTo}
 use Rattle.dh_tree.specs.declared.trees.counters.Counter.{Counter}
-use Rattle.dh_sound.specs.ReducerIndices.{KeepsIndexRules}
+use Rattle.dh_sound.specs.IndexRules.{KeepsIndexRules}
 use Rattle.dh_sound.specs.ToldEvents.{access_at, key_from, key_at, keys_from, keys_at, AreTold}
 use Rattle.dh_sound.proofs.AccessBanks.{bank_told}
 use Rattle.dh_sound.proofs.Ascending.{number_of, Ascends}

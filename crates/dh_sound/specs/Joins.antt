@@ -1,38 +1,19 @@
--- The breaches of the rule `Reducer` (K17): at its target a reducer outside a block that joins copies, or one in such a
--- block whose target is no variable declared outside the loop; at its right side one whose right side is not the name of
--- a variable declared in the loop's body, of which only what is declared directly there is visible; at the command
--- another command in such a block; and at the word `combine` a block with `---`. Entities are numbered in text order, so
--- that those from outside the loop have numbers below that of its iterator. Where reducers are built, these lines go to
--- `dh_tree`.
-use Rattle.std.specs.Prelude.{ℕ, ◌&&◌, not, Bool, true, false, List, [], ◌∷◌, ◌++◌, slice_get, Option, Some, None}
+-- The breaches of the rule `Reducer` (K17) alone: at its target a reducer outside a block that joins copies, or one in such
+-- a block whose target is no variable declared outside the loop; at its right side one whose right side is not the name
+-- of a variable declared in the loop's body; at the command another command in such a block; and at the word `combine`
+-- a block with `---`. (The definition is that of `dh_tree`, with the other placements; a program that breaks none of
+-- those breaks none of these.)
+use Rattle.std.specs.Prelude.{ℕ, ◌&&◌, not, Bool, false, List, [], ◌∷◌, ◌++◌, Option}
 use Rattle.dh_base.specs.declared.places.Place.{Place}
 use Rattle.dh_base.specs.declared.rules.Rule.TheVariants.{Reducer}
 use Rattle.dh_tree.specs.declared.breaches.Breach.{Breach}
 use Rattle.dh_tree.specs.declared.trees.programs.Entity.{Entity}
-use Rattle.dh_tree.specs.declared.trees.programs.Sort.{Sort}
-use Rattle.dh_tree.specs.declared.trees.programs.Sort.TheVariants as sort
 use Rattle.dh_tree.specs.Forms.{has_dashes}
 use Rattle.dh_tree.specs.Kinds.{when, place_of}
 use Rattle.dh_tree.specs.LeastBreach.{breach}
 use Rattle.dh_tree.specs.PlainTrees.{Term, term, number, truth_value, named, accessed, in_bank, applied, converted, Action, action, ActionForm, lets, lets_memory, views, assigns, stores, reduces, calls, blocks, decides, repeats, counts, MaybeAction, no_action, one_action, Actions, no_actions, action_then, Groups, no_groups, group_then, Program}
 use Rattle.dh_meaning.specs.CoreOf.{entity_number}
-use Rattle.dh_sound.specs.OuterWrites.{is_from_outside}
-
-abbrev pub is_plain_variable : Sort → Bool
-is_plain_variable sort.Variable = true
-is_plain_variable sort.Iterator = false
-is_plain_variable sort.Memory = false
-is_plain_variable sort.View = false
-is_plain_variable sort.Function = false
-
-abbrev pub entity_varies : Option Entity → Bool
-entity_varies None = false
-entity_varies (Some e) = is_plain_variable e.sort
-
--- a name stands for a variable that is no iterator
-abbrev pub names_variable : List Entity → Option ℕ → Bool
-names_variable es None = false
-names_variable es (Some n) = entity_varies (slice_get es n)
+pub use Rattle.dh_tree.specs.Placements.{is_from_outside, is_plain_variable, entity_varies, names_variable}
 
 -- such a variable is declared outside the loop whose iterator has this number, or inside
 abbrev pub varies_outside : List Entity → (iterator : ℕ) → Option ℕ → Bool

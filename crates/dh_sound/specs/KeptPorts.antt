@@ -9,7 +9,7 @@ use Rattle.dh_meets.specs.Ports.{KeepsPorts}
 use Rattle.dh_sound.specs.Accepted.{IsReadyCopied}
 use Rattle.dh_sound.specs.BlockTold.{AccessesDeclared}
 use Rattle.dh_sound.specs.BlocksOfPhases.{TellsBlocks}
-use Rattle.dh_sound.specs.ReducerIndices.{KeepsIndexRules}
+use Rattle.dh_sound.specs.IndexRules.{KeepsIndexRules}
 use Rattle.dh_sound.specs.Standing.{IsStanding}
 
 -- A program of which all is told that soundness rests on. That it is told of each program that the passes accept is a

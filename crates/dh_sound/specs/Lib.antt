@@ -6,11 +6,10 @@ pub mod IteratorsKept
 pub mod PhaseFacts
 pub mod ToldEvents
 pub mod IndexValues
-pub mod ReducerIndices
+pub mod IndexRules
 pub mod LoopsRound
 pub mod SameKeys
 pub mod OneArm
-pub mod NamedPrograms
 pub mod BlockTold
 pub mod LoopsDeclared
 pub mod Trails
@@ -27,3 +26,4 @@ pub mod Accepted
 pub mod BlocksCovered
 pub mod CopyForms
 pub mod Joins
+pub mod StraightKinds

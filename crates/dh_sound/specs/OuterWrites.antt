@@ -1,24 +1,13 @@
--- The breaches of the rule `OuterWrite` (K15) in copies: in the body of a loop of several copies, an assignment to a
--- variable from outside that body. Entities are numbered in text order, so that those from outside have numbers below
--- that of the loop's iterator. A block that joins copies is no part of its loop's body, but of a body round the loop;
--- a reducer is no assignment of this rule. Where copies are built, these lines go to the definition of the other
--- placements.
-use Rattle.std.specs.Prelude.{ℕ, nat_lt, Bool, false, if◌then◌else◌, List, [], ◌∷◌, ◌++◌, Option, Some, None}
+-- Of the breaches of the rule `OuterWrite` (K15) those in copies alone: in the body of a loop of several copies, an
+-- assignment to a variable from outside that body. (The definition is that of `dh_tree`, with the other placements;
+-- a program that breaks none of those breaks none of these.)
+use Rattle.std.specs.Prelude.{ℕ, List, [], ◌∷◌, ◌++◌}
 use Rattle.dh_base.specs.declared.rules.Rule.TheVariants.{OuterWrite}
 use Rattle.dh_tree.specs.declared.breaches.Breach.{Breach}
 use Rattle.dh_tree.specs.Kinds.{when}
 use Rattle.dh_tree.specs.LeastBreach.{breach}
+pub use Rattle.dh_tree.specs.Placements.{is_from_outside, first_inside}
 use Rattle.dh_tree.specs.PlainTrees.{Action, action, ActionForm, lets, lets_memory, views, assigns, stores, reduces, calls, blocks, decides, repeats, counts, MaybeAction, no_action, one_action, Actions, no_actions, action_then, Groups, no_groups, group_then, Program}
-
--- an entity is numbered below the first inside a body
-abbrev pub is_from_outside : (first : ℕ) → Option ℕ → Bool
-is_from_outside first None = false
-is_from_outside first (Some n) = nat_lt n first
-
--- the first number inside a loop: of one with several copies that of its iterator
-abbrev pub first_inside : (first factor : ℕ) → (iterator : Option ℕ) → ℕ
-first_inside first factor None = first
-first_inside first factor (Some n) = if nat_lt 1 factor then n else first
 
 abbrev mutual
   -- the breaches in a command, in the body of a loop of several copies in which this is the first number; 0 stands for

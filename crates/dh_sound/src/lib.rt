@@ -2,19 +2,17 @@
 //! together, in which banks they lie, and that a program that keeps its ports is never stuck.
 #![tactic(auto)]
 
-ghost use Rattle.dh_tree.specs.Kinds.{typed};
-ghost use Rattle.dh_tree.specs.PlainTrees.{Program};
+ghost use Rattle.dh_tree.specs.PlainTrees.{Program, Action};
 ghost use Rattle.dh_tree.specs.Ready.{IsReady};
-ghost use Rattle.dh_tree.specs.Resolved.{resolved};
 ghost use Rattle.dh_meaning.specs.CoreOf.{core_of};
 ghost use Rattle.dh_meets.specs.Ports.{KeepsPorts, KeepsPortRules};
-ghost use Rattle.dh_sound.specs.Accepted.{IsReadyCopied, IsFilledIn, IsChecked, IsAccepted};
+ghost use Rattle.dh_sound.specs.Accepted.{IsReadyCopied, IsAccepted};
 ghost use Rattle.dh_sound.specs.BlocksCovered.{BlocksCovered, BlocksKept};
 ghost use Rattle.dh_sound.specs.IndexValues.{IsTypedProgram, AccessesReachBanks};
 ghost use Rattle.dh_sound.specs.KeptPorts.{IsTold, IsNeverStuck, StandsAlways};
-ghost use Rattle.dh_sound.specs.NamedPrograms.{StoresToAccesses};
-ghost use Rattle.dh_sound.specs.ReducerIndices.{KeepsIndexRules};
+ghost use Rattle.dh_sound.specs.IndexRules.{KeepsIndexRules};
 ghost use Rattle.dh_sound.specs.Standing.{BlocksKeepPorts};
+ghost use Rattle.dh_sound.specs.StraightKinds.{TellsStraight};
 ghost use Rattle.dh_sound.specs.Unmet.{StandOpposite, TestsMeet};
 
 /// A run of a ready program stands at a block of a phase, at the paths inside the loops round it, each of which is
@@ -22,6 +20,11 @@ ghost use Rattle.dh_sound.specs.Unmet.{StandOpposite, TestsMeet};
 pub fn runs_stand_in_blocks()
     ensures ready { (p : Program) → IsReady p → StandsAlways p }
     ensures copied { (p : Program) → IsReadyCopied p → StandsAlways p }
+{}
+
+/// How many phases a command has, as the rule on steps of copies counts them, tells whether it is straight.
+pub fn steps_tell_straight()
+    ensures { (a : Action) → TellsStraight a }
 {}
 
 /// Two accesses of one phase that never meet stand in opposite arms of an `if`, of which a path takes one.
@@ -43,17 +46,11 @@ pub fn kept_ports_are_never_spent()
     ensures stuck { (p : Program) → IsTold p → IsNeverStuck p }
 {}
 
-/// Names and kinds are filled in without changing what stores go to: an access each, as in the tree of every text.
-pub fn passes_keep_stores()
-    ensures resolved { (p : Program) → StoresToAccesses p → StoresToAccesses (resolved p) }
-    ensures typed { (p : Program) → StoresToAccesses p → StoresToAccesses (typed p) }
-{}
-
 /// Of a program that breaks no rule but perhaps those on ports, what a block spends of a bank is no more than some set
 /// of accesses charges of which any two may meet, from any memories and any values of the variables with which the
 /// loops round the block are in turns. So it is no more than the ports, if the program keeps its ports.
 pub fn blocks_spend_what_is_charged()
-    ensures covered { (p : Program) → IsChecked p → BlocksCovered p }
+    ensures covered { (p : Program) → IsReadyCopied p → BlocksCovered p }
     ensures kept { (p : Program) → BlocksCovered p → KeepsPorts p → BlocksKept p }
 {}
 
@@ -63,5 +60,5 @@ pub fn accepted_programs_are_never_stuck()
     ensures blocks { (p : Program) → IsAccepted p → BlocksKeepPorts (core_of p) }
     ensures stuck { (p : Program) → IsAccepted p → IsNeverStuck p }
     ensures copied { (p : Program) → IsReady p → IsReadyCopied p }
-    ensures ready { (p : Program) → IsReady p → IsFilledIn p → KeepsPortRules p → IsNeverStuck p }
+    ensures ready { (p : Program) → IsReady p → KeepsPortRules p → IsNeverStuck p }
 {}

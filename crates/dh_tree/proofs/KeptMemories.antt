@@ -14,7 +14,7 @@ use Rattle.dh_tree.specs.declared.trees.programs.ShapePlaces.{ShapePlaces}
 use Rattle.dh_tree.specs.Indices.{Known, divides, dim_breaches, dims_breaches, shape_breaches, dim_keeps, dims_keep, shape_keeps, term_index_breaches, turns_breaches, action_index_breaches, action_form_index_breaches, other_index_breaches, actions_index_breaches, groups_index_breaches, decls_shape_breaches}
 use Rattle.dh_tree.specs.Kinds.{when}
 use Rattle.dh_tree.specs.Memories.{Memory, outside_memory, locals, form_locals, other_locals, groups_locals, part_locals}
-use Rattle.dh_tree.specs.Placements.{is_no_memory, action_placement_breaches, form_placement_breaches, other_placement_breaches, actions_placement_breaches, groups_placement_breaches, decls_placement_breaches}
+use Rattle.dh_tree.specs.Placements.{is_no_memory, Context, branched, in_body, in_combine, joined_breaches, action_placement_breaches, form_placement_breaches, other_placement_breaches, actions_placement_breaches, groups_placement_breaches, decls_placement_breaches}
 use Rattle.dh_tree.specs.PlainTrees.{Action, action, ActionForm, lets, lets_memory, views, assigns, stores, reduces, calls, blocks, decides, repeats, counts, MaybeAction, no_action, one_action, Actions, no_actions, action_then, Groups, no_groups, group_then, Declared}
 use Rattle.dh_tree.specs.Widths.{ActionSized, FormSized, OtherSized, ActionsSized, GroupsSized}
 use Rattle.dh_tree.proofs.UncheckedBuilt.{first_none, second_none, not_none}
@@ -74,53 +74,59 @@ all_both P (x ∷ xs) ys h i = (h.0, all_both P xs ys h.1 i)
 
 module _ (known : Known) (es : List Entity) where
   mutual
-    pub locals_kept : (within : Bool) (a : Action) → action_index_breaches known a ≡ [] → action_placement_breaches es within a ≡ [] → ActionSized a → AllByRecursion IsKeptLocal (locals a)
-    locals_kept within (action id place form) i p w = form_kept within form i p w
+    pub locals_kept : (c : Context) (a : Action) → action_index_breaches known a ≡ [] → action_placement_breaches es c a ≡ [] → ActionSized a → AllByRecursion IsKeptLocal (locals a)
+    locals_kept c (action id place form) i p w = form_kept c place form i p w
 
-    form_kept : (within : Bool) (f : ActionForm) → action_form_index_breaches known f ≡ [] → form_placement_breaches es within f ≡ [] → FormSized f → AllByRecursion IsKeptLocal (form_locals f)
-    form_kept within (lets name declared value) i p w = tt
-    form_kept within (lets_memory name shape shape_places value) i p w =
+    form_kept : (c : Context) (place : Place) (f : ActionForm) → action_form_index_breaches known f ≡ [] → form_placement_breaches es c place f ≡ [] → FormSized f → AllByRecursion IsKeptLocal (form_locals f)
+    form_kept c place (lets name declared value) i p w = tt
+    form_kept c place (lets_memory name shape shape_places value) i p w =
         let kept : IsKept (record { name = name; shape = shape; shape_places = shape_places; outside = false }) = record {
           keeps = shape_kept shape shape_places (first_none (shape_breaches shape shape_places) _ i);
-          memory = any_false within (is_no_memory shape) (is_some value) (none_when (within || (is_no_memory shape || is_some value)) _ p);
+          memory = any_false c.within (is_no_memory shape) (is_some value) (none_when (c.within || (is_no_memory shape || is_some value)) _ p);
           sized = w.0;
         } in
         (record { kept = kept; inner = refl }, tt)
-    form_kept within (views name parent form) i p w = tt
-    form_kept within (assigns target value) i p w = tt
-    form_kept within (stores target value) i p w = tt
-    form_kept within (reduces target o value) i p w = tt
-    form_kept within (calls function arguments) i p w = tt
-    form_kept within (blocks body) i p w = groups_kept within body i p w
-    form_kept within (decides test chosen other) i p w =
+    form_kept c place (views name parent form) i p w = tt
+    form_kept c place (assigns target value) i p w = tt
+    form_kept c place (stores target value) i p w = tt
+    form_kept c place (reduces target o value) i p w = tt
+    form_kept c place (calls function arguments) i p w = tt
+    form_kept c place (blocks body) i p w = groups_kept c body i p w
+    form_kept c place (decides test chosen other) i p w =
         let inside = second_none (term_index_breaches known test) _ i in
+        let behind = second_none (action_placement_breaches es (branched c) chosen) _ p in
         all_both IsKeptLocal (locals chosen) (other_locals other)
-        (locals_kept true chosen (first_none (action_index_breaches known chosen) _ inside) (first_none (action_placement_breaches es true chosen) _ p) w.1.0)
-        (other_kept other (second_none (action_index_breaches known chosen) _ inside) (second_none (action_placement_breaches es true chosen) _ p) w.1.1)
-    form_kept within (repeats test body) i p w = locals_kept true body (second_none (term_index_breaches known test) _ i) p w.1
-    form_kept within (counts iterator declared low high factor body combine combine_place) i p w =
+        (locals_kept (branched c) chosen (first_none (action_index_breaches known chosen) _ inside) (first_none (action_placement_breaches es (branched c) chosen) _ p) w.1.0)
+        (other_kept (branched c) other (second_none (action_index_breaches known chosen) _ inside) (first_none (other_placement_breaches es (branched c) other) _ behind) w.1.1)
+    form_kept c place (repeats test body) i p w =
+        locals_kept (branched c) body (second_none (term_index_breaches known test) _ i) (first_none (action_placement_breaches es (branched c) body) _ p) w.1
+    form_kept c place (counts iterator declared low high factor body combine combine_place) i p w =
         let inside = second_none (turns_breaches low high factor) _ i in
+        let c_body : Context = in_body c factor.value iterator.entity in
+        let c_combine : Context = in_combine c iterator.entity in
+        let behind = second_none (action_placement_breaches es c_body body) _ p in
         all_both IsKeptLocal (locals body) (other_locals combine)
-        (locals_kept true body (first_none (action_index_breaches known body) _ inside) (first_none (action_placement_breaches es true body) _ p) w.1.0)
-        (other_kept combine (second_none (action_index_breaches known body) _ inside) (second_none (action_placement_breaches es true body) _ p) w.1.1)
+        (locals_kept c_body body (first_none (action_index_breaches known body) _ inside) (first_none (action_placement_breaches es c_body body) _ p) w.1.0)
+        (other_kept c_combine combine (second_none (action_index_breaches known body) _ inside) (first_none (other_placement_breaches es c_combine combine) _ behind) w.1.1)
 
-    other_kept : (m : MaybeAction) → other_index_breaches known m ≡ [] → other_placement_breaches es m ≡ [] → OtherSized m → AllByRecursion IsKeptLocal (other_locals m)
-    other_kept no_action i p w = tt
-    other_kept (one_action a) i p w = locals_kept true a i p w
+    other_kept : (c : Context) (m : MaybeAction) → other_index_breaches known m ≡ [] → other_placement_breaches es c m ≡ [] → OtherSized m → AllByRecursion IsKeptLocal (other_locals m)
+    other_kept c no_action i p w = tt
+    other_kept c (one_action a) i p w = locals_kept c a i p w
 
-    part_kept : (within : Bool) (part : Actions) → actions_index_breaches known part ≡ [] → actions_placement_breaches es within part ≡ [] → ActionsSized part → AllByRecursion IsKeptLocal (part_locals part)
-    part_kept within no_actions i p w = tt
-    part_kept within (action_then a rest) i p w =
+    part_kept : (c : Context) (part : Actions) → actions_index_breaches known part ≡ [] → actions_placement_breaches es c part ≡ [] → ActionsSized part → AllByRecursion IsKeptLocal (part_locals part)
+    part_kept c no_actions i p w = tt
+    part_kept c (action_then a rest) i p w =
+        let behind = second_none (joined_breaches c.joins a) _ (second_none (action_placement_breaches es c a) _ p) in
         all_both IsKeptLocal (locals a) (part_locals rest)
-        (locals_kept within a (first_none (action_index_breaches known a) _ i) (first_none (action_placement_breaches es within a) _ p) w.0)
-        (part_kept within rest (second_none (action_index_breaches known a) _ i) (second_none (action_placement_breaches es within a) _ p) w.1)
+        (locals_kept c a (first_none (action_index_breaches known a) _ i) (first_none (action_placement_breaches es c a) _ p) w.0)
+        (part_kept c rest (second_none (action_index_breaches known a) _ i) behind w.1)
 
-    groups_kept : (within : Bool) (g : Groups) → groups_index_breaches known g ≡ [] → groups_placement_breaches es within g ≡ [] → GroupsSized g → AllByRecursion IsKeptLocal (groups_locals g)
-    groups_kept within no_groups i p w = tt
-    groups_kept within (group_then g rest) i p w =
+    groups_kept : (c : Context) (g : Groups) → groups_index_breaches known g ≡ [] → groups_placement_breaches es c g ≡ [] → GroupsSized g → AllByRecursion IsKeptLocal (groups_locals g)
+    groups_kept c no_groups i p w = tt
+    groups_kept c (group_then g rest) i p w =
         all_both IsKeptLocal (part_locals g) (groups_locals rest)
-        (part_kept within g (first_none (actions_index_breaches known g) _ i) (first_none (actions_placement_breaches es within g) _ p) w.0)
-        (groups_kept within rest (second_none (actions_index_breaches known g) _ i) (second_none (actions_placement_breaches es within g) _ p) w.1)
+        (part_kept c g (first_none (actions_index_breaches known g) _ i) (first_none (actions_placement_breaches es c g) _ p) w.0)
+        (groups_kept c rest (second_none (actions_index_breaches known g) _ i) (second_none (actions_placement_breaches es c g) _ p) w.1)
 
 -- memories from outside
 pub decls_kept : (ds : List Declared) → decls_shape_breaches ds ≡ [] → decls_placement_breaches ds ≡ [] → AllByRecursion (λ (d : Declared). IsKind d.shape.kind) ds → AllByRecursion IsKept (map outside_memory ds)

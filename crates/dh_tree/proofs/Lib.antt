@@ -12,6 +12,7 @@ pub mod TypedNames
 pub mod TypedEntities
 pub mod UncheckedBuilt
 pub mod LocalsKept
+pub mod TargetsKept
 pub mod NumbersKept
 pub mod KeptMemories
 pub mod ProgramTables

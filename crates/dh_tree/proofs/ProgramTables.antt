@@ -19,13 +19,13 @@ use Rattle.dh_tree.specs.declared.tables.Dim.{Dim}
 use Rattle.dh_tree.specs.declared.tables.MemEntry.{MemEntry}
 use Rattle.dh_tree.specs.Breaches.{twice, items_breaches, functions_breaches, breaches, KeepsNames}
 use Rattle.dh_tree.specs.Elements.{banks_of}
-use Rattle.dh_tree.specs.Excesses.{excess_at, or_else, first_above, first_excess}
+use Rattle.dh_tree.specs.Excesses.{excess_at, or_else, first_above, copies_excess, first_excess}
 use Rattle.dh_tree.specs.Forms.{unbuilt_functions}
 use Rattle.dh_tree.specs.Indices.{divides, dim_keeps, dims_keep, known_of, decls_shape_breaches, index_breaches_of}
 use Rattle.dh_tree.specs.Kinds.{is_truth}
 use Rattle.dh_tree.specs.Memories.{Memory, outside_memory, locals, memories_of, entry_of, table_of}
 use Rattle.dh_tree.specs.Names.{IsName}
-use Rattle.dh_tree.specs.Placements.{has_no_dims, decls_placement_breaches, placement_breaches}
+use Rattle.dh_tree.specs.Placements.{has_no_dims, nothing_round, decls_placement_breaches, placement_breaches}
 use Rattle.dh_tree.specs.PlainTrees.{Declared, Defined, Program}
 use Rattle.dh_tree.specs.Scopes.{Binding, binding, entity_of, is_visible, bind, Item, memory_items, function_items, merged, items_of, first_scope, body_scope}
 use Rattle.dh_tree.specs.Shapes.{IsDim, IsShape, IsMemory, IsLocal, outside_of, HasLocalsLast, IsProgramTable}
@@ -213,7 +213,7 @@ outer_are (d ∷ ds) ms h = ap (λ l. outer_entry d ∷ l) (outer_are ds ms h)
 pub program_table : (p : Program) (tokens : ℕ) → IsOfText tokens p → KeepsNames p → unchecked_forms p ≡ [] → index_breaches_of p ≡ [] → first_excess p ≡ None → placement_breaches p ≡ [] → IsProgramTable (table_of p)
 program_table p tokens text names forms indices limits places =
     let outer = decls_kept p.decls (first_none (decls_shape_breaches p.decls) _ indices) (first_none (decls_placement_breaches p.decls) _ places) text.widths.decls in
-    let inner = locals_kept (known_of p) p.entities false p.body (second_none (decls_shape_breaches p.decls) _ indices) (second_none (decls_placement_breaches p.decls) _ places) text.widths.body in
+    let inner = locals_kept (known_of p) p.entities nothing_round p.body (second_none (decls_shape_breaches p.decls) _ indices) (second_none (decls_placement_breaches p.decls) _ places) text.widths.body in
     let ms : List Memory = memories_of p in
     let dims = first_above limit.Dimensions (λ m. length m.shape.dims) ms in
     let banks = first_above limit.Banks (λ m. banks_of m.shape.dims) ms in
@@ -230,5 +230,5 @@ program_table p tokens text names forms indices limits places =
       names = subst HasDistinctNames (sym (outer_are p.decls (locals p.body) local))
           (distinct_names [] 0 p.decls (ap (items_breaches []) (sym (items_are p (first_none (unbuilt_functions p.functions) _ forms))) ∙ split.0));
       locals = locals_last p.decls (locals p.body) local;
-      elements = within_limit limit.Elements (elements_in (table_of p)) (second_of_none ports _ after_banks);
+      elements = within_limit limit.Elements (elements_in (table_of p)) (second_of_none (copies_excess 1 p.body) _ (second_of_none ports _ after_banks));
     }

@@ -17,6 +17,7 @@ use Rattle.dh_tree.specs.Widths.{HasWidths}
 use Rattle.dh_tree.specs.Written.{IsDeclared, IsOfText, IsWritten}
 use Rattle.dh_tree.proofs.NumbersKept.{resolved_numbered}
 use Rattle.dh_tree.proofs.LocalsKept.{resolved_named}
+use Rattle.dh_tree.proofs.TargetsKept.{resolved_targets}
 
 -- expressions
 number_kept : (bs : List Binding) (f : TermForm) → plain_number (resolved_term_form bs f) ≡ plain_number f
@@ -368,6 +369,7 @@ of_text_kept tokens p widths h =
       numbered = resolved_numbered (body_scope p) h.first p.body h.numbered;
       names = omega (arith, decls, functions, within, body, names);
       widths = widths;
+      targets = resolved_targets p.body (body_scope p) h.targets;
     }
 
 -- the tree is written as it was

@@ -15,6 +15,7 @@ use Rattle.dh_tree.specs.Widths.{HasWidths}
 use Rattle.dh_tree.specs.Written.{IsOfText, IsWritten}
 use Rattle.dh_tree.proofs.NumbersKept.{typed_numbered}
 use Rattle.dh_tree.proofs.LocalsKept.{typed_named}
+use Rattle.dh_tree.proofs.TargetsKept.{typed_targets}
 
 -- expressions
 number_kept : (facts : Facts) (want : Option Kind) (f : TermForm) → plain_number (typed_form facts want f) ≡ plain_number f
@@ -351,6 +352,7 @@ of_text_kept tokens p widths h =
       numbered = typed_numbered (start_of p) h.first p.body h.numbered;
       names = omega (arith, functions, within, body, names);
       widths = widths;
+      targets = typed_targets p.body (start_of p) h.targets;
     }
 
 -- the tree is written as it was

@@ -1,7 +1,7 @@
 -- Which sizes, banks, indices and bounds of a program break the rules on shapes: `BankDivides` (K8),
 -- `UnrollDivides` (K9), `BankUnroll` (K10), `DynamicBank` (K11) and `ConstantRange` (K12). (The rules of
 -- this profile on banks and ranges, after Nigam and others, PLDI 2020.) Accesses to a memory whose shape
--- breaks a rule add no breach. Forms that are not built have none.
+-- breaks a rule add no breach. Views and calls are not built and have none.
 use Rattle.std.specs.Prelude.{ℕ, ◌-◌, ◌%◌, ◌==◌, ◌&&◌, ◌||◌, not, nat_le, nat_lt, Bool, true, false, List, [], ◌∷◌, ◌++◌, Option, Some, None, if◌then◌else◌, ℤ, pos, neg_ℤ, ◌+ℤ◌, int_le, int_lt}
 use Rattle.dh_base.specs.declared.places.Place.{Place}
 use Rattle.dh_base.specs.declared.rules.Rule.TheVariants.{BankDivides, UnrollDivides, BankUnroll, DynamicBank, ConstantRange}
@@ -19,7 +19,7 @@ use Rattle.dh_tree.specs.LeastBreach.{breach}
 use Rattle.dh_tree.specs.declared.trees.counters.Counter.{Counter}
 use Rattle.dh_tree.specs.Counters.{counters_of, counter_in}
 use Rattle.dh_tree.specs.Memories.{Memory, memory_in, memories_of}
-use Rattle.dh_tree.specs.PlainTrees.{Term, term, TermForm, number, truth_value, named, accessed, in_bank, applied, converted, Terms, no_terms, term_then, Placed, Unrolled, Action, action, ActionForm, lets, lets_memory, assigns, stores, blocks, decides, repeats, counts, MaybeAction, no_action, one_action, Actions, no_actions, action_then, Groups, no_groups, group_then, Declared, Program}
+use Rattle.dh_tree.specs.PlainTrees.{Term, term, TermForm, number, truth_value, named, accessed, in_bank, applied, converted, Terms, no_terms, term_then, Placed, Unrolled, Action, action, ActionForm, lets, lets_memory, views, assigns, stores, reduces, calls, blocks, decides, repeats, counts, MaybeAction, no_action, one_action, Actions, no_actions, action_then, Groups, no_groups, group_then, Declared, Program}
 
 -- Shapes.
 
@@ -184,7 +184,9 @@ abbrev mutual
       turns_breaches low high factor
       ++ (action_index_breaches known body ++ other_index_breaches known combine)
   action_form_index_breaches known (blocks body) = groups_index_breaches known body
-  action_form_index_breaches known form = []
+  action_form_index_breaches known (reduces target o value) = term_index_breaches known value
+  action_form_index_breaches known (views name parent form) = []
+  action_form_index_breaches known (calls function arguments) = []
 
   pub other_index_breaches : Known → MaybeAction → List Breach
   other_index_breaches known no_action = []

@@ -6,6 +6,7 @@ pub mod Counters
 pub mod Collected
 pub mod Shapes
 pub mod Indices
+pub mod PhaseKinds
 pub mod Placements
 pub mod Excesses
 pub mod Ready
@@ -35,6 +36,7 @@ pub mod NameCounts
 pub mod Forms
 pub mod FirstForms
 pub mod Widths
+pub mod Targets
 pub mod Written
 pub mod UncheckedForms
 pub mod Suited

@@ -29,6 +29,11 @@ abbrev pub entity_of : List Binding → List ℕ → Option ℕ
 entity_of [] name = None
 entity_of (b ∷ bs) name = if bytes_eq name b.name then Some b.entity else entity_of bs name
 
+-- the number of what a name stands for; every name of a resolved program stands for something
+abbrev pub entity_number : Option ℕ → ℕ
+entity_number None = 0
+entity_number (Some n) = n
+
 -- whether a name is visible
 abbrev pub is_visible : List Binding → List ℕ → Bool
 is_visible bs name = is_some (entity_of bs name)

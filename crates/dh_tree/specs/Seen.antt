@@ -41,6 +41,13 @@ abbrev pub terms : List Term → Terms
 terms [] = no_terms
 terms (t ∷ ts) = term_then t (terms ts)
 
+-- expressions of the code in order, as a list and as an access holds them
+abbrev pub expressions_seen : Vec Expr Global → List Term
+expressions_seen exprs = map term_seen exprs.items
+
+abbrev pub all_terms_seen : List Expr → Terms
+all_terms_seen exprs = terms (map term_seen exprs)
+
 -- the plain tree of an access has those of its indices, in order
 abbrev pub SeesIndices : Ref → Vec Expr Global → Type 0
 SeesIndices of indices = form_seen (Access of indices) ≡ accessed of (terms (map term_seen indices.items))

@@ -20,5 +20,5 @@ pub use loads::{loads_are_largest_sums, ports_are_spent_once};
 pub use tables::{Dim, MemEntry, MemTable, Name, Shape, copy_table, element_count, is_table};
 pub use trees::{
     Command, CommandForm, Counter, Decl, DimPlaces, Entity, Expr, ExprForm, Function, Named,
-    Parameter, Ref, ShapePlaces, Sort, Tree, Typed, ViewForm,
+    Parameter, Ref, ShapePlaces, Sort, Tree, Typed, ViewForm, has_dashes,
 };

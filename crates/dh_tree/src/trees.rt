@@ -6,6 +6,7 @@
 
 mod commands;
 mod counters;
+mod dividing;
 mod expressions;
 mod memories;
 mod named;
@@ -14,6 +15,7 @@ mod typed;
 
 pub use commands::{Command, CommandForm, ViewForm};
 pub use counters::Counter;
+pub use dividing::has_dashes;
 pub use expressions::{Expr, ExprForm, Ref};
 pub use named::Named;
 pub use programs::{Decl, DimPlaces, Entity, Function, Parameter, ShapePlaces, Sort, Tree};

@@ -1,34 +1,21 @@
--- How the expressions and blocks of the code are seen, and which kinds expressions take.
-use Rattle.std.specs.Prelude.{◌≡◌, ℕ, ◌==◌, ◌&&◌, Bool, true, false, List, map, Option, None, option_map, Vec, Box, if◌then◌else◌}
+-- Which kinds the expressions of the code take.
+use Rattle.std.specs.Prelude.{◌≡◌, ℕ, ◌==◌, ◌&&◌, Bool, true, false, List, map, Option, None, option_map, Vec, if◌then◌else◌}
 use Rattle.std.specs.Global.{Global}
 use Rattle.dh_value.specs.declared.kinds.Kind.{Kind}
 use Rattle.dh_value.specs.declared.operators.Op.{Op}
 use Rattle.dh_tree.specs.declared.trees.expressions.Expr.{Expr}
 use Rattle.dh_tree.specs.declared.trees.expressions.Ref.{Ref}
-use Rattle.dh_tree.specs.declared.trees.commands.Command.{Command}
 use Rattle.dh_tree.specs.declared.trees.commands.ViewForm.{ViewForm}
-use Rattle.dh_tree.specs.PlainTrees.{Term, Terms, MaybeAction}
-use Rattle.dh_tree.specs.Seen.{term_seen, terms, factor_seen, plan_seen, action_seen, maybe_seen}
+use Rattle.dh_tree.specs.PlainTrees.{Term, Terms}
+use Rattle.dh_tree.specs.Seen.{term_seen, expressions_seen, factor_seen, plan_seen}
 use Rattle.dh_tree.specs.Kinds.{fact_of, found, for_numbers, left_want, right_want, all_found, all_integer, count_of, typed_term, typed_maybe, typed_offset, typed_plan, typed_arguments, parameters_of, target_kind}
 use Rattle.dh_types.specs.declared.facts.Fact.{Fact}
 use Rattle.dh_types.specs.Facts.{facts_seen}
 use Rattle.dh_types.specs.Bare.{filled_if_bare}
 
--- expressions in order
-abbrev pub list_seen : Vec Expr Global → List Term
-list_seen list = map term_seen list.items
-
--- indices, as an access holds them
-abbrev pub indices_seen : List Expr → Terms
-indices_seen indices = terms (map term_seen indices)
-
 -- a right side that may lack
 abbrev pub value_seen : Option Expr → Option Term
 value_seen value = option_map term_seen value
-
--- a block that may lack
-abbrev pub block_seen : Option (Box Command Global) → MaybeAction
-block_seen block = maybe_seen (option_map (λ b. action_seen b.value) block)
 
 -- whether each of the indices has a kind, and they are not as many as the dimensions
 abbrev pub have_wrong_count : Terms → (dims : ℕ) → Bool
@@ -44,7 +31,7 @@ TypesTerm facts want old new = term_seen new ≡ typed_term (facts_seen facts) w
 
 -- expressions, at whose places no kind is wanted, take their kinds
 abbrev pub TypesTerms : List Fact → (old new : Vec Expr Global) → Type 0
-TypesTerms facts old new = list_seen new ≡ map (typed_term (facts_seen facts) None) (list_seen old)
+TypesTerms facts old new = expressions_seen new ≡ map (typed_term (facts_seen facts) None) (expressions_seen old)
 
 -- a right side for a target of this kind takes its kinds
 abbrev pub TypesRightSide : List Fact → (target : Option Kind) → (old new : Expr) → Type 0
@@ -60,7 +47,7 @@ TypesAssigned facts target old new = TypesRightSide facts (target_kind (fact_of 
 
 -- arguments take their kinds: those of the parameters are wanted
 abbrev pub TypesArguments : List Fact → (parameters : List Kind) → (old new : Vec Expr Global) → Type 0
-TypesArguments facts parameters old new = list_seen new ≡ typed_arguments (facts_seen facts) parameters (list_seen old)
+TypesArguments facts parameters old new = expressions_seen new ≡ typed_arguments (facts_seen facts) parameters (expressions_seen old)
 
 -- arguments of the function with this name take their kinds
 abbrev pub TypesCall : List Fact → (function : Ref) → (old new : Vec Expr Global) → Type 0

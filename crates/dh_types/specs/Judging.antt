@@ -9,12 +9,11 @@ use Rattle.dh_tree.specs.declared.trees.expressions.Expr.{Expr}
 use Rattle.dh_tree.specs.declared.trees.expressions.Ref.{Ref}
 use Rattle.dh_tree.specs.LeastBreach.{least_of}
 use Rattle.dh_tree.specs.PlainTrees.{Term}
-use Rattle.dh_tree.specs.Seen.{placed}
+use Rattle.dh_tree.specs.Seen.{placed, expressions_seen, all_terms_seen}
 use Rattle.dh_tree.specs.Kinds.{Facts, Takes, operands_breaches, access_breaches}
 use Rattle.dh_tree.specs.KindBreaches.{right_side_breaches, maybe_breaches, arguments_breaches, iterator_breaches, low_breaches, high_breaches}
 use Rattle.dh_types.specs.declared.facts.Fact.{Fact}
 use Rattle.dh_types.specs.Facts.{facts_seen, known_fact, listed}
-use Rattle.dh_types.specs.InTrees.{list_seen, indices_seen}
 
 -- the least is kept of the breach that was kept and those that a rule finds here
 abbrev pub KeepsBy : {A : Type 0} → (rule : Facts → A → List Breach) → List Fact → (old new : Option Breach) → A → Type 0
@@ -22,7 +21,7 @@ KeepsBy rule facts old new seen = new ≡ least_of old (rule (facts_seen facts) 
 
 -- the least is kept of the breach that was kept and those of arguments
 abbrev pub KeepsArguments : List Fact → (old new : Option Breach) → Vec Expr Global → Type 0
-KeepsArguments facts old new arguments = KeepsBy arguments_breaches facts old new (list_seen arguments)
+KeepsArguments facts old new arguments = KeepsBy arguments_breaches facts old new (expressions_seen arguments)
 
 -- the breaches of a right side for a target of this kind
 abbrev pub breaches_for : (target : Option Kind) → Facts → Term → List Breach
@@ -42,4 +41,4 @@ JudgesOperands sort left right kinds result = listed result ≡ operands_breache
 
 -- the breach that was found is that at the name of an access with these indices, if it breaks a rule
 abbrev pub JudgesAccess : Option (Bor Fact) → Place → (indices : List Expr) → Option Breach → Type 0
-JudgesAccess fact place indices result = listed result ≡ access_breaches (known_fact fact) place (indices_seen indices)
+JudgesAccess fact place indices result = listed result ≡ access_breaches (known_fact fact) place (all_terms_seen indices)

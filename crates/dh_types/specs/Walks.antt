@@ -13,14 +13,13 @@ use Rattle.dh_tree.specs.declared.trees.programs.Parameter.{Parameter}
 use Rattle.dh_tree.specs.declared.trees.programs.Function.{Function}
 use Rattle.dh_tree.specs.LeastBreach.{least_of}
 use Rattle.dh_tree.specs.NameCounts.{declared_in}
-use Rattle.dh_tree.specs.Seen.{term_seen, action_seen, action_form_seen, part_seen, declared_seen, formal_seen, defined_seen}
+use Rattle.dh_tree.specs.Seen.{term_seen, action_seen, action_form_seen, part_seen, declared_seen, formal_seen, defined_seen, maybe_block_seen}
 use Rattle.dh_tree.specs.PlainTrees.{Action, ActionForm, MaybeAction, Actions, Groups, Defined}
 use Rattle.dh_tree.specs.Kinds.{Fact, Facts, fact_of, target_kind, function_fact, declared_facts, formal_facts, facts_after, facts_after_form, facts_after_other, facts_after_actions, facts_after_groups, facts_after_function, facts_after_functions, typed_action, typed_action_form, typed_other, typed_actions, typed_groups, typed_function, typed_functions}
 use Rattle.dh_tree.specs.Kinds as rules
 use Rattle.dh_tree.specs.KindBreaches.{right_side_breaches, target_breaches, parent_breaches, reducer_breaches, action_kind_breaches, action_form_kind_breaches, other_kind_breaches, actions_kind_breaches, groups_kind_breaches, function_kind_breaches, functions_kind_breaches}
 use Rattle.dh_types.specs.declared.facts.Fact as known
 use Rattle.dh_types.specs.Facts.{fact_seen, facts_seen}
-use Rattle.dh_types.specs.InTrees.{block_seen}
 use Rattle.dh_types.specs.declared.walks.Walk.{Walk}
 
 -- a point of the text: what is known there, and the least breach so far
@@ -132,7 +131,7 @@ abbrev pub TypesCommandForm : (old new : Walk) → (a b : CommandForm) → Type 
 TypesCommandForm old new a b = TypesForm (state_of old) (state_of new) (action_form_seen a) (action_form_seen b)
 
 abbrev pub TypesOptional : (old new : Walk) → (a b : Option (Box Command Global)) → Type 0
-TypesOptional old new a b = TypesOther (state_of old) (state_of new) (block_seen a) (block_seen b)
+TypesOptional old new a b = TypesOther (state_of old) (state_of new) (maybe_block_seen a) (maybe_block_seen b)
 
 abbrev pub TypesPart : (old new : Walk) → (a b : Vec Command Global) → Type 0
 TypesPart old new a b = TypesActions (state_of old) (state_of new) (part_seen a) (part_seen b)

@@ -2,9 +2,8 @@
 
 ghost use Rattle.std.specs.Prelude.{◌≡◌, ◌<◌, MatchResult};
 ghost use Rattle.dh_tree.specs.NameCounts.{declared_in, declared_in_form, declared_in_other, declared_in_actions};
-ghost use Rattle.dh_tree.specs.Seen.{action_seen, action_form_seen, part_seen};
+ghost use Rattle.dh_tree.specs.Seen.{action_seen, action_form_seen, part_seen, maybe_block_seen};
 ghost use Rattle.dh_tree.specs.Kinds as rules;
-ghost use Rattle.dh_types.specs.InTrees.{block_seen};
 ghost use Rattle.dh_types.specs.Walks.{TypesCommand, TypesCommandForm, TypesOptional, TypesPart};
 
 use crate::facts::{Fact, memory_fact, variable_fact};
@@ -176,7 +175,7 @@ impl Walk {
         block: Option<Box<Command>>,
     ) -> Result<Option<Box<Command>>, NoMemory>
         ensures { MatchResult result (λ done. TypesOptional self.old self.new block done)
-            (λ _. 0 < declared_in_other (block_seen block)) }
+            (λ _. 0 < declared_in_other (maybe_block_seen block)) }
     {
         match block {
             Some(mut command) => {

@@ -1,10 +1,10 @@
 //! The kind of an expression, by its parts, which have their kinds.
 
 ghost use Rattle.std.specs.Prelude.{◌≡◌};
-ghost use Rattle.dh_tree.specs.Seen.{term_seen, form_seen};
+ghost use Rattle.dh_tree.specs.Seen.{term_seen, form_seen, all_terms_seen};
 ghost use Rattle.dh_tree.specs.Kinds as rules;
 ghost use Rattle.dh_types.specs.Facts.{facts_seen, known_fact, has_integer};
-ghost use Rattle.dh_types.specs.InTrees.{indices_seen, are_right_indices};
+ghost use Rattle.dh_types.specs.InTrees.{are_right_indices};
 
 use crate::facts::{Fact, fact_of};
 use crate::operands::applied_kind;
@@ -49,7 +49,7 @@ fn is_number(term: &Expr) -> bool
 
 // Whether every index is of an integer kind.
 fn all_integer(indices: &[Expr]) -> bool
-    ensures { result ≡ rules.all_integer (indices_seen indices.now) }
+    ensures { result ≡ rules.all_integer (all_terms_seen indices.now) }
 {
     for index in indices {
         if !is_number(index) {
@@ -62,14 +62,14 @@ fn all_integer(indices: &[Expr]) -> bool
 // Whether indices are integers and as many as the dimensions.
 #[tactic(auto, using(crate::proofs::Indices::counted))]
 fn suit(indices: &[Expr], dims: usize) -> bool
-    ensures { result ≡ are_right_indices (indices_seen indices.now) dims }
+    ensures { result ≡ are_right_indices (all_terms_seen indices.now) dims }
 {
     all_integer(indices) && indices.len() == dims
 }
 
 // The kind of an access.
 fn access_kind(fact: Option<&Fact>, indices: &[Expr]) -> Option<Kind>
-    ensures { result ≡ rules.access_found (known_fact fact.entry) (indices_seen indices.now) }
+    ensures { result ≡ rules.access_found (known_fact fact.entry) (all_terms_seen indices.now) }
 {
     match fact {
         Some(Fact::Memory { kind, dims }) => { if suit(indices, *dims) { *kind } else { None } }

@@ -3,11 +3,11 @@
 
 ghost use Rattle.std.specs.Prelude.{◌≡◌};
 ghost use Rattle.std.specs.Option.{is_some};
-ghost use Rattle.dh_tree.specs.Seen.{term_seen, placed};
+ghost use Rattle.dh_tree.specs.Seen.{term_seen, placed, all_terms_seen};
 ghost use Rattle.dh_tree.specs.Kinds as rules;
 ghost use Rattle.dh_tree.specs.KindBreaches.{term_kind_breaches, indices_kind_breaches, offset_breaches, assigned_breaches, truth_breaches, condition_breaches, argument_breaches, target_breaches, parent_breaches, reducer_breaches, iterator_breaches, low_breaches, high_breaches};
 ghost use Rattle.dh_types.specs.Facts.{facts_seen, known_fact, listed, is_memory as names_it, is_memory_name};
-ghost use Rattle.dh_types.specs.InTrees.{indices_seen, have_wrong_count};
+ghost use Rattle.dh_types.specs.InTrees.{have_wrong_count};
 ghost use Rattle.dh_types.specs.Judging.{JudgesAccess, KeepsBy, breaches_for};
 
 use crate::facts::{Fact, fact_of};
@@ -36,7 +36,7 @@ fn has_kind(term: &Expr) -> bool
 
 // Whether each of the indices has a kind.
 fn all_found(indices: &[Expr]) -> bool
-    ensures { result ≡ rules.all_found (indices_seen indices.now) }
+    ensures { result ≡ rules.all_found (all_terms_seen indices.now) }
 {
     for index in indices {
         if !has_kind(index) {
@@ -49,7 +49,7 @@ fn all_found(indices: &[Expr]) -> bool
 // Whether indices have kinds and are not as many as the dimensions.
 #[tactic(auto, using(crate::proofs::Indices::counted))]
 fn are_miscounted(indices: &[Expr], dims: usize) -> bool
-    ensures { result ≡ have_wrong_count (indices_seen indices.now) dims }
+    ensures { result ≡ have_wrong_count (all_terms_seen indices.now) dims }
 {
     all_found(indices) && indices.len() != dims
 }
@@ -133,7 +133,7 @@ pub fn keep_term(facts: &[Fact], kept: &mut Option<Breach>, term: &Expr)
 // Keeps the breaches of indices.
 #[cycle(breaches)]
 fn keep_indices(facts: &[Fact], kept: &mut Option<Breach>, indices: &[Expr])
-    ensures { KeepsBy indices_kind_breaches facts.now kept.old kept.new (indices_seen indices.now) }
+    ensures { KeepsBy indices_kind_breaches facts.now kept.old kept.new (all_terms_seen indices.now) }
 {
     for index in indices {
         keep(kept, index_breach(index.kind, index.place));

@@ -1,9 +1,9 @@
 //! The kinds of offsets of views.
 
 ghost use Rattle.std.specs.Prelude.{None, map};
-ghost use Rattle.dh_tree.specs.Seen.{term_seen, plan_seen, factor_seen};
+ghost use Rattle.dh_tree.specs.Seen.{term_seen, plan_seen, factor_seen, expressions_seen};
 ghost use Rattle.dh_tree.specs.KindBreaches.{plan_breaches, offset_breaches, suffixes_breaches, shifts_breaches};
-ghost use Rattle.dh_types.specs.InTrees.{list_seen, TypesTerm, TypesTerms, TypesPlan, TypesSuffixes};
+ghost use Rattle.dh_types.specs.InTrees.{TypesTerm, TypesTerms, TypesPlan, TypesSuffixes};
 ghost use Rattle.dh_types.specs.Walks.{NotesBy};
 
 use crate::expressions::type_term;
@@ -53,7 +53,7 @@ impl Walk {
     // Offsets in order.
     fn shifts(&mut self, by: &mut Vec<Expr>)
         ensures tree { TypesTerms self.old.facts.items by.old by.new }
-        ensures state { NotesBy shifts_breaches self.old self.new (list_seen by.new) }
+        ensures state { NotesBy shifts_breaches self.old self.new (expressions_seen by.new) }
     {
         for offset in by.iter_mut() {
             self.offset(offset);

@@ -1,10 +1,10 @@
 //! A walk through the text of a program.
 
 ghost use Rattle.std.specs.Prelude.{◌≡◌, None};
-ghost use Rattle.dh_tree.specs.Seen.{term_seen};
+ghost use Rattle.dh_tree.specs.Seen.{term_seen, expressions_seen};
 ghost use Rattle.dh_tree.specs.KindBreaches.{term_kind_breaches, condition_breaches, arguments_breaches};
 ghost use Rattle.dh_types.specs.Facts.{IsViewFact};
-ghost use Rattle.dh_types.specs.InTrees.{list_seen, value_seen, TypesTerm, TypesRightSide, TypesValue, TypesAssigned, TypesArguments, TypesCall};
+ghost use Rattle.dh_types.specs.InTrees.{value_seen, TypesTerm, TypesRightSide, TypesValue, TypesAssigned, TypesArguments, TypesCall};
 ghost use Rattle.dh_types.specs.Judging.{KeepsArguments, breaches_for, maybe_breaches_for, bounds_breaches};
 ghost use Rattle.dh_types.specs.Walks.{LearnsFact, NotesAll, NotesBy, NotesAssigned, NotesReduced, NotesParent, first_of, others_of};
 
@@ -112,7 +112,7 @@ impl Walk {
     /// Gives arguments the kinds of the parameters.
     pub fn arguments(&mut self, function: &Ref, arguments: &mut Vec<Expr>)
         ensures tree { TypesCall self.old.facts.items function.now arguments.old arguments.new }
-        ensures state { NotesBy arguments_breaches self.old self.new (list_seen arguments.new) }
+        ensures state { NotesBy arguments_breaches self.old self.new (expressions_seen arguments.new) }
     {
         let parameters = parameters_of(fact_of(&self.facts, function));
         type_arguments(&self.facts, &mut self.least, parameters, arguments);

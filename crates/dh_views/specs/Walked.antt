@@ -1,5 +1,5 @@
 -- What parts of a program's tree break of the rules on shapes, indices and bounds.
-use Rattle.std.specs.Prelude.{◌≡◌, ℕ, Bool, List, Option, Some, map, option_map, Vec}
+use Rattle.std.specs.Prelude.{◌≡◌, ℕ, Bool, List, Option, option_map, Vec}
 use Rattle.std.specs.Global.{Global, Box}
 use Rattle.dh_base.specs.declared.places.Place.{Place}
 use Rattle.dh_shape.specs.Classified.{Classifies, loops_in}
@@ -15,7 +15,7 @@ use Rattle.dh_tree.specs.Indices.{Known, known_of, index_kind, index_breaches, i
 use Rattle.dh_tree.specs.Kinds.{signed_number}
 use Rattle.dh_tree.specs.LeastBreach.{least_of}
 use Rattle.dh_tree.specs.Memories.{memory_in, memories_of}
-use Rattle.dh_tree.specs.Seen.{form_seen, term_seen, terms, action_seen, groups, part_seen, maybe_seen, program_seen}
+use Rattle.dh_tree.specs.Seen.{form_seen, term_seen, all_terms_seen, action_seen, all_parts_seen, maybe_block_seen, program_seen}
 
 -- the memories and loops of a program
 abbrev pub known_in : Tree → Known
@@ -35,11 +35,11 @@ KeepsKind tree old new d place kind = (k : indices.IndexKind) → Classifies (lo
 
 -- the breaches of indices, each of its dimension
 abbrev pub indices_broken : Tree → List Dim → List Expr → List Breach
-indices_broken tree ds es = indices_breaches (loops_in tree) ds (terms (map term_seen es))
+indices_broken tree ds es = indices_breaches (loops_in tree) ds (all_terms_seen es)
 
 -- the breaches of the indices of an access, by the entity of its name
 abbrev pub access_broken : Tree → (entity : Option ℕ) → List Expr → List Breach
-access_broken tree entity es = access_breaches (loops_in tree) (dims_in tree entity) (terms (map term_seen es))
+access_broken tree entity es = access_breaches (loops_in tree) (dims_in tree entity) (all_terms_seen es)
 
 -- whether a literal is no row of a bank
 abbrev pub is_no_row : List Dim → (negative : Bool) → (value : ℕ) → Bool
@@ -54,7 +54,7 @@ abbrev pub term_broken : Tree → Expr → List Breach
 term_broken tree e = term_index_breaches (known_in tree) (term_seen e)
 
 abbrev pub terms_broken : Tree → List Expr → List Breach
-terms_broken tree es = terms_index_breaches (known_in tree) (terms (map term_seen es))
+terms_broken tree es = terms_index_breaches (known_in tree) (all_terms_seen es)
 
 abbrev pub maybe_broken : Tree → Option Expr → List Breach
 maybe_broken tree e = maybe_index_breaches (known_in tree) (option_map term_seen e)
@@ -64,7 +64,7 @@ abbrev pub command_broken : Tree → Command → List Breach
 command_broken tree c = action_index_breaches (known_in tree) (action_seen c)
 
 abbrev pub other_broken : Tree → Option (Box Command) → List Breach
-other_broken tree block = other_index_breaches (known_in tree) (maybe_seen (option_map (λ b. action_seen b.value) block))
+other_broken tree block = other_index_breaches (known_in tree) (maybe_block_seen block)
 
 abbrev pub parts_broken : Tree → List (Vec Command Global) → List Breach
-parts_broken tree parts = groups_index_breaches (known_in tree) (groups (map part_seen parts))
+parts_broken tree parts = groups_index_breaches (known_in tree) (all_parts_seen parts)

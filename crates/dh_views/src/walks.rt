@@ -135,8 +135,8 @@ fn keep_command(typed: &Typed, kept: &mut Option<Breach>, command: &Command)
             keep_other(typed, kept, combine);
         }
         CommandForm::Block { body } => keep_groups(typed, kept, body.as_slice()),
+        CommandForm::Reduce { value, .. } => keep_term(typed, kept, value),
         CommandForm::View { .. } => {}
-        CommandForm::Reduce { .. } => {}
         CommandForm::Call { .. } => {}
     }
 }

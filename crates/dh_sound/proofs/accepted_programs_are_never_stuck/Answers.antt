@@ -24,4 +24,4 @@ pub returns-clause-copied : goal.returns-clause-copied
 returns-clause-copied c = ready_copied
 
 pub returns-clause-ready : goal.returns-clause-ready
-returns-clause-ready c = λ p ready filled ports. accepted_never_stuck p (record { checked = record { ready = ready_copied p ready; filled = filled }; ports = ports })
+returns-clause-ready c = λ p ready ports. accepted_never_stuck p (record { ready = ready_copied p ready; ports = ports })

@@ -1,6 +1,5 @@
--- What is asked of a program besides that it is ready: the target of each store is an access. The grammar has no other
--- target, so that it holds of the program of every text; what is said of the tree of a text does not tell it yet.
-use Rattle.dh_tree.specs.PlainTrees.{Term, term, number, truth_value, named, accessed, in_bank, applied, converted, Action, action, ActionForm, lets, lets_memory, views, assigns, stores, reduces, calls, blocks, decides, repeats, counts, MaybeAction, no_action, one_action, Actions, no_actions, action_then, Groups, no_groups, group_then, Program}
+-- The targets of stores: accesses, in the tree of every text. The grammar has no other target.
+use Rattle.dh_tree.specs.PlainTrees.{Term, term, number, truth_value, named, accessed, in_bank, applied, converted, Action, action, ActionForm, lets, lets_memory, views, assigns, stores, reduces, calls, blocks, decides, repeats, counts, MaybeAction, no_action, one_action, Actions, no_actions, action_then, Groups, no_groups, group_then}
 
 -- an expression is an access
 abbrev pub IsAccess : Term → Type 0
@@ -41,7 +40,3 @@ abbrev mutual
   pub PartHasTargets : Actions → Type 0
   PartHasTargets no_actions = Unit {0}
   PartHasTargets (action_then a rest) = HasTargets a × PartHasTargets rest
-
--- the target of each store of a program is an access
-pub record StoresToAccesses (p : Program) : Type 0 where
-  pub targets : HasTargets p.body

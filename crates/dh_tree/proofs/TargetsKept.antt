@@ -1,12 +1,12 @@
 -- The targets of stores are still accesses when names are resolved and when expressions get their kinds: both leave
 -- the form of each expression as it is. By one walk over the commands for each.
 use Rattle.std.proofs.Common.{List, [], ◌∷◌, ◌++◌, None}
-use Rattle.dh_tree.specs.Kinds.{of_iterator, Facts, iterator_kind, facts_after, facts_after_actions, typed_term, typed_action, typed_action_form, typed_other, typed_actions, typed_groups, typed}
+use Rattle.dh_tree.specs.Kinds.{of_iterator, Facts, iterator_kind, facts_after, facts_after_actions, typed_term, typed_action, typed_action_form, typed_other, typed_actions, typed_groups}
 use Rattle.dh_tree.specs.declared.trees.programs.Sort.TheVariants.{Iterator}
-use Rattle.dh_tree.specs.PlainTrees.{Term, term, number, truth_value, named, accessed, in_bank, applied, converted, Action, action, ActionForm, lets, lets_memory, views, assigns, stores, reduces, calls, blocks, decides, repeats, counts, MaybeAction, no_action, one_action, Actions, no_actions, action_then, Groups, no_groups, group_then, Program}
-use Rattle.dh_tree.specs.Resolved.{resolved_term, resolved_action, resolved_form, resolved_other, resolved_actions, resolved_groups, resolved}
-use Rattle.dh_tree.specs.Scopes.{Binding, Scope, declare, leave, past, at_end, actions_at_end, body_scope}
-use Rattle.dh_sound.specs.NamedPrograms.{IsAccess, HasTargets, FormHasTargets, OtherHasTargets, GroupsHaveTargets, PartHasTargets, StoresToAccesses}
+use Rattle.dh_tree.specs.PlainTrees.{Term, term, number, truth_value, named, accessed, in_bank, applied, converted, Action, action, ActionForm, lets, lets_memory, views, assigns, stores, reduces, calls, blocks, decides, repeats, counts, MaybeAction, no_action, one_action, Actions, no_actions, action_then, Groups, no_groups, group_then}
+use Rattle.dh_tree.specs.Resolved.{resolved_term, resolved_action, resolved_form, resolved_other, resolved_actions, resolved_groups}
+use Rattle.dh_tree.specs.Scopes.{Binding, Scope, declare, leave, past, at_end, actions_at_end}
+use Rattle.dh_tree.specs.Targets.{IsAccess, HasTargets, FormHasTargets, OtherHasTargets, GroupsHaveTargets, PartHasTargets}
 
 resolved_access : (bs : List Binding) (t : Term) → IsAccess t → IsAccess (resolved_term bs t)
 resolved_access bs (term place k (accessed r ts)) h = tt
@@ -90,11 +90,3 @@ mutual
   typed_part_targets no_actions facts h = tt
   typed_part_targets (action_then a rest) facts h =
       (typed_targets a facts h.0, typed_part_targets rest (facts_after facts (typed_action facts a)) h.1)
-
--- when names are resolved
-pub resolved_still : (p : Program) → StoresToAccesses p → StoresToAccesses (resolved p)
-resolved_still p h = record { targets = resolved_targets p.body (body_scope p) h.targets }
-
--- when expressions get their kinds
-pub typed_still : (p : Program) → StoresToAccesses p → StoresToAccesses (typed p)
-typed_still p h = record { targets = typed_targets p.body _ h.targets }
