@@ -1,0 +1,2 @@
+pub mod RunsAlike
+pub mod PortsKept
