@@ -1,0 +1,6 @@
+-- Those so far have their slots.
+use Rattle.dh_code.proofs.Declaring.{Lays}
+use Rattle.dh_code.proofs.places.laid.Given as goal
+
+abbrev pub invariant-loop-variable : goal.invariant-loop-variable
+invariant-loop-variable l = Lays l.found l.variable-index l.places.items l.count

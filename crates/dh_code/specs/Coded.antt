@@ -1,0 +1,69 @@
+-- The code of commands: lists that lead from one to the next, of the expressions' operations and values.
+use Rattle.std.specs.Prelude.{◌≡◌, ℕ, ◌+◌, ◌-◌, ◌<◌, ◌≤◌, Bool, false, List, [], ◌∷◌, ◌++◌, length, take, drop, slice_get, slice_range, Option, Some, None}
+use Rattle.std.specs.List.{AllByRecursion}
+use Rattle.dh_base.specs.declared.places.Place.{Place}
+use Rattle.dh_tree.specs.declared.tables.MemEntry.{MemEntry}
+use Rattle.dh_meaning.specs.Core.{Reach, CoreTerm, CoreTerms, CoreCommand, store, assign, choose, CoreCommands, no_commands, command_and}
+use Rattle.dh_meaning.specs.Core as core
+use Rattle.dh_code.specs.declared.codes.Operand.{Operand}
+use Rattle.dh_code.specs.declared.codes.Access.{Access}
+use Rattle.dh_code.specs.declared.codes.Operation.{Operation}
+use Rattle.dh_code.specs.declared.codes.Flat.{Flat}
+use Rattle.dh_code.specs.declared.codes.Action.{Action}
+use Rattle.dh_code.specs.declared.codes.Action.TheVariants.{Store, Assign, Choose}
+use Rattle.dh_code.specs.declared.codes.Step.{Step}
+use Rattle.dh_code.specs.declared.codes.Code.{Code}
+use Rattle.dh_code.specs.declared.places.Held.{Held}
+use Rattle.dh_code.specs.Slots.{held_at}
+use Rattle.dh_code.specs.Made.{Made, term_made, target_made, access_to}
+
+-- further operations and commands behind those that there are
+pub record Extends (old new : Code) : Type 0 where
+  pub operations : List Operation
+  pub are : new.operations ≡ old.operations ++ operations
+  pub steps : List Step
+  pub lead : new.steps ≡ old.steps ++ steps
+
+-- the operations of an expression stand in code, and its value is this operand
+pub record IsFlat (held : List Held) (table : List MemEntry) (code : Code) (t : CoreTerm) (f : Flat) : Type 0 where
+  pub within : f.from ≤ f.to
+  pub there : f.to ≤ length code.operations
+  pub operations : slice_range code.operations f.from f.to ≡ (term_made held table f.from t).operations
+  pub value : f.value ≡ (term_made held table f.from t).value
+
+-- the operations of a value and then those of an element stand in code
+pub record IsFlatStore (held : List Held) (table : List MemEntry) (code : Code) (reach : Reach) (target : core.Target) (t : CoreTerm) (f : Flat) (a : Access) : Type 0 where
+  pub within : f.from ≤ f.to
+  pub there : f.to ≤ length code.operations
+  pub operations : slice_range code.operations f.from f.to
+      ≡ (term_made held table f.from t).operations ++ (target_made held table (f.from + length (term_made held table f.from t).operations) target).operations
+  pub value : f.value ≡ (term_made held table f.from t).value
+  pub access : a ≡ access_to reach (target_made held table (f.from + length (term_made held table f.from t).operations) target).target
+
+-- the slots of the variable that is set
+pub record AreSlotsOf (held : List Held) (entity first depth : ℕ) : Type 0 where
+  pub first_is : first ≡ (held_at held entity).first
+  pub depth_is : depth ≡ (held_at held entity).depth
+
+abbrev mutual
+  -- the commands that begin at a number are these
+  pub AreCoded : List Held → List MemEntry → Code → Option ℕ → CoreCommands → Type 0
+  AreCoded held table code None no_commands = Unit {0}
+  AreCoded held table code None (command_and c cs) = ⊥
+  AreCoded held table code (Some at) no_commands = ⊥
+  AreCoded held table code (Some at) (command_and c cs) =
+      (step : Step) × ((slice_get code.steps at ≡ Some step) × (IsCoded held table code step.action c × AreCoded held table code step.next cs))
+
+  -- what a command does is this
+  pub IsCoded : List Held → List MemEntry → Code → Action → CoreCommand → Type 0
+  IsCoded held table code (Store f a) (store reach target value) = IsFlatStore held table code reach target value f a
+  IsCoded held table code (Store f a) (assign depth entity value) = ⊥
+  IsCoded held table code (Store f a) (choose test chosen other) = ⊥
+  IsCoded held table code (Assign f first depth) (store reach target value) = ⊥
+  IsCoded held table code (Assign f first depth) (assign deep entity value) = IsFlat held table code value f × AreSlotsOf held entity first depth
+  IsCoded held table code (Assign f first depth) (choose test chosen other) = ⊥
+  IsCoded held table code (Choose f one two) (store reach target value) = ⊥
+  IsCoded held table code (Choose f one two) (assign depth entity value) = ⊥
+  IsCoded held table code (Choose f one two) (choose test chosen other) =
+      IsFlat held table code test f
+      × (AreCoded held table code one chosen × AreCoded held table code two other)

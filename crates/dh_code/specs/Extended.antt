@@ -1,0 +1,13 @@
+-- To which kind an operation extends its operands: Bool stands for none.
+use Rattle.dh_value.specs.declared.kinds.Kind.{Kind}
+use Rattle.dh_value.specs.declared.kinds.Kind.TheVariants.{Bool}
+use Rattle.dh_value.specs.declared.operators.Op.{Op}
+use Rattle.dh_value.specs.declared.operators.Op.TheVariants as op
+use Rattle.dh_tree.specs.Meaning.{wider}
+
+abbrev pub extension_of : Op → (left right : Kind) → Kind
+extension_of op.Shl j k = Bool
+extension_of op.Shr j k = Bool
+extension_of op.Both j k = Bool
+extension_of op.Either j k = Bool
+extension_of o j k = wider j k

@@ -1,0 +1,211 @@
+-- What the calls that make code add to it.
+use Rattle.std.specs.Prelude.{◌≡◌, ℕ, ◌+◌, ◌<◌, Bool as Truth, true, false, List, [], ◌∷◌, ◌++◌, length, map, Option, Some, None, option_map, Box}
+use Rattle.dh_base.specs.declared.places.Place.{Place}
+use Rattle.dh_value.specs.declared.kinds.Kind.{Kind}
+use Rattle.dh_value.specs.declared.kinds.Kind.TheVariants.{Bool, Unsigned, Signed}
+use Rattle.dh_value.specs.declared.operators.Op.{Op}
+use Rattle.dh_tree.specs.declared.tables.MemEntry.{MemEntry}
+use Rattle.dh_tree.specs.declared.trees.commands.Command.{Command}
+use Rattle.dh_tree.specs.declared.trees.expressions.Expr.{Expr}
+use Rattle.dh_tree.specs.declared.trees.expressions.Ref.{Ref}
+use Rattle.std.specs.Global.{Global}
+use Rattle.std.specs.List.{AllByRecursion}
+use Rattle.dh_tree.specs.Memories.{table_of}
+use Rattle.dh_tree.specs.Shapes.{IsMemory}
+use Rattle.dh_tree.specs.PlainTrees as plain
+use Rattle.dh_tree.specs.Seen.{action_seen, maybe_seen, program_seen, term_seen, terms}
+use denote.Ref.{Bor}
+use Rattle.dh_meaning.specs.AccessNumbers.{term_accesses, terms_accesses}
+use Rattle.dh_meaning.specs.Bindings.{binding_in, kind_bound, kind_found}
+use Rattle.dh_value.specs.Operations.{truth}
+use Rattle.dh_meaning.specs.Phases.{Located}
+use Rattle.dh_meaning.specs.Core as core
+use Rattle.dh_meaning.specs.Core.{Reach, by_indices, by_row, CoreTerm, CoreTerms, CoreCommands, command_and, no_commands}
+use Rattle.dh_meaning.specs.CoreOf.{Known, core_action, core_commands, core_other, core_term, core_terms, entity_number, first_value, folded_into, known_of, reach_of, store_to}
+use Rattle.dh_code.specs.declared.codes.Access.{Access}
+use Rattle.dh_code.specs.declared.codes.Action.{Action}
+use Rattle.dh_code.specs.declared.codes.Action.TheVariants.{Assign, Choose}
+use Rattle.dh_code.specs.declared.codes.Code.{Code}
+use Rattle.dh_code.specs.declared.codes.Operand.{Operand}
+use Rattle.dh_code.specs.declared.codes.Operand.TheVariants.{Constant, Given}
+use Rattle.dh_code.specs.declared.codes.Operation.{Operation}
+use Rattle.dh_code.specs.declared.codes.Flat.{Flat}
+use Rattle.dh_code.specs.declared.flattening.Names.{Names}
+use Rattle.dh_code.specs.Coded.{AreCoded, Extends}
+use Rattle.dh_code.specs.Made.{AllMade, Made, access_to, binary_made, converted_made, target_made, term_made, terms_made}
+use Rattle.dh_code.specs.Scenes.{IsSoundCode}
+use Rattle.dh_code.specs.Slots.{Placing, held_at}
+use Rattle.dh_code.specs.Suited.{AreSuited, CanDoAll, IsSuited, IsSuitedTarget}
+
+abbrev pub known_in : Names → Known
+known_in names = known_of (program_seen names.program.now)
+
+abbrev pub table_in : Names → List MemEntry
+table_in names = table_of (program_seen names.program.now)
+
+-- these operations are added, and nothing else
+pub record Adds (old new : Code) (os : List Operation) : Type 0 where
+  pub operations : new.operations ≡ old.operations ++ os
+  pub steps : new.steps ≡ old.steps
+
+-- this is made behind what there was, with this operand for its value
+pub record IsMade (old new : Code) (o : Operand) (m : Made) : Type 0 where
+  pub adds : Adds old new m.operations
+  pub value : o ≡ m.value
+
+pub record AreMade (old new : Code) (os : List Operand) (m : AllMade) : Type 0 where
+  pub adds : Adds old new m.operations
+  pub values : os ≡ m.values
+
+-- one operation more, whose value is of a kind
+pub record IsOneMore (old new : Code) (operation : Operation) (kind : Kind) (o : Operand) : Type 0 where
+  pub adds : Adds old new (operation ∷ [])
+  pub value : o ≡ Given (length old.operations) kind
+
+-- the code of an expression, wherever its accesses are numbered from
+abbrev pub Flattens : Names → (old new : Code) → Expr → Operand → Type 0
+Flattens names old new e o =
+    (n : ℕ) → IsSuited (table_in names) (core_term (known_in names) n (term_seen e))
+    → IsMade old new o (term_made names.places.now (table_in names) (length old.operations) (core_term (known_in names) n (term_seen e)))
+
+abbrev pub FlattensAll : Names → (old new : Code) → List Expr → List Operand → Type 0
+FlattensAll names old new es os =
+    (n : ℕ) → AreSuited (table_in names) (core_terms (known_in names) n (terms (map term_seen es)))
+    → AreMade old new os (terms_made names.places.now (table_in names) (length old.operations) (core_terms (known_in names) n (terms (map term_seen es))))
+
+-- a value in another kind, behind whatever was made of it
+abbrev pub ConvertsTo : (old new : Code) → Operand → Kind → Operand → Type 0
+ConvertsTo old new from to o = (base : Code) (m : Made) → IsMade base old from m → IsMade base new o (converted_made (length base.operations) to m)
+
+abbrev pub extended_made : (at : ℕ) → Kind → Made → Made
+extended_made at Bool m = m
+extended_made at (Unsigned w) m = converted_made at (Unsigned w) m
+extended_made at (Signed w) m = converted_made at (Signed w) m
+
+abbrev pub ExtendsTo : (old new : Code) → Operand → Kind → Operand → Type 0
+ExtendsTo old new from to o = (base : Code) (m : Made) → IsMade base old from m → IsMade base new o (extended_made (length base.operations) to m)
+
+-- an operator, behind whatever was made of its operands
+abbrev pub AddsBinary : (old new : Code) → Op → (left right : Operand) → Operand → Type 0
+AddsBinary old new op left right o =
+    (base middle : Code) (l r : Made) → IsMade base middle left l → IsMade middle old right r → IsMade base new o (binary_made (length base.operations) op l r)
+
+-- this was made behind what there was, and is an expression by its first and last operation
+pub record IsFlatMade (old new : Code) (m : Made) (f : Flat) : Type 0 where
+  pub adds : Adds old new m.operations
+  pub from : f.from ≡ length old.operations
+  pub to : f.to ≡ length new.operations
+  pub value : f.value ≡ m.value
+
+abbrev pub HoldsFlat : Names → (old new : Code) → Expr → Flat → Type 0
+HoldsFlat names old new e f =
+    (n : ℕ) → IsSuited (table_in names) (core_term (known_in names) n (term_seen e))
+    → IsFlatMade old new (term_made names.places.now (table_in names) (length old.operations) (core_term (known_in names) n (term_seen e))) f
+
+-- what a `let` sets its variable to
+abbrev pub HoldsFirst : Names → (old new : Code) → Option Kind → Option Expr → Flat → Type 0
+HoldsFirst names old new declared value f =
+    (n : ℕ) → IsSuited (table_in names) (first_value (known_in names) n declared (option_map term_seen value))
+    → IsFlatMade old new (term_made names.places.now (table_in names) (length old.operations) (first_value (known_in names) n declared (option_map term_seen value))) f
+
+-- the slots of a program's variables, each of the variable's kind
+pub record IsPlacingOf (p : Placing) (names : Names) : Type 0 where
+  pub held : p.held ≡ names.places.now
+  pub kinds : (entity : ℕ) → entity < length p.held → (held_at p.held entity).kind ≡ kind_bound (binding_in (known_in names).bindings entity)
+
+-- the commands of a command stand in front of those behind it, wherever its accesses are numbered from
+pub record IsInFront (names : Names) (old new : Code) (first next : Option ℕ) (cs rest : CoreCommands) : Type 0 where
+  pub extends : Extends old new
+  pub coded : AreCoded names.places.now (table_in names) old next rest → AreCoded names.places.now (table_in names) new first cs
+  pub sound : AllByRecursion IsMemory (table_in names) → AreCoded names.places.now (table_in names) old next rest → IsSoundCode (table_in names) old → IsSoundCode (table_in names) new
+
+abbrev pub FlattensCommand : Names → (old new : Code) → Command → (first next : Option ℕ) → Type 0
+FlattensCommand names old new c first next =
+    (p : Placing) (loops : List ℕ) (n : ℕ) (rest : CoreCommands) → IsPlacingOf p names
+    → CanDoAll (table_in names) p loops (core_action (known_in names) n (action_seen c) rest)
+    → IsInFront names old new first next (core_action (known_in names) n (action_seen c) rest) rest
+
+-- the commands of an arm that may lack
+abbrev pub FlattensOther : Names → (old new : Code) → Option (Box Command Global) → (first : Option ℕ) → Type 0
+FlattensOther names old new other first =
+    (p : Placing) (loops : List ℕ) (n : ℕ) → IsPlacingOf p names
+    → CanDoAll (table_in names) p loops (core_other (known_in names) n (maybe_seen (option_map (λ b. action_seen b.value) other)))
+    → IsInFront names old new first None (core_other (known_in names) n (maybe_seen (option_map (λ b. action_seen b.value) other))) no_commands
+
+-- a value without operations
+pub record IsStillAt (code : Code) (value : Operand) (f : Flat) : Type 0 where
+  pub from : f.from ≡ length code.operations
+  pub to : f.to ≡ length code.operations
+  pub value_is : f.value ≡ value
+
+-- one command more, in front of those behind it
+pub record AddsStep (old new : Code) (a : Action) (next first : Option ℕ) : Type 0 where
+  pub operations : new.operations ≡ old.operations
+  pub steps : new.steps ≡ old.steps ++ record { action = a; next = next } ∷ []
+  pub first_is : first ≡ Some (length old.steps)
+
+-- a command that does nothing
+pub record AddsNothing (old new : Code) (next first : Option ℕ) : Type 0 where
+  pub test : Flat
+  pub step : AddsStep old new (Choose test None None) next first
+  pub still : IsStillAt old (Constant (truth false)) test
+
+-- a variable is set to the value of this code
+abbrev pub IsAssignedIn : Names → (old new : Code) → Ref → Flat → (next first : Option ℕ) → Type 0
+IsAssignedIn names old new r f next first =
+    AddsStep old new (Assign f (held_at names.places.now (entity_number r.entity)).first (held_at names.places.now (entity_number r.entity)).depth) next first
+
+-- commands stand in front of others, where they can be done
+abbrev pub StandsInFront : Names → (old new : Code) → (first next : Option ℕ) → (cs rest : CoreCommands) → Type 0
+StandsInFront names old new first next cs rest =
+    (p : Placing) (loops : List ℕ) → IsPlacingOf p names → CanDoAll (table_in names) p loops cs → IsInFront names old new first next cs rest
+
+-- a reducer
+abbrev pub IsReducedIn : Names → (old new : Code) → Ref → Op → Expr → (next first : Option ℕ) → Type 0
+IsReducedIn names old new r o value next first =
+    (n : ℕ) (rest : CoreCommands)
+    → StandsInFront names old new first next (command_and (folded_into (known_in names) r o (kind_found (term_seen value)) (core_term (known_in names) n (term_seen value))) rest) rest
+
+-- a store
+abbrev pub IsStoredIn : Names → (old new : Code) → (target value : Expr) → (next first : Option ℕ) → Type 0
+IsStoredIn names old new target value next first =
+    (n : ℕ) (rest : CoreCommands)
+    → StandsInFront names old new first next (command_and (store_to (known_in names) (n + term_accesses (term_seen value)) (term_seen target) (core_term (known_in names) n (term_seen value))) rest) rest
+
+-- the access that a target is, or that it is none
+abbrev pub aimed_at : Known → (n : ℕ) → plain.Term → Option (Reach × core.Target)
+aimed_at known n (plain.term at kind (plain.accessed r indices)) = Some (reach_of known (n + terms_accesses indices) at r, by_indices (core_terms known n indices))
+aimed_at known n (plain.term at kind (plain.in_bank r bank bank_place row)) = Some (reach_of known (n + term_accesses row) at r, by_row bank (core_term known n row))
+aimed_at known n (plain.term at kind (plain.number negative v)) = None
+aimed_at known n (plain.term at kind (plain.truth_value v)) = None
+aimed_at known n (plain.term at kind (plain.named r)) = None
+aimed_at known n (plain.term at kind (plain.applied o left right)) = None
+aimed_at known n (plain.term at kind (plain.converted inner to)) = None
+
+abbrev pub is_aimed : plain.Term → Truth
+is_aimed (plain.term at kind (plain.accessed r indices)) = true
+is_aimed (plain.term at kind (plain.in_bank r bank bank_place row)) = true
+is_aimed (plain.term at kind (plain.number negative v)) = false
+is_aimed (plain.term at kind (plain.truth_value v)) = false
+is_aimed (plain.term at kind (plain.named r)) = false
+is_aimed (plain.term at kind (plain.applied o left right)) = false
+is_aimed (plain.term at kind (plain.converted inner to)) = false
+
+abbrev pub IsAimed : Names → (old new : Code) → Option (Reach × core.Target) → Option Access → Type 0
+IsAimed names old new None None = new ≡ old
+IsAimed names old new None (Some a) = ⊥
+IsAimed names old new (Some (r, t)) None = ⊥
+IsAimed names old new (Some (r, t)) (Some a) =
+    IsSuitedTarget (table_in names) r.memory t
+    → Adds old new (target_made names.places.now (table_in names) (length old.operations) t).operations
+    × (a ≡ access_to r (target_made names.places.now (table_in names) (length old.operations) t).target)
+
+abbrev pub IsAimedAt : Names → (old new : Code) → Expr → Option Access → Type 0
+IsAimedAt names old new e a = (n : ℕ) → IsAimed names old new (aimed_at (known_in names) n (term_seen e)) a
+
+-- the commands of a straight phase, wherever the accesses of each are numbered from
+abbrev pub FlattensCommands : Names → (old new : Code) → List (Bor Command) → (first : Option ℕ) → Type 0
+FlattensCommands names old new cs first =
+    (p : Placing) (loops : List ℕ) (ls : List Located) → map (λ l. l.command) ls ≡ map (λ c. action_seen c.now) cs → IsPlacingOf p names
+    → CanDoAll (table_in names) p loops (core_commands (known_in names) ls)
+    → IsInFront names old new first None (core_commands (known_in names) ls) no_commands

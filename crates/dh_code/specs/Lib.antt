@@ -1,0 +1,16 @@
+pub mod Banks
+pub mod Rows
+pub mod Spent
+pub mod Extended
+pub mod Ranks
+pub mod Slots
+pub mod Declarations
+pub mod Placed
+pub mod Operated
+pub mod Suited
+pub mod Made
+pub mod Coded
+pub mod Plain
+pub mod Scenes
+pub mod States
+pub mod Flattening

@@ -1,0 +1,112 @@
+-- What operations give, and the accesses and faults that they make, at a path of given ranks: each access with
+-- number 0 and at the empty path, since code keeps neither.
+use Rattle.std.specs.Prelude.{◌≡◌, ℕ, ◌+◌, ◌%◌, ◌^◌, ◌<◌, List, [], ◌∷◌, ◌++◌, map, length, slice_index, slice_set, Option, ℤ}
+use Rattle.std.specs.List.{AllByRecursion}
+use Rattle.dh_base.specs.declared.places.Place.{Place}
+use Rattle.dh_value.specs.declared.kinds.Kind.{Kind}
+use Rattle.dh_value.specs.declared.words.Word.{Word}
+use Rattle.dh_value.specs.Words as words
+use Rattle.dh_value.specs.Words.{IsKind, IsInteger, IsWord, width_of, with_bits, word_of}
+use Rattle.dh_value.specs.Operations.{Suits, binary_of}
+use Rattle.dh_tree.specs.declared.tables.MemEntry.{MemEntry}
+use Rattle.dh_tree.specs.Elements.{Spot}
+use Rattle.dh_meaning.specs.Core.{Reach}
+use Rattle.dh_meaning.specs.Effects.{Begun, Event, bits_at, kind_in, read_made, write_made, spot_by_indices, spot_by_row}
+use Rattle.dh_code.specs.Banks.{HasBank}
+use Rattle.dh_code.specs.declared.codes.Operand.{Operand}
+use Rattle.dh_code.specs.declared.codes.Operand.TheVariants.{Constant, Variable, Given}
+use Rattle.dh_code.specs.declared.operands.View.{View}
+use Rattle.dh_code.specs.declared.codes.Target.{Target}
+use Rattle.dh_code.specs.declared.codes.Target.TheVariants.{Indices, Row}
+use Rattle.dh_code.specs.declared.codes.Access.{Access}
+use Rattle.dh_code.specs.declared.codes.Operation.{Operation}
+use Rattle.dh_code.specs.declared.codes.Operation.TheVariants.{Binary, Convert, Read}
+
+-- what an operation sees: the slots of variables, what operations before it gave, and the ranks of the path
+pub record Sight : Type 0 where
+  pub slots : List ℕ
+  pub given : List ℕ
+  pub ranks : List ℕ
+
+abbrev pub sight : (slots given ranks : List ℕ) → Sight
+sight slots given ranks = record { slots = slots; given = given; ranks = ranks }
+
+abbrev pub view_seen : View → Sight
+view_seen v = sight v.slots.now v.given.now v.ranks.now
+
+-- the kind of an operand
+abbrev pub kind_of_operand : Operand → Kind
+kind_of_operand (Constant word) = word.kind
+kind_of_operand (Variable first depth kind) = kind
+kind_of_operand (Given at kind) = kind
+
+-- the word of a kind that has the lowest of these bits
+abbrev pub lowest_word : Kind → ℕ → Word
+lowest_word kind bits = with_bits kind (bits % 2 ^ width_of kind)
+
+-- the value of an operand
+abbrev pub operand_word : Sight → Operand → Word
+operand_word s (Constant word) = word
+operand_word s (Variable first depth kind) = lowest_word kind (slice_index s.slots (first + slice_index s.ranks depth))
+operand_word s (Given at kind) = lowest_word kind (slice_index s.given at)
+
+-- the values of indices, as whole numbers
+abbrev pub index_values : Sight → List Operand → List ℤ
+index_values s operands = map (λ o. words.value_of (operand_word s o)) operands
+
+-- where an access leads, None where it is out of range
+abbrev pub target_spot : Begun → Sight → (memory : ℕ) → Target → Option Spot
+target_spot b s memory (Indices operands) = spot_by_indices b.table memory (index_values s operands)
+target_spot b s memory (Row bank row) = spot_by_row b.table memory bank (words.value_of (operand_word s row))
+
+abbrev pub access_spot : Begun → Sight → Access → Option Spot
+access_spot b s a = target_spot b s a.memory a.target
+
+-- an access that has no number
+abbrev pub unnumbered : Access → Reach
+unnumbered a = record { number = 0; place = a.place; memory = a.memory }
+
+-- what an operation gives
+abbrev pub operation_word : Begun → Sight → Operation → Word
+operation_word b s (Binary op left right) = binary_of op (operand_word s left) (operand_word s right)
+operation_word b s (Convert from to) = word_of to (words.value_of (operand_word s from))
+operation_word b s (Read access) = with_bits (kind_in b.table access.memory) (bits_at b.memories (access_spot b s access))
+
+-- the access or fault that it makes
+abbrev pub operation_events : Begun → Sight → Operation → List Event
+operation_events b s (Binary op left right) = []
+operation_events b s (Convert from to) = []
+operation_events b s (Read access) = read_made (unnumbered access) [] (access_spot b s access) ∷ []
+
+-- what was given so far, with the value of an operation under its number
+abbrev pub with_given : Begun → Sight → (at : ℕ) → Operation → Sight
+with_given b s at o = sight s.slots (slice_set s.given at (operation_word b s o).bits) s.ranks
+
+-- what is seen after operations that are numbered from a number on, and the accesses and faults that they made
+abbrev pub sight_after : Begun → Sight → (at : ℕ) → List Operation → Sight
+sight_after b s at [] = s
+sight_after b s at (o ∷ os) = sight_after b (with_given b s at o) (at + 1) os
+
+abbrev pub events_after : Begun → Sight → (at : ℕ) → List Operation → List Event
+events_after b s at [] = []
+events_after b s at (o ∷ os) = operation_events b s o ++ events_after b (with_given b s at o) (at + 1) os
+
+-- Operations that can be done.
+
+-- an operand has a kind, and a constant is a word
+abbrev pub IsOperand : Operand → Type 0
+IsOperand (Constant word) = IsWord word
+IsOperand (Variable first depth kind) = IsKind kind
+IsOperand (Given at kind) = IsKind kind
+
+abbrev pub IsTarget : List MemEntry → (memory : ℕ) → Target → Type 0
+IsTarget table memory (Indices operands) = (memory < length table) × AllByRecursion IsOperand operands
+IsTarget table memory (Row bank row) = HasBank table memory bank × IsOperand row
+
+abbrev pub IsAccess : List MemEntry → Access → Type 0
+IsAccess table a = IsTarget table a.memory a.target
+
+abbrev pub IsOperation : List MemEntry → Operation → Type 0
+IsOperation table (Binary op left right) = Suits op (kind_of_operand left) (kind_of_operand right) × (IsOperand left × IsOperand right)
+IsOperation table (Convert from to) = IsInteger to × IsOperand from
+IsOperation table (Read access) = IsAccess table access

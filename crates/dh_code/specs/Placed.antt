@@ -1,0 +1,49 @@
+-- What the calls that give variables their slots answer.
+use Rattle.std.specs.Prelude.{◌≡◌, ℕ, ◌+◌, List, [], ◌∷◌, ◌++◌, length, map, Option, Some, None, option_map, Vec, Box}
+use Rattle.std.specs.Global.{Global}
+use Rattle.dh_value.specs.declared.kinds.Kind.TheVariants as kind
+use Rattle.dh_tree.specs.Collected.{AreKept}
+use Rattle.dh_tree.specs.declared.trees.commands.Command.{Command}
+use Rattle.dh_tree.specs.Seen.{action_seen, groups, maybe_seen, part_seen}
+use Rattle.dh_code.specs.declared.places.Declared.{Declared}
+use Rattle.dh_code.specs.declared.places.Held.{Held}
+use Rattle.dh_code.specs.Declarations.{Declaration, all_held, declarations, declaration_in, declared_of, groups_declarations, other_declarations, slots_counted}
+use Rattle.dh_code.specs.Ranks.{copies_in}
+
+-- loops of these factors: how many they are, and their copies together
+pub record IsRound (factors : List ℕ) (depth copies : ℕ) : Type 0 where
+  pub deep : depth ≡ length factors
+  pub many : copies ≡ copies_in factors
+
+-- the declarations of a command, a block that may lack, and parts are listed
+abbrev pub Declares : (old new : List Declared) → (depth copies : ℕ) → Command → Type 0
+Declares old new depth copies c = (factors : List ℕ) → IsRound factors depth copies → new ≡ old ++ map declared_of (declarations factors (action_seen c))
+
+abbrev pub DeclaresOther : (old new : List Declared) → (depth copies : ℕ) → Option (Box Command Global) → Type 0
+DeclaresOther old new depth copies other = (factors : List ℕ) → IsRound factors depth copies → new ≡ old ++ map declared_of (other_declarations factors (maybe_seen (option_map (λ b. action_seen b.value) other)))
+
+abbrev pub DeclaresParts : (old new : List Declared) → (depth copies : ℕ) → List (Vec Command Global) → Type 0
+DeclaresParts old new depth copies parts = (factors : List ℕ) → IsRound factors depth copies → new ≡ old ++ map declared_of (groups_declarations factors (groups (map part_seen parts)))
+
+-- of each entity its declaration
+abbrev pub AreFound : List Declaration → List (Option Declared) → Type 0
+AreFound ds found = AreKept (λ entity. option_map declared_of (declaration_in ds entity)) found
+
+abbrev pub KeepsFound : (old new : List (Option Declared)) → Declared → Type 0
+KeepsFound old new variable = (ds : List Declaration) (d : Declaration) → AreFound ds old → variable ≡ declared_of d → AreFound (ds ++ d ∷ []) new
+
+abbrev pub held_of : Option Declared → (first : ℕ) → Held
+held_of None first = record { kind = kind.Bool; depth = 0; first = first }
+held_of (Some d) first = record { kind = d.kind; depth = d.depth; first = first }
+
+abbrev pub copies_held : Option Declared → ℕ
+copies_held None = 1
+copies_held (Some d) = d.copies
+
+-- the slots of variables, one behind the other
+abbrev pub AreLaid : List (Option Declared) → List Held → (count : ℕ) → Type 0
+AreLaid found held count = (ds : List Declaration) → AreFound ds found → (held ≡ all_held ds 0 0 (length found)) × (count ≡ slots_counted ds 0 0 (length found))
+
+abbrev pub ArePlaces : Command → (entities : ℕ) → List Held → (count : ℕ) → Type 0
+ArePlaces body entities held count =
+    (held ≡ all_held (declarations [] (action_seen body)) 0 0 entities) × (count ≡ slots_counted (declarations [] (action_seen body)) 0 0 entities)

@@ -1,0 +1,139 @@
+-- What stays as it is during a step, and how an evaluation ends.
+use Rattle.std.specs.Prelude.{◌≡◌, ℕ, ◌+◌, ◌^◌, ◌<◌, ◌≤◌, List, [], ◌∷◌, ◌++◌, length, slice_get, slice_range, Option, Some, None, Result, Ok, Err}
+use Rattle.std.specs.List.{AllByRecursion}
+use Rattle.dh_base.specs.declared.outcomes.FaultKind.TheVariants.{OutOfRange}
+use Rattle.dh_base.specs.declared.outcomes.Outcome.TheVariants.{Faulted}
+use Rattle.dh_base.specs.declared.places.Place.{Place}
+use Rattle.dh_value.specs.declared.words.Word.{Word}
+use Rattle.dh_value.specs.Words.{width_of, with_bits}
+use Rattle.dh_tree.specs.declared.tables.MemEntry.{MemEntry}
+use Rattle.dh_tree.specs.Shapes.{IsMemory}
+use Rattle.dh_tree.specs.Tables.{elements_in, most_elements}
+use Rattle.dh_tree.specs.Elements.{Spot}
+use Rattle.dh_meaning.specs.Effects.{Begun, Event, reads, writes, kind_in, stop_after}
+use Rattle.dh_code.specs.declared.codes.Access.{Access}
+use Rattle.dh_code.specs.declared.codes.Operation.{Operation}
+use Rattle.dh_code.specs.declared.codes.Flat.{Flat}
+use Rattle.dh_code.specs.declared.codes.Action.{Action}
+use Rattle.dh_code.specs.declared.codes.Action.TheVariants.{Store, Assign, Choose}
+use Rattle.dh_code.specs.declared.codes.Step.{Step}
+use Rattle.dh_code.specs.declared.codes.Code.{Code}
+use Rattle.dh_code.specs.declared.operands.View.{View}
+use Rattle.dh_code.specs.declared.evaluating.Scene.{Scene}
+use Rattle.dh_code.specs.declared.evaluating.Stop.{Stop}
+use Rattle.dh_code.specs.declared.evaluating.Stop.TheVariants as stop
+use Rattle.dh_code.specs.declared.spending.Bank.{Bank}
+use Rattle.dh_code.specs.declared.spots.Element.{Element}
+use Rattle.dh_code.specs.declared.spots.Spread.{Spread}
+use Rattle.dh_code.specs.Banks.{AreFirsts, HasBank}
+use Rattle.dh_code.specs.Operated.{IsAccess, IsOperand, IsOperation, Sight, access_spot, events_after, operand_word, operation_events, operation_word, sight_after, view_seen}
+use Rattle.dh_code.specs.declared.codes.Operation.TheVariants.{Read}
+use Rattle.dh_code.specs.Rows.{contents_of, element_in, spot_seen}
+use Rattle.dh_code.specs.Spent.{HaveSpent}
+
+-- what the step began with
+abbrev pub begun_in : Scene → Begun
+begun_in s = record { table = s.entries.now; memories = contents_of s.memories.now }
+
+-- every element is a value of its memory's kind
+abbrev pub AreSmall : List MemEntry → List (List ℕ) → Type 0
+AreSmall table memories = (memory position : ℕ) → element_in memories memory position < 2 ^ width_of (kind_in table memory)
+
+-- the operations of an expression stand in code, and its value is an operand
+pub record IsHeld (os : List Operation) (f : Flat) : Type 0 where
+  pub within : f.from ≤ f.to
+  pub there : f.to ≤ length os
+  pub operand : IsOperand f.value
+
+-- a list of commands begins before a number
+abbrev pub IsEarlier : (at : ℕ) → Option ℕ → Type 0
+IsEarlier at None = Unit {0}
+IsEarlier at (Some n) = n < at
+
+abbrev pub IsAction : List MemEntry → List Operation → (at : ℕ) → Action → Type 0
+IsAction table os at (Store f a) = IsHeld os f × IsAccess table a
+IsAction table os at (Assign f first depth) = IsHeld os f
+IsAction table os at (Choose f one two) = IsHeld os f × (IsEarlier at one × IsEarlier at two)
+
+-- a command that can be done, whatever it is the code of
+pub record IsStep (table : List MemEntry) (os : List Operation) (at : ℕ) (s : Step) : Type 0 where
+  pub action : IsAction table os at s.action
+  pub next : IsEarlier at s.next
+
+-- code that can be done
+pub record IsSoundCode (table : List MemEntry) (code : Code) : Type 0 where
+  pub operations : AllByRecursion (IsOperation table) code.operations
+  pub steps : (at : ℕ) (s : Step) → slice_get code.steps at ≡ Some s → IsStep table code.operations at s
+
+pub record IsScene (s : Scene) : Type 0 where
+  pub entries : AllByRecursion IsMemory s.entries.now
+  pub few : elements_in s.entries.now ≤ most_elements
+  pub firsts : AreFirsts s.entries.now s.firsts.now
+  pub small : AreSmall s.entries.now (contents_of s.memories.now)
+  pub code : IsSoundCode s.entries.now s.code.now
+
+-- an evaluation that makes these accesses and faults, with those before, ends so: at the first stop
+abbrev pub Spends : {A : Type 0} → List MemEntry → List Event → (now : ℕ) → Result A Stop → List Bank → Type 0
+Spends table es now (Ok a) banks = HaveSpent table es now banks
+Spends table es now (Err (stop.At outcome)) banks = stop_after table [] es ≡ Some outcome
+Spends table es now (Err stop.NoMemory) banks = Unit {0}
+
+-- banks that have spent these events have spent these more, or the events stop so
+abbrev pub SpendsMore : {A : Type 0} → Scene → List Bank → Result A Stop → List Bank → List Event → Type 0
+SpendsMore s old result new more = (es : List Event) → HaveSpent s.entries.now es s.step old → Spends s.entries.now (es ++ more) s.step result new
+
+-- a read of an element, and a write whatever its value
+abbrev pub read_at : Place → Element → List Event
+read_at place element = reads 0 place [] (spot_seen element) ∷ []
+
+abbrev pub SpendsWrite : {A : Type 0} → Scene → List Bank → Result A Stop → List Bank → Place → Element → Type 0
+SpendsWrite s old result new place element =
+    (es : List Event) (value : ℕ) → HaveSpent s.entries.now es s.step old → Spends s.entries.now (es ++ writes 0 place [] (spot_seen element) value ∷ []) s.step result new
+
+-- what an element holds
+abbrev pub element_value : Scene → Element → Word
+element_value s element = with_bits (kind_in s.entries.now element.memory) (element_in (contents_of s.memories.now) element.memory element.position)
+
+abbrev pub spread_spot : (memory : ℕ) → Spread → Spot
+spread_spot memory p = record { memory = memory; bank = p.bank; row = p.row; position = p.position }
+
+-- an access leads there, or is out of range
+abbrev pub LeadsTo : Scene → View → Access → Option Spread → Type 0
+LeadsTo s v a None = access_spot (begun_in s) (view_seen v) a ≡ None
+LeadsTo s v a (Some p) = (access_spot (begun_in s) (view_seen v) a ≡ Some (spread_spot a.memory p)) × HasBank s.entries.now a.memory p.bank
+
+-- its element, or its fault
+abbrev pub Finds : Scene → View → Access → Result Element Stop → Type 0
+Finds s v a (Ok e) = (access_spot (begun_in s) (view_seen v) a ≡ Some (spot_seen e)) × HasBank s.entries.now e.memory e.bank
+Finds s v a (Err (stop.At outcome)) = (access_spot (begun_in s) (view_seen v) a ≡ None) × (outcome ≡ Faulted OutOfRange a.place)
+Finds s v a (Err stop.NoMemory) = ⊥
+
+-- Expressions.
+
+-- the operations of an expression
+abbrev pub flat_operations : Code → Flat → List Operation
+flat_operations code f = slice_range code.operations f.from f.to
+
+-- what is seen behind them, its value, and the accesses and faults
+abbrev pub flat_sight : Scene → Sight → Flat → Sight
+flat_sight s w f = sight_after (begun_in s) w f.from (flat_operations s.code.now f)
+
+abbrev pub flat_word : Scene → Sight → Flat → Word
+flat_word s w f = operand_word (flat_sight s w f) f.value
+
+abbrev pub flat_events : Scene → Sight → Flat → List Event
+flat_events s w f = events_after (begun_in s) w f.from (flat_operations s.code.now f)
+
+-- Operations, as a view sees them.
+
+abbrev pub word_in : Scene → View → Operation → Word
+word_in s v o = operation_word (begun_in s) (view_seen v) o
+
+abbrev pub events_in : Scene → View → Operation → List Event
+events_in s v o = operation_events (begun_in s) (view_seen v) o
+
+abbrev pub read_word : Scene → View → Access → Word
+read_word s v a = operation_word (begun_in s) (view_seen v) (Read a)
+
+abbrev pub read_events : Scene → View → Access → List Event
+read_events s v a = operation_events (begun_in s) (view_seen v) (Read a)

@@ -1,0 +1,22 @@
+//! Programs as flat code: the operations of all expressions in one array, the commands in another,
+//! and the variables in numbered slots, one for each copy. How code is made from a program's tree,
+//! and what it does in a logical step. Stands on `dh_meaning`, `dh_tree`, `dh_value` and `dh_base`.
+#![tactic(auto)]
+
+mod codes;
+mod evaluating;
+mod flattening;
+mod operands;
+mod places;
+mod running;
+mod spending;
+mod spots;
+
+pub use codes::{Code, Flat};
+pub use evaluating::{Scene, Stop};
+pub use flattening::{Names, flat, flatten_commands};
+pub use operands::slot;
+pub use places::{Held, Places, place_all, place_of};
+pub use running::{Change, State, Write, decide, run, set, undo, write_all};
+pub use spending::{Bank, release, unused};
+pub use spots::measure;

@@ -1,0 +1,481 @@
+//! What commands do in a logical step.
+
+ghost use Rattle.std.specs.Prelude.{◌≡◌, ◌∷◌, [], if◌then◌else◌, IfOk, length, slice_set, slice_index_or};
+ghost use Rattle.dh_value.specs.Words.{IsWord};
+ghost use Rattle.dh_code.specs.declared.codes.Action.TheVariants.{Assign, Choose, Store};
+ghost use Rattle.dh_code.specs.Banks.{HasBank, all_banks};
+ghost use Rattle.dh_code.specs.Operated.{IsAccess};
+ghost use Rattle.dh_code.specs.Rows.{contents_of};
+ghost use Rattle.dh_code.specs.Scenes.{IsHeld, IsScene, SpendsWrite, flat_sight, flat_word};
+ghost use Rattle.dh_code.specs.Spent.{StayUsed};
+ghost use Rattle.dh_code.specs.States.{AreWritten, Assigns, CanBeDone, Decides, DoesAll, DoesOne, FindsSeen, GoBackAlike, IsAside, IsAssigned, IsReady, KeepsBack, KeepsSlots, KeepsVariables, Parts, Puts, SpendsFlat, Stores, sight_in, undone};
+
+use crate::codes::{Access, Action, Flat};
+use crate::evaluating::{Scene, Stop, bank_at, find, operate, set_number, stuck};
+use crate::operands::{View, number_at, slot, value_at, whole};
+use crate::spending::{Bank, write_row};
+use crate::spots::Element;
+use dh_base::{NoMemory, Place};
+use dh_value::{Word, cast};
+use std::alloc::AllocFailed;
+
+/// A write that the step is to make at its end.
+#[derive(Clone, Copy)]
+pub struct Write {
+    /// The number of the memory.
+    pub memory: usize,
+    /// The place of the element in it.
+    pub position: u64,
+    /// The bits of the value.
+    pub bits: u64,
+}
+
+/// What a slot held before an assignment.
+#[derive(Clone, Copy)]
+pub struct Change {
+    /// The slot.
+    pub slot: usize,
+    /// What it held.
+    pub before: u64,
+}
+
+/// What the commands of a step change.
+#[derive(Drop)]
+pub struct State {
+    /// The slots of the variables: the value of each copy, modulo 2^64.
+    pub variables: Vec<u64>,
+    /// What each operation gave, by its number.
+    pub given: Vec<u64>,
+    /// The banks of the memories; a memory and its bank have one number.
+    pub banks: Vec<Bank>,
+    /// The writes so far, in order.
+    pub writes: Vec<Write>,
+    /// The assignments so far, in order.
+    pub changes: Vec<Change>,
+}
+
+/// Sets a slot.
+pub fn set(state: &mut State, slot: usize, bits: u64) -> Result<(), AllocFailed<Change>>
+    ensures banks { state.new.banks ≡ state.old.banks }
+    ensures given { state.new.given ≡ state.old.given }
+    ensures writes { state.new.writes ≡ state.old.writes }
+    ensures kept { length state.new.variables.items ≡ length state.old.variables.items }
+    ensures set { IfOk result (λ _. IsAssigned state.old state.new slot bits) }
+    ensures back { GoBackAlike state.old state.new }
+{
+    let before = number_at(state.variables.as_slice(), slot);
+    state.changes.push(Change { slot, before })?;
+    set_number(state.variables.as_mut_slice(), slot, bits);
+    Ok(())
+}
+
+/// The value of an expression at a path of these ranks.
+fn evaluate(scene: &Scene<'_>, state: &mut State, ranks: &[u32], value: &Flat) -> Result<Word, Stop>
+    requires scene { IsScene scene.now }
+    requires ready { IsReady scene.now state.old }
+    requires held { IsHeld scene.now.code.now.operations value.now }
+    ensures ready { IsReady scene.now state.new }
+    ensures kept { KeepsVariables state.old state.new }
+    ensures value { IfOk result (λ w.
+        w ≡ flat_word scene.now (sight_in state.old ranks.now) value.now) }
+    ensures word { IfOk result (λ w. IsWord w) }
+    ensures seen { IfOk result (λ _. sight_in state.new ranks.now
+        ≡ flat_sight scene.now (sight_in state.old ranks.now) value.now) }
+    ensures spends { SpendsFlat scene.now state.old result state.new ranks.now value.now }
+{
+    let slots = state.variables.as_slice();
+    let operations = &scene.code.operations.as_slice()[value.from..value.to];
+    operate(
+        scene,
+        slots,
+        ranks,
+        state.given.as_mut_slice(),
+        state.banks.as_mut_slice(),
+        value.from,
+        operations,
+    )?;
+    let view = View {
+        slots,
+        given: state.given.as_slice(),
+        ranks,
+    };
+    Ok(value_at(&view, &value.value))
+}
+
+/// Evaluates a right side at a path and sets a variable to it.
+fn assign(
+    scene: &Scene<'_>,
+    state: &mut State,
+    ranks: &[u32],
+    value: &Flat,
+    first: u32,
+    depth: u32,
+) -> Result<(), Stop>
+    requires scene { IsScene scene.now }
+    requires ready { IsReady scene.now state.old }
+    requires held { IsHeld scene.now.code.now.operations value.now }
+    ensures ready { IsReady scene.now state.new }
+    ensures back { KeepsBack state.old state.new }
+    ensures ran { Assigns scene.now state.old result state.new ranks.now value.now first depth }
+{
+    let word = evaluate(scene, state, ranks, value)?;
+    set(state, slot(first, depth, ranks), whole(word))?;
+    Ok(())
+}
+
+/// Takes the port that a write needs.
+fn claim(scene: &Scene<'_>, banks: &mut [Bank], place: Place, element: Element) -> Result<(), Stop>
+    requires scene { IsScene scene.now }
+    requires there { HasBank scene.now.entries.now element.memory element.bank }
+    requires long { length banks.old ≡ all_banks scene.now.entries.now }
+    ensures long { length banks.new ≡ length banks.old }
+    ensures used { StayUsed scene.now.step banks.old banks.new }
+    ensures spends { SpendsWrite scene.now banks.old result banks.new place element }
+{
+    let at = bank_at(scene, element);
+    let ports = scene.entries[element.memory].shape.ports;
+    if write_row(&mut banks[at], ports, scene.step) {
+        Ok(())
+    } else {
+        Err(stuck(place, element))
+    }
+}
+
+/// Writes a value to an element at the end of the step.
+fn put(
+    scene: &Scene<'_>,
+    state: &mut State,
+    place: Place,
+    element: Element,
+    value: Word,
+) -> Result<(), Stop>
+    requires scene { IsScene scene.now }
+    requires ready { IsReady scene.now state.old }
+    requires there { HasBank scene.now.entries.now element.memory element.bank }
+    requires word { IsWord value }
+    ensures ready { IsReady scene.now state.new }
+    ensures kept { KeepsSlots state.old state.new }
+    ensures puts { Puts scene.now state.old result state.new place element value }
+{
+    claim(scene, state.banks.as_mut_slice(), place, element)?;
+    let bits = cast(value, scene.entries[element.memory].shape.kind).bits;
+    state.writes.push(Write {
+        memory: element.memory,
+        position: element.position,
+        bits,
+    })?;
+    Ok(())
+}
+
+/// The element of an access, as a state sees it at a path of these ranks.
+fn find_in(
+    scene: &Scene<'_>,
+    state: &State,
+    ranks: &[u32],
+    access: &Access,
+) -> Result<Element, Stop>
+    requires scene { IsScene scene.now }
+    requires access { IsAccess scene.now.entries.now access.now }
+    ensures { FindsSeen scene.now (sight_in state.now ranks.now) access.now result }
+{
+    let view = View {
+        slots: state.variables.as_slice(),
+        given: state.given.as_slice(),
+        ranks,
+    };
+    find(scene, &view, access)
+}
+
+/// Evaluates a right side at a path, then the indices of an element, and writes the one to the
+/// other.
+fn store(
+    scene: &Scene<'_>,
+    state: &mut State,
+    ranks: &[u32],
+    value: &Flat,
+    access: &Access,
+) -> Result<(), Stop>
+    requires scene { IsScene scene.now }
+    requires ready { IsReady scene.now state.old }
+    requires held { IsHeld scene.now.code.now.operations value.now }
+    requires access { IsAccess scene.now.entries.now access.now }
+    ensures ready { IsReady scene.now state.new }
+    ensures back { KeepsBack state.old state.new }
+    ensures ran { Stores scene.now state.old result state.new ranks.now value.now access.now }
+{
+    let word = evaluate(scene, state, ranks, value)?;
+    let element = find_in(scene, state, ranks, access)?;
+    put(scene, state, access.place, element, word)
+}
+
+/// Evaluates a test at a path of these ranks.
+pub fn decide(
+    scene: &Scene<'_>,
+    state: &mut State,
+    ranks: &[u32],
+    test: &Flat,
+) -> Result<bool, Stop>
+    requires scene { IsScene scene.now }
+    requires ready { IsReady scene.now state.old }
+    requires held { IsHeld scene.now.code.now.operations test.now }
+    ensures ready { IsReady scene.now state.new }
+    ensures back { KeepsBack state.old state.new }
+    ensures decides { Decides scene.now state.old result state.new ranks.now test.now }
+{
+    let word = evaluate(scene, state, ranks, test)?;
+    Ok(word.bits == 1)
+}
+
+/// The ranks of the path of a number; none where there is no such path.
+fn ranks_at(rows: &[Vec<u32>], path: usize) -> &[u32]
+    ensures { result.now ≡ slice_index_or (contents_of rows.now) path [] }
+{
+    match rows.get(path) {
+        Some(ranks) => ranks.as_slice(),
+        None => &[],
+    }
+}
+
+/// Evaluates a right side at each path in order and sets a variable to it.
+fn assign_all(
+    scene: &Scene<'_>,
+    state: &mut State,
+    rows: &[Vec<u32>],
+    paths: &[usize],
+    value: &Flat,
+    first: u32,
+    depth: u32,
+) -> Result<(), Stop>
+    requires scene { IsScene scene.now }
+    requires ready { IsReady scene.now state.old }
+    requires held { IsHeld scene.now.code.now.operations value.now }
+    ensures ready { IsReady scene.now state.new }
+    ensures back { KeepsBack state.old state.new }
+    ensures ran { DoesOne scene.now state.old result state.new (contents_of rows.now) paths.now
+        (Assign value.now first depth) }
+{
+    for path in paths {
+        assign(scene, state, ranks_at(rows, *path), value, first, depth)?;
+    }
+    Ok(())
+}
+
+/// Stores a value at each path in order.
+fn store_all(
+    scene: &Scene<'_>,
+    state: &mut State,
+    rows: &[Vec<u32>],
+    paths: &[usize],
+    value: &Flat,
+    access: &Access,
+) -> Result<(), Stop>
+    requires scene { IsScene scene.now }
+    requires ready { IsReady scene.now state.old }
+    requires held { IsHeld scene.now.code.now.operations value.now }
+    requires access { IsAccess scene.now.entries.now access.now }
+    ensures ready { IsReady scene.now state.new }
+    ensures back { KeepsBack state.old state.new }
+    ensures ran { DoesOne scene.now state.old result state.new (contents_of rows.now) paths.now
+        (Store value.now access.now) }
+{
+    for path in paths {
+        store(scene, state, ranks_at(rows, *path), value, access)?;
+    }
+    Ok(())
+}
+
+/// Puts a path on one side or the other.
+fn put_aside(
+    holds: bool,
+    path: usize,
+    chosen: &mut Vec<usize>,
+    other: &mut Vec<usize>,
+) -> Result<(), NoMemory>
+    ensures { IfOk result (λ _. IsAside holds path (chosen.old.items, other.old.items)
+        (chosen.new.items, other.new.items)) }
+{
+    if holds {
+        chosen.push(path)?;
+    } else {
+        other.push(path)?;
+    }
+    Ok(())
+}
+
+/// Evaluates a test at each path in order, and puts the paths on one side or the other.
+fn part(
+    scene: &Scene<'_>,
+    state: &mut State,
+    rows: &[Vec<u32>],
+    paths: &[usize],
+    test: &Flat,
+) -> Result<(Vec<usize>, Vec<usize>), Stop>
+    requires scene { IsScene scene.now }
+    requires ready { IsReady scene.now state.old }
+    requires held { IsHeld scene.now.code.now.operations test.now }
+    ensures ready { IsReady scene.now state.new }
+    ensures back { KeepsBack state.old state.new }
+    ensures parts { Parts scene.now state.old result state.new (contents_of rows.now) paths.now
+        test.now }
+{
+    let mut chosen = Vec::new(scene.alloc);
+    let mut other = Vec::new(scene.alloc);
+    for path in paths {
+        let holds = decide(scene, state, ranks_at(rows, *path), test)?;
+        put_aside(holds, *path, &mut chosen, &mut other)?;
+    }
+    Ok((chosen, other))
+}
+
+/// One of two lists.
+fn either(holds: bool, chosen: Option<usize>, other: Option<usize>) -> Option<usize>
+    ensures { result ≡ (if holds then chosen else other) }
+{
+    if holds { chosen } else { other }
+}
+
+/// Does an `if` at one path: its test, and then an arm.
+#[cycle(run)]
+fn choose_at(
+    scene: &Scene<'_>,
+    state: &mut State,
+    rows: &[Vec<u32>],
+    paths: &[usize],
+    test: &Flat,
+    chosen: Option<usize>,
+    other: Option<usize>,
+) -> Result<(), Stop>
+    requires scene { IsScene scene.now }
+    requires ready { IsReady scene.now state.old }
+    requires held { IsHeld scene.now.code.now.operations test.now }
+    requires one { length paths.now ≡ 1 }
+    ensures ready { IsReady scene.now state.new }
+    ensures back { KeepsBack state.old state.new }
+    ensures ran { DoesOne scene.now state.old result state.new (contents_of rows.now) paths.now
+        (Choose test.now chosen other) }
+{
+    let holds = decide(scene, state, ranks_at(rows, paths[0]), test)?;
+    run(scene, state, rows, paths, either(holds, chosen, other))
+}
+
+/// Does an `if` at paths: its test at each, then the one arm where it holds, then the other.
+#[cycle(run)]
+fn choose(
+    scene: &Scene<'_>,
+    state: &mut State,
+    rows: &[Vec<u32>],
+    paths: &[usize],
+    test: &Flat,
+    chosen: Option<usize>,
+    other: Option<usize>,
+) -> Result<(), Stop>
+    requires scene { IsScene scene.now }
+    requires ready { IsReady scene.now state.old }
+    requires held { IsHeld scene.now.code.now.operations test.now }
+    ensures ready { IsReady scene.now state.new }
+    ensures back { KeepsBack state.old state.new }
+    ensures ran { DoesOne scene.now state.old result state.new (contents_of rows.now) paths.now
+        (Choose test.now chosen other) }
+{
+    let (first, second) = part(scene, state, rows, paths, test)?;
+    run(scene, state, rows, first.as_slice(), chosen)?;
+    run(scene, state, rows, second.as_slice(), other)
+}
+
+/// Does a command at these paths.
+#[cycle(run)]
+fn run_one(
+    scene: &Scene<'_>,
+    state: &mut State,
+    rows: &[Vec<u32>],
+    paths: &[usize],
+    action: &Action,
+) -> Result<(), Stop>
+    requires scene { IsScene scene.now }
+    requires ready { IsReady scene.now state.old }
+    requires done { CanBeDone scene.now action.now }
+    ensures ready { IsReady scene.now state.new }
+    ensures back { KeepsBack state.old state.new }
+    ensures ran { DoesOne scene.now state.old result state.new (contents_of rows.now) paths.now
+        action.now }
+{
+    match action {
+        Action::Store { value, access } => store_all(scene, state, rows, paths, value, access),
+        Action::Assign {
+            value,
+            first,
+            depth,
+        } => assign_all(scene, state, rows, paths, value, *first, *depth),
+        Action::Choose {
+            test,
+            chosen,
+            other,
+        } => {
+            if paths.len() == 1 {
+                choose_at(scene, state, rows, paths, test, *chosen, *other)
+            } else {
+                choose(scene, state, rows, paths, test, *chosen, *other)
+            }
+        }
+    }
+}
+
+/// Does commands at these paths, each at all of them before the next one.
+#[cycle(run)]
+pub fn run(
+    scene: &Scene<'_>,
+    state: &mut State,
+    rows: &[Vec<u32>],
+    paths: &[usize],
+    mut list: Option<usize>,
+) -> Result<(), Stop>
+    requires scene { IsScene scene.now }
+    requires ready { IsReady scene.now state.old }
+    ensures ready { IsReady scene.now state.new }
+    ensures back { KeepsBack state.old state.new }
+    ensures ran { DoesAll scene.now state.old result state.new (contents_of rows.now) paths.now
+        list }
+{
+    while let Some(at) = list {
+        let Some(step) = scene.code.steps.as_slice().get(at) else {
+            return Ok(());
+        };
+        run_one(scene, state, rows, paths, &step.action)?;
+        list = step.next;
+    }
+    Ok(())
+}
+
+/// Takes changes back, the last one first.
+pub fn undo(variables: &mut [u64], changes: &[Change])
+    ensures { variables.new ≡ undone changes.now variables.old }
+{
+    for i in (0..changes.len()).rev() {
+        set_number(variables, changes[i].slot, changes[i].before);
+    }
+}
+
+/// Sets an element, where there is one.
+fn set_element(values: &mut Vec<u64>, position: u64, bits: u64)
+    ensures { values.new.items ≡ slice_set values.old.items position bits }
+{
+    set_number(values.as_mut_slice(), position as usize, bits);
+}
+
+/// Makes a write, where its element is.
+fn make(memories: &mut Vec<Vec<u64>>, write: Write)
+    ensures { AreWritten memories.old memories.new (write ∷ []) }
+{
+    if let Some(values) = memories.get_mut(write.memory) {
+        set_element(values, write.position, write.bits);
+    }
+}
+
+/// Makes writes, in order.
+pub fn write_all(memories: &mut Vec<Vec<u64>>, writes: &[Write])
+    ensures { AreWritten memories.old memories.new writes.now }
+{
+    for write in writes {
+        make(memories, *write);
+    }
+}

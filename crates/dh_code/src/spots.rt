@@ -1,0 +1,128 @@
+//! Where an element of a memory lies.
+
+ghost use Rattle.std.specs.Prelude.{◌≡◌, ℕ, ◌<◌, Some};
+ghost use Rattle.std.specs.List.{AllByRecursion};
+ghost use Rattle.dh_tree.specs.Elements.{banks_of, rows_of, position_in_bank};
+ghost use Rattle.dh_tree.specs.Tables.{elements_of};
+ghost use Rattle.dh_code.specs.Banks.{AreDims, IsExtent, IsSpread, Spreads, index_within};
+ghost use Rattle.dh_code.specs.Operated.{IsOperand, index_values, view_seen};
+
+use crate::codes::Operand;
+use crate::operands::{View, value_at};
+use dh_tree::Dim;
+use dh_value::number;
+
+/// Where an element lies: its bank, its row in that bank, and its place among all elements of its
+/// memory.
+#[derive(Clone, Copy)]
+pub struct Element {
+    /// The number of the memory.
+    pub memory: usize,
+    /// The number of the bank in it.
+    pub bank: u64,
+    /// The row in that bank.
+    pub row: u64,
+    /// The place among all elements.
+    pub position: u64,
+}
+
+/// How many banks, rows of a bank, and elements dimensions have.
+#[derive(Clone, Copy)]
+pub struct Extent {
+    /// The banks.
+    pub banks: u64,
+    /// The rows of each bank.
+    pub rows: u64,
+    /// The elements.
+    pub elements: u64,
+}
+
+/// Where an element lies within dimensions.
+#[derive(Clone, Copy)]
+pub struct Spread {
+    /// The number of its bank.
+    pub bank: u64,
+    /// Its row there.
+    pub row: u64,
+    /// Its place among all elements.
+    pub position: u64,
+}
+
+/// An index as a natural number, where it is one below a size.
+pub fn index_below(index: i128, size: u64) -> Option<u64>
+    ensures is { result ≡ index_within size index }
+    ensures below { (n : ℕ) → result ≡ Some n → n < size }
+{
+    if 0 <= index && index < i128::from(size) {
+        Some(index as u64)
+    } else {
+        None
+    }
+}
+
+/// How many banks, rows of a bank, and elements dimensions have.
+pub fn measure(dims: &[Dim]) -> Extent
+    requires dims { AreDims dims.now }
+    ensures { IsExtent dims.now result }
+{
+    let [dim, further @ ..] = dims else {
+        return Extent {
+            banks: 1,
+            rows: 1,
+            elements: 1,
+        };
+    };
+    let inner = measure(further);
+    Extent {
+        banks: dim.banks * inner.banks,
+        rows: (dim.size / dim.banks) * inner.rows,
+        elements: dim.size * inner.elements,
+    }
+}
+
+/// Where the element of these indices lies; None where there is none.
+pub fn locate(view: &View<'_>, dims: &[Dim], indices: &[Operand]) -> Option<Spread>
+    requires dims { AreDims dims.now }
+    requires operands { AllByRecursion IsOperand indices.now }
+    ensures spreads { Spreads dims.now (index_values (view_seen view.now) indices.now) result }
+    ensures within { IsSpread dims.now result }
+{
+    let [dim, further @ ..] = dims else {
+        return if indices.is_empty() {
+            Some(Spread {
+                bank: 0,
+                row: 0,
+                position: 0,
+            })
+        } else {
+            None
+        };
+    };
+    let [operand, others @ ..] = indices else {
+        return None;
+    };
+    let index = index_below(number(value_at(view, operand)), dim.size)?;
+    let inner = locate(view, further, others)?;
+    let width = measure(further);
+    Some(Spread {
+        bank: (index % dim.banks) * width.banks + inner.bank,
+        row: (index / dim.banks) * width.rows + inner.row,
+        position: index * width.elements + inner.position,
+    })
+}
+
+/// The place among all elements of the one in this row of this bank.
+pub fn place_in_bank(dims: &[Dim], bank: u64, row: u64) -> u64
+    requires dims { AreDims dims.now }
+    requires bank { bank < banks_of dims.now }
+    requires row { row < rows_of dims.now }
+    ensures place { result ≡ position_in_bank dims.now bank row }
+    ensures within { result < elements_of dims.now }
+{
+    let [dim, further @ ..] = dims else {
+        return 0;
+    };
+    let inner = measure(further);
+    let index = (row / inner.rows) * dim.banks + bank / inner.banks;
+    index * inner.elements + place_in_bank(further, bank % inner.banks, row % inner.rows)
+}

@@ -1,0 +1,12 @@
+pub mod Turns
+pub mod NotedFacts
+pub mod ElementFacts
+pub mod StageFacts
+pub mod KeyFacts
+pub mod RoundFacts
+pub mod KnownFacts
+pub mod IndexFacts
+pub mod StructureFacts
+pub mod StructureEqual
+pub mod ScopeFacts
+pub mod ReadFacts

@@ -1,0 +1,7 @@
+use Rattle.std.proofs.Common.{refl}
+use Rattle.dh_tree.specs.Seen.{action_seen}
+use Rattle.dh_events.proofs.ScopeFacts.{are_scopes}
+use Rattle.dh_events.proofs.dependence.scopes_of.Goals as goal
+
+pub returns : goal.returns
+returns c = are_scopes (action_seen c.args.body.now) c.new-scopes.result.items c.note_scopes.new.scopes.items c.new-scopes.ensures.items c.in_ok-note_scopes.ensures

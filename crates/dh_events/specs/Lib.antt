@@ -1,0 +1,10 @@
+pub mod Tables
+pub mod Stages
+pub mod Incidents
+pub mod Accesses
+pub mod Noted
+pub mod Structures
+pub mod Elements
+pub mod Classes
+pub mod Rounds
+pub mod Scopes

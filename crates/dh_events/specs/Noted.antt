@@ -1,0 +1,87 @@
+-- What the code notes of what happens.
+use Rattle.std.specs.Prelude.{◌≡◌, ℕ, ◌++◌, ◌∷◌, [], Bool, List, map, Option, None, option_map, Vec}
+use Rattle.std.specs.Global.{Global, Box}
+use Rattle.dh_tree.specs.declared.trees.commands.Command.{Command}
+use Rattle.dh_tree.specs.declared.trees.expressions.Expr.{Expr}
+use Rattle.dh_tree.specs.declared.trees.expressions.Ref.{Ref}
+use Rattle.dh_tree.specs.Seen.{term_seen, terms, action_seen, part_seen, groups, maybe_seen}
+use Rattle.dh_events.specs.declared.events.Event.{Event}
+use Rattle.dh_events.specs.declared.events.Event.TheVariants as event
+use Rattle.dh_events.specs.declared.events.Notes.{Notes}
+use Rattle.dh_events.specs.declared.events.Site.{Site}
+use Rattle.dh_events.specs.declared.noting.Around.{Around}
+use Rattle.dh_events.specs.declared.noting.Open.{Open}
+use Rattle.dh_events.specs.Incidents.{Incident, touches, assigned, arm_begins, arm_ends, begins, next, ends, site_at, term_incidents, terms_incidents, maybe_incidents, target_incidents, incidents, open_after, other_incidents, combine_incidents, open_combine, groups_incidents, groups_open, closed}
+use Rattle.dh_events.specs.Tables.{numbered}
+
+abbrev pub event_seen : Event → Incident
+event_seen (event.Touch access writes phase round element newest) = touches (term_seen access.now) writes (site_at phase round)
+event_seen (event.Assigned entity) = assigned entity
+event_seen event.ArmBegins = arm_begins
+event_seen event.ArmEnds = arm_ends
+event_seen event.Begins = begins
+event_seen event.Next = next
+event_seen event.Ends = ends
+
+-- the incidents that events are
+abbrev pub all_seen : List Event → List Incident
+all_seen events = map event_seen events
+
+abbrev pub noted : Notes → List Incident
+noted notes = all_seen notes.events.items
+
+-- what is noted is that before, and behind it these incidents
+abbrev pub Adds : (old new : Notes) → List Incident → Type 0
+Adds old new more = noted new ≡ noted old ++ more
+
+-- what an expression, expressions and one that may lack read, and what a store does to its target
+abbrev pub read_by : Site → Expr → List Incident
+read_by site e = term_incidents site (term_seen e)
+
+abbrev pub all_read_by : Site → List Expr → List Incident
+all_read_by site es = terms_incidents site (terms (map term_seen es))
+
+abbrev pub maybe_read_by : Site → Option Expr → List Incident
+maybe_read_by site e = maybe_incidents site (option_map term_seen e)
+
+abbrev pub written_by : Site → Expr → List Incident
+written_by site e = target_incidents site (term_seen e)
+
+-- what commands without commands inside do
+abbrev pub let_by : Site → Ref → Option Expr → List Incident
+let_by site name value = maybe_read_by site value ++ assigned name.entity ∷ []
+
+abbrev pub assigned_by : Site → Ref → Expr → List Incident
+assigned_by site target value = read_by site value ++ assigned target.entity ∷ []
+
+abbrev pub stored_by : Site → (target value : Expr) → List Incident
+stored_by site target value = read_by site value ++ written_by site target
+
+-- how many phases each command has, as the walk knows it
+abbrev pub stages_known : Around → ℕ → ℕ
+stages_known around = numbered around.stages.now
+
+abbrev pub done_by : Around → Open → Command → List Incident
+done_by around behind c = incidents (stages_known around) around.round behind (action_seen c)
+
+abbrev pub opened_by : Around → Open → Command → Open
+opened_by around behind c = open_after (stages_known around) behind (action_seen c)
+
+abbrev pub other_done_by : Around → Open → Option (Box Command) → List Incident
+other_done_by around behind block = other_incidents (stages_known around) around.round behind (maybe_seen (option_map (λ b. action_seen b.value) block))
+
+-- a block that joins copies, behind a body that leaves these phases behind
+abbrev pub combine_done_by : Around → (behind : Open) → Option (Box Command) → List Incident
+combine_done_by around behind block =
+    combine_incidents (stages_known around) around.round (open_combine (stages_known around) behind (maybe_seen (option_map (λ b. action_seen b.value) block))) (maybe_seen (option_map (λ b. action_seen b.value) block))
+
+-- what happens in the parts of a block, and which phases are open after them
+abbrev pub parts_done_by : Around → (stepped parted : Bool) → Open → List (Vec Command Global) → List Incident
+parts_done_by around stepped parted behind parts = groups_incidents (stages_known around) around.round stepped parted behind (groups (map part_seen parts))
+
+abbrev pub parts_opened_by : Around → (stepped : Bool) → Open → List (Vec Command Global) → Open
+parts_opened_by around stepped behind parts = groups_open (stages_known around) stepped behind (groups (map part_seen parts))
+
+-- what happens in a program's body, of which so many phases are noted by the numbers of its commands
+abbrev pub body_done_by : (stages : List ℕ) → Command → List Incident
+body_done_by stages c = incidents (numbered stages) None closed (action_seen c)

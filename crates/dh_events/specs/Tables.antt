@@ -1,0 +1,14 @@
+-- Numbers by number, as functions: a place that was never set has 0.
+use Rattle.std.specs.Prelude.{◌≡◌, ℕ, ◌==◌, if◌then◌else◌, List, slice_index, Vec}
+use Rattle.std.specs.Global.{Global}
+
+abbrev pub numbered : List ℕ → ℕ → ℕ
+numbered numbers place = slice_index numbers place
+
+-- one number of a function changed
+abbrev pub with_number : (ℕ → ℕ) → (place number : ℕ) → ℕ → ℕ
+with_number f place number n = if place == n then number else f n
+
+-- the numbers are those that this change makes of the ones before
+abbrev pub AreNumbers : (old new : Vec ℕ Global) → ((ℕ → ℕ) → ℕ → ℕ) → Type 0
+AreNumbers old new change = numbered new.items ≡ change (numbered old.items)

@@ -1,0 +1,259 @@
+//! On the copies of which loops the value of an expression depends.
+
+ghost use Rattle.std.specs.Prelude.{◌≡◌, ◌||◌, ◌+◌, ◌<◌, ◌≤◌, ℕ, List, Some, IfOk, OnOk, length, map, option_map};
+ghost use Rattle.dh_tree.specs.Seen.{action_seen, form_seen, part_seen, groups, maybe_seen, term_seen, terms};
+ghost use Rattle.dh_meaning.specs.Bindings.{bindings, Binding};
+ghost use Rattle.dh_meets.specs.Charges as charges;
+ghost use Rattle.dh_events.specs.Accesses.{element_in};
+ghost use Rattle.dh_events.specs.Scopes.{groups_scopes, other_scopes, scope, scope_at, scopes_in, told_inside, with_scope, AreScopes, IsDepth, IsLow, MakeScopes};
+
+use dh_base::NoMemory;
+use dh_tree::{Command, CommandForm, Expr, ExprForm, Ref};
+use std::alloc::Global;
+
+/// Where a variable is declared.
+#[derive(Clone, Copy)]
+pub struct Scope {
+    /// How many unrolled loops stand round its declaration; of an iterator with its own loop.
+    pub depth: usize,
+    /// The factor of the loop of which it is the iterator.
+    pub iterates: Option<u64>,
+}
+
+/// Adds places of variables that are not declared, up to a length.
+fn grow(scopes: &mut Vec<Option<Scope>>, to: usize) -> Result<(), NoMemory>
+    ensures same { OnOk result (MakeScopes scopes.old scopes.new (λ f. f)) }
+    ensures long { OnOk result (to ≤ length scopes.new.items) }
+{
+    for _ in scopes.len()..to {
+        scopes.push(None)?;
+    }
+    Ok(())
+}
+
+/// Notes where the variable of a place is declared, where that is its first declaration.
+fn put(scopes: &mut Vec<Option<Scope>>, place: usize, scope: Scope)
+    requires within { place < length scopes.old.items }
+    ensures { scope_at scopes.new.items
+        ≡ with_scope (scope_at scopes.old.items) (Some place) scope }
+{
+    if scopes[place].is_none() {
+        scopes[place] = Some(scope);
+    }
+}
+
+/// Notes where a variable is declared, where that is its first declaration.
+fn declare(scopes: &mut Vec<Option<Scope>>, name: &Ref, scope: Scope) -> Result<(), NoMemory>
+    ensures { OnOk result (MakeScopes scopes.old scopes.new
+        (λ f. with_scope f name.now.entity scope)) }
+{
+    if let Some(entity) = name.entity {
+        let place = entity as usize;
+        grow(scopes, place + 1)?;
+        put(scopes, place, scope);
+    }
+    Ok(())
+}
+
+/// The depth inside a loop of a factor.
+fn depth_inside(depth: usize, factor: u64) -> usize
+    ensures { result ≡ told_inside depth factor }
+{
+    if factor > 1 {
+        depth.saturating_add(1)
+    } else {
+        depth
+    }
+}
+
+/// Notes where the iterator of a loop is declared that stands so many unrolled loops deep, and
+/// answers the depth inside it.
+fn declare_iterator(
+    scopes: &mut Vec<Option<Scope>>,
+    depth: usize,
+    iterator: &Ref,
+    factor: u64,
+) -> Result<usize, NoMemory>
+    ensures noted { OnOk result (MakeScopes scopes.old scopes.new
+        (λ f. with_scope f iterator.now.entity (scope (told_inside depth factor) (Some factor)))) }
+    ensures inside { IfOk result (λ inside. inside ≡ told_inside depth factor) }
+{
+    let depth = depth_inside(depth, factor);
+    let iterates = Some(factor);
+    declare(scopes, iterator, Scope { depth, iterates })?;
+    Ok(depth)
+}
+
+/// Notes where the variables of a command are declared that stands so many unrolled loops deep.
+#[cycle(scoping)]
+#[tactic(auto, using(dh_tree::proofs::SeenActions::actions_are))]
+fn note_scopes(
+    scopes: &mut Vec<Option<Scope>>,
+    depth: usize,
+    command: &Command,
+) -> Result<(), NoMemory>
+    ensures { OnOk result (MakeScopes scopes.old scopes.new
+        (scopes_in depth (action_seen command.now))) }
+{
+    match &command.form {
+        CommandForm::Let { name, .. } => declare(
+            scopes,
+            name,
+            Scope {
+                depth,
+                iterates: None,
+            },
+        ),
+        CommandForm::Block { body } => note_parts(scopes, depth, body.as_slice()),
+        CommandForm::If { then, other, .. } => {
+            note_scopes(scopes, depth, then)?;
+            note_other(scopes, depth, other)
+        }
+        CommandForm::While { body, .. } => note_scopes(scopes, depth, body),
+        CommandForm::For {
+            iterator,
+            factor,
+            body,
+            combine,
+            ..
+        } => {
+            let inside = declare_iterator(scopes, depth, iterator, *factor)?;
+            note_scopes(scopes, inside, body)?;
+            note_other(scopes, inside, combine)
+        }
+        CommandForm::LetMemory { .. }
+        | CommandForm::View { .. }
+        | CommandForm::Assign { .. }
+        | CommandForm::Store { .. }
+        | CommandForm::Reduce { .. }
+        | CommandForm::Call { .. } => Ok(()),
+    }
+}
+
+/// Those of a block that may lack.
+#[cycle(scoping)]
+fn note_other(
+    scopes: &mut Vec<Option<Scope>>,
+    depth: usize,
+    other: &Option<Box<Command>>,
+) -> Result<(), NoMemory>
+    ensures { OnOk result (MakeScopes scopes.old scopes.new
+        (other_scopes depth (maybe_seen (option_map (λ b. action_seen b.value) other.now)))) }
+{
+    match other {
+        Some(block) => note_scopes(scopes, depth, block),
+        None => Ok(()),
+    }
+}
+
+/// Those of parts.
+#[cycle(scoping)]
+fn note_parts(
+    scopes: &mut Vec<Option<Scope>>,
+    depth: usize,
+    parts: &[Vec<Command>],
+) -> Result<(), NoMemory>
+    ensures { OnOk result (MakeScopes scopes.old scopes.new
+        (groups_scopes depth (groups (map part_seen parts.now)))) }
+{
+    for part in parts {
+        for command in part {
+            note_scopes(scopes, depth, command)?;
+        }
+    }
+    Ok(())
+}
+
+/// By its entity where each variable of a program's body is declared.
+pub fn scopes_of(alloc: Global, body: &Command) -> Result<Vec<Option<Scope>>, NoMemory>
+    ensures { IfOk result (λ scopes. AreScopes (bindings 0 (action_seen body.now)) scopes.items) }
+{
+    let mut scopes = Vec::new(alloc);
+    note_scopes(&mut scopes, 0, body)?;
+    Ok(scopes)
+}
+
+/// Whether a variable depends on the loop of a level.
+fn scope_depends(scope: Scope, level: usize) -> bool
+    ensures { (d : ℕ) → IsLow level → IsDepth scope.depth d
+        → result ≡ charges.variable_depends d level scope.iterates }
+{
+    match scope.iterates {
+        Some(factor) => factor > 1 && level < scope.depth && level == scope.depth - 1,
+        None => level < scope.depth,
+    }
+}
+
+/// Whether what a name stands for depends on the loop of a level.
+fn entity_depends(scopes: &[Option<Scope>], level: usize, entity: Option<u32>) -> bool
+    ensures { (bs : List Binding) → IsLow level → AreScopes bs scopes.now
+        → result ≡ charges.entity_depends bs level entity }
+{
+    match entity {
+        Some(entity) => {
+            let entity = entity as usize;
+            if entity < scopes.len() {
+                match scopes[entity] {
+                    Some(scope) => scope_depends(scope, level),
+                    None => false,
+                }
+            } else {
+                false
+            }
+        }
+        None => false,
+    }
+}
+
+/// Whether the value of an expression depends on the loop of a level.
+#[cycle(depending)]
+#[tactic(auto, using(dh_tree::proofs::SeenTerms::terms_are))]
+fn depends(scopes: &[Option<Scope>], level: usize, expr: &Expr) -> bool
+    ensures { (bs : List Binding) → IsLow level → AreScopes bs scopes.now
+        → result ≡ charges.term_depends bs level (term_seen expr.now) }
+{
+    match &expr.form {
+        ExprForm::Number { .. } | ExprForm::Truth { .. } => false,
+        ExprForm::Variable { of } => entity_depends(scopes, level, of.entity),
+        ExprForm::Access { indices, .. } => any_depends(scopes, level, indices.as_slice()),
+        ExprForm::Physical { row, .. } => depends(scopes, level, row),
+        ExprForm::Binary { left, right, .. } => {
+            depends(scopes, level, left) || depends(scopes, level, right)
+        }
+        ExprForm::Cast { inner, .. } => depends(scopes, level, inner),
+    }
+}
+
+/// Whether one of these depends on it.
+#[cycle(depending)]
+fn any_depends(scopes: &[Option<Scope>], level: usize, exprs: &[Expr]) -> bool
+    ensures { (bs : List Binding) → IsLow level → AreScopes bs scopes.now
+        → result ≡ charges.terms_depend bs level (terms (map term_seen exprs.now)) }
+{
+    for expr in exprs {
+        if depends(scopes, level, expr) {
+            return true;
+        }
+    }
+    false
+}
+
+/// Whether an access depends on the loop of a level; a write on every one.
+#[tactic(auto, using(dh_tree::proofs::SeenTerms::terms_are))]
+pub fn access_depends(scopes: &[Option<Scope>], level: usize, access: &Expr, writes: bool) -> bool
+    ensures { (bs : List Binding) → IsLow level → AreScopes bs scopes.now → result
+        ≡ (writes || charges.element_depends bs level (element_in (form_seen access.now.form))) }
+{
+    if writes {
+        return true;
+    }
+    match &access.form {
+        ExprForm::Access { indices, .. } => any_depends(scopes, level, indices.as_slice()),
+        ExprForm::Physical { row, .. } => depends(scopes, level, row),
+        ExprForm::Number { .. }
+        | ExprForm::Truth { .. }
+        | ExprForm::Variable { .. }
+        | ExprForm::Binary { .. }
+        | ExprForm::Cast { .. } => false,
+    }
+}

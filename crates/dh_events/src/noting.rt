@@ -1,0 +1,508 @@
+//! The walk that notes what happens in a program.
+
+ghost use Rattle.std.specs.Prelude.{◌≡◌, map, option_map, IfOk, OnOk};
+ghost use Rattle.dh_tree.specs.Seen.{action_seen, groups, maybe_seen, part_seen, term_seen, terms};
+ghost use Rattle.dh_events.specs.Elements.{AreKnown, IsKnown, IsStep, StaysNoted, StaysRead};
+ghost use Rattle.dh_events.specs.Incidents as incidents;
+ghost use Rattle.dh_events.specs.Incidents.{is_stepped, phase_of as phase_of_open, released, when_parted};
+ghost use Rattle.dh_events.specs.Noted.{all_read_by, assigned_by, body_done_by, combine_done_by, done_by, event_seen, let_by, maybe_read_by, opened_by, other_done_by, parts_done_by, parts_opened_by, read_by, stages_known, stored_by, written_by, Adds};
+ghost use Rattle.dh_events.specs.Tables.{numbered};
+
+use crate::events::{Event, Notes, Site};
+use crate::known::{
+    Known, cast, index, no_index, number, operation, reading, row as row_of, truth, variable,
+};
+use crate::structures::sort_found;
+use crate::tables::get_at;
+use dh_base::NoMemory;
+use dh_tree::{Command, CommandForm, Expr, ExprForm, Ref};
+
+/// Notes what an expression in an index reads, and answers what is known of it.
+#[cycle(reading)]
+#[tactic(auto, using(dh_tree::proofs::SeenTerms::terms_are, dh_tree::proofs::Collecting::found_none, dh_tree::proofs::Collecting::found_both))]
+fn note_index<'a>(notes: &mut Notes<'a>, site: Site, expr: &'a Expr) -> Result<Known, NoMemory>
+    ensures adds { OnOk result (Adds notes.old notes.new (read_by site expr.now)) }
+    ensures noted { OnOk result (StaysRead notes.old notes.new) }
+    ensures known { IfOk result (λ k. IsKnown notes.new.structures
+        (numbered notes.old.clocks.items) (term_seen expr.now) k) }
+{
+    let sort = sort_found(expr.kind);
+    match &expr.form {
+        ExprForm::Number { negative, value } => {
+            number(&mut notes.structures, sort, *negative, *value)
+        }
+        ExprForm::Truth { value } => truth(&mut notes.structures, sort, *value),
+        ExprForm::Variable { of } => variable(
+            &mut notes.structures,
+            notes.clocks.as_slice(),
+            sort,
+            of.entity,
+        ),
+        ExprForm::Access { of, indices } => {
+            let element = note_indices(notes, site, indices.as_slice())?;
+            notes.read(site, expr, element)?;
+            reading(&mut notes.structures, sort, of.entity, element)
+        }
+        ExprForm::Physical { of, bank, row, .. } => {
+            let row = note_index(notes, site, row)?;
+            let element = row_of(&mut notes.structures, *bank, row)?;
+            notes.read(site, expr, element)?;
+            reading(&mut notes.structures, sort, of.entity, element)
+        }
+        ExprForm::Binary { op, left, right } => {
+            let left = note_index(notes, site, left)?;
+            let right = note_index(notes, site, right)?;
+            operation(&mut notes.structures, sort, *op, left, right)
+        }
+        ExprForm::Cast { inner, to } => {
+            let inner = note_index(notes, site, inner)?;
+            cast(&mut notes.structures, sort, *to, inner)
+        }
+    }
+}
+
+/// Notes what indices read, and answers what is known of them.
+#[cycle(reading)]
+fn note_indices<'a>(
+    notes: &mut Notes<'a>,
+    site: Site,
+    indices: &'a [Expr],
+) -> Result<Known, NoMemory>
+    ensures adds { OnOk result (Adds notes.old notes.new (all_read_by site indices.now)) }
+    ensures noted { OnOk result (StaysRead notes.old notes.new) }
+    ensures known { IfOk result (λ k. AreKnown notes.new.structures
+        (numbered notes.old.clocks.items) (terms (map term_seen indices.now)) k) }
+{
+    let mut known = None;
+    for expr in indices {
+        let last = note_index(notes, site, expr)?;
+        known = Some(index(&mut notes.structures, known, last)?);
+    }
+    match known {
+        Some(known) => Ok(known),
+        None => no_index(&mut notes.structures),
+    }
+}
+
+/// Notes what an expression reads that stands in no index.
+#[cycle(outer)]
+#[tactic(auto, using(dh_tree::proofs::SeenTerms::terms_are, dh_tree::proofs::Collecting::found_none, dh_tree::proofs::Collecting::found_both))]
+fn note_reads<'a>(notes: &mut Notes<'a>, site: Site, expr: &'a Expr) -> Result<(), NoMemory>
+    ensures adds { OnOk result (Adds notes.old notes.new (read_by site expr.now)) }
+    ensures noted { OnOk result (StaysRead notes.old notes.new) }
+{
+    match &expr.form {
+        ExprForm::Number { .. } | ExprForm::Truth { .. } | ExprForm::Variable { .. } => Ok(()),
+        ExprForm::Access { indices, .. } => {
+            let element = note_indices(notes, site, indices.as_slice())?;
+            notes.read(site, expr, element)
+        }
+        ExprForm::Physical { bank, row, .. } => {
+            let row = note_index(notes, site, row)?;
+            let element = row_of(&mut notes.structures, *bank, row)?;
+            notes.read(site, expr, element)
+        }
+        ExprForm::Binary { left, right, .. } => {
+            note_reads(notes, site, left)?;
+            note_reads(notes, site, right)
+        }
+        ExprForm::Cast { inner, .. } => note_reads(notes, site, inner),
+    }
+}
+
+/// Notes what the indices of a write read. No number is wanted of their structure, since writes
+/// share nothing.
+fn note_all_reads<'a>(
+    notes: &mut Notes<'a>,
+    site: Site,
+    indices: &'a [Expr],
+) -> Result<(), NoMemory>
+    ensures adds { OnOk result (Adds notes.old notes.new (all_read_by site indices.now)) }
+    ensures noted { OnOk result (StaysRead notes.old notes.new) }
+{
+    for index in indices {
+        note_reads(notes, site, index)?;
+    }
+    Ok(())
+}
+
+/// Notes what a store's target reads, and the write. What is no access is read alone.
+#[tactic(auto, using(dh_tree::proofs::SeenTerms::terms_are, dh_tree::proofs::Collecting::found_none, dh_tree::proofs::Collecting::found_both))]
+fn note_write<'a>(notes: &mut Notes<'a>, site: Site, target: &'a Expr) -> Result<(), NoMemory>
+    ensures adds { OnOk result (Adds notes.old notes.new (written_by site target.now)) }
+    ensures noted { OnOk result (StaysRead notes.old notes.new) }
+{
+    match &target.form {
+        ExprForm::Access { indices, .. } => {
+            note_all_reads(notes, site, indices.as_slice())?;
+            notes.write(site, target)
+        }
+        ExprForm::Physical { row, .. } => {
+            note_reads(notes, site, row)?;
+            notes.write(site, target)
+        }
+        ExprForm::Number { .. }
+        | ExprForm::Truth { .. }
+        | ExprForm::Variable { .. }
+        | ExprForm::Binary { .. }
+        | ExprForm::Cast { .. } => note_reads(notes, site, target),
+    }
+}
+
+/// Notes what an expression that may lack reads.
+fn note_maybe<'a>(
+    notes: &mut Notes<'a>,
+    site: Site,
+    value: &'a Option<Expr>,
+) -> Result<(), NoMemory>
+    ensures adds { OnOk result (Adds notes.old notes.new (maybe_read_by site value.now)) }
+    ensures noted { OnOk result (StaysRead notes.old notes.new) }
+{
+    match value {
+        Some(value) => note_reads(notes, site, value),
+        None => Ok(()),
+    }
+}
+
+/// Notes what a `let` reads, and its assignment.
+#[tactic(auto, using(dh_tree::proofs::Collecting::found_both))]
+fn note_let<'a>(
+    notes: &mut Notes<'a>,
+    site: Site,
+    name: &Ref,
+    value: &'a Option<Expr>,
+) -> Result<(), NoMemory>
+    ensures adds { OnOk result (Adds notes.old notes.new (let_by site name.now value.now)) }
+    ensures noted { OnOk result (StaysNoted notes.old notes.new) }
+{
+    note_maybe(notes, site, value)?;
+    notes.assign(name.entity)
+}
+
+/// Notes what an assignment or a reducer reads, and the assignment.
+#[tactic(auto, using(dh_tree::proofs::Collecting::found_both))]
+fn note_assign<'a>(
+    notes: &mut Notes<'a>,
+    site: Site,
+    target: &Ref,
+    value: &'a Expr,
+) -> Result<(), NoMemory>
+    ensures adds { OnOk result (Adds notes.old notes.new (assigned_by site target.now value.now)) }
+    ensures noted { OnOk result (StaysNoted notes.old notes.new) }
+{
+    note_reads(notes, site, value)?;
+    notes.assign(target.entity)
+}
+
+/// Notes what a store reads, and its write.
+#[tactic(auto, using(dh_tree::proofs::Collecting::found_both))]
+fn note_store<'a>(
+    notes: &mut Notes<'a>,
+    site: Site,
+    target: &'a Expr,
+    value: &'a Expr,
+) -> Result<(), NoMemory>
+    ensures adds { OnOk result (Adds notes.old notes.new (stored_by site target.now value.now)) }
+    ensures noted { OnOk result (StaysRead notes.old notes.new) }
+{
+    note_reads(notes, site, value)?;
+    note_write(notes, site, target)
+}
+
+/// How the phases of a list stand behind some of its commands.
+#[derive(Clone, Copy)]
+pub struct Open {
+    /// The Straight phase with which the next straight command goes on.
+    pub going: Option<u32>,
+    /// The last phase, where it is Straight.
+    pub last: Option<u32>,
+}
+
+/// Nothing is open.
+fn closed() -> Open
+    ensures { result ≡ incidents.closed }
+{
+    Open {
+        going: None,
+        last: None,
+    }
+}
+
+/// A Straight phase is open.
+fn open_at(phase: Option<u32>) -> Open
+    ensures { result ≡ incidents.open_at phase }
+{
+    Open {
+        going: phase,
+        last: phase,
+    }
+}
+
+/// What is open into a command: nothing, where that has more than one phase.
+fn into(stepped: bool, behind: Open) -> Open
+    ensures { result ≡ released stepped behind }
+{
+    if stepped {
+        Open {
+            going: None,
+            last: behind.last,
+        }
+    } else {
+        behind
+    }
+}
+
+/// The phase of a command of this number that goes on with an open phase, or begins one.
+fn phase_of(behind: Open, id: u32) -> u32
+    ensures { result ≡ phase_of_open behind id }
+{
+    behind.going.unwrap_or(id)
+}
+
+/// What is known before the walk, and what stands round a command.
+#[derive(Clone, Copy)]
+pub struct Around<'b> {
+    /// How many phases each command has, by its number.
+    pub stages: &'b [usize],
+    /// The innermost unrolled loop.
+    pub round: Option<u32>,
+}
+
+impl Around<'_> {
+    /// Whether a command has more than one phase.
+    fn is_stepped(&self, id: u32) -> bool
+        ensures { result ≡ is_stepped (stages_known self.now) id }
+    {
+        get_at(self.stages, id) >= 2
+    }
+}
+
+/// The innermost unrolled loop inside a loop of this number.
+fn round_inside(round: Option<u32>, id: u32, factor: u64) -> Option<u32>
+    ensures { result ≡ incidents.round_inside round id factor }
+{
+    if factor > 1 { Some(id) } else { round }
+}
+
+/// What is open in the arms of an `if` and behind it, whose test stands in a phase.
+fn inside_choice(stepped: bool, phase: u32) -> Open
+    ensures { result ≡ incidents.inside_choice stepped phase }
+{
+    if stepped {
+        closed()
+    } else {
+        open_at(Some(phase))
+    }
+}
+
+/// Whether the arms of an `if` are parts of which no two accesses meet: in an unrolled loop copies
+/// may take different arms.
+#[tactic(auto, using(crate::proofs::NotedFacts::some_other))]
+fn are_arms_parted(round: Option<u32>, other: &Option<Box<Command>>) -> bool
+    ensures { result ≡ incidents.arms_part round
+        (maybe_seen (option_map (λ b. action_seen b.value) other.now)) }
+{
+    round.is_none() && other.is_some()
+}
+
+/// Whether a block has more than one part.
+fn are_parts(parts: &[Vec<Command>]) -> bool
+    ensures { result ≡ incidents.are_parts (groups (map part_seen parts.now)) }
+{
+    parts.len() > 1
+}
+
+/// Notes an event where parts of which no two accesses meet are more than one.
+fn note_parted<'a>(notes: &mut Notes<'a>, parted: bool, event: Event<'a>) -> Result<(), NoMemory>
+    requires step { IsStep event }
+    ensures adds { OnOk result (Adds notes.old notes.new
+        (when_parted parted (event_seen event.entry))) }
+    ensures noted { OnOk result (StaysRead notes.old notes.new) }
+{
+    if parted { notes.note(event) } else { Ok(()) }
+}
+
+/// Notes what happens in a command behind open phases, and answers which are open after it.
+#[cycle(noting)]
+#[tactic(auto, using(dh_tree::proofs::SeenActions::actions_are, dh_tree::proofs::Collecting::found_none, dh_tree::proofs::Collecting::found_both))]
+fn note_command<'a>(
+    notes: &mut Notes<'a>,
+    around: Around<'_>,
+    behind: Open,
+    command: &'a Command,
+) -> Result<Open, NoMemory>
+    ensures adds { OnOk result
+        (Adds notes.old notes.new (done_by around.entry behind command.now)) }
+    ensures after { IfOk result (λ after. after ≡ opened_by around.entry behind command.now) }
+    ensures noted { OnOk result (StaysNoted notes.old notes.new) }
+{
+    let id = command.id;
+    let round = around.round;
+    let site = Site {
+        phase: phase_of(behind, id),
+        round,
+    };
+    match &command.form {
+        CommandForm::Let { name, value, .. } => {
+            note_let(notes, site, name, value)?;
+            Ok(open_at(Some(site.phase)))
+        }
+        CommandForm::Assign { target, value } | CommandForm::Reduce { target, value, .. } => {
+            note_assign(notes, site, target, value)?;
+            Ok(open_at(Some(site.phase)))
+        }
+        CommandForm::Store { target, value } => {
+            note_store(notes, site, target, value)?;
+            Ok(open_at(Some(site.phase)))
+        }
+        CommandForm::If { test, then, other } => {
+            let stepped = around.is_stepped(id);
+            let phase = phase_of(into(stepped, behind), id);
+            note_reads(notes, Site { phase, round }, test)?;
+            let inside = inside_choice(stepped, phase);
+            let parted = are_arms_parted(round, other);
+            note_parted(notes, parted, Event::Begins)?;
+            notes.note(Event::ArmBegins)?;
+            note_command(notes, around, inside, then)?;
+            notes.note(Event::ArmEnds)?;
+            note_parted(notes, parted, Event::Next)?;
+            note_other(notes, around, inside, other)?;
+            note_parted(notes, parted, Event::Ends)?;
+            Ok(inside)
+        }
+        CommandForm::While { test, body } => {
+            notes.note(Event::Begins)?;
+            note_reads(notes, Site { phase: id, round }, test)?;
+            notes.note(Event::Next)?;
+            note_command(notes, around, closed(), body)?;
+            notes.note(Event::Ends)?;
+            Ok(closed())
+        }
+        CommandForm::For {
+            iterator,
+            factor,
+            body,
+            combine,
+            ..
+        } => {
+            notes.assign(iterator.entity)?;
+            let inside = Around {
+                stages: around.stages,
+                round: round_inside(round, id, *factor),
+            };
+            let turn = note_command(notes, inside, closed(), body)?;
+            note_combine(notes, inside, turn, combine)?;
+            if around.is_stepped(id) {
+                Ok(closed())
+            } else {
+                Ok(behind)
+            }
+        }
+        CommandForm::Block { body } => {
+            let stepped = around.is_stepped(id);
+            let parted = are_parts(body.as_slice());
+            note_parted(notes, parted, Event::Begins)?;
+            let inside = into(stepped, behind);
+            let last = note_parts(notes, around, inside, stepped, parted, body.as_slice())?;
+            note_parted(notes, parted, Event::Ends)?;
+            Ok(into(stepped, last))
+        }
+        CommandForm::LetMemory { .. } | CommandForm::View { .. } | CommandForm::Call { .. } => {
+            Ok(behind)
+        }
+    }
+}
+
+/// Notes what happens in an arm that may lack.
+#[cycle(noting)]
+fn note_other<'a>(
+    notes: &mut Notes<'a>,
+    around: Around<'_>,
+    behind: Open,
+    other: &'a Option<Box<Command>>,
+) -> Result<(), NoMemory>
+    ensures adds { OnOk result
+        (Adds notes.old notes.new (other_done_by around.entry behind other.now)) }
+    ensures noted { OnOk result (StaysNoted notes.old notes.new) }
+{
+    match other {
+        Some(block) => {
+            notes.note(Event::ArmBegins)?;
+            note_command(notes, around, behind, block)?;
+            notes.note(Event::ArmEnds)
+        }
+        None => Ok(()),
+    }
+}
+
+/// Notes what happens in a block that joins copies: where it is straight, it goes on with the last
+/// phase of the turn.
+#[cycle(noting)]
+fn note_combine<'a>(
+    notes: &mut Notes<'a>,
+    around: Around<'_>,
+    body: Open,
+    combine: &'a Option<Box<Command>>,
+) -> Result<(), NoMemory>
+    ensures adds { OnOk result (Adds notes.old notes.new
+        (combine_done_by around.entry body combine.now)) }
+    ensures noted { OnOk result (StaysNoted notes.old notes.new) }
+{
+    match combine {
+        Some(block) => {
+            let behind = if around.is_stepped(block.id) {
+                closed()
+            } else {
+                open_at(body.last)
+            };
+            note_command(notes, around, behind, block)?;
+            Ok(())
+        }
+        None => Ok(()),
+    }
+}
+
+/// Notes what happens in the parts of a block.
+#[cycle(noting)]
+fn note_parts<'a>(
+    notes: &mut Notes<'a>,
+    around: Around<'_>,
+    behind: Open,
+    stepped: bool,
+    parted: bool,
+    parts: &'a [Vec<Command>],
+) -> Result<Open, NoMemory>
+    ensures adds { OnOk result (Adds notes.old notes.new
+        (parts_done_by around.entry stepped parted behind parts.now)) }
+    ensures after { IfOk result (λ after. after
+        ≡ parts_opened_by around.entry stepped behind parts.now) }
+    ensures noted { OnOk result (StaysNoted notes.old notes.new) }
+{
+    let mut behind = behind;
+    for part in parts {
+        behind = into(stepped, behind);
+        for command in part {
+            behind = note_command(notes, around, behind, command)?;
+        }
+        note_parted(notes, parted, Event::Next)?;
+    }
+    Ok(behind)
+}
+
+/// Notes what happens in a program's body, of which the phases are counted.
+pub fn note_body<'a>(
+    notes: &mut Notes<'a>,
+    stages: &[usize],
+    body: &'a Command,
+) -> Result<(), NoMemory>
+    ensures adds { OnOk result (Adds notes.old notes.new
+        (body_done_by stages.now body.now)) }
+    ensures noted { OnOk result (StaysNoted notes.old notes.new) }
+{
+    let around = Around {
+        stages,
+        round: None,
+    };
+    note_command(notes, around, closed(), body)?;
+    Ok(())
+}

@@ -1,0 +1,138 @@
+//! How many phases the commands of a program have, by their numbers.
+
+ghost use Rattle.std.specs.Prelude.{◌≡◌, ◌+◌, IfOk, OnOk, map, min, option_map};
+ghost use Rattle.dh_meaning.specs.Phases as phases;
+ghost use Rattle.dh_tree.specs.Seen.{action_form_seen, action_seen, part_seen, groups, maybe_seen};
+ghost use Rattle.dh_events.specs.Stages.{choice_stage, form_stage, form_stages, groups_stage, groups_stages, loop_stage, other_stage, other_stages, stage_of, stages_in};
+ghost use Rattle.dh_events.specs.Tables.{AreNumbers};
+
+use crate::tables::set_at;
+use dh_base::NoMemory;
+use dh_tree::{Command, CommandForm};
+
+/// The turns of a loop.
+fn turn_count(low: u64, high: u64, factor: u64) -> u64
+    ensures { result ≡ phases.turn_count low high factor }
+{
+    if factor == 0 {
+        0
+    } else {
+        high.saturating_sub(low) / factor
+    }
+}
+
+/// How many phases a loop has, by those of its body and of the block that joins its copies: none,
+/// where it has no turn or its turns none; else its turns are one that is not Straight (2).
+fn loop_stages(turns: u64, body: usize, combine: usize) -> usize
+    ensures { result ≡ loop_stage turns body combine }
+{
+    if turns == 0 || (body == 0 && combine == 0) {
+        0
+    } else {
+        2
+    }
+}
+
+/// How many phases an `if` has: it is straight where its arms are.
+fn choice_stages(chosen: usize, other: usize) -> usize
+    ensures { result ≡ choice_stage chosen other }
+{
+    if chosen.max(other) >= 2 { 2 } else { 1 }
+}
+
+/// How many phases there are with those of a part behind others (2 for more).
+fn stages_behind(before: usize, part: usize) -> usize
+    ensures { result ≡ min 2 (before + part) }
+{
+    if before >= 2 || part >= 2 {
+        2
+    } else {
+        (before + part).min(2)
+    }
+}
+
+/// How many phases a command has: none, one Straight phase, or others (2). Notes that of it and of
+/// each command inside it.
+#[cycle(stages)]
+pub fn note_stages(stages: &mut Vec<usize>, command: &Command) -> Result<usize, NoMemory>
+    ensures noted { OnOk result (AreNumbers stages.old stages.new
+        (stages_in (action_seen command.now))) }
+    ensures own { IfOk result (λ own. own ≡ stage_of (action_seen command.now)) }
+{
+    let own = note_inside(stages, &command.form)?;
+    set_at(stages, command.id, own)?;
+    Ok(own)
+}
+
+/// How many a command of a form has. Notes those of the commands inside it.
+#[cycle(stages)]
+#[tactic(auto, using(dh_tree::proofs::SeenActions::actions_are))]
+fn note_inside(stages: &mut Vec<usize>, form: &CommandForm) -> Result<usize, NoMemory>
+    ensures noted { OnOk result (AreNumbers stages.old stages.new
+        (form_stages (action_form_seen form.now))) }
+    ensures own { IfOk result (λ own. own ≡ form_stage (action_form_seen form.now)) }
+{
+    match form {
+        CommandForm::Let { .. }
+        | CommandForm::Assign { .. }
+        | CommandForm::Store { .. }
+        | CommandForm::Reduce { .. } => Ok(1),
+        CommandForm::Block { body } => note_block(stages, body.as_slice()),
+        CommandForm::If { then, other, .. } => {
+            let chosen = note_stages(stages, then)?;
+            let others = note_other(stages, other)?;
+            Ok(choice_stages(chosen, others))
+        }
+        CommandForm::While { body, .. } => {
+            note_stages(stages, body)?;
+            Ok(2)
+        }
+        CommandForm::For {
+            low,
+            high,
+            factor,
+            body,
+            combine,
+            ..
+        } => {
+            let inner = note_stages(stages, body)?;
+            let joins = note_other(stages, combine)?;
+            Ok(loop_stages(turn_count(*low, *high, *factor), inner, joins))
+        }
+        CommandForm::LetMemory { .. } | CommandForm::View { .. } | CommandForm::Call { .. } => Ok(
+            0,
+        ),
+    }
+}
+
+/// Those of a block that may lack.
+#[cycle(stages)]
+fn note_other(stages: &mut Vec<usize>, other: &Option<Box<Command>>) -> Result<usize, NoMemory>
+    ensures noted { OnOk result (AreNumbers stages.old stages.new
+        (other_stages (maybe_seen (option_map (λ b. action_seen b.value) other.now)))) }
+    ensures own { IfOk result (λ own. own
+        ≡ other_stage (maybe_seen (option_map (λ b. action_seen b.value) other.now))) }
+{
+    match other {
+        Some(block) => note_stages(stages, block),
+        None => Ok(0),
+    }
+}
+
+/// Those of a block.
+#[cycle(stages)]
+fn note_block(stages: &mut Vec<usize>, body: &[Vec<Command>]) -> Result<usize, NoMemory>
+    ensures noted { OnOk result (AreNumbers stages.old stages.new
+        (groups_stages (groups (map part_seen body.now)))) }
+    ensures own { IfOk result (λ own. own ≡ groups_stage (groups (map part_seen body.now))) }
+{
+    let mut all: usize = 0;
+    for part in body {
+        let mut most: usize = 0;
+        for command in part.as_slice() {
+            most = note_stages(stages, command)?.max(most);
+        }
+        all = stages_behind(all, most);
+    }
+    Ok(all)
+}

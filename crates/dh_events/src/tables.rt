@@ -1,0 +1,41 @@
+//! Numbers by number: what stands at a place that was never set is 0.
+
+ghost use Rattle.std.specs.Prelude.{◌≡◌, ◌≤◌, OnOk, length, slice_index};
+ghost use Rattle.dh_events.specs.Tables.{with_number, AreNumbers};
+
+use dh_base::NoMemory;
+
+/// Adds zeros up to a length.
+#[tactic(auto, using(crate::proofs::Turns::zeros_more))]
+fn grow(numbers: &mut Vec<usize>, to: usize) -> Result<(), NoMemory>
+    ensures same { OnOk result (AreNumbers numbers.old numbers.new (λ f. f)) }
+    ensures long { OnOk result (to ≤ length numbers.new.items) }
+{
+    for _ in numbers.len()..to {
+        numbers.push(0)?;
+    }
+    Ok(())
+}
+
+/// Puts a number at a place.
+#[tactic(auto, using(crate::proofs::Turns::number_set))]
+pub fn set_at(numbers: &mut Vec<usize>, place: u32, number: usize) -> Result<(), NoMemory>
+    ensures { OnOk result (AreNumbers numbers.old numbers.new (λ f. with_number f place number)) }
+{
+    let place = place as usize;
+    grow(numbers, place + 1)?;
+    numbers[place] = number;
+    Ok(())
+}
+
+/// The number at a place.
+pub fn get_at(numbers: &[usize], place: u32) -> usize
+    ensures { result ≡ slice_index numbers.now place }
+{
+    let place = place as usize;
+    if place < numbers.len() {
+        numbers[place]
+    } else {
+        0
+    }
+}
