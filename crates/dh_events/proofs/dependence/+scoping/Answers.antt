@@ -11,6 +11,6 @@ pub note_scopes-returns-in_ok-note_scopes-in-For : goal.note_scopes-returns-in_o
 note_scopes-returns-in_ok-note_scopes-in-For t c =
     on_ok_weaker c.note_other-in-For.result
     (λ e. loop_noted c.args.depth c.in_ok-inside-in-For.inside c.in-For.factor c.in-For.iterator.entity (action_seen c.in-For.body.value) (maybe_seen (option_map (λ b. action_seen b.value) c.in-For.combine)) (scope_at c.args.scopes.now.items) (scope_at c.declare_iterator.new.scopes.items) (scope_at c.note_scopes-in-For.new.scopes.items) (scope_at c.note_other-in-For.new.scopes.items) c.in_ok-inside-in-For.ensures.inside c.in_ok-inside-in-For.ensures.noted
-        (c.in_ok-note_scopes-in-For.ensures ∙ ap (λ x. scopes_in c.in_ok-inside-in-For.inside (action_seen x) (scope_at c.declare_iterator.new.scopes.items)) c.deref-in-For.ensures) e
-      ∙ ap (λ x. form_scopes c.args.depth x (scope_at c.args.scopes.now.items)) (sym (ap action_form_seen c.in-For.is ∙ for_is _ _ _ _ _ _ _ _ _ _ _ _)))
+    (c.in_ok-note_scopes-in-For.ensures ∙ ap (λ x. scopes_in c.in_ok-inside-in-For.inside (action_seen x) (scope_at c.declare_iterator.new.scopes.items)) c.deref-in-For.ensures) e
+    ∙ ap (λ x. form_scopes c.args.depth x (scope_at c.args.scopes.now.items)) (sym (ap action_form_seen c.in-For.is ∙ for_is _ _ _ _ _ _ _ _ _ _ _ _)))
     c.note_other-in-For.ensures

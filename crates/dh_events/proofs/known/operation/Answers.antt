@@ -11,6 +11,6 @@ pub returns : goal.returns
 returns c =
     IfOk-weaker c.made.result _ _
     (λ k m. operation_made c.args.structures.now c.made.new.structures c.args.sort c.args.op c.args.left c.args.right k
-      (subst (λ (f : Option Form). MakesFrom c.args.structures.now c.made.new.structures c.args.sort f (max c.args.left.newest c.args.right.newest) k) c.operation_form.ensures
-      (subst (λ (n : ℕ). MakesFrom c.args.structures.now c.made.new.structures c.args.sort c.operation_form.result n k) c.max-newest.ensures m)))
+    (subst (λ (f : Option Form). MakesFrom c.args.structures.now c.made.new.structures c.args.sort f (max c.args.left.newest c.args.right.newest) k) c.operation_form.ensures
+    (subst (λ (n : ℕ). MakesFrom c.args.structures.now c.made.new.structures c.args.sort c.operation_form.result n k) c.max-newest.ensures m)))
     c.made.ensures

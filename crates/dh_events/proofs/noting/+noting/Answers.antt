@@ -23,7 +23,7 @@ note_command-returns-in_ok-note-in-While-3-clause-adds t c =
     (noted c.args.notes.now) (noted c.note-in-While.new.self) (noted c.note_reads-in-While.new.notes) (noted c.note-in-While-2.new.self) (noted c.note_command-in-While.new.notes) (noted c.note-in-While-3.new.self)
     c.in_ok-note-in-While.ensures.adds c.in_ok-note_reads-in-While.ensures.adds c.in_ok-note-in-While-2.ensures.adds
     (c.in_ok-note_command-in-While.ensures.adds ∙ (ap (λ h. noted c.note-in-While-2.new.self ++ incidents (stages_known c.args.around) c.args.around.round h (action_seen c.deref-in-While.result.now)) c.closed.ensures
-      ∙ ap (λ x. noted c.note-in-While-2.new.self ++ incidents (stages_known c.args.around) c.args.around.round closed (action_seen x)) c.deref-in-While.ensures))
+    ∙ ap (λ x. noted c.note-in-While-2.new.self ++ incidents (stages_known c.args.around) c.args.around.round closed (action_seen x)) c.deref-in-While.ensures))
     c.in_ok-note-in-While-3.ensures.adds
 
 pub note_command-returns-then-is_stepped-clause-adds : goal.note_command-returns-then-is_stepped-clause-adds
@@ -33,7 +33,7 @@ note_command-returns-then-is_stepped-clause-adds t c =
     (c.in_ok-turn-in-For.ensures.after ∙ (ap (λ h. open_after (stages_known c.args.around) h (action_seen c.deref-in-For.result.now)) c.closed-in-For.ensures ∙ ap (λ x. open_after (stages_known c.args.around) closed (action_seen x)) c.deref-in-For.ensures))
     (noted c.args.notes.now) (noted c.assign.new.self) (noted c.note_command-in-For.new.notes) (noted c.note_combine.new.notes) c.in_ok-assign-in-For.ensures.adds
     (c.in_ok-turn-in-For.ensures.adds ∙ (ap (λ h. noted c.assign.new.self ++ incidents (stages_known c.args.around) c.round_inside.result h (action_seen c.deref-in-For.result.now)) c.closed-in-For.ensures
-      ∙ ap (λ x. noted c.assign.new.self ++ incidents (stages_known c.args.around) c.round_inside.result closed (action_seen x)) c.deref-in-For.ensures))
+    ∙ ap (λ x. noted c.assign.new.self ++ incidents (stages_known c.args.around) c.round_inside.result closed (action_seen x)) c.deref-in-For.ensures))
     c.in_ok-note_combine-in-For.ensures.adds
 
 pub note_command-returns-else-is_stepped-clause-adds : goal.note_command-returns-else-is_stepped-clause-adds
@@ -43,5 +43,5 @@ note_command-returns-else-is_stepped-clause-adds t c =
     (c.in_ok-turn-in-For.ensures.after ∙ (ap (λ h. open_after (stages_known c.args.around) h (action_seen c.deref-in-For.result.now)) c.closed-in-For.ensures ∙ ap (λ x. open_after (stages_known c.args.around) closed (action_seen x)) c.deref-in-For.ensures))
     (noted c.args.notes.now) (noted c.assign.new.self) (noted c.note_command-in-For.new.notes) (noted c.note_combine.new.notes) c.in_ok-assign-in-For.ensures.adds
     (c.in_ok-turn-in-For.ensures.adds ∙ (ap (λ h. noted c.assign.new.self ++ incidents (stages_known c.args.around) c.round_inside.result h (action_seen c.deref-in-For.result.now)) c.closed-in-For.ensures
-      ∙ ap (λ x. noted c.assign.new.self ++ incidents (stages_known c.args.around) c.round_inside.result closed (action_seen x)) c.deref-in-For.ensures))
+    ∙ ap (λ x. noted c.assign.new.self ++ incidents (stages_known c.args.around) c.round_inside.result closed (action_seen x)) c.deref-in-For.ensures))
     c.in_ok-note_combine-in-For.ensures.adds
