@@ -1,0 +1,260 @@
+//! A run of a typed program, step by step.
+
+ghost use Rattle.std.specs.Prelude.{◌≡◌, ◌+◌, ◌-◌, ◌<◌, ◌≤◌, ◌^◌, [], IfOk, length, replicate};
+ghost use Rattle.std.specs.List.{AllByRecursion};
+ghost use Rattle.dh_tree.specs.Memories.{table_of};
+ghost use Rattle.dh_tree.specs.Seen.{program_seen};
+ghost use Rattle.dh_tree.specs.Shapes.{IsProgramTable, IsMemory};
+ghost use Rattle.dh_tree.specs.Tables.{Fits, elements_in, most_elements};
+ghost use Rattle.dh_code.specs.Banks.{AreFirsts, all_banks};
+ghost use Rattle.dh_interp.specs.Runnable.{IsRunnable};
+ghost use Rattle.dh_interp.specs.Runs.{StandsAt, StepsOn, place_outcome};
+
+use crate::gathering::{Made, hold_all};
+use crate::lanes::first_lanes;
+use crate::phases::Frame;
+use crate::stepping::{Course, advance, go_on, make_writes};
+use dh_base::{Items, NoMemory, Outcome};
+use dh_code::{Code, Names, Scene, State, Stop, measure, place_all, unused};
+use dh_tree::{MemEntry, Memories, Typed};
+use std::alloc::Global;
+use std::marker::Model;
+use std::mem;
+
+/// A program in a run, after a number of logical steps.
+#[derive(Drop)]
+pub struct Interp<'a> {
+    alloc: Global,
+    entries: &'a [MemEntry],
+    // by memory the number of its first bank
+    firsts: Vec<usize>,
+    // the code, the phases of the program and the paths at which they are done
+    made: Made,
+    // what is still to come behind the next block
+    frames: Vec<Frame>,
+    // where a step works out what is to come after it
+    spare: Vec<Frame>,
+    state: State,
+    memories: Memories,
+    steps: u64,
+    // the phase of the next block, if there is one
+    place: Option<usize>,
+    outcome: Outcome,
+}
+
+impl<'a> Model for Interp<'a> {
+    ghost use Rattle.dh_interp.specs.Runs.{Run, IsSteady};
+
+    ghost Value = { Run };
+
+    ghost view = { λ i. record {
+      table = i.entries.now;
+      course = record {
+        code = i.made.code;
+        phases = i.made.phases.items;
+        lanes = i.made.lanes.items;
+      };
+      outcome = i.outcome;
+      steps = i.steps;
+      memories = i.memories;
+      slots = i.state.variables.items;
+      place = i.place;
+      frames = i.frames.items;
+    } };
+
+    ghost invariant = { λ i. IsSteady (record {
+      table = i.entries.now;
+      course = record {
+        code = i.made.code;
+        phases = i.made.phases.items;
+        lanes = i.made.lanes.items;
+      };
+      outcome = i.outcome;
+      steps = i.steps;
+      memories = i.memories;
+      slots = i.state.variables.items;
+      place = i.place;
+      frames = i.frames.items;
+    })
+        i.state.given.items i.state.banks.items i.firsts.items };
+}
+
+/// The number of the first bank of each memory.
+fn first_banks(alloc: Global, entries: &[MemEntry]) -> Result<Vec<usize>, NoMemory>
+    requires table { AllByRecursion IsMemory entries.now }
+    requires few { elements_in entries.now ≤ most_elements }
+    ensures { IfOk result (λ firsts. AreFirsts entries.now firsts.items) }
+{
+    let mut firsts = Vec::new(alloc);
+    let mut banks = 0;
+    for entry in entries {
+        firsts.push(banks)?;
+        banks += measure(entry.shape.dims.as_slice()).banks as usize;
+    }
+    Ok(firsts)
+}
+
+/// How many banks all memories have.
+fn count_banks(entries: &[MemEntry]) -> usize
+    requires table { AllByRecursion IsMemory entries.now }
+    requires few { elements_in entries.now ≤ most_elements }
+    ensures { result ≡ all_banks entries.now }
+{
+    let mut banks = 0;
+    for entry in entries {
+        banks += measure(entry.shape.dims.as_slice()).banks as usize;
+    }
+    banks
+}
+
+/// So many zeros.
+fn zeros(alloc: Global, count: usize) -> Result<Vec<u64>, NoMemory>
+    ensures { IfOk result (λ list. list.items ≡ replicate count 0) }
+{
+    let mut list = Vec::new(alloc);
+    for _ in 0..count {
+        list.push(0)?;
+    }
+    Ok(list)
+}
+
+/// The outcome where there is a next block, or none.
+fn outcome_at(place: Option<usize>) -> Outcome
+    ensures { result ≡ place_outcome place }
+{
+    match place {
+        Some(_) => Outcome::Going,
+        None => Outcome::Ended,
+    }
+}
+
+impl<'a> Interp<'a> {
+    /// The program before its first step, with these memories.
+    ///
+    /// # Errors
+    ///
+    /// `NoMemory` where an allocation was refused.
+    pub fn new(
+        alloc: Global,
+        program: &'a Typed,
+        memories: Memories,
+    ) -> Result<Interp<'a>, NoMemory>
+        requires table { IsProgramTable (table_of (program_seen program.now)) }
+        requires runnable { IsRunnable (program_seen program.now) }
+        requires fits { Fits (table_of (program_seen program.now)) memories }
+        ensures { IfOk result (λ i. StandsAt (program_seen program.now) memories 0 i) }
+    {
+        let entries = program.memories().as_slice();
+        let tree = program.tree();
+        let held = place_all(alloc, &tree.body, tree.entities.len())?;
+        let names = Names {
+            alloc,
+            program,
+            places: held.held.as_slice(),
+        };
+        let mut made = Made {
+            code: Code {
+                operations: Items::new(alloc),
+                steps: Items::new(alloc),
+            },
+            phases: Vec::new(alloc),
+            lanes: first_lanes(alloc)?,
+        };
+        let first = hold_all(&names, &mut made, &tree.body)?;
+        let mut state = State {
+            variables: zeros(alloc, held.count as usize)?,
+            given: zeros(alloc, made.code.operations.len())?,
+            banks: unused(alloc, count_banks(entries))?,
+            writes: Vec::new(alloc),
+            changes: Vec::new(alloc),
+        };
+        let mut frames = Vec::new(alloc);
+        frames.push(Frame::List { list: first })?;
+        let course = Course {
+            phases: made.phases.as_slice(),
+            lanes: made.lanes.as_slice(),
+        };
+        let place = go_on(&course, &mut state, &mut frames, false)?;
+        Ok(Interp {
+            alloc,
+            entries,
+            firsts: first_banks(alloc, entries)?,
+            made,
+            frames,
+            spare: Vec::new(alloc),
+            state,
+            memories,
+            steps: 0,
+            place,
+            outcome: outcome_at(place),
+        })
+    }
+
+    /// Does the next logical step, where there is one, and tells the outcome then. After want of
+    /// memory everything is as before.
+    ///
+    /// # Errors
+    ///
+    /// `NoMemory` where an allocation was refused, which a run that goes on alone asks for.
+    pub fn step(&mut self) -> Result<Outcome, NoMemory>
+        requires steps { self.old.steps < 2 ^ 64 - 1 }
+        ensures { StepsOn self.old result self.new }
+    {
+        let Outcome::Going = self.outcome else {
+            return Ok(self.outcome);
+        };
+        let Some(at) = self.place else {
+            return Ok(self.outcome);
+        };
+        let scene = Scene {
+            alloc: self.alloc,
+            code: &self.made.code,
+            entries: self.entries,
+            firsts: self.firsts.as_slice(),
+            memories: self.memories.lists(),
+            step: self.steps + 1,
+        };
+        let course = Course {
+            phases: self.made.phases.as_slice(),
+            lanes: self.made.lanes.as_slice(),
+        };
+        self.spare.clear();
+        self.spare.extend_from_slice(self.frames.as_slice())?;
+        match advance(&scene, &course, &mut self.state, &mut self.spare, at) {
+            Ok(next) => {
+                make_writes(self.alloc, &mut self.memories, self.state.writes.as_slice());
+                mem::swap(&mut self.frames, &mut self.spare);
+                self.steps += 1;
+                self.place = next;
+                self.outcome = outcome_at(next);
+                Ok(self.outcome)
+            }
+            Err(Stop::At(outcome)) => {
+                self.outcome = outcome;
+                Ok(outcome)
+            }
+            Err(Stop::NoMemory) => Err(NoMemory),
+        }
+    }
+
+    /// How the run stands.
+    pub fn outcome(&self) -> Outcome
+        ensures { result ≡ self.now.outcome }
+    {
+        self.outcome
+    }
+
+    /// How many logical steps were done.
+    pub fn steps(&self) -> u64
+        ensures { result ≡ self.now.steps }
+    {
+        self.steps
+    }
+
+    /// The memories as they stand.
+    pub fn memories(&self) -> &Memories
+        ensures { result.now ≡ self.now.memories }
+    {
+        &self.memories
+    }
+}
