@@ -1,67 +1,66 @@
 -- How the checked run of a program stands: no logical step counts as more than one, a run that does not go
 -- on stays as it is, and memories that fit a table go on to fit it, since a write leaves a value of its
 -- memory's kind.
-use Rattle.std.proofs.Common.{◌≡◌, ℕ, ◌^◌, ◌<◌, ◌≤◌, zero, suc, Bool, true, false, if◌then◌else◌, List, [], ◌∷◌, ◌++◌, map, slice_set, get_or, Option, Some, None, ℤ, refl, ap, ◌∙◌, arith, inl, inr, unsigned_abs}
+use Rattle.std.proofs.Common.{◌≡◌, ℕ, ◌^◌, ◌<◌, ◌≤◌, zero, suc, Bool, true, false, if◌then◌else◌, List, [], ◌∷◌, ◌++◌, map, slice_set, get_or, Option, Some, None, refl, ap, ◌∙◌, arith, inl, inr, unsigned_abs}
 use Rattle.std.specs.List.{AllByRecursion}
 use Rattle.std.proofs.lemmas.Bool.{cases_lt}
 use Rattle.std.proofs.lemmas.List.{length-set}
 use Rattle.std.proofs.lemmas.Nat.{pow_pos}
 use Rattle.dh_base.specs.declared.outcomes.Outcome.{Outcome}
 use Rattle.dh_base.specs.declared.outcomes.Outcome.TheVariants.{Going, Ended, Faulted, Stuck}
-use Rattle.dh_base.specs.declared.outcomes.FaultKind.TheVariants.{OutOfRange}
-use Rattle.dh_base.specs.declared.places.Place.{Place}
 use Rattle.dh_value.proofs.Residues.{residue-lt}
 use Rattle.dh_value.specs.Words as words
 use Rattle.dh_value.specs.Words.{width_of}
 use Rattle.dh_tree.specs.declared.tables.MemEntry.{MemEntry}
 use Rattle.dh_tree.specs.Elements.{Spot, spot_of, spot_in_bank, dims_at}
-use Rattle.dh_tree.specs.Effects.{Event, reads, writes, faults, Variables, kind_in, is_inside, is_row, value_of, values_of, access_made, bank_access_made, term_events, terms_events, Effect, kept_bits, stored_at, stored_in_bank_at, assigned_at, tested_at, at_each, paths_where, holds_at, command_run, commands_run, outer_paths, written}
-use Rattle.dh_tree.specs.Effects as effects
-use Rattle.dh_tree.specs.Steps.{Threads, turn_begun, phase_run, first_run, threads_run, Standing, step_effect, next_standing, step_from, next_step, standing}
 use Rattle.dh_tree.specs.Tables.{Fits}
-use Rattle.dh_tree.specs.Tree.{Term, number, truth_value, variable, access, in_bank, binary, convert, Terms, no_terms, term, Command, store, store_in_bank, assign, choose, Commands, no_commands, command, Phase, straight, turns, repeated, decided, Phases, no_phases, phase, Tree}
+use Rattle.dh_meaning.specs.Core.{Reach, CoreTerm, literal, truth_literal, variable, read, binary, convert, Target, by_indices, by_row, CoreTerms, no_terms, term_and, CoreCommand, store, assign, choose, CoreCommands, no_commands, command_and, CoreProgram}
+use Rattle.dh_meaning.specs.Effects as effects
+use Rattle.dh_meaning.specs.Effects.{Begun, Variables, Event, reads, writes, faults, kind_in, is_inside, is_row, value_of, values_of, spot_reached, term_events, target_events, terms_events, read_made, write_made, kept_bits, Effect, store_events, stored_at, assigned_at, tested_at, at_each, paths_where, holds_at, command_run, commands_run, Block, commands, tests, block_run, written}
+use Rattle.dh_meaning.specs.Paths.{Path}
+use Rattle.dh_meaning.specs.Runs.{Place, ended, at, place_run, RunState, begun_at, step_effect, state_after, step_from, next_state, run_state}
 
 -- ---- steps
 
-step_more : (table : List MemEntry) (s : Standing) (o : Outcome) → (step_from table s o).steps ≤ suc s.steps
+step_more : (table : List MemEntry) (s : RunState) (o : Outcome) → (step_from table s o).steps ≤ suc s.steps
 step_more table s Going = by (effects.stop_after table [] (step_effect table s).events)
   where
-    by : (stop : Option Outcome) → (next_standing table (step_effect table s) s stop).steps ≤ suc s.steps
+    by : (stop : Option Outcome) → (state_after table s (step_effect table s) stop).steps ≤ suc s.steps
     by None = omega arith
     by (Some outcome) = omega arith
 step_more table s Ended = omega arith
 step_more table s (Faulted kind place) = omega arith
 step_more table s (Stuck memory bank place) = omega arith
 
-pub steps_within : (tree : Tree) (memories : List (List ℕ)) (n : ℕ) → (standing tree memories n).steps ≤ n
-steps_within tree memories zero = omega arith
-steps_within tree memories (suc n) =
-    let h = steps_within tree memories n in
-    let k = step_more tree.table (standing tree memories n) (standing tree memories n).outcome in
+pub steps_within : (p : CoreProgram) (memories : List (List ℕ)) (n : ℕ) → (run_state p memories n).steps ≤ n
+steps_within p memories zero = omega arith
+steps_within p memories (suc n) =
+    let h = steps_within p memories n in
+    let k = step_more p.table (run_state p memories n) (run_state p memories n).outcome in
     omega (arith, h, k)
 
-no_step : (table : List MemEntry) (s : Standing) (o : Outcome) → (o ≡ Going → ⊥) → step_from table s o ≡ s
+no_step : (table : List MemEntry) (s : RunState) (o : Outcome) → (o ≡ Going → ⊥) → step_from table s o ≡ s
 no_step table s Going h = absurd (h refl)
 no_step table s Ended h = refl
 no_step table s (Faulted kind place) h = refl
 no_step table s (Stuck memory bank place) h = refl
 
-pub stays : (tree : Tree) (memories : List (List ℕ)) (n m : ℕ) → n ≤ m → ((standing tree memories n).outcome ≡ Going → ⊥) → standing tree memories m ≡ standing tree memories n
-stays tree memories n zero l h = let e : zero ≡ n = omega (arith, l) in ap (λ k. standing tree memories k) e
-stays tree memories n (suc m) l h =
+pub stays : (p : CoreProgram) (memories : List (List ℕ)) (n m : ℕ) → n ≤ m → ((run_state p memories n).outcome ≡ Going → ⊥) → run_state p memories m ≡ run_state p memories n
+stays p memories n zero l h = let e : zero ≡ n = omega (arith, l) in ap (λ k. run_state p memories k) e
+stays p memories n (suc m) l h =
     elim (cases_lt m n) [
-      | inl less ↦ let e : suc m ≡ n = omega (arith, l, less) in ap (λ k. standing tree memories k) e
+      | inl less ↦ let e : suc m ≡ n = omega (arith, l, less) in ap (λ k. run_state p memories k) e
       | inr more ↦
-          ap (next_step tree.table) (stays tree memories n m more h) ∙ no_step tree.table (standing tree memories n) (standing tree memories n).outcome h
+          ap (next_state p.table) (stays p memories n m more h) ∙ no_step p.table (run_state p memories n) (run_state p memories n).outcome h
     ]
 
 -- ---- values of writes
 
 -- a write leaves a value of its memory's kind
 abbrev IsSmall : List MemEntry → Event → Type 0
-IsSmall table (reads place s) = Unit {0}
-IsSmall table (writes place s value) = value < 2 ^ width_of (kind_in table s.memory)
-IsSmall table (faults kind place) = Unit {0}
+IsSmall table (reads number place path s) = Unit {0}
+IsSmall table (writes number place path s value) = value < 2 ^ width_of (kind_in table s.memory)
+IsSmall table (faults number place path kind) = Unit {0}
 
 abbrev AreSmall : List MemEntry → List Event → Type 0
 AreSmall table es = AllByRecursion (IsSmall table) es
@@ -70,102 +69,82 @@ joined : (table : List MemEntry) (es fs : List Event) → AreSmall table es → 
 joined table [] fs h k = k
 joined table (e ∷ es) fs h k = (h.0, joined table es fs h.1 k)
 
-made_small : (table : List MemEntry) (place : Place) (s : Spot) (made : Spot → Event) → IsSmall table (made s) → (inside : Bool)
-    → IsSmall table (if inside then made s else faults OutOfRange place)
-made_small table place s made h true = h
-made_small table place s made h false = tt
+read_small : (table : List MemEntry) (r : Reach) (path : Path) (s : Option Spot) → AreSmall table (read_made r path s ∷ [])
+read_small table r path None = (tt, tt)
+read_small table r path (Some s) = (tt, tt)
 
-access_small : (table : List MemEntry) (place : Place) (memory : ℕ) (indices : List ℤ) (made : Spot → Event) → IsSmall table (made (spot_of table memory (map unsigned_abs indices)))
-    → IsSmall table (access_made table place memory indices made)
-access_small table place memory indices made h = made_small table place (spot_of table memory (map unsigned_abs indices)) made h (is_inside (dims_at table memory) indices)
+made_small : (table : List MemEntry) (r : Reach) (path : Path) (value : ℕ) (s : Spot) → value < 2 ^ width_of (kind_in table s.memory) → (inside : Bool)
+    → AreSmall table (write_made r path value (if inside then Some s else None) ∷ [])
+made_small table r path value s l true = (l, tt)
+made_small table r path value s l false = (tt, tt)
 
-bank_small : (table : List MemEntry) (place : Place) (memory bank : ℕ) (row : ℤ) (made : Spot → Event) → IsSmall table (made (spot_in_bank table memory bank (unsigned_abs row)))
-    → IsSmall table (bank_access_made table place memory bank row made)
-bank_small table place memory bank row made h = made_small table place (spot_in_bank table memory bank (unsigned_abs row)) made h (is_row (dims_at table memory) row)
-
-module _ (table : List MemEntry) (memories : List (List ℕ)) where
+module _ (b : Begun) where
   mutual
-    term_small : (variables : Variables) (path : List ℕ) (t : Term) → AreSmall table (term_events table memories variables path t)
-    term_small variables path (number kind negative n) = tt
-    term_small variables path (truth_value value) = tt
+    term_small : (variables : Variables) (path : Path) (t : CoreTerm) → AreSmall b.table (term_events b variables path t)
+    term_small variables path (literal kind negative n) = tt
+    term_small variables path (truth_literal value) = tt
     term_small variables path (variable kind depth entity) = tt
-    term_small variables path (access place memory indices) =
-        joined table (terms_events table memories variables path indices) _ (terms_small variables path indices)
-        (access_small table place memory (values_of table memories variables path indices) (reads place) tt, tt)
-    term_small variables path (in_bank place memory bank row) =
-        joined table (term_events table memories variables path row) _ (term_small variables path row)
-        (bank_small table place memory bank (words.value_of (value_of table memories variables path row)) (reads place) tt, tt)
+    term_small variables path (read r target) =
+        joined b.table (target_events b variables path target) _ (target_small variables path target) (read_small b.table r path (spot_reached b variables path r target))
     term_small variables path (binary op left right) =
-        joined table (term_events table memories variables path left) _ (term_small variables path left) (term_small variables path right)
+        joined b.table (term_events b variables path left) _ (term_small variables path left) (term_small variables path right)
     term_small variables path (convert to inner) = term_small variables path inner
 
-    terms_small : (variables : Variables) (path : List ℕ) (ts : Terms) → AreSmall table (terms_events table memories variables path ts)
+    target_small : (variables : Variables) (path : Path) (target : Target) → AreSmall b.table (target_events b variables path target)
+    target_small variables path (by_indices indices) = terms_small variables path indices
+    target_small variables path (by_row bank row) = term_small variables path row
+
+    terms_small : (variables : Variables) (path : Path) (ts : CoreTerms) → AreSmall b.table (terms_events b variables path ts)
     terms_small variables path no_terms = tt
-    terms_small variables path (term t ts) = joined table (term_events table memories variables path t) _ (term_small variables path t) (terms_small variables path ts)
+    terms_small variables path (term_and t ts) = joined b.table (term_events b variables path t) _ (term_small variables path t) (terms_small variables path ts)
 
-  store_small : (place : Place) (memory : ℕ) (indices : Terms) (value : Term) (path : List ℕ) (e : Effect) → AreSmall table e.events
-      → AreSmall table (stored_at table memories place memory indices value path e).events
-  store_small place memory indices value path e h =
-      joined table e.events _ h
-      (joined table (term_events table memories e.variables path value) _ (term_small e.variables path value)
-      (joined table (terms_events table memories e.variables path indices) _ (terms_small e.variables path indices) (
-        access_small table place memory (values_of table memories e.variables path indices) (λ s. writes place s (kept_bits table memory (value_of table memories e.variables path value)))
-            (residue-lt (2 ^ width_of (kind_in table memory)) (words.value_of (value_of table memories e.variables path value)) (pow_pos (width_of (kind_in table memory)))),
-        tt,
-      )))
+  write_small : (variables : Variables) (path : Path) (r : Reach) (target : Target) (value : ℕ) → value < 2 ^ width_of (kind_in b.table r.memory)
+      → AreSmall b.table (write_made r path value (spot_reached b variables path r target) ∷ [])
+  write_small variables path r (by_indices indices) value l =
+      made_small b.table r path value (spot_of b.table r.memory (map unsigned_abs (values_of b variables path indices))) l
+      (is_inside (dims_at b.table r.memory) (values_of b variables path indices))
+  write_small variables path r (by_row bank row) value l =
+      made_small b.table r path value (spot_in_bank b.table r.memory bank (unsigned_abs (words.value_of (value_of b variables path row)))) l
+      (is_row (dims_at b.table r.memory) (words.value_of (value_of b variables path row)))
 
-  bank_store_small : (place : Place) (memory bank : ℕ) (row value : Term) (path : List ℕ) (e : Effect) → AreSmall table e.events
-      → AreSmall table (stored_in_bank_at table memories place memory bank row value path e).events
-  bank_store_small place memory bank row value path e h =
-      joined table e.events _ h
-      (joined table (term_events table memories e.variables path value) _ (term_small e.variables path value)
-      (joined table (term_events table memories e.variables path row) _ (term_small e.variables path row) (
-        bank_small table place memory bank (words.value_of (value_of table memories e.variables path row)) (λ s. writes place s (kept_bits table memory (value_of table memories e.variables path value)))
-            (residue-lt (2 ^ width_of (kind_in table memory)) (words.value_of (value_of table memories e.variables path value)) (pow_pos (width_of (kind_in table memory)))),
-        tt,
-      )))
+  store_small : (r : Reach) (target : Target) (value : CoreTerm) (path : Path) (e : Effect) → AreSmall b.table e.events → AreSmall b.table (stored_at b r target value path e).events
+  store_small r target value path e h =
+      joined b.table e.events _ h
+      (joined b.table (term_events b e.variables path value) _ (term_small e.variables path value)
+      (joined b.table (target_events b e.variables path target) _ (target_small e.variables path target)
+      (write_small e.variables path r target (kept_bits b.table r.memory (value_of b e.variables path value))
+      (residue-lt (2 ^ width_of (kind_in b.table r.memory)) (words.value_of (value_of b e.variables path value)) (pow_pos (width_of (kind_in b.table r.memory)))))))
 
-  each_small : (run : List ℕ → Effect → Effect) → ((path : List ℕ) (e : Effect) → AreSmall table e.events → AreSmall table (run path e).events) → (paths : List (List ℕ)) (e : Effect)
-      → AreSmall table e.events → AreSmall table (at_each run paths e).events
+  each_small : (run : Path → Effect → Effect) → ((path : Path) (e : Effect) → AreSmall b.table e.events → AreSmall b.table (run path e).events) → (paths : List Path) (e : Effect)
+      → AreSmall b.table e.events → AreSmall b.table (at_each run paths e).events
   each_small run one [] e h = h
   each_small run one (path ∷ paths) e h = each_small run one paths (run path e) (one path e h)
 
+  test_small : (test : CoreTerm) (path : Path) (e : Effect) → AreSmall b.table e.events → AreSmall b.table (tested_at b test path e).events
+  test_small test path e h = joined b.table e.events _ h (term_small e.variables path test)
+
   mutual
-    command_small : (paths : List (List ℕ)) (c : Command) (e : Effect) → AreSmall table e.events → AreSmall table (command_run table memories paths c e).events
-    command_small paths (store place memory indices value) e h =
-        each_small (stored_at table memories place memory indices value) (store_small place memory indices value) paths e h
-    command_small paths (store_in_bank place memory bank row value) e h =
-        each_small (stored_in_bank_at table memories place memory bank row value) (bank_store_small place memory bank row value) paths e h
+    command_small : (paths : List Path) (c : CoreCommand) (e : Effect) → AreSmall b.table e.events → AreSmall b.table (command_run b paths c e).events
+    command_small paths (store r target value) e h = each_small (stored_at b r target value) (store_small r target value) paths e h
     command_small paths (assign depth entity value) e h =
-        each_small (assigned_at table memories depth entity value) (λ path e k. joined table e.events _ k (term_small e.variables path value)) paths e h
+        each_small (assigned_at b depth entity value) (λ path e k. joined b.table e.events _ k (term_small e.variables path value)) paths e h
     command_small paths (choose test chosen other) e h =
-        commands_small (paths_where false (holds_at table memories e.variables test) paths) other
-        (commands_run table memories (paths_where true (holds_at table memories e.variables test) paths) chosen (at_each (tested_at table memories test) paths e))
-        (commands_small (paths_where true (holds_at table memories e.variables test) paths) chosen (at_each (tested_at table memories test) paths e)
-        (each_small (tested_at table memories test) (λ path e k. joined table e.events _ k (term_small e.variables path test)) paths e h))
+        commands_small (paths_where false (holds_at b e.variables test) paths) other
+        (commands_run b (paths_where true (holds_at b e.variables test) paths) chosen (at_each (tested_at b test) paths e))
+        (commands_small (paths_where true (holds_at b e.variables test) paths) chosen (at_each (tested_at b test) paths e)
+        (each_small (tested_at b test) (test_small test) paths e h))
 
-    commands_small : (paths : List (List ℕ)) (cs : Commands) (e : Effect) → AreSmall table e.events → AreSmall table (commands_run table memories paths cs e).events
+    commands_small : (paths : List Path) (cs : CoreCommands) (e : Effect) → AreSmall b.table e.events → AreSmall b.table (commands_run b paths cs e).events
     commands_small paths no_commands e h = h
-    commands_small paths (command c cs) e h = commands_small paths cs (command_run table memories paths c e) (command_small paths c e h)
+    commands_small paths (command_and c cs) e h = commands_small paths cs (command_run b paths c e) (command_small paths c e h)
 
-  test_small : (test : Term) (e : Effect) → AreSmall table e.events → AreSmall table (at_each (tested_at table memories test) outer_paths e).events
-  test_small test e h = each_small (tested_at table memories test) (λ path e k. joined table e.events _ k (term_small e.variables path test)) outer_paths e h
+  block_small : (paths : List Path) (block : Block) (e : Effect) → AreSmall b.table e.events → AreSmall b.table (block_run b paths block e).events
+  block_small paths (commands cs) e h = commands_small paths cs e h
+  block_small paths (tests t) e h = each_small (tested_at b t) (test_small t) paths e h
 
-  mutual
-    phase_small : (p : Phase) (e : Effect) → AreSmall table e.events → AreSmall table (phase_run table memories p e).events
-    phase_small (straight cs) e h = commands_small outer_paths cs e h
-    phase_small (turns iterator low count body) e h = first_small body (turn_begun iterator low e) h
-    phase_small (repeated test body) e h = test_small test e h
-    phase_small (decided test chosen other) e h = test_small test e h
-
-    first_small : (ps : Phases) (e : Effect) → AreSmall table e.events → AreSmall table (first_run table memories ps e).events
-    first_small no_phases e h = h
-    first_small (phase p ps) e h = phase_small p e h
-
-  threads_small : (ts : Threads) (e : Effect) → AreSmall table e.events → AreSmall table (threads_run table memories ts e).events
-  threads_small [] e h = h
-  threads_small ([] ∷ ts) e h = threads_small ts e h
-  threads_small ((p ∷ ps) ∷ ts) e h = threads_small ts (phase_run table memories p e) (phase_small p e h)
+  place_small : (place : Place) (e : Effect) → AreSmall b.table e.events → AreSmall b.table (place_run b place e).events
+  place_small ended e h = h
+  place_small (at paths block k) e h = block_small paths block e h
 
 -- ---- memories
 
@@ -185,21 +164,21 @@ put_fits (e ∷ es) (m ∷ ms) (suc memory) position value l h = (h.0, put_fits 
 
 written_fits : (table : List MemEntry) (es : List Event) (ms : List (List ℕ)) → AreSmall table es → Fits table ms → Fits table (written es ms)
 written_fits table [] ms small h = h
-written_fits table (reads place s ∷ es) ms small h = written_fits table es ms small.1 h
-written_fits table (writes place s value ∷ es) ms small h =
+written_fits table (reads number place path s ∷ es) ms small h = written_fits table es ms small.1 h
+written_fits table (writes number place path s value ∷ es) ms small h =
     written_fits table es (effects.put_element ms s value) small.1 (put_fits table ms s.memory s.position value small.0 h)
-written_fits table (faults kind place ∷ es) ms small h = written_fits table es ms small.1 h
+written_fits table (faults number place path kind ∷ es) ms small h = written_fits table es ms small.1 h
 
-step_fits : (table : List MemEntry) (s : Standing) (o : Outcome) → Fits table s.memories → Fits table (step_from table s o).memories
+step_fits : (table : List MemEntry) (s : RunState) (o : Outcome) → Fits table s.memories → Fits table (step_from table s o).memories
 step_fits table s Going h = by (effects.stop_after table [] (step_effect table s).events)
   where
-    by : (stop : Option Outcome) → Fits table (next_standing table (step_effect table s) s stop).memories
-    by None = written_fits table (step_effect table s).events s.memories (threads_small table s.memories s.threads (record { variables = s.variables; events = [] }) tt) h
+    by : (stop : Option Outcome) → Fits table (state_after table s (step_effect table s) stop).memories
+    by None = written_fits table (step_effect table s).events s.memories (place_small (begun_at table s) s.place (record { variables = s.variables; events = [] }) tt) h
     by (Some outcome) = h
 step_fits table s Ended h = h
 step_fits table s (Faulted kind place) h = h
 step_fits table s (Stuck memory bank place) h = h
 
-pub standing_fits : (tree : Tree) (memories : List (List ℕ)) (n : ℕ) → Fits tree.table memories → Fits tree.table (standing tree memories n).memories
-standing_fits tree memories zero h = h
-standing_fits tree memories (suc n) h = step_fits tree.table (standing tree memories n) (standing tree memories n).outcome (standing_fits tree memories n h)
+pub states_fit : (p : CoreProgram) (memories : List (List ℕ)) (n : ℕ) → Fits p.table memories → Fits p.table (run_state p memories n).memories
+states_fit p memories zero h = h
+states_fit p memories (suc n) h = step_fits p.table (run_state p memories n) (run_state p memories n).outcome (states_fit p memories n h)

@@ -1,10 +1,10 @@
 -- `interpret FILE DATA`: how the checked run of a program stands after a number of logical steps.
 use Rattle.std.specs.Prelude.{◌≡◌, ℕ, Bool, List, None}
 use Rattle.dh_base.specs.declared.statuses.Status.{Status}
-use Rattle.dh_tree.specs.Meaning.{meaning_of}
 use Rattle.dh_tree.specs.Memories.{table_of}
 use Rattle.dh_tree.specs.PlainTrees.{Program}
-use Rattle.dh_tree.specs.Steps.{Standing, standing}
+use Rattle.dh_meaning.specs.CoreOf.{core_of}
+use Rattle.dh_meaning.specs.Runs.{RunState, run_state}
 use Rattle.dh_data.specs.Reports.{report_text}
 use Rattle.dh_data.specs.declared.reports.Ending.{Ending}
 use Rattle.dh_app.specs.Asking.{interpreted}
@@ -14,14 +14,14 @@ use Rattle.dh_app.specs.Reporting.{status_of}
 use Rattle.dh_app.specs.Sources.{ProgramStage, DataStage}
 
 -- the checked run of a program from these memories, after so many steps
-abbrev pub stands_after : Program → (memories : List (List ℕ)) → (steps : ℕ) → Standing
-stands_after p memories steps = standing (meaning_of p) memories steps
+abbrev pub stands_after : Program → (memories : List (List ℕ)) → (steps : ℕ) → RunState
+stands_after p memories steps = run_state (core_of p) memories steps
 
 -- how it is reported: no net ran, so there are no clocks
-abbrev pub ending_at : Standing → Ending
+abbrev pub ending_at : RunState → Ending
 ending_at s = record { outcome = s.outcome; steps = s.steps; clocks = None }
 
-abbrev pub standing_text : Program → Standing → List ℕ
+abbrev pub standing_text : Program → RunState → List ℕ
 standing_text p s = report_text (table_of p) s.memories (ending_at s)
 
 -- this status and this text report how the run stands after so many steps

@@ -18,6 +18,7 @@ use crate::sources::{read_memories, read_program, read_typed};
 use dh_base::{Files, NoMemory, Outcome};
 use dh_check::{Forms, ready_programs_have_tables};
 use dh_data::Ending;
+use dh_runnable::ready_programs_are_runnable;
 use dh_sem::Interp;
 use dh_tree::{Memories, Typed};
 use std::alloc::Global;
@@ -101,6 +102,7 @@ fn run_for<'a>(
     ensures { IfOk result (λ interp. StandsAt (program_seen typed.now) memories steps interp) }
 {
     ready_programs_have_tables();
+    ready_programs_are_runnable();
     let mut interp = Interp::new(alloc, typed, memories)?;
     for _ in 0..steps {
         let Outcome::Going = interp.step()? else {

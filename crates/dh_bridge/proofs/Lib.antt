@@ -16,3 +16,10 @@ pub mod PlainElements
 pub mod KindedElements
 pub mod ChargesAlike
 pub mod PortsAlike
+pub mod FirstTests
+pub mod FirstPrograms
+pub mod FirstTrees
+pub mod FirstPhases
+pub mod FirstReads
+pub mod FirstBanks
+pub mod FirstKept

@@ -6,13 +6,13 @@ use Rattle.dh_base.specs.declared.faults.PassFault.TheVariants as pass
 use Rattle.dh_tree.specs.declared.trees.typed.Typed.{Typed}
 use Rattle.dh_tree.specs.Forms.{unbuilt_forms}
 use Rattle.dh_tree.specs.LeastBreach.{breach}
-use Rattle.dh_tree.specs.Memories.{table_of}
 use Rattle.dh_tree.specs.PlainTrees.{Program}
 use Rattle.dh_ports.specs.Told.{TellsPorts}
-use Rattle.dh_tree.specs.Ports.{KeepsPortRules}
+use Rattle.dh_meets.specs.Ports.{KeepsPortRules}
 use Rattle.dh_tree.specs.Seen.{program_seen}
-use Rattle.dh_tree.specs.Spending.{AllCovered, IsNeverStuck}
-use Rattle.dh_tree.specs.Tables.{Fits}
+use Rattle.dh_meaning.specs.CoreOf.{core_of}
+use Rattle.dh_sound.specs.KeptPorts.{IsNeverStuck}
+use Rattle.dh_sound.specs.Standing.{BlocksKeepPorts}
 use Rattle.dh_check.specs.declared.checking.Forms.{Forms}
 use Rattle.dh_check.specs.declared.checking.Forms.TheVariants.{Unchecked, Checked, Compiled}
 use Rattle.dh_check.specs.declared.checking.CheckFault.{CheckFault}
@@ -41,9 +41,8 @@ compilable_is forms p a same ready is =
     let built = built_for forms p is ready in
     subst (λ (x : Program). IsCompilable x) (sym same) (record { built = built; written = ready.written built })
 
-pub sound_still : (p a : Program) → a ≡ p → ((memories : List (List ℕ)) → Fits (table_of p) memories → AllCovered p memories)
-    → ((memories : List (List ℕ)) → Fits (table_of p) memories → IsNeverStuck p memories) → IsSound a
-sound_still p a same covered never_stuck = subst (λ (x : Program). IsSound x) (sym same) (record { covered = covered; never_stuck = never_stuck })
+pub sound_still : (p a : Program) → a ≡ p → BlocksKeepPorts (core_of p) → IsNeverStuck p → IsSound a
+sound_still p a same blocks never_stuck = subst (λ (x : Program). IsSound x) (sym same) (record { blocks = blocks; never_stuck = never_stuck })
 
 pub without_ports : (forms : Forms) (text : List ℕ) (r : Result Typed CheckFault) → TellsText forms text r → ChecksWithoutPorts forms text r
 without_ports forms text (Ok t) h = (h.1 false (accepts (program_seen t)) refl, h.0.ready)

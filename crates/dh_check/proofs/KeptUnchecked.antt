@@ -1,4 +1,4 @@
--- The least form that is not built for a run without the check of ports, kept while the code's lists are
+-- The least form that is not built for a check or a run, kept while the code's lists are
 -- walked over: what is left of a part, and the parts behind it.
 use Rattle.std.proofs.Common.{◌≡◌, ℕ, ◌+◌, ◌<◌, ◌||◌, ◌&&◌, Bool, if◌then◌else◌, List, [], ◌++◌, length, get_or, drop, map, Option, ap, sym, ◌∙◌}
 use Rattle.std.specs.Prelude.{Vec}
@@ -37,9 +37,6 @@ kept_next kept first second stepped steps cs k c parts i within is e told f =
     ∙ (ap (λ l. least_of kept l) (sym (append_assoc own (again (form_holds (action_form_seen c.form)) ++ left (form_holds (action_form_seen c.form))) behind))
     ∙ ap (λ l. least_of kept (unchecked_part stepped (actions (map action_seen l)) ++ behind)) (sym (at_item cs k c within is)))))
 
--- three lists, one after the other
-pub three_kept : (kept first second third : Option Breach) (xs ys zs : List Breach) → first ≡ least_of kept xs → second ≡ least_of first ys → third ≡ least_of second zs
-    → third ≡ least_of kept (xs ++ (ys ++ zs))
-three_kept kept first second third xs ys zs e f g =
-    g ∙ (ap (λ k. least_of k zs) (f ∙ ap (λ k. least_of k ys) e)
-    ∙ (sym (least_append (least_of kept xs) ys zs) ∙ sym (least_append kept xs (ys ++ zs))))
+-- two lists, one after the other
+pub two_kept : (kept first second : Option Breach) (xs ys : List Breach) → first ≡ least_of kept xs → second ≡ least_of first ys → second ≡ least_of kept (xs ++ ys)
+two_kept kept first second xs ys e f = f ∙ (ap (λ k. least_of k ys) e ∙ sym (least_append kept xs ys))

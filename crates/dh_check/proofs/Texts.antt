@@ -68,6 +68,7 @@ wider_text n m p within h = record {
   names = let k = h.names in omega (arith, k, within);
   widths = h.widths;
   targets = h.targets;
+  numbers = h.numbers;
 }
 
 wider : (n m : ℕ) (p : Program) → n ≤ m → IsWritten n p → IsWritten m p

@@ -4,13 +4,13 @@ use Rattle.std.specs.Prelude.{◌≡◌, ℕ, List, []}
 use Rattle.dh_tree.specs.declared.breaches.Breach.{Breach}
 use Rattle.dh_tree.specs.PlainTrees.{Program}
 use Rattle.dh_tree.specs.Forms.{unbuilt_forms}
-use Rattle.dh_tree.specs.Memories.{table_of}
-use Rattle.dh_tree.specs.Ports.{KeepsPortRules}
+use Rattle.dh_meets.specs.Ports.{KeepsPortRules}
 use Rattle.dh_tree.specs.Ready.{most_tokens, IsReady}
-use Rattle.dh_tree.specs.Spending.{AllCovered, IsNeverStuck}
-use Rattle.dh_tree.specs.Tables.{Fits}
 use Rattle.dh_tree.specs.UncheckedForms.{unchecked_forms}
 use Rattle.dh_tree.specs.Written.{IsWritten}
+use Rattle.dh_meaning.specs.CoreOf.{core_of}
+use Rattle.dh_sound.specs.KeptPorts.{IsNeverStuck}
+use Rattle.dh_sound.specs.Standing.{BlocksKeepPorts}
 use Rattle.dh_check.specs.declared.checking.Forms.{Forms}
 use Rattle.dh_check.specs.declared.checking.Forms.TheVariants.{Unchecked, Checked, Compiled}
 
@@ -39,8 +39,8 @@ pub record IsCompiled (p : Program) : Type 0 where
   pub keeps : KeepsPortRules p
   pub compilable : IsCompilable p
 
--- run from any fitting memories, no step spends more of a bank than its accesses that may meet charge, and
--- no run is ever stuck
+-- In no run of it, from whatever memories, does a block of a phase spend more of a bank than the ports of its memory; and no
+-- run is ever stuck.
 pub record IsSound (p : Program) : Type 0 where
-  pub covered : (memories : List (List ℕ)) → Fits (table_of p) memories → AllCovered p memories
-  pub never_stuck : (memories : List (List ℕ)) → Fits (table_of p) memories → IsNeverStuck p memories
+  pub blocks : BlocksKeepPorts (core_of p)
+  pub never_stuck : IsNeverStuck p

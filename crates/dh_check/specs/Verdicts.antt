@@ -21,7 +21,7 @@ use Rattle.dh_tree.specs.Excesses.{excess_at, or_else, first_excess}
 use Rattle.dh_tree.specs.Indices.{index_breaches_of}
 use Rattle.dh_tree.specs.Placements.{placement_breaches}
 use Rattle.dh_tree.specs.Ready.{IsReady}
-use Rattle.dh_tree.specs.Ports.{IsFirstPortBreach, KeepsPortRules}
+use Rattle.dh_meets.specs.Ports.{IsFirstPortBreach, KeepsPortRules}
 use Rattle.dh_tree.specs.Seen.{program_seen}
 use Rattle.dh_tree.specs.declared.trees.typed.Typed.{Typed}
 use Rattle.dh_check.specs.Acceptance.{unbuilt_by}

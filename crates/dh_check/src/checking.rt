@@ -14,6 +14,7 @@ ghost use Rattle.dh_check.specs.Ready.{of_pass, TellsBreach, TellsText, TellsTre
 ghost use Rattle.dh_check.specs.Verdicts.{Checks, ChecksWithoutPorts, counted_excess, tokens_excess};
 
 use crate::forms::first_unbuilt;
+use crate::laws::ready_programs_have_tables;
 use crate::unchecked_forms::first_unchecked;
 use dh_base::{Excess, Limit, PassFault, Place, Rule};
 use dh_lexer::{Counts, Token, counts, lex};
@@ -22,6 +23,7 @@ use dh_parser::parse;
 use dh_ports::{Accepted, check_ports};
 use dh_rules::rules;
 use dh_shape::within;
+use dh_sound::{accepted_programs_are_never_stuck, ready_accesses_are_told};
 use dh_tree::{Breach, Named, Tree, Typed};
 use dh_types::type_program;
 use dh_views::shapes;
@@ -115,8 +117,8 @@ fn first_excess(counts: Counts) -> Option<Excess>
 /// are built, names, kinds, shapes with indices and bounds, the limits on memories, where memories stand,
 /// and ports, in this order. The
 /// first of these with a breach or an excess refuses it, at the least place; of ports spent, at the first
-/// access in order of evaluation with which they are. A program that is accepted is sound: from all fitting
-/// memories no step spends more of a bank than its accesses that may meet charge, and no run is ever stuck.
+/// access in order of evaluation with which they are. A program that is accepted is sound: in no run, from
+/// whatever memories, does a phase spend more of a bank than the ports of its memory, and no run is ever stuck.
 ///
 /// # Errors
 ///
@@ -128,6 +130,9 @@ pub fn check(alloc: Global, text: &[u8], forms: Forms) -> Result<Accepted, Check
     ensures compilable { IfOk result (λ a. CompilesBy forms (program_seen a)) }
     ensures sound { IfOk result (λ a. IsSound (program_seen a)) }
 {
+    ready_programs_have_tables();
+    ready_accesses_are_told();
+    accepted_programs_are_never_stuck();
     let typed = ready(alloc, text, forms)?;
     let accepted = check_ports(alloc, typed)?;
     Ok(accepted)

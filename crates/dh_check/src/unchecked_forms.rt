@@ -1,32 +1,13 @@
-//! Forms that are not built yet for a run without the check of ports.
+//! Forms that are not built yet for a check or a run.
 
 ghost use Rattle.std.specs.Prelude.{◌≡◌, None};
 ghost use Rattle.dh_tree.specs.LeastBreach.{least_of};
-ghost use Rattle.dh_tree.specs.Seen.{action_seen, program_seen, unrolled, maybe_block_seen, all_parts_seen};
+ghost use Rattle.dh_tree.specs.Seen.{action_seen, program_seen, maybe_block_seen, all_parts_seen};
 ghost use Rattle.dh_tree.specs.Forms.{holds_steps, other_holds, groups_hold};
-ghost use Rattle.dh_tree.specs.UncheckedForms.{unchecked_factor, unchecked_combine, unchecked_action, unchecked_other, unchecked_groups, unchecked_forms};
+ghost use Rattle.dh_tree.specs.UncheckedForms.{unchecked_action, unchecked_other, unchecked_groups, unchecked_forms};
 
-use crate::forms::{keep_functions, keep_second, keep_unbuilt, keep_whole};
-use dh_base::Place;
+use crate::forms::{keep_functions, keep_second, keep_whole};
 use dh_tree::{Breach, Command, CommandForm, Tree, has_dashes};
-
-/// The word `unroll`, with another number than 1.
-fn keep_factor(kept: &mut Option<Breach>, factor: u64, place: Place, word: Place)
-    ensures { kept.new ≡ least_of kept.old (unchecked_factor (unrolled factor place word)) }
-{
-    if factor != 1 {
-        keep_unbuilt(kept, word);
-    }
-}
-
-/// The word `combine`.
-fn keep_combine(kept: &mut Option<Breach>, word: Place, combine: &Option<Box<Command>>)
-    ensures { kept.new ≡ least_of kept.old (unchecked_combine word (maybe_block_seen combine.now)) }
-{
-    if combine.is_some() {
-        keep_unbuilt(kept, word);
-    }
-}
 
 /// What of a command is not built; whether it holds a `---`, a loop or a call.
 #[cycle(unbuilt)]
@@ -40,6 +21,7 @@ fn keep_command(kept: &mut Option<Breach>, command: &Command) -> bool
         CommandForm::LetMemory { .. } => false,
         CommandForm::Assign { .. } => false,
         CommandForm::Store { .. } => false,
+        CommandForm::Reduce { .. } => false,
         CommandForm::If { then, other, .. } => {
             let chosen = keep_command(kept, then);
             let others = keep_other(kept, other);
@@ -53,22 +35,12 @@ fn keep_command(kept: &mut Option<Breach>, command: &Command) -> bool
             keep_command(kept, body);
             true
         }
-        CommandForm::For {
-            factor,
-            factor_place,
-            unroll_place,
-            body,
-            combine,
-            combine_place,
-            ..
-        } => {
-            keep_factor(kept, *factor, *factor_place, *unroll_place);
+        CommandForm::For { body, combine, .. } => {
             keep_command(kept, body);
-            keep_combine(kept, *combine_place, combine);
+            keep_other(kept, combine);
             true
         }
         CommandForm::View { .. } => keep_whole(kept, command.place, &command.form),
-        CommandForm::Reduce { .. } => keep_whole(kept, command.place, &command.form),
         CommandForm::Call { .. } => keep_whole(kept, command.place, &command.form),
     }
 }

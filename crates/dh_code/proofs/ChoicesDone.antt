@@ -1,25 +1,21 @@
 -- The two arms of an `if` at the paths where its test comes out so, and lists of commands.
-use Rattle.std.proofs.Common.{◌≡◌, ℕ, zero, suc, ◌+◌, ◌<◌, ◌≤◌, Bool, true, false, if◌then◌else◌, List, [], ◌∷◌, ◌++◌, length, map, drop, take, get_or, Ok, Err, Some, None, refl, ap, sym, ◌∙◌, subst, arith, append_assoc, append-nil}
-use Rattle.std.specs.Prelude.{Option, Result, IfOk, slice_get, slice_index_or}
+use Rattle.std.proofs.Common.{◌≡◌, ℕ, zero, suc, ◌<◌, ◌≤◌, Bool, true, false, if◌then◌else◌, List, [], ◌∷◌, ◌++◌, length, map, drop, take, get_or, Ok, Err, refl, ap, sym, ◌∙◌, subst, append-nil}
+use Rattle.std.specs.Prelude.{Result, slice_index_or}
 use Rattle.std.proofs.lemmas.List.{map-append, take-append-drop}
-use Rattle.dh_tree.specs.declared.tables.MemEntry.{MemEntry}
 use Rattle.dh_meaning.specs.Paths.{Path}
 use Rattle.dh_meaning.specs.Core.{CoreTerm, CoreCommand, store, assign, choose, CoreCommands, no_commands, command_and}
-use Rattle.dh_meaning.specs.Effects.{Begun, Effect, Event, Variables, at_each, command_run, commands_run, holds_at, paths_where, tested_at}
-use Rattle.dh_code.specs.declared.codes.Action.{Action}
-use Rattle.dh_code.specs.declared.codes.Action.TheVariants.{Store, Assign, Choose}
+use Rattle.dh_meaning.specs.Effects.{Begun, Effect, Variables, at_each, command_run, commands_run, holds_at, paths_where, tested_at}
 use Rattle.dh_code.specs.declared.codes.Flat.{Flat}
-use Rattle.dh_code.specs.declared.codes.Step.{Step}
 use Rattle.dh_code.specs.declared.evaluating.Scene.{Scene}
 use Rattle.dh_code.specs.declared.evaluating.Stop.{Stop}
 use Rattle.dh_code.specs.declared.running.State.{State}
-use Rattle.dh_code.specs.Coded.{AreCoded, IsCoded, IsFlat}
+use Rattle.dh_code.specs.Coded.{IsFlat}
 use Rattle.dh_code.specs.Ranks.{ArePaths, IsPath, ranks_of}
-use Rattle.dh_code.specs.Scenes.{IsEarlier, begun_in}
+use Rattle.dh_code.specs.Scenes.{begun_in}
 use Rattle.dh_code.specs.Slots.{Placing}
-use Rattle.dh_code.specs.States.{AreParts, AreRanks, AreRows, Decides, DoesAll, DoesOne, Ends, IsAside, IsReady, Keeps, KeepsBack, Runs, ranks_chosen}
-use Rattle.dh_code.specs.Suited.{CanDo, CanDoAll, CanEvaluate}
-use Rattle.dh_code.proofs.PathLoops.{Going, Grows, command_grows, commands_grow, each_grows, ends_later, go_end, go_first, go_stop, go_turn, grows_then, no_more_rows, row_at}
+use Rattle.dh_code.specs.States.{AreParts, AreRanks, AreRows, Decides, IsAside, IsReady, Keeps, KeepsBack, Runs}
+use Rattle.dh_code.specs.Suited.{CanEvaluate}
+use Rattle.dh_code.proofs.PathLoops.{Going, Grows, go_end, go_first, go_stop, go_turn, no_more_rows, row_at}
 
 -- at no path nothing is done
 mutual

@@ -1,22 +1,21 @@
 -- The code of commands in front of others.
-use Rattle.std.proofs.Common.{◌≡◌, ℕ, ◌+◌, ◌<◌, ◌≤◌, List, [], ◌∷◌, ◌++◌, length, Some, None, refl, ap, sym, ◌∙◌, subst, arith}
+use Rattle.std.proofs.Common.{◌≡◌, ℕ, ◌+◌, ◌≤◌, List, length, ap, sym, ◌∙◌, subst, arith}
 use Rattle.std.specs.Prelude.{Option, slice_range}
 use Rattle.std.specs.List.{AllByRecursion}
 use Rattle.dh_tree.specs.declared.tables.MemEntry.{MemEntry}
 use Rattle.dh_tree.specs.Shapes.{IsMemory}
-use Rattle.dh_meaning.specs.Core.{CoreTerm, CoreCommand, assign, choose, CoreCommands, command_and}
+use Rattle.dh_meaning.specs.Core.{CoreTerm, CoreCommand, CoreCommands, command_and}
 use Rattle.dh_code.specs.declared.codes.Action.{Action}
-use Rattle.dh_code.specs.declared.codes.Action.TheVariants.{Store, Assign, Choose}
 use Rattle.dh_code.specs.declared.codes.Code.{Code}
 use Rattle.dh_code.specs.declared.codes.Flat.{Flat}
 use Rattle.dh_code.specs.declared.codes.Operation.{Operation}
 use Rattle.dh_code.specs.declared.flattening.Names.{Names}
 use Rattle.dh_code.specs.declared.places.Held.{Held}
-use Rattle.dh_code.specs.Coded.{AreCoded, Extends, IsCoded, IsFlat}
+use Rattle.dh_code.specs.Coded.{Extends, IsCoded, IsFlat}
 use Rattle.dh_code.specs.Flattening.{Adds, AddsStep, IsFlatMade, IsInFront, table_in}
 use Rattle.dh_code.specs.Made.{Made, term_made}
 use Rattle.dh_code.specs.Operated.{IsOperand, IsOperation}
-use Rattle.dh_code.specs.Scenes.{IsAction, IsHeld, IsSoundCode}
+use Rattle.dh_code.specs.Scenes.{IsAction, IsHeld}
 use Rattle.dh_code.specs.Suited.{IsSuited}
 use Rattle.dh_code.proofs.CommandsCoded.{adds_extend, begins_before, coded_stays, extends_then, front_coded, range_added, sound_added, sound_step, step_extends}
 use Rattle.dh_code.proofs.Flattened.{adds_long}

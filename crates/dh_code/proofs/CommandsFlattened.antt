@@ -1,10 +1,9 @@
 -- The code of each form of command, in front of what stands behind it.
-use Rattle.std.proofs.Common.{◌≡◌, ℕ, zero, suc, ◌+◌, ◌-◌, ◌<◌, ◌≤◌, true, false, List, [], ◌∷◌, ◌++◌, length, map, drop, get_or, Some, None, refl, ap, sym, ◌∙◌, subst, arith, append_assoc}
+use Rattle.std.proofs.Common.{◌≡◌, ℕ, zero, suc, ◌+◌, ◌-◌, ◌<◌, ◌≤◌, true, false, List, [], ◌∷◌, ◌++◌, length, map, drop, get_or, Some, None, refl, ap, sym, ◌∙◌, subst, arith}
 use Rattle.std.specs.Prelude.{Option, Vec, slice_range}
 use Rattle.std.specs.Global.{Global}
 use denote.Ref.{Bor}
 use Rattle.std.proofs.Math.Seq.{drop-cons}
-use Rattle.std.specs.List.{AllByRecursion}
 use Rattle.dh_value.specs.declared.kinds.Kind.{Kind}
 use Rattle.dh_value.specs.declared.operators.Op.{Op}
 use Rattle.dh_value.specs.Operations as operations
@@ -14,31 +13,27 @@ use Rattle.dh_tree.specs.declared.trees.commands.Command.{Command}
 use Rattle.dh_tree.specs.PlainTrees as plain
 use Rattle.dh_tree.specs.PlainTrees.{Action as PlainAction, ActionForm, Actions, Groups}
 use Rattle.dh_tree.specs.Seen.{action_form_seen, action_seen, actions, groups, part_seen}
-use Rattle.dh_tree.specs.Shapes.{IsMemory}
-use Rattle.dh_meaning.specs.AccessNumbers.{accesses_of, part_accesses, term_accesses, terms_accesses}
+use Rattle.dh_meaning.specs.AccessNumbers.{accesses_of, part_accesses}
 use Rattle.dh_meaning.specs.Core.{Reach, by_indices, by_row, CoreTerm, variable, truth_literal, CoreCommand, store, assign, choose, CoreCommands, no_commands, command_and}
 use Rattle.dh_meaning.specs.Core as core
 use Rattle.dh_meaning.specs.Phases.{Located}
-use Rattle.dh_meaning.specs.CoreOf.{Known, assigned, core_action, core_action_form, core_commands, core_groups, core_part, core_term, core_terms, depth_of, entity_number, folded_into, kind_of, memory_of, operation_of, reach_of, store_to}
+use Rattle.dh_meaning.specs.CoreOf.{Known, core_action, core_action_form, core_commands, core_groups, core_part, core_term, core_terms, depth_of, entity_number, folded_into, kind_of, memory_of, operation_of, store_to}
 use Rattle.dh_code.specs.declared.codes.Access.{Access}
-use Rattle.dh_code.specs.declared.codes.Action.{Action}
 use Rattle.dh_code.specs.declared.codes.Action.TheVariants.{Store, Assign, Choose}
 use Rattle.dh_code.specs.declared.codes.Code.{Code}
 use Rattle.dh_code.specs.declared.codes.Flat.{Flat}
 use Rattle.dh_code.specs.declared.codes.Operand.{Operand}
 use Rattle.dh_code.specs.declared.codes.Operand.TheVariants.{Constant}
-use Rattle.dh_code.specs.declared.codes.Operation.{Operation}
 use Rattle.dh_code.specs.declared.codes.Target.TheVariants.{Indices, Row}
 use Rattle.dh_code.specs.declared.flattening.Names.{Names}
 use Rattle.dh_code.specs.declared.places.Held.{Held}
-use Rattle.dh_code.specs.Coded.{AreSlotsOf, IsFlat, IsFlatStore}
+use Rattle.dh_code.specs.Coded.{AreSlotsOf}
 use Rattle.dh_code.specs.Extended.{extension_of}
-use Rattle.dh_code.specs.Flattening.{Adds, AddsBinary, AddsStep, AreMade, ExtendsTo, FlattensCommand, IsAimed, IsFlatMade, IsInFront, IsMade, IsPlacingOf, IsStillAt, StandsInFront, aimed_at, extended_made, is_aimed, known_in, table_in}
-use Rattle.dh_code.specs.Made.{Made, access_to, binary_made, target_made, term_made, terms_made, variable_operand}
-use Rattle.dh_code.specs.Operated.{IsAccess, IsOperand, IsOperation, IsTarget}
-use Rattle.dh_code.specs.Scenes.{IsAction, IsHeld}
+use Rattle.dh_code.specs.Flattening.{Adds, AddsBinary, AddsStep, AreMade, ExtendsTo, FlattensCommand, IsAimed, IsFlatMade, IsInFront, IsMade, IsPlacingOf, IsStillAt, aimed_at, is_aimed, known_in, table_in}
+use Rattle.dh_code.specs.Made.{Made, access_to, target_made, term_made, terms_made, variable_operand}
+use Rattle.dh_code.specs.Operated.{IsAccess, IsOperand, IsOperation}
 use Rattle.dh_code.specs.Slots.{Placing, held_at}
-use Rattle.dh_code.specs.Suited.{AreSuited, CanDo, CanDoAll, CanEvaluate, IsInside, IsSuited, IsSuitedTarget}
+use Rattle.dh_code.specs.Suited.{AreSuited, CanDoAll, IsSuited}
 use Rattle.dh_code.proofs.CommandForms.{flat_held, flat_is, in_front}
 use Rattle.dh_code.proofs.CommandsCoded.{adds_extend, begins_before, coded_stays, extends_none, extends_then, flat_stays, front_coded, held_stays, range_added, sound_added, sound_step, step_extends}
 use Rattle.dh_code.proofs.Flattened.{adds_long, adds_none, adds_then, binary_flat}

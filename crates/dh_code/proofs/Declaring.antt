@@ -1,9 +1,8 @@
 -- Variables that are found and laid out.
-use Rattle.std.proofs.Common.{◌≡◌, ℕ, zero, suc, ◌+◌, ◌*◌, ◌-◌, ◌<◌, ◌≤◌, nat_lt, Bool, true, false, if◌then◌else◌, List, [], ◌∷◌, ◌++◌, length, map, take, drop, get_or, ◌⊎◌, inl, inr, Some, None, replicate, refl, ap, sym, ◌∙◌, subst, arith, append_assoc, append-nil}
+use Rattle.std.proofs.Common.{◌≡◌, ℕ, zero, suc, ◌+◌, ◌*◌, ◌-◌, ◌<◌, ◌≤◌, ◌^◌, min, nat_lt, Bool, true, false, if◌then◌else◌, List, [], ◌∷◌, ◌++◌, length, map, take, get_or, Some, None, replicate, refl, ap, sym, ◌∙◌, subst, arith, append_assoc, append-nil}
 use Rattle.std.specs.Prelude.{Option, option_map}
 use Rattle.std.proofs.lemmas.Bool.Decides.{nat_tests}
 use Rattle.std.proofs.lemmas.List.{length-append, length-replicate, map-append}
-use Rattle.dh_tree.specs.Collected.{AreKept}
 use Rattle.dh_tree.specs.Memories.{same_entity}
 use Rattle.dh_tree.specs.declared.trees.commands.Command.{Command}
 use Rattle.dh_tree.specs.PlainTrees.{ActionForm}
@@ -13,8 +12,9 @@ use Rattle.dh_tree.proofs.Collecting.{one_more}
 use Rattle.dh_code.specs.declared.places.Declared.{Declared}
 use Rattle.dh_code.specs.declared.places.Held.{Held}
 use Rattle.dh_code.specs.Declarations.{Declaration, all_held, declaration_in, declared_of, factors_inside, factors_of, form_declarations, held_behind, slots_counted}
-use Rattle.dh_code.specs.Placed.{AreFound, AreLaid, Declares, IsRound, KeepsFound, copies_held, held_of}
-use Rattle.dh_code.specs.Ranks.{copies_in}
+use Rattle.dh_code.specs.Placed.{AreFew, AreFound, AreLaid, Declares, IsRound, KeepsFound, copies_held, held_of}
+use Rattle.dh_code.specs.Ranks.{copies_in, most_paths}
+use Rattle.dh_code.proofs.FewDeclared.{below_power, doubled}
 
 copies_more : (fs : List ℕ) (f : ℕ) → copies_in (fs ++ f ∷ []) ≡ copies_in fs * f
 copies_more [] f = omega arith
@@ -34,10 +34,28 @@ pub round_more : (fs : List ℕ) (depth copies f : ℕ) → 1 < f → IsRound fs
 round_more fs depth copies f lt h = subst (λ (b : Bool). IsRound (if b then fs ++ f ∷ [] else fs) (depth + 1) (copies * f)) (sym (by lt)) (record {
   deep = ap (λ n. n + 1) h.deep ∙ sym (length-append fs (f ∷ []));
   many = ap (λ n. n * f) h.many ∙ sym (copies_more fs f);
+  doubled = doubled depth copies f h.doubled lt;
 })
   where
     by : 1 < f → nat_lt 1 f ≡ true
     by e = grind (arith, nat_tests)
+
+-- within the limit nothing stays at its type's greatest number
+pub round_counted : (fs : List ℕ) (depth copies f depth' copies' : ℕ) → 1 < f → depth' ≡ min (depth + 1) (2 ^ 32 - 1) → copies' ≡ min (copies * f) (2 ^ 64 - 1) → IsRound fs depth copies
+    → copies_in (factors_inside fs f) ≤ most_paths → IsRound (factors_inside fs f) depth' copies'
+round_counted fs depth copies f depth' copies' lt deep many h few =
+    let more = round_more fs depth copies f lt h in
+    let small = subst (λ (n : ℕ). n ≤ most_paths) (sym more.many) few in
+    let shallow = below_power (depth + 1) in
+    let twice = more.doubled in
+    subst (λ (n : ℕ). IsRound (factors_inside fs f) n copies') (sym (deep ∙ least (depth + 1) (2 ^ (depth + 1)) (copies * f) shallow twice small))
+    (subst (λ (n : ℕ). IsRound (factors_inside fs f) (depth + 1) n) (sym (many ∙ least_copies (copies * f) small)) more)
+  where
+    least : (d p q : ℕ) → d < p → p ≤ q → q ≤ most_paths → min d (2 ^ 32 - 1) ≡ d
+    least d p q a b c = omega (arith, a, b, c)
+
+    least_copies : (q : ℕ) → q ≤ most_paths → min q (2 ^ 64 - 1) ≡ q
+    least_copies q c = omega (arith, c)
 
 -- one declaration more
 pub declaration_more : (ds : List Declaration) (d : Declaration) (e : ℕ) → option_map declared_of (declaration_in (ds ++ d ∷ []) e) ≡ one_more (option_map declared_of (declaration_in ds e)) (same_entity d.entity (Some e)) (declared_of d)
@@ -161,11 +179,11 @@ found_end entities list i found over g ds e = subst (λ (l : List Declaration). 
 
 -- Declarations of commands.
 
-pub declares_as : (old new : List Declared) (depth copies : ℕ) (c : Command) (form : ActionForm) → action_form_seen c.form ≡ form → ((factors : List ℕ) → IsRound factors depth copies → new ≡ old ++ map declared_of (form_declarations factors form)) → Declares old new depth copies c
-declares_as old new depth copies c form is h = λ factors round. h factors round ∙ ap (λ f. old ++ map declared_of (form_declarations factors f)) (sym is)
+pub declares_as : (old new : List Declared) (depth copies : ℕ) (c : Command) (form : ActionForm) → action_form_seen c.form ≡ form → ((factors : List ℕ) → IsRound factors depth copies → AreFew (form_declarations factors form) → new ≡ old ++ map declared_of (form_declarations factors form)) → Declares old new depth copies c
+declares_as old new depth copies c form is h = λ factors round few. h factors round (subst (λ (f : ActionForm). AreFew (form_declarations factors f)) is few) ∙ ap (λ f. old ++ map declared_of (form_declarations factors f)) (sym is)
 
 pub declares_none : (old : List Declared) (depth copies : ℕ) (c : Command) (form : ActionForm) → action_form_seen c.form ≡ form → ((factors : List ℕ) → form_declarations factors form ≡ []) → Declares old old depth copies c
-declares_none old depth copies c form is none = declares_as old old depth copies c form is (λ factors round. sym (append-nil old) ∙ ap (λ ds. old ++ map declared_of ds) (sym (none factors)))
+declares_none old depth copies c form is none = declares_as old old depth copies c form is (λ factors round few. sym (append-nil old) ∙ ap (λ ds. old ++ map declared_of ds) (sym (none factors)))
 
 pub declares_both : (old mid new : List Declared) (xs ys : List Declaration) → mid ≡ old ++ map declared_of xs → new ≡ mid ++ map declared_of ys → new ≡ old ++ map declared_of (xs ++ ys)
 declares_both old mid new xs ys a b = b ∙ (ap (λ l. l ++ map declared_of ys) a ∙ (append_assoc old (map declared_of xs) (map declared_of ys) ∙ ap (λ l. old ++ l) (sym (map-append declared_of xs ys))))

@@ -1,18 +1,13 @@
 -- What code means: an expression's value and events, an assignment, a test, a store.
-use Rattle.std.proofs.Common.{◌≡◌, ℕ, suc, ◌+◌, ◌-◌, ◌^◌, ◌<◌, ◌≤◌, Bool, true, false, List, [], ◌∷◌, ◌++◌, length, map, take, ℤ, Ok, Err, Some, None, refl, ap, sym, ◌∙◌, subst, arith, append_assoc, append-nil}
-use Rattle.std.specs.Prelude.{Option, Result, slice_index, slice_set, slice_range}
-use Rattle.std.specs.List.{AllByRecursion}
-use Rattle.std.proofs.lemmas.List.{length-append, map-append}
+use Rattle.std.proofs.Common.{◌≡◌, ℕ, ◌+◌, ◌-◌, ◌≤◌, List, [], ◌∷◌, ◌++◌, length, take, Err, Some, None, refl, ap, sym, ◌∙◌, subst, arith, append-nil}
+use Rattle.std.specs.Prelude.{Option, Result, slice_index}
 use Rattle.dh_code.proofs.Ranges.{length_range}
-use Rattle.dh_value.specs.declared.words.Word.{Word}
-use Rattle.dh_value.specs.Words as words
-use Rattle.dh_value.specs.Words.{residue}
 use Rattle.dh_tree.specs.declared.tables.MemEntry.{MemEntry}
 use Rattle.dh_tree.specs.Elements.{Spot}
 use Rattle.dh_meaning.specs.Paths.{Path}
 use Rattle.dh_meaning.specs.Core.{Reach, CoreTerm, literal, truth_literal, variable, read, binary, convert, by_indices, by_row, CoreTerms, no_terms, term_and}
 use Rattle.dh_meaning.specs.Core as core
-use Rattle.dh_meaning.specs.Effects.{Begun, Effect, Event, Variables, assigned_at, holds_at, reads, writes, faults, read_made, spot_reached, stop_after, target_events, term_events, terms_events, tested_at, value_of}
+use Rattle.dh_meaning.specs.Effects.{Begun, Effect, Event, Variables, reads, writes, faults, read_made, spot_reached, stop_after, target_events, term_events, terms_events, value_of}
 use Rattle.dh_code.specs.declared.codes.Flat.{Flat}
 use Rattle.dh_code.specs.declared.codes.Operation.{Operation}
 use Rattle.dh_code.specs.declared.evaluating.Scene.{Scene}
@@ -22,16 +17,15 @@ use Rattle.dh_code.specs.declared.running.State.{State}
 use Rattle.dh_code.specs.declared.spending.Bank.{Bank}
 use Rattle.dh_code.specs.Coded.{AreSlotsOf, IsFlat}
 use Rattle.dh_code.specs.Made.{Made, term_made}
-use Rattle.dh_code.specs.Operated.{Sight, events_after, operand_word, sight, sight_after}
-use Rattle.dh_code.specs.Plain.{all_plain, plain}
-use Rattle.dh_code.specs.Ranks.{IsPath, rank_of, ranks_of}
-use Rattle.dh_code.specs.Scenes.{IsScene, Spends, begun_in, flat_events, flat_operations, flat_sight, flat_word}
+use Rattle.dh_code.specs.Operated.{Sight, events_after, operand_word, sight_after}
+use Rattle.dh_code.specs.Plain.{all_plain}
+use Rattle.dh_code.specs.Ranks.{IsPath, rank_of}
+use Rattle.dh_code.specs.Scenes.{IsScene, Spends, begun_in, flat_events, flat_sight, flat_word}
 use Rattle.dh_code.specs.Slots.{Holds, Placing, held_at, slot_of}
 use Rattle.dh_code.specs.Spent.{HaveSpent}
-use Rattle.dh_code.specs.States.{AreRanks, Ends, IsReady, Keeps, sight_in, writes_in}
+use Rattle.dh_code.specs.States.{AreRanks, Ends, Keeps, writes_in}
 use Rattle.dh_code.specs.Suited.{CanEvaluate, IsInside}
 use Rattle.dh_code.proofs.Ranked.{path_begins, rank_at}
-use Rattle.dh_code.proofs.SlotsHeld.{held_more}
 use Rattle.dh_code.proofs.TermsGiven.{Gives, gives, plain_append}
 
 pub written_append : (xs ys : List Event) → writes_in (xs ++ ys) ≡ writes_in xs ++ writes_in ys

@@ -1,5 +1,5 @@
 -- The code of each form of expression.
-use Rattle.std.proofs.Common.{◌≡◌, ℕ, ◌+◌, Bool, List, [], ◌∷◌, ◌++◌, length, map, refl, ap, sym, ◌∙◌, subst}
+use Rattle.std.proofs.Common.{◌≡◌, ℕ, ◌+◌, Bool, List, [], length, refl, ap, sym, ◌∙◌, subst}
 use Rattle.dh_base.specs.declared.places.Place.{Place}
 use Rattle.dh_value.specs.declared.kinds.Kind.{Kind}
 use Rattle.dh_value.specs.declared.operators.Op.{Op}
@@ -17,19 +17,17 @@ use Rattle.dh_tree.specs.Seen.{form_seen, term_seen, terms}
 use Rattle.dh_tree.proofs.SeenTerms.{binary_is, cast_is, physical_is}
 use Rattle.dh_meaning.specs.AccessNumbers.{term_accesses, terms_accesses}
 use Rattle.dh_meaning.specs.Bindings.{kind_found}
-use Rattle.dh_meaning.specs.Core.{CoreTerm}
 use Rattle.dh_meaning.specs.CoreOf.{Known, core_form, core_term, core_terms, entity_number, memory_of, reach_of}
 use Rattle.dh_meaning.specs.Effects.{bits_of, kind_in}
 use Rattle.dh_code.specs.declared.codes.Code.{Code}
 use Rattle.dh_code.specs.declared.codes.Operand.{Operand}
 use Rattle.dh_code.specs.declared.codes.Operand.TheVariants.{Constant}
-use Rattle.dh_code.specs.declared.codes.Operation.{Operation}
 use Rattle.dh_code.specs.declared.codes.Operation.TheVariants.{Read}
 use Rattle.dh_code.specs.declared.codes.Target.TheVariants.{Indices, Row}
 use Rattle.dh_code.specs.declared.places.Held.{Held}
 use Rattle.dh_code.specs.Extended.{extension_of}
-use Rattle.dh_code.specs.Flattening.{Adds, AddsBinary, AreMade, ConvertsTo, ExtendsTo, IsMade, IsOneMore}
-use Rattle.dh_code.specs.Made.{Made, term_made, terms_made, variable_operand}
+use Rattle.dh_code.specs.Flattening.{AddsBinary, AreMade, ConvertsTo, ExtendsTo, IsMade, IsOneMore}
+use Rattle.dh_code.specs.Made.{term_made, terms_made, variable_operand}
 use Rattle.dh_code.specs.Suited.{AreSuited, IsSuited}
 use Rattle.dh_code.proofs.Flattened.{adds_none, binary_flat, read_flat, row_flat}
 use Rattle.dh_code.proofs.MadeParts.{operands_suited}

@@ -1,13 +1,10 @@
 -- Where accesses lead.
-use Rattle.std.proofs.Common.{◌≡◌, ℕ, ◌<◌, Bool, true, false, if◌then◌else◌, List, [], ◌∷◌, ◌++◌, length, map, Ok, Err, Some, None, ℤ, refl, ap, sym, ◌∙◌, subst}
+use Rattle.std.proofs.Common.{◌≡◌, ℕ, ◌<◌, Bool, if◌then◌else◌, List, [], ◌∷◌, ◌++◌, length, map, Err, Some, None, ℤ, ap, sym, ◌∙◌, subst}
 use Rattle.std.specs.Prelude.{Option, Result, unsigned_abs}
-use Rattle.std.specs.List.{AllByRecursion}
 use Rattle.dh_base.specs.declared.outcomes.FaultKind.TheVariants.{OutOfRange}
-use Rattle.dh_base.specs.declared.outcomes.Outcome.TheVariants.{Faulted}
 use Rattle.dh_tree.specs.declared.tables.Dim.{Dim}
-use Rattle.dh_tree.specs.declared.tables.MemEntry.{MemEntry}
-use Rattle.dh_tree.specs.Elements.{Spot, dims_at, banks_of, rows_of, bank_of, row_of, position_of, position_in_bank, spot_of, spot_in_bank}
-use Rattle.dh_meaning.specs.Effects.{Event, is_inside, is_row, faults, read_made, spot_by_indices, spot_by_row, stop_after}
+use Rattle.dh_tree.specs.Elements.{Spot, dims_at, banks_of, bank_of, row_of, position_of, position_in_bank, spot_of, spot_in_bank}
+use Rattle.dh_meaning.specs.Effects.{Event, is_inside, is_row, faults, read_made, spot_by_row, stop_after}
 use Rattle.dh_value.specs.Words as words
 use Rattle.dh_code.specs.declared.codes.Access.{Access}
 use Rattle.dh_code.specs.declared.codes.Operand.{Operand}
@@ -19,8 +16,8 @@ use Rattle.dh_code.specs.declared.operands.View.{View}
 use Rattle.dh_code.specs.declared.spending.Bank.{Bank}
 use Rattle.dh_code.specs.declared.spots.Spread.{Spread}
 use Rattle.dh_code.specs.Banks.{HasBank, IsSpread, LiesInRow, Spreads}
-use Rattle.dh_code.specs.Operated.{IsOperand, access_spot, index_values, operand_word, target_spot, unnumbered, view_seen}
-use Rattle.dh_code.specs.Scenes.{Finds, LeadsTo, Spends, begun_in, spread_spot}
+use Rattle.dh_code.specs.Operated.{access_spot, index_values, operand_word, target_spot, unnumbered, view_seen}
+use Rattle.dh_code.specs.Scenes.{Finds, LeadsTo, Spends, begun_in}
 use Rattle.dh_code.specs.Spent.{HaveSpent}
 use Rattle.dh_code.proofs.BanksSpent.{stop_more}
 

@@ -9,6 +9,7 @@ pub mod SlotsHeld
 pub mod ValuesOfTerms
 pub mod Sights
 pub mod TermsGiven
+pub mod FewDeclared
 pub mod FlatMeaning
 pub mod PlainStops
 pub mod PathLoops

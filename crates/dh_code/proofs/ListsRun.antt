@@ -1,11 +1,11 @@
 -- An `if` at paths, and lists of commands, one after the other.
-use Rattle.std.proofs.Common.{◌≡◌, ℕ, zero, suc, ◌+◌, ◌*◌, ◌<◌, ◌≤◌, Bool, true, false, if◌then◌else◌, List, [], ◌∷◌, ◌++◌, length, map, max, get_or, Ok, Err, Some, None, refl, ap, sym, ◌∙◌, subst, arith}
+use Rattle.std.proofs.Common.{◌≡◌, ℕ, suc, ◌+◌, ◌*◌, ◌<◌, ◌≤◌, Bool, true, false, if◌then◌else◌, List, [], ◌∷◌, length, map, max, get_or, Ok, Err, Some, None, refl, ap, sym, ◌∙◌, subst, arith}
 use Rattle.std.specs.Prelude.{Option, Result, slice_get, slice_index_or}
 use Rattle.std.proofs.lemmas.Option.{slice_get-get_or, slice_get_past}
 use Rattle.dh_tree.specs.declared.tables.MemEntry.{MemEntry}
 use Rattle.dh_meaning.specs.Paths.{Path}
-use Rattle.dh_meaning.specs.Core.{CoreTerm, CoreCommand, store, assign, choose, CoreCommands, no_commands, command_and}
-use Rattle.dh_meaning.specs.Effects.{Begun, Effect, Event, Variables, at_each, command_run, commands_run, holds_at, paths_where, tested_at}
+use Rattle.dh_meaning.specs.Core.{CoreTerm, store, assign, choose, CoreCommands, no_commands, command_and}
+use Rattle.dh_meaning.specs.Effects.{Begun, Effect, at_each, command_run, commands_run, holds_at, paths_where, tested_at}
 use Rattle.dh_code.specs.declared.codes.Action.{Action}
 use Rattle.dh_code.specs.declared.codes.Action.TheVariants.{Store, Assign, Choose}
 use Rattle.dh_code.specs.declared.codes.Flat.{Flat}
@@ -15,11 +15,11 @@ use Rattle.dh_code.specs.declared.evaluating.Stop.{Stop}
 use Rattle.dh_code.specs.declared.running.State.{State}
 use Rattle.dh_code.specs.declared.codes.Operation.{Operation}
 use Rattle.dh_code.specs.Coded.{AreCoded, IsCoded, IsFlat}
-use Rattle.dh_code.specs.Ranks.{ArePaths, ranks_of}
+use Rattle.dh_code.specs.Ranks.{ranks_of}
 use Rattle.dh_code.specs.Scenes.{IsAction, IsEarlier, IsScene, begun_in}
 use Rattle.dh_code.specs.Slots.{Placing}
-use Rattle.dh_code.specs.States.{AreParts, AreRanks, AreRows, CanBeDone, Decides, DoesAll, DoesOne, Ends, IsReady, Keeps, KeepsBack, Runs, ranks_chosen}
-use Rattle.dh_code.specs.Suited.{CanDo, CanDoAll, CanEvaluate}
+use Rattle.dh_code.specs.States.{AreParts, AreRanks, AreRows, CanBeDone, Decides, DoesAll, DoesOne, Ends, IsReady, Keeps, KeepsBack, Runs}
+use Rattle.dh_code.specs.Suited.{CanDoAll, CanEvaluate}
 use Rattle.dh_code.proofs.ChoicesDone.{all_nowhere}
 use Rattle.dh_code.proofs.PathLoops.{Grows, commands_grow, ends_later, grows_then, row_at}
 

@@ -5,7 +5,6 @@ use Rattle.std.proofs.Math.Nat.{mod-lt}
 use borrow.Author.Differences.{same_in, same_out, sum_is_lem, neg_is}
 use Rattle.dh_value.specs.declared.kinds.Kind.{Kind}
 use Rattle.dh_value.specs.declared.kinds.Kind.TheVariants as kind
-use Rattle.dh_value.specs.declared.words.Word.{Word}
 use Rattle.dh_value.specs.Words.{IsKind, width_of, with_bits}
 use Rattle.dh_value.proofs.Residues.{Above, residue_is}
 use Rattle.dh_value.proofs.Values.{difference_bits}

@@ -1,13 +1,12 @@
 -- The code of parts of expressions: how it is put together, and that it can be done.
-use Rattle.std.proofs.Common.{◌≡◌, ℕ, suc, ◌+◌, ◌==◌, Bool, true, false, if◌then◌else◌, List, [], ◌∷◌, ◌++◌, length, refl, ap, sym, ◌∙◌, subst, arith, append_assoc, append-nil}
+use Rattle.std.proofs.Common.{◌≡◌, ℕ, ◌+◌, Bool, true, false, if◌then◌else◌, List, [], ◌∷◌, ◌++◌, length, refl, ap, sym, ◌∙◌, subst, arith}
 use Rattle.std.specs.List.{AllByRecursion}
-use Rattle.std.proofs.lemmas.List.{length-append}
 use Rattle.dh_value.specs.declared.kinds.Kind.{Kind}
 use Rattle.dh_value.specs.declared.kinds.Kind.TheVariants as kind
 use Rattle.dh_value.specs.declared.operators.Op.{Op}
 use Rattle.dh_value.specs.declared.operators.Op.TheVariants as op
 use Rattle.dh_value.specs.Words.{IsKind, IsInteger}
-use Rattle.dh_value.specs.Operations.{Suits, result_of}
+use Rattle.dh_value.specs.Operations.{result_of}
 use Rattle.dh_value.proofs.Values.{integer_width}
 use Rattle.dh_value.proofs.WordLaws.{truth_is_word}
 use Rattle.dh_tree.specs.declared.tables.MemEntry.{MemEntry}
@@ -17,17 +16,15 @@ use Rattle.dh_meaning.specs.Core.{Reach, CoreTerm, literal, truth_literal, varia
 use Rattle.dh_meaning.specs.Core as core
 use Rattle.dh_meaning.specs.CoreOf.{extended, operation_of}
 use Rattle.dh_meaning.specs.Effects.{kind_in}
-use Rattle.dh_code.specs.declared.codes.Operand.{Operand}
-use Rattle.dh_code.specs.declared.codes.Operand.TheVariants.{Constant, Variable, Given}
 use Rattle.dh_code.specs.declared.codes.Operation.{Operation}
 use Rattle.dh_code.specs.declared.codes.Operation.TheVariants.{Binary, Convert, Read}
 use Rattle.dh_code.specs.declared.places.Held.{Held}
 use Rattle.dh_code.specs.Extended.{extension_of}
 use Rattle.dh_code.specs.Flattening.{extended_made}
-use Rattle.dh_code.specs.Made.{Made, access_to, binary_made, converted_made, made, one_more, same_kind, target_made, term_made, terms_made}
-use Rattle.dh_code.specs.Operated.{IsAccess, IsOperand, IsOperation, IsTarget, kind_of_operand}
+use Rattle.dh_code.specs.Made.{Made, access_to, binary_made, converted_made, one_more, same_kind, target_made, term_made, terms_made}
+use Rattle.dh_code.specs.Operated.{IsOperand, IsOperation, IsTarget, kind_of_operand}
 use Rattle.dh_code.specs.Suited.{AreSuited, IsSuited, IsSuitedTarget, term_kind}
-use Rattle.dh_code.proofs.TermsGiven.{made_kind, same_kind_is}
+use Rattle.dh_code.proofs.TermsGiven.{made_kind}
 use Rattle.dh_code.proofs.ValuesOfTerms.{bits_fit, sized_at, suits_at}
 
 module _ (held : List Held) (table : List MemEntry) where

@@ -1,25 +1,22 @@
 -- Commands at one path after the other.
-use Rattle.std.proofs.Common.{◌≡◌, ℕ, zero, suc, ◌+◌, ◌<◌, ◌≤◌, Bool, true, false, if◌then◌else◌, List, [], ◌∷◌, ◌++◌, length, map, drop, take, get_or, Ok, Err, Some, None, refl, ap, sym, ◌∙◌, subst, arith, append_assoc, append-nil}
-use Rattle.std.specs.Prelude.{Option, Result, IfOk, slice_get, slice_index_or}
-use Rattle.std.proofs.lemmas.List.{map-append}
-use Rattle.dh_tree.specs.declared.tables.MemEntry.{MemEntry}
+use Rattle.std.proofs.Common.{◌≡◌, ℕ, suc, ◌<◌, ◌≤◌, List, [], length, get_or, Ok, Err, refl, ap, sym, ◌∙◌, subst}
+use Rattle.std.specs.Prelude.{Result, slice_index_or}
 use Rattle.dh_meaning.specs.Paths.{Path}
-use Rattle.dh_meaning.specs.Core.{CoreTerm, CoreCommand, store, assign, choose, CoreCommands, no_commands, command_and}
-use Rattle.dh_meaning.specs.Effects.{Begun, Effect, Event, Variables, assigned_at, at_each, command_run, commands_run, holds_at, paths_where, stored_at, tested_at}
+use Rattle.dh_meaning.specs.Core.{CoreCommand, store, assign, choose}
+use Rattle.dh_meaning.specs.Effects.{Begun, Effect, assigned_at, at_each, stored_at, tested_at}
 use Rattle.dh_code.specs.declared.codes.Access.{Access}
 use Rattle.dh_code.specs.declared.codes.Action.{Action}
-use Rattle.dh_code.specs.declared.codes.Action.TheVariants.{Store, Assign, Choose}
+use Rattle.dh_code.specs.declared.codes.Action.TheVariants.{Store, Assign}
 use Rattle.dh_code.specs.declared.codes.Flat.{Flat}
 use Rattle.dh_code.specs.declared.evaluating.Scene.{Scene}
 use Rattle.dh_code.specs.declared.evaluating.Stop.{Stop}
 use Rattle.dh_code.specs.declared.running.State.{State}
-use Rattle.dh_code.specs.Coded.{IsCoded, IsFlat}
-use Rattle.dh_code.specs.Ranks.{ArePaths, ranks_of}
+use Rattle.dh_code.specs.Coded.{IsCoded}
 use Rattle.dh_code.specs.Scenes.{begun_in}
 use Rattle.dh_code.specs.Slots.{Placing}
-use Rattle.dh_code.specs.States.{AreParts, AreRanks, AreRows, Assigns, Decides, DoesOne, Ends, IsReady, Keeps, KeepsBack, Runs, Stores, ranks_chosen}
-use Rattle.dh_code.specs.Suited.{CanDo, CanEvaluate}
-use Rattle.dh_code.proofs.PathLoops.{Going, Grows, go_end, go_first, go_stop, go_turn, path_now, ranks_now}
+use Rattle.dh_code.specs.States.{AreRanks, AreRows, Assigns, DoesOne, Ends, IsReady, Keeps, KeepsBack, Runs, Stores}
+use Rattle.dh_code.specs.Suited.{CanDo}
+use Rattle.dh_code.proofs.PathLoops.{Going, Grows, go_end, go_first, go_stop, go_turn, ranks_now}
 
 -- what a command does at one path, where it has no arms
 abbrev pub at_one : Begun → CoreCommand → Path → Effect → Effect

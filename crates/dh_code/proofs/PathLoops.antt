@@ -1,18 +1,17 @@
 -- What is done at one path after the other.
-use Rattle.std.proofs.Common.{◌≡◌, ℕ, zero, suc, ◌+◌, ◌<◌, ◌≤◌, Bool, true, false, List, [], ◌∷◌, ◌++◌, length, map, drop, get_or, Ok, Err, refl, ap, sym, ◌∙◌, subst, arith, append_assoc, append-nil}
+use Rattle.std.proofs.Common.{◌≡◌, ℕ, zero, suc, ◌<◌, ◌≤◌, true, false, List, [], ◌∷◌, ◌++◌, length, map, drop, get_or, Ok, Err, refl, ap, sym, ◌∙◌, subst, arith, append_assoc, append-nil}
 use Rattle.std.specs.Prelude.{Result, slice_index_or}
 use Rattle.std.proofs.lemmas.List.{map-append}
 use Rattle.dh_tree.specs.declared.tables.MemEntry.{MemEntry}
 use Rattle.dh_meaning.specs.Paths.{Path}
-use Rattle.dh_meaning.specs.Core.{CoreTerm, CoreCommand, store, assign, choose, CoreCommands, no_commands, command_and}
+use Rattle.dh_meaning.specs.Core.{CoreCommand, store, assign, choose, CoreCommands, no_commands, command_and}
 use Rattle.dh_meaning.specs.Effects.{Begun, Effect, Event, assigned_at, at_each, command_run, commands_run, holds_at, paths_where, stop_after, stored_at, tested_at}
 use Rattle.dh_code.specs.declared.evaluating.Scene.{Scene}
 use Rattle.dh_code.specs.declared.evaluating.Stop.{Stop}
 use Rattle.dh_code.specs.declared.evaluating.Stop.TheVariants as stop
 use Rattle.dh_code.specs.declared.running.State.{State}
 use Rattle.dh_code.specs.Plain.{all_plain, plain}
-use Rattle.dh_code.specs.Ranks.{ArePaths, IsPath, ranks_of}
-use Rattle.dh_code.specs.Scenes.{begun_in}
+use Rattle.dh_code.specs.Ranks.{ArePaths, ranks_of}
 use Rattle.dh_code.specs.Slots.{Placing}
 use Rattle.dh_code.specs.States.{AreRanks, AreRows, Ends, Keeps, Runs, ranks_chosen}
 use Rattle.dh_code.proofs.BanksSpent.{stop_stays}

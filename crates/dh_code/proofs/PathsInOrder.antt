@@ -1,11 +1,10 @@
 -- The paths inside loops, in order: each has as many before it as its rank says. By induction on the loops, each time
 -- with one more loop inside: the copies of the path of rank k have the ranks from k times the factor on.
-use Rattle.std.proofs.Common.{◌≡◌, ℕ, zero, suc, ◌+◌, ◌*◌, ◌<◌, ◌≤◌, List, [], ◌∷◌, ◌++◌, length, map, get_or, refl, ap, sym, ◌∙◌, subst, arith, append_assoc, append-nil}
+use Rattle.std.proofs.Common.{◌≡◌, ℕ, zero, suc, ◌+◌, ◌*◌, ◌<◌, ◌≤◌, List, [], ◌∷◌, ◌++◌, length, get_or, refl, ap, sym, ◌∙◌, subst, arith, append_assoc, append-nil}
 use Rattle.std.specs.Prelude.{slice_index}
-use Rattle.std.proofs.lemmas.List.{length-append, map-append}
-use Rattle.std.proofs.Math.Nat.{mul-le-mul_right}
+use Rattle.std.proofs.lemmas.List.{length-append}
 use Rattle.dh_meaning.specs.Paths.{Path, all_copies, copies_of, outer_paths, paths_from, paths_in}
-use Rattle.dh_code.specs.Ranks.{ArePaths, IsPath, copies_in, rank_behind, ranks_behind, rank_of, ranks_of}
+use Rattle.dh_code.specs.Ranks.{ArePaths, IsPath, copies_in, rank_behind, ranks_behind, rank_of}
 
 -- paths whose ranks count up from a number
 abbrev pub AreFrom : (factors : List ℕ) → (k : ℕ) → List Path → Type 0

@@ -1,10 +1,10 @@
 -- Ranks of paths: where they stand among those of all beginnings, their bound, and that they differ.
-use Rattle.std.proofs.Common.{◌≡◌, ℕ, zero, suc, ◌+◌, ◌*◌, ◌<◌, ◌≤◌, List, [], ◌∷◌, length, take, refl, ap, sym, ◌∙◌, ◌⊎◌, inl, inr, subst, arith}
+use Rattle.std.proofs.Common.{◌≡◌, ℕ, zero, suc, ◌+◌, ◌*◌, ◌<◌, ◌≤◌, List, [], ◌∷◌, length, take, refl, ap, sym, ◌∙◌, ◌⊎◌, inl, inr, arith}
 use Rattle.std.specs.Prelude.{slice_index}
 use Rattle.std.proofs.lemmas.Bool.{cases_lt}
 use Rattle.std.proofs.Math.Nat.{mul-le-mul_right}
 use Rattle.dh_meaning.specs.Paths.{Path}
-use Rattle.dh_code.specs.Ranks.{IsPath, copies_in, rank_behind, ranks_behind, ranks_of, rank_of}
+use Rattle.dh_code.specs.Ranks.{IsPath, copies_in, rank_behind, ranks_behind}
 
 -- the rank of a beginning
 pub rank_at : (r : ℕ) (fs : List ℕ) (p : Path) (d : ℕ) → d ≤ length fs → IsPath fs p → slice_index (ranks_behind r fs p) d ≡ rank_behind r (take d fs) (take d p)

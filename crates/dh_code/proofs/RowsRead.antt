@@ -5,7 +5,6 @@ use Rattle.dh_base.specs.declared.places.Place.{Place}
 use Rattle.dh_tree.specs.Elements.{Spot}
 use Rattle.dh_meaning.specs.Effects.{Event, reads, writes, faults, is_at, rows_read, writes_made}
 use Rattle.std.specs.Prelude.{nat_eq}
-use Rattle.std.specs.List.{list_any}
 use Rattle.std.specs.Set.{distinct_count, is_member, unique_keys}
 use Rattle.std.proofs.lemmas.List.Folds.{list_any-append}
 use Rattle.dh_code.specs.Spent.{has_row}

@@ -1,16 +1,16 @@
 -- What operations behind others see.
-use Rattle.std.proofs.Common.{◌≡◌, ℕ, suc, ◌+◌, ◌%◌, ◌^◌, ◌<◌, ◌≤◌, List, [], ◌∷◌, ◌++◌, length, map, ℤ, refl, ap, sym, ◌∙◌, subst, arith, append_assoc, append-nil}
-use Rattle.std.specs.Prelude.{slice_index, slice_set}
+use Rattle.std.proofs.Common.{◌≡◌, ℕ, suc, ◌+◌, ◌<◌, ◌≤◌, List, [], ◌∷◌, ◌++◌, length, refl, ap, sym, ◌∙◌, subst, arith, append_assoc, append-nil}
+use Rattle.std.specs.Prelude.{slice_index}
 use Rattle.std.proofs.lemmas.List.{get_or-set_same, get_or-set_other, length-set, length-append}
 use Rattle.std.proofs.Math.Nat.{mod-eq_of_lt}
 use Rattle.dh_value.specs.declared.kinds.Kind.{Kind}
 use Rattle.dh_value.specs.declared.words.Word.{Word}
-use Rattle.dh_value.specs.Words.{IsWord, width_of, with_bits}
-use Rattle.dh_meaning.specs.Effects.{Begun, Event}
+use Rattle.dh_value.specs.Words.{IsWord, with_bits}
+use Rattle.dh_meaning.specs.Effects.{Begun}
 use Rattle.dh_code.specs.declared.codes.Operand.{Operand}
 use Rattle.dh_code.specs.declared.codes.Operand.TheVariants.{Constant, Variable, Given}
 use Rattle.dh_code.specs.declared.codes.Operation.{Operation}
-use Rattle.dh_code.specs.Operated.{Sight, sight, events_after, index_values, lowest_word, operand_word, operation_events, operation_word, sight_after, with_given}
+use Rattle.dh_code.specs.Operated.{Sight, events_after, lowest_word, operand_word, operation_events, operation_word, sight_after, with_given}
 use Rattle.dh_code.specs.Made.{one_more}
 
 next_number : (at n : ℕ) → at + 1 + n ≡ at + suc n

@@ -1,33 +1,23 @@
 -- What a state keeps behind an assignment, a test and a store.
-use Rattle.std.proofs.Common.{◌≡◌, ℕ, ◌+◌, ◌^◌, ◌<◌, ◌≤◌, ◌==◌, Bool, List, [], ◌∷◌, ◌++◌, length, take, Ok, Err, Some, None, refl, ap, sym, ◌∙◌, subst, append_assoc, append-nil}
-use Rattle.std.specs.Prelude.{Option, Result, slice_index, slice_set}
-use Rattle.dh_base.specs.declared.outcomes.FaultKind.TheVariants.{OutOfRange}
-use Rattle.dh_base.specs.declared.places.Place.{Place}
+use Rattle.std.proofs.Common.{◌≡◌, ℕ, ◌+◌, ◌^◌, ◌==◌, List, ◌++◌, take, Ok, Err, ap, sym, ◌∙◌, subst}
+use Rattle.std.specs.Prelude.{Result, slice_index, slice_set}
 use Rattle.dh_value.specs.declared.words.Word.{Word}
 use Rattle.dh_value.specs.Words as words
 use Rattle.dh_value.specs.Words.{residue}
-use Rattle.dh_value.specs.Operations as operations
-use Rattle.dh_tree.specs.declared.tables.MemEntry.{MemEntry}
-use Rattle.dh_tree.specs.Elements.{Spot}
 use Rattle.dh_meaning.specs.Paths.{Path}
-use Rattle.dh_meaning.specs.Core.{Reach, CoreTerm}
-use Rattle.dh_meaning.specs.Core as core
-use Rattle.dh_meaning.specs.Effects.{Effect, Event, Variables, assigned_at, faults, holds_at, kept_bits, set_variable, spot_reached, stop_after, store_events, stored_at, target_events, term_events, tested_at, value_of, write_made, writes, with_events}
-use Rattle.dh_code.specs.declared.codes.Access.{Access}
+use Rattle.dh_meaning.specs.Core.{CoreTerm}
+use Rattle.dh_meaning.specs.Effects.{Effect, Event, Variables, assigned_at, holds_at, set_variable, term_events, tested_at, value_of}
 use Rattle.dh_code.specs.declared.codes.Flat.{Flat}
-use Rattle.dh_code.specs.declared.codes.Operation.{Operation}
 use Rattle.dh_code.specs.declared.evaluating.Scene.{Scene}
 use Rattle.dh_code.specs.declared.evaluating.Stop.{Stop}
-use Rattle.dh_code.specs.declared.evaluating.Stop.TheVariants as stop
 use Rattle.dh_code.specs.declared.running.State.{State}
 use Rattle.dh_code.specs.declared.spending.Bank.{Bank}
 use Rattle.dh_code.specs.Coded.{AreSlotsOf, IsFlat}
-use Rattle.dh_code.specs.Operated.{Sight}
 use Rattle.dh_code.specs.Plain.{all_plain}
-use Rattle.dh_code.specs.Scenes.{IsScene, Spends, SpendsMore, begun_in, flat_events, flat_word}
-use Rattle.dh_code.specs.Slots.{Holds, Placing, slot_of}
+use Rattle.dh_code.specs.Scenes.{IsScene, Spends, begun_in, flat_events, flat_word}
+use Rattle.dh_code.specs.Slots.{Holds, Placing}
 use Rattle.dh_code.specs.Spent.{HaveSpent}
-use Rattle.dh_code.specs.States.{AreRanks, Ends, IsAssigned, IsReady, Keeps, KeepsVariables, SpendsFlat, sight_in, writes_in}
+use Rattle.dh_code.specs.States.{AreRanks, Ends, IsAssigned, IsReady, Keeps, KeepsVariables, SpendsFlat, sight_in}
 use Rattle.dh_code.specs.Suited.{CanEvaluate, IsInside}
 use Rattle.dh_code.proofs.FlatMeaning.{assigned_slot, flat_happens, flat_value, kept_events, none_written, path_of, stopped_events}
 use Rattle.dh_code.proofs.Ranges.{items_same}

@@ -1,12 +1,10 @@
 -- What a state keeps behind a store.
-use Rattle.std.proofs.Common.{◌≡◌, ℕ, ◌+◌, ◌-◌, ◌^◌, ◌<◌, ◌≤◌, Bool, List, [], ◌∷◌, ◌++◌, length, map, Ok, Err, Some, None, refl, ap, sym, ◌∙◌, subst, arith, append_assoc, append-nil}
-use Rattle.std.specs.Prelude.{Option, Result}
+use Rattle.std.proofs.Common.{◌≡◌, ℕ, ◌+◌, ◌-◌, ◌≤◌, List, [], ◌∷◌, ◌++◌, length, Ok, Err, Some, refl, ap, sym, ◌∙◌, subst, arith, append_assoc, append-nil}
+use Rattle.std.specs.Prelude.{Result}
 use Rattle.std.proofs.lemmas.List.{length-append}
 use Rattle.dh_base.specs.declared.outcomes.FaultKind.TheVariants.{OutOfRange}
 use Rattle.dh_base.specs.declared.outcomes.Outcome.TheVariants.{Faulted}
 use Rattle.dh_value.specs.declared.words.Word.{Word}
-use Rattle.dh_tree.specs.declared.tables.MemEntry.{MemEntry}
-use Rattle.dh_tree.specs.Elements.{Spot}
 use Rattle.dh_meaning.specs.Paths.{Path}
 use Rattle.dh_meaning.specs.Core.{Reach, CoreTerm}
 use Rattle.dh_meaning.specs.Core as core
@@ -19,10 +17,9 @@ use Rattle.dh_code.specs.declared.evaluating.Stop.{Stop}
 use Rattle.dh_code.specs.declared.evaluating.Stop.TheVariants as stop
 use Rattle.dh_code.specs.declared.running.State.{State}
 use Rattle.dh_code.specs.declared.running.Write.{Write}
-use Rattle.dh_code.specs.declared.spending.Bank.{Bank}
 use Rattle.dh_code.specs.declared.spots.Element.{Element}
 use Rattle.dh_code.specs.Coded.{IsFlatStore}
-use Rattle.dh_code.specs.Made.{Aimed, Made, access_to, target_made, term_made}
+use Rattle.dh_code.specs.Made.{Aimed, Made, target_made, term_made}
 use Rattle.dh_code.specs.Operated.{Sight, access_spot, events_after, operand_word, sight_after}
 use Rattle.dh_code.specs.Plain.{all_plain, plain}
 use Rattle.dh_code.specs.Rows.{spot_seen}
@@ -32,10 +29,10 @@ use Rattle.dh_code.specs.Spent.{HaveSpent}
 use Rattle.dh_code.specs.States.{AreRanks, Ends, FindsSeen, IsReady, Keeps, KeepsSlots, KeepsVariables, Puts, SpendsFlat, sight_in, writes_in}
 use Rattle.dh_code.specs.Suited.{CanEvaluate, IsSuitedTarget, TargetInside}
 use Rattle.dh_code.proofs.BanksSpent.{stop_more}
-use Rattle.dh_code.proofs.FlatMeaning.{kept_events, none_aimed, none_written, stopped_events, written_append, written_both}
-use Rattle.dh_code.proofs.PathLoops.{Grows, ends_later}
+use Rattle.dh_code.proofs.FlatMeaning.{none_aimed, none_written, stopped_events, written_append, written_both}
+use Rattle.dh_code.proofs.PathLoops.{ends_later}
 use Rattle.dh_code.proofs.Ranges.{items_same, length_range}
-use Rattle.dh_code.proofs.Sights.{room_stays, sight_append}
+use Rattle.dh_code.proofs.Sights.{sight_append}
 use Rattle.dh_code.proofs.TermsGiven.{Gives, Leads, both_events, first_stays, gives, leads, plain_append, room_left, sees_on}
 use Rattle.dh_code.proofs.ValuesOfTerms.{of_memory}
 

@@ -1,6 +1,6 @@
 -- What the code of an expression gives is the value of the expression, with its accesses and faults in order.
-use Rattle.std.proofs.Common.{◌≡◌, ℕ, suc, ◌+◌, ◌%◌, ◌^◌, ◌<◌, ◌≤◌, ◌==◌, Bool, true, false, if◌then◌else◌, List, [], ◌∷◌, ◌++◌, length, map, take, ℤ, Some, None, refl, ap, sym, ◌∙◌, subst, arith, append_assoc, append-nil}
-use Rattle.std.specs.Prelude.{Option, slice_index, unsigned_abs}
+use Rattle.std.proofs.Common.{◌≡◌, ℕ, ◌+◌, ◌<◌, ◌≤◌, Bool, true, false, if◌then◌else◌, List, [], ◌∷◌, ◌++◌, length, take, Some, None, refl, ap, sym, ◌∙◌, subst, arith, append-nil}
+use Rattle.std.specs.Prelude.{Option, slice_index}
 use Rattle.std.specs.List.{AllByRecursion}
 use Rattle.std.proofs.lemmas.Bool.{eqb-true}
 use Rattle.std.proofs.lemmas.List.{length-append, map-append}
@@ -11,7 +11,7 @@ use Rattle.dh_value.specs.declared.operators.Op.{Op}
 use Rattle.dh_value.specs.declared.words.Word.{Word}
 use Rattle.dh_value.specs.Words as words
 use Rattle.dh_value.specs.Words.{IsKind, IsWord, residue, width_of, with_bits, word_of}
-use Rattle.dh_value.specs.Operations.{Suits, binary_of, result_of}
+use Rattle.dh_value.specs.Operations.{binary_of, result_of}
 use Rattle.dh_value.proofs.Values.{integer_width, residue_cut}
 use Rattle.dh_value.proofs.WordLaws.{word_of_is_word, word_again}
 use Rattle.dh_tree.specs.declared.tables.MemEntry.{MemEntry}
@@ -22,16 +22,16 @@ use Rattle.dh_meaning.specs.Core.{Reach, CoreTerm, literal, truth_literal, varia
 use Rattle.dh_meaning.specs.Core as core
 use Rattle.dh_meaning.specs.Effects.{Begun, Event, Variables, bits_at, kind_in, read_made, spot_by_indices, spot_by_row, spot_reached, target_events, term_events, terms_events, value_of, values_of}
 use Rattle.dh_code.specs.declared.codes.Operand.{Operand}
-use Rattle.dh_code.specs.declared.codes.Operand.TheVariants.{Constant, Variable, Given}
+use Rattle.dh_code.specs.declared.codes.Operand.TheVariants.{Variable}
 use Rattle.dh_code.specs.declared.codes.Operation.{Operation}
 use Rattle.dh_code.specs.declared.codes.Operation.TheVariants.{Binary, Convert, Read}
 use Rattle.dh_code.specs.declared.places.Held.{Held}
-use Rattle.dh_code.specs.Made.{Made, access_to, converted_made, made, one_more, same_kind, target_made, term_made, terms_made}
+use Rattle.dh_code.specs.Made.{Made, access_to, one_more, same_kind, target_made, term_made, terms_made}
 use Rattle.dh_code.specs.Operated.{Sight, access_spot, events_after, index_values, kind_of_operand, lowest_word, operand_word, operation_events, operation_word, sight_after, target_spot}
 use Rattle.dh_code.specs.Plain.{all_plain, plain}
 use Rattle.dh_code.specs.Ranks.{IsPath, rank_of, ranks_of}
 use Rattle.dh_code.specs.Scenes.{AreSmall}
-use Rattle.dh_code.specs.Slots.{Holds, Placing, held_at, slot_of}
+use Rattle.dh_code.specs.Slots.{Holds, Placing, held_at}
 use Rattle.dh_code.specs.Suited.{AllInside, AreInside, AreSuited, IsInside, IsSuited, IsSuitedTarget, TargetInside, term_kind}
 use Rattle.dh_code.proofs.Ranked.{path_begins, rank_at}
 use Rattle.dh_code.proofs.Sights.{IsBefore, AreBefore, before_more, events_append, more_before, more_events, more_value, operand_stays, ranks_stay, room_stays, sight_append, slots_stay}

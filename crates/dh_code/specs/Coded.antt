@@ -1,11 +1,8 @@
 -- The code of commands: lists that lead from one to the next, of the expressions' operations and values.
-use Rattle.std.specs.Prelude.{◌≡◌, ℕ, ◌+◌, ◌-◌, ◌<◌, ◌≤◌, Bool, false, List, [], ◌∷◌, ◌++◌, length, take, drop, slice_get, slice_range, Option, Some, None}
-use Rattle.std.specs.List.{AllByRecursion}
-use Rattle.dh_base.specs.declared.places.Place.{Place}
+use Rattle.std.specs.Prelude.{◌≡◌, ℕ, ◌+◌, ◌≤◌, List, ◌++◌, length, slice_get, slice_range, Option, Some, None}
 use Rattle.dh_tree.specs.declared.tables.MemEntry.{MemEntry}
 use Rattle.dh_meaning.specs.Core.{Reach, CoreTerm, CoreTerms, CoreCommand, store, assign, choose, CoreCommands, no_commands, command_and}
 use Rattle.dh_meaning.specs.Core as core
-use Rattle.dh_code.specs.declared.codes.Operand.{Operand}
 use Rattle.dh_code.specs.declared.codes.Access.{Access}
 use Rattle.dh_code.specs.declared.codes.Operation.{Operation}
 use Rattle.dh_code.specs.declared.codes.Flat.{Flat}
@@ -15,7 +12,7 @@ use Rattle.dh_code.specs.declared.codes.Step.{Step}
 use Rattle.dh_code.specs.declared.codes.Code.{Code}
 use Rattle.dh_code.specs.declared.places.Held.{Held}
 use Rattle.dh_code.specs.Slots.{held_at}
-use Rattle.dh_code.specs.Made.{Made, term_made, target_made, access_to}
+use Rattle.dh_code.specs.Made.{term_made, target_made, access_to}
 
 -- further operations and commands behind those that there are
 pub record Extends (old new : Code) : Type 0 where

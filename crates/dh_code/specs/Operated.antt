@@ -1,8 +1,7 @@
 -- What operations give, and the accesses and faults that they make, at a path of given ranks: each access with
 -- number 0 and at the empty path, since code keeps neither.
-use Rattle.std.specs.Prelude.{◌≡◌, ℕ, ◌+◌, ◌%◌, ◌^◌, ◌<◌, List, [], ◌∷◌, ◌++◌, map, length, slice_index, slice_set, Option, ℤ}
+use Rattle.std.specs.Prelude.{ℕ, ◌+◌, ◌%◌, ◌^◌, ◌<◌, List, [], ◌∷◌, ◌++◌, map, length, slice_index, slice_set, Option, ℤ}
 use Rattle.std.specs.List.{AllByRecursion}
-use Rattle.dh_base.specs.declared.places.Place.{Place}
 use Rattle.dh_value.specs.declared.kinds.Kind.{Kind}
 use Rattle.dh_value.specs.declared.words.Word.{Word}
 use Rattle.dh_value.specs.Words as words
@@ -11,7 +10,7 @@ use Rattle.dh_value.specs.Operations.{Suits, binary_of}
 use Rattle.dh_tree.specs.declared.tables.MemEntry.{MemEntry}
 use Rattle.dh_tree.specs.Elements.{Spot}
 use Rattle.dh_meaning.specs.Core.{Reach}
-use Rattle.dh_meaning.specs.Effects.{Begun, Event, bits_at, kind_in, read_made, write_made, spot_by_indices, spot_by_row}
+use Rattle.dh_meaning.specs.Effects.{Begun, Event, bits_at, kind_in, read_made, spot_by_indices, spot_by_row}
 use Rattle.dh_code.specs.Banks.{HasBank}
 use Rattle.dh_code.specs.declared.codes.Operand.{Operand}
 use Rattle.dh_code.specs.declared.codes.Operand.TheVariants.{Constant, Variable, Given}

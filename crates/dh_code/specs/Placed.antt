@@ -1,6 +1,7 @@
 -- What the calls that give variables their slots answer.
-use Rattle.std.specs.Prelude.{◌≡◌, ℕ, ◌+◌, List, [], ◌∷◌, ◌++◌, length, map, Option, Some, None, option_map, Vec, Box}
+use Rattle.std.specs.Prelude.{◌≡◌, ℕ, ◌≤◌, ◌^◌, List, [], ◌∷◌, ◌++◌, length, map, Option, Some, None, option_map, Vec, Box}
 use Rattle.std.specs.Global.{Global}
+use Rattle.std.specs.List.{AllByRecursion}
 use Rattle.dh_value.specs.declared.kinds.Kind.TheVariants as kind
 use Rattle.dh_tree.specs.Collected.{AreKept}
 use Rattle.dh_tree.specs.declared.trees.commands.Command.{Command}
@@ -8,22 +9,27 @@ use Rattle.dh_tree.specs.Seen.{action_seen, groups, maybe_seen, part_seen}
 use Rattle.dh_code.specs.declared.places.Declared.{Declared}
 use Rattle.dh_code.specs.declared.places.Held.{Held}
 use Rattle.dh_code.specs.Declarations.{Declaration, all_held, declarations, declaration_in, declared_of, groups_declarations, other_declarations, slots_counted}
-use Rattle.dh_code.specs.Ranks.{copies_in}
+use Rattle.dh_code.specs.Ranks.{copies_in, most_paths}
 
--- loops of these factors: how many they are, and their copies together
+-- loops of these factors: how many they are, and their copies together, of which each loop has at least two
 pub record IsRound (factors : List ℕ) (depth copies : ℕ) : Type 0 where
   pub deep : depth ≡ length factors
   pub many : copies ≡ copies_in factors
+  pub doubled : 2 ^ depth ≤ copies
 
--- the declarations of a command, a block that may lack, and parts are listed
+-- each variable has few copies
+abbrev pub AreFew : List Declaration → Type 0
+AreFew ds = AllByRecursion (λ d. copies_in d.factors ≤ most_paths) ds
+
+-- the declarations of a command, a block that may lack, and parts are listed, where they have few copies
 abbrev pub Declares : (old new : List Declared) → (depth copies : ℕ) → Command → Type 0
-Declares old new depth copies c = (factors : List ℕ) → IsRound factors depth copies → new ≡ old ++ map declared_of (declarations factors (action_seen c))
+Declares old new depth copies c = (factors : List ℕ) → IsRound factors depth copies → AreFew (declarations factors (action_seen c)) → new ≡ old ++ map declared_of (declarations factors (action_seen c))
 
 abbrev pub DeclaresOther : (old new : List Declared) → (depth copies : ℕ) → Option (Box Command Global) → Type 0
-DeclaresOther old new depth copies other = (factors : List ℕ) → IsRound factors depth copies → new ≡ old ++ map declared_of (other_declarations factors (maybe_seen (option_map (λ b. action_seen b.value) other)))
+DeclaresOther old new depth copies other = (factors : List ℕ) → IsRound factors depth copies → AreFew (other_declarations factors (maybe_seen (option_map (λ b. action_seen b.value) other))) → new ≡ old ++ map declared_of (other_declarations factors (maybe_seen (option_map (λ b. action_seen b.value) other)))
 
 abbrev pub DeclaresParts : (old new : List Declared) → (depth copies : ℕ) → List (Vec Command Global) → Type 0
-DeclaresParts old new depth copies parts = (factors : List ℕ) → IsRound factors depth copies → new ≡ old ++ map declared_of (groups_declarations factors (groups (map part_seen parts)))
+DeclaresParts old new depth copies parts = (factors : List ℕ) → IsRound factors depth copies → AreFew (groups_declarations factors (groups (map part_seen parts))) → new ≡ old ++ map declared_of (groups_declarations factors (groups (map part_seen parts)))
 
 -- of each entity its declaration
 abbrev pub AreFound : List Declaration → List (Option Declared) → Type 0
@@ -39,6 +45,13 @@ held_of (Some d) first = record { kind = d.kind; depth = d.depth; first = first 
 abbrev pub copies_held : Option Declared → ℕ
 copies_held None = 1
 copies_held (Some d) = d.copies
+
+abbrev pub has_few : Option Declared → Type 0
+has_few v = copies_held v ≤ most_paths
+
+-- more entities than any text declares
+abbrev pub most_entities : ℕ
+most_entities = 2 ^ 21
 
 -- the slots of variables, one behind the other
 abbrev pub AreLaid : List (Option Declared) → List Held → (count : ℕ) → Type 0

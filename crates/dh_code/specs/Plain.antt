@@ -1,5 +1,5 @@
 -- Accesses and faults without their numbers and paths: writes, ports and stops depend on neither.
-use Rattle.std.specs.Prelude.{ℕ, List, [], map}
+use Rattle.std.specs.Prelude.{List, [], map}
 use Rattle.dh_meaning.specs.Effects.{Event, reads, writes, faults}
 
 abbrev pub plain : Event → Event

@@ -1,7 +1,12 @@
 -- Ranks of paths: a path inside loops of given factors has a rank among all such paths in ascending order. (The
 -- numbers are this project's.)
-use Rattle.std.specs.Prelude.{ℕ, ◌+◌, ◌*◌, ◌<◌, List, [], ◌∷◌, map}
+use Rattle.std.specs.Prelude.{ℕ, ◌+◌, ◌*◌, ◌<◌, List, [], ◌∷◌}
 use Rattle.dh_meaning.specs.Paths.{Path}
+pub use Rattle.dh_meaning.specs.Paths.{copies_in}
+
+-- the greatest number of paths inside loops: the limit on copies of one place
+abbrev pub most_paths : ℕ
+most_paths = 256
 
 -- a path inside loops of these factors, from the outside
 abbrev pub IsPath : (factors : List ℕ) → Path → Type 0
@@ -9,11 +14,6 @@ IsPath [] [] = Unit {0}
 IsPath [] (copy ∷ path) = ⊥
 IsPath (factor ∷ factors) [] = ⊥
 IsPath (factor ∷ factors) (copy ∷ path) = (copy < factor) × IsPath factors path
-
--- how many paths there are
-abbrev pub copies_in : (factors : List ℕ) → ℕ
-copies_in [] = 1
-copies_in (factor ∷ factors) = factor * copies_in factors
 
 -- the rank of what follows a path of this rank
 abbrev pub rank_behind : (rank : ℕ) → (factors : List ℕ) → Path → ℕ

@@ -1,11 +1,13 @@
 //! The variables of a program: where each has its slots.
 
-ghost use Rattle.std.specs.Prelude.{◌≡◌, ◌+◌, List, ℕ, Some, None, length, option_map, replicate, IfOk, OnOk};
+ghost use Rattle.std.specs.Prelude.{◌≡◌, ◌≤◌, List, [], ℕ, None, length, option_map, replicate, IfOk, OnOk};
+ghost use Rattle.std.specs.List.{AllByRecursion};
 ghost use Rattle.dh_tree.specs.Seen.{action_seen, term_seen};
 ghost use Rattle.dh_meaning.specs.Bindings as bindings;
 ghost use Rattle.dh_meaning.specs.CoreOf.{entity_number};
-ghost use Rattle.dh_code.specs.Placed.{AreFound, AreLaid, ArePlaces, Declares, DeclaresOther, DeclaresParts, IsRound, KeepsFound, copies_held, held_of};
-ghost use Rattle.dh_code.specs.Declarations.{factors_inside};
+ghost use Rattle.dh_code.specs.Placed.{AreFew, AreFound, AreLaid, ArePlaces, Declares, DeclaresOther, DeclaresParts, IsRound, KeepsFound, copies_held, has_few, held_of, most_entities};
+ghost use Rattle.dh_code.specs.Declarations.{declarations, factors_inside};
+ghost use Rattle.dh_code.specs.Ranks.{copies_in, most_paths};
 ghost use Rattle.dh_code.specs.Slots.{held_at};
 
 use crate::operands::{entity_of, kind_found};
@@ -70,21 +72,17 @@ fn iterator_kind(declared: Option<Kind>) -> Kind
 }
 
 /// How many loops there are inside one more, and how many copies they have; one of a single copy
-/// adds none. More copies than can be counted are more than memory holds.
-fn inside(depth: u32, copies: u64, factor: u64) -> Result<(u32, u64), NoMemory>
-    ensures { IfOk result (λ r. (factors : List ℕ) → IsRound factors depth copies
-        → IsRound (factors_inside factors factor) r.0 r.1) }
+/// adds none. Each stays at its type's greatest number, to which no loops within the limit come.
+fn inside(depth: u32, copies: u64, factor: u64) -> (u32, u64)
+    ensures { (factors : List ℕ) → IsRound factors depth copies
+        → copies_in (factors_inside factors factor) ≤ most_paths
+        → IsRound (factors_inside factors factor) result.0 result.1 }
 {
     if factor <= 1 {
-        return Ok((depth, copies));
+        (depth, copies)
+    } else {
+        (depth.saturating_add(1), copies.saturating_mul(factor))
     }
-    let Some(deeper) = depth.checked_add(1) else {
-        return Err(NoMemory);
-    };
-    let Some(more) = copies.checked_mul(factor) else {
-        return Err(NoMemory);
-    };
-    Ok((deeper, more))
 }
 
 /// Lists the variables that a command declares, in text order, inside so many unrolled loops.
@@ -123,7 +121,7 @@ fn declare(
             combine,
             ..
         } => {
-            let (depth, copies) = inside(depth, copies, *factor)?;
+            let (depth, copies) = inside(depth, copies, *factor);
             list.push(Declared {
                 entity: iterator.entity,
                 kind: iterator_kind(*declared),
@@ -228,31 +226,17 @@ fn copies_of(variable: Option<Declared>) -> u64
     }
 }
 
-/// The number of slots with so many more; None where they can't be numbered.
-fn more(count: u32, copies: u64) -> Option<u32>
-    ensures { (n : ℕ) → result ≡ Some n → n ≡ count + copies }
-{
-    let sum = u64::from(count).checked_add(copies)?;
-    if sum <= u64::from(u32::MAX) {
-        Some(sum as u32)
-    } else {
-        None
-    }
-}
-
-/// The slots of these variables, one behind the other. More slots than can be numbered are more
-/// than memory holds.
+/// The slots of these variables, one behind the other.
 fn laid(alloc: Global, found: &[Option<Declared>]) -> Result<Places, NoMemory>
+    requires few { AllByRecursion has_few found.now }
+    requires entities { length found.now ≤ most_entities }
     ensures { IfOk result (λ places. AreLaid found.now places.held.items places.count) }
 {
     let mut places = Vec::new(alloc);
     let mut count = 0;
     for variable in found {
         places.push(slots_of(*variable, count))?;
-        let Some(next) = more(count, copies_of(*variable)) else {
-            return Err(NoMemory);
-        };
-        count = next;
+        count += copies_of(*variable) as u32;
     }
     Ok(Places {
         held: places,
@@ -260,8 +244,11 @@ fn laid(alloc: Global, found: &[Option<Declared>]) -> Result<Places, NoMemory>
     })
 }
 
-/// The slots of the variables of a program with so many entities.
+/// The slots of the variables of a program with so many entities, none of which has more copies
+/// than the limit on copies lets it have.
 pub fn place_all(alloc: Global, body: &Command, entities: usize) -> Result<Places, NoMemory>
+    requires few { AreFew (declarations [] (action_seen body.now)) }
+    requires entities { entities ≤ most_entities }
     ensures { IfOk result (λ places. ArePlaces body.now entities places.held.items places.count) }
 {
     let mut list = Vec::new(alloc);

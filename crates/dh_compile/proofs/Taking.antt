@@ -5,15 +5,15 @@ use Rattle.dh_compile.specs.Taken.{IsTaken}
 use Rattle.dh_tree.specs.Accesses as accesses
 use Rattle.dh_tree.specs.Forms.{unbuilt_forms}
 use Rattle.dh_tree.specs.PlainTrees.{Program}
-use Rattle.dh_tree.specs.Ports.{KeepsPorts}
+use Rattle.dh_meets.specs.Ports.{KeepsPortRules}
 use Rattle.dh_tree.specs.Ready.{most_tokens, IsReady}
 use Rattle.dh_tree.specs.Written.{IsWritten}
 
-pub taken : ((p : Program) (tokens : ℕ) → IsReady p → IsWritten tokens p → unbuilt_forms p ≡ [] → KeepsPorts p → accesses.KeepsPorts p)
+pub taken : ((p : Program) (tokens : ℕ) → IsReady p → IsWritten tokens p → unbuilt_forms p ≡ [] → KeepsPortRules p → accesses.KeepsPorts p)
     → (p : Program) → IsCompiled p → IsTaken p
 taken keep p h = record {
   ready = h.ready;
   written = h.compilable.written;
   built = h.compilable.built;
-  ports = keep p most_tokens h.ready h.compilable.written h.compilable.built h.keeps.ports;
+  ports = keep p most_tokens h.ready h.compilable.written h.compilable.built h.keeps;
 }

@@ -4,25 +4,21 @@ use Rattle.std.specs.Prelude.{◌≡◌, ℕ, List, length}
 use Rattle.dh_tree.specs.PlainTrees.{Program}
 use Rattle.dh_tree.specs.Phases.{phases}
 use Rattle.dh_tree.specs.Tables.{Fits}
-use Rattle.dh_tree.specs.Tree.{Tree}
-use Rattle.dh_tree.specs.Meaning.{meaning_of}
 use Rattle.dh_tree.specs.Memories.{table_of}
-use Rattle.dh_tree.specs.Steps.{standing, step_length}
+use Rattle.dh_meaning.specs.CoreOf.{core_of}
+use Rattle.dh_meaning.specs.Runs.{run_state}
+use Rattle.dh_bridge.specs.RunsAlike.{length_after}
 use Rattle.dh_net.specs.declared.nets.Net.{Net}
 use Rattle.dh_net.specs.Valid.{IsValid, HasReadsZero}
 use Rattle.dh_net.specs.Plays.{Run, EndsAfter, Plays}
 
--- the checked run of what a program means, from these memories
-abbrev pub run_of_tree : Tree → List (List ℕ) → Run
-run_of_tree t memories = record {
-  outcome = λ n. (standing t memories n).outcome;
-  memories = λ n. (standing t memories n).memories;
-  length = λ n. step_length (standing t memories n).threads;
-}
-
 -- the checked run of a program from these memories
 abbrev pub run_of : Program → List (List ℕ) → Run
-run_of p memories = run_of_tree (meaning_of p) memories
+run_of p memories = record {
+  outcome = λ n. (run_state (core_of p) memories n).outcome;
+  memories = λ n. (run_state (core_of p) memories n).memories;
+  length = λ n. length_after p memories n;
+}
 
 -- for all fitting memories and every number of clocks
 pub record PlaysProgram (net : Net) (p : Program) : Type 0 where

@@ -9,8 +9,17 @@ use Rattle.dh_compile.specs.Grouped.{tree_of}
 use Rattle.dh_net.specs.declared.nets.Net.{Net}
 use Rattle.dh_net.specs.Valid.{IsValid, HasReadsZero}
 use Rattle.dh_net.specs.Plays.{Run, EndsAfter, Plays}
-use Rattle.dh_compile.specs.Compiled.{run_of_tree}
+use Rattle.dh_tree.specs.Steps.{standing, step_length}
+use Rattle.dh_tree.specs.Tree.{Tree}
 use Rattle.dh_compile.specs.Timetable.{use_in, group_length, rows_after}
+
+-- the run of what groups mean, by the meaning without copies, from these memories
+abbrev pub run_of_tree : Tree → List (List ℕ) → Run
+run_of_tree t memories = record {
+  outcome = λ n. (standing t memories n).outcome;
+  memories = λ n. (standing t memories n).memories;
+  length = λ n. step_length (standing t memories n).threads;
+}
 
 -- the checked run of a grouped program from these memories
 abbrev pub group_run : Program → List (List ℕ) → Run

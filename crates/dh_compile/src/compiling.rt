@@ -9,9 +9,9 @@ ghost use Rattle.dh_compile.specs.Compiled.{PlaysProgram, EndsSoon};
 use crate::building::build;
 use crate::gathering::groups_of;
 use dh_base::NoMemory;
+use dh_bridge::{compiled_programs_keep_ports, first_forms_run_alike};
 use dh_check::Accepted;
 use dh_net::Net;
-use dh_ports::first_forms_keep_ports;
 use std::alloc::Global;
 
 /// Compiles an accepted program of the forms that are compiled. The net is valid, its table is the program's, and from all fitting
@@ -25,7 +25,8 @@ pub fn compile(alloc: Global, accepted: &Accepted) -> Result<Net, NoMemory>
     requires compilable { IsCompilable (program_seen accepted.now) }
     ensures { IfOk result (λ net. PlaysProgram net (program_seen accepted.now)) }
 {
-    first_forms_keep_ports();
+    first_forms_run_alike();
+    compiled_programs_keep_ports();
     let program = groups_of(alloc, accepted.typed())?;
     build(alloc, &program)
 }
@@ -34,5 +35,6 @@ pub fn compile(alloc: Global, accepted: &Accepted) -> Result<Net, NoMemory>
 pub fn accepted_programs_end()
     ensures { (p : Program) → IsCompiled p → EndsSoon p }
 {
-    first_forms_keep_ports();
+    first_forms_run_alike();
+    compiled_programs_keep_ports();
 }

@@ -1,9 +1,7 @@
 -- Structures are only added, and what is noted stays right behind them.
-use Rattle.std.proofs.Common.{◌≡◌, ℕ, zero, suc, ◌+◌, Bool, true, false, List, [], ◌∷◌, ◌++◌, length, refl, ap, sym, ◌∙◌, subst, arith}
-use Rattle.std.specs.Prelude.{Option, Some, None, slice_get}
-use Rattle.dh_value.specs.declared.kinds.Kind.{Kind}
+use Rattle.std.proofs.Common.{◌≡◌, ℕ, suc, ◌+◌, true, false, List, [], ◌∷◌, ◌++◌, length, ap, ◌∙◌, arith}
+use Rattle.std.specs.Prelude.{Option, Some, None}
 use Rattle.dh_tree.specs.PlainTrees.{Term, term, TermForm, number, truth_value, named, accessed, in_bank, applied, converted, Terms, no_terms, term_then}
-use Rattle.dh_tree.specs.Seen.{term_seen}
 use Rattle.dh_meets.specs.SourceEvents.{Element, with_indices, in_row}
 use Rattle.dh_events.specs.declared.structures.Structure.{Structure}
 use Rattle.dh_events.specs.declared.structures.Sort.{Sort}

@@ -1,5 +1,5 @@
 -- What is known of indices and one more.
-use Rattle.std.proofs.Common.{◌≡◌, ℕ, List, max, refl, ap, sym, ◌∙◌, subst, arith, ◌⊎◌, inl, inr}
+use Rattle.std.proofs.Common.{◌≡◌, ℕ, List, max, refl, ap, sym, ◌∙◌, subst, arith, inl, inr}
 use Rattle.std.specs.Prelude.{Option, Some, None, option_map}
 use Rattle.dh_tree.specs.PlainTrees.{Term, Terms, no_terms, term_then}
 use Rattle.dh_events.specs.declared.structures.Structure.{Structure}

@@ -1,13 +1,13 @@
 -- What is known of what is made of parts, by what is known of the parts.
-use Rattle.std.proofs.Common.{◌≡◌, ℕ, Bool, max, refl, ap, sym, ◌∙◌, subst, ◌⊎◌, inl, inr, List}
+use Rattle.std.proofs.Common.{◌≡◌, ℕ, Bool, max, refl, ap, sym, ◌∙◌, subst, inl, inr, List}
 use Rattle.std.specs.Prelude.{Option, Some, None, option_map}
 use Rattle.dh_base.specs.declared.places.Place.{Place}
 use Rattle.dh_value.specs.declared.kinds.Kind.{Kind}
 use Rattle.dh_value.specs.declared.operators.Op.{Op}
 use Rattle.dh_tree.specs.declared.trees.expressions.Ref.{Ref}
-use Rattle.dh_tree.specs.PlainTrees.{Term, term, TermForm, number, truth_value, named, accessed, in_bank, applied, converted, Terms, no_terms, term_then}
+use Rattle.dh_tree.specs.PlainTrees.{Term, term, TermForm, number, truth_value, named, accessed, in_bank, applied, converted, no_terms}
 use Rattle.dh_meets.specs.Sharing.{number_of_op}
-use Rattle.dh_meets.specs.SourceEvents.{Element, with_indices, in_row}
+use Rattle.dh_meets.specs.SourceEvents.{in_row}
 use Rattle.dh_events.specs.declared.structures.Structure.{Structure}
 use Rattle.dh_events.specs.declared.structures.Sort.{Sort}
 use Rattle.dh_events.specs.declared.structures.Sort.TheVariants as sort
@@ -15,8 +15,8 @@ use Rattle.dh_events.specs.declared.structures.Form.{Form}
 use Rattle.dh_events.specs.declared.structures.Form.TheVariants as form
 use Rattle.dh_events.specs.declared.known.Known.{Known}
 use Rattle.dh_events.specs.Accesses.{entity_in, element_in}
-use Rattle.dh_events.specs.Structures.{sort_of, sort_found, Stands, Describes, DescribesFrom, DescribesAll, DescribesElement, Extends, IsNameless, AnyNameless, entity_newest, newest_in, newest_behind, element_newest}
-use Rattle.dh_events.specs.Elements.{IsNumberOf, IsKnown, AreKnown, IsElement, ElementNameless, IsAccess, IsMade, MakesFrom, MakesNumber, MakesTruth, MakesVariable, MakesRead, MakesOperation, MakesCast, MakesNoIndex, MakesRow, both_known}
+use Rattle.dh_events.specs.Structures.{sort_of, sort_found, Stands, Describes, DescribesAll, DescribesElement, IsNameless, AnyNameless, entity_newest, newest_in, element_newest}
+use Rattle.dh_events.specs.Elements.{IsNumberOf, ElementNameless, IsAccess, IsMade, MakesFrom, MakesNumber, MakesTruth, MakesVariable, MakesRead, MakesOperation, MakesCast, MakesNoIndex, MakesRow, both_known}
 use Rattle.dh_events.proofs.ElementFacts.{describes_still, from_still}
 
 absurd : {A : Type 0} → ⊥ → A

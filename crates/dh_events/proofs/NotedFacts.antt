@@ -1,5 +1,5 @@
 -- Notes of what happens, one behind the other.
-use Rattle.std.proofs.Common.{◌≡◌, ℕ, Bool, true, false, List, [], ◌∷◌, ◌++◌, refl, ap, sym, ◌∙◌}
+use Rattle.std.proofs.Common.{◌≡◌, ℕ, Bool, List, [], ◌∷◌, ◌++◌, refl, ap, sym, ◌∙◌}
 use Rattle.std.specs.Prelude.{Option, Some, None, option_map}
 use Rattle.std.specs.Option.{is_some}
 use Rattle.std.specs.Global.{Box}
@@ -11,7 +11,7 @@ use Rattle.dh_tree.specs.declared.trees.expressions.Ref.{Ref}
 use Rattle.dh_tree.specs.PlainTrees.{Placed, Unrolled, Term, Action, ActionForm, blocks, decides, repeats, counts, MaybeAction, Groups}
 use Rattle.dh_tree.proofs.Collecting.{found_both}
 use Rattle.dh_events.specs.declared.noting.Open.{Open}
-use Rattle.dh_events.specs.Incidents.{Incident, assigned, arm_begins, arm_ends, begins, next, ends, site_at, is_stepped, closed, released, phase_of, tested, inside_choice, round_inside, behind_loop, when_parted, has_other, arms_part, are_parts, open_after, form_open, groups_open, open_combine, incidents, command_incidents, other_incidents, combine_incidents, groups_incidents, term_incidents}
+use Rattle.dh_events.specs.Incidents.{Incident, assigned, arm_begins, arm_ends, begins, next, ends, site_at, is_stepped, closed, released, phase_of, tested, inside_choice, round_inside, when_parted, has_other, arms_part, are_parts, open_after, form_open, groups_open, open_combine, incidents, command_incidents, other_incidents, combine_incidents, groups_incidents, term_incidents}
 
 -- an `if` has another arm where the code sees one
 pub some_other : (o : Option (Box Command)) → is_some o ≡ has_other (maybe_seen (option_map (λ b. action_seen b.value) o))

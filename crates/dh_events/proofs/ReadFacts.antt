@@ -1,9 +1,9 @@
 -- Notes stay right while reads are noted and structures are numbered.
-use Rattle.std.proofs.Common.{◌≡◌, ℕ, zero, suc, ◌+◌, ◌<◌, ◌≤◌, Bool, true, false, List, [], ◌∷◌, ◌++◌, length, map, take, get_or, add-one, append_assoc, refl, ap, sym, ◌∙◌, subst, arith}
+use Rattle.std.proofs.Common.{◌≡◌, ℕ, zero, suc, ◌+◌, ◌<◌, ◌≤◌, List, [], ◌∷◌, ◌++◌, length, map, take, get_or, add-one, append_assoc, refl, ap, sym, ◌∙◌, subst, arith}
 use Rattle.std.specs.Prelude.{Option, Some, None, Result, Ok, Err, IfOk, OnOk, Vec}
 use Rattle.std.specs.Global.{Global}
-use Rattle.dh_tree.specs.PlainTrees.{Term, term, TermForm, number, truth_value, named, accessed, in_bank, applied, converted, Terms, no_terms, term_then}
-use Rattle.dh_meets.specs.SourceEvents.{Element, with_indices, in_row}
+use Rattle.dh_tree.specs.PlainTrees.{Term, TermForm, Terms, no_terms, term_then}
+use Rattle.dh_meets.specs.SourceEvents.{Element, with_indices}
 use Rattle.dh_events.specs.declared.structures.Structure.{Structure}
 use Rattle.dh_events.specs.declared.events.Event.{Event}
 use Rattle.dh_events.specs.declared.events.Event.TheVariants as event
@@ -15,7 +15,7 @@ use Rattle.dh_tree.specs.Seen.{term_seen, terms}
 use Rattle.dh_events.specs.declared.events.Site.{Site}
 use Rattle.dh_events.specs.Incidents.{Incident, term_incidents, terms_incidents}
 use Rattle.dh_events.specs.Structures.{Describes, DescribesAll, DescribesElement, IsNameless, AnyNameless, Extends}
-use Rattle.dh_events.specs.Elements.{assigned_at, clocks_after, clocks_from, IsNumberOf, ElementNameless, IsKnown, AreKnown, AreKnownSoFar, terms_behind, IsElement, IsRead, AreReads, no_clocks, IsNoted, StaysNoted, StaysRead, IsStep, IsTouch}
+use Rattle.dh_events.specs.Elements.{assigned_at, clocks_after, clocks_from, IsNumberOf, ElementNameless, IsKnown, AreKnown, AreKnownSoFar, terms_behind, IsElement, IsRead, AreReads, no_clocks, StaysNoted, StaysRead, IsStep, IsTouch}
 use Rattle.dh_events.specs.Tables.{numbered}
 use Rattle.dh_events.proofs.ElementFacts.{extends_same, extends_both, describes_still, from_still, is_element_still, reads_still, clocks_more, reads_more}
 

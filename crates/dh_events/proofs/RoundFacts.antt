@@ -1,9 +1,9 @@
 -- Lists of loops by number, as they are added and set.
-use Rattle.std.proofs.Common.{◌≡◌, ℕ, zero, suc, ◌+◌, ◌<◌, ◌==◌, Bool, true, false, if◌then◌else◌, List, [], ◌∷◌, ◌++◌, length, refl, ap, sym, ◌∙◌, arith}
+use Rattle.std.proofs.Common.{◌≡◌, ℕ, zero, suc, ◌<◌, ◌==◌, Bool, if◌then◌else◌, List, [], ◌∷◌, ◌++◌, length, refl, ap, sym, ◌∙◌, arith}
 use Rattle.std.proofs.lemmas.Bool.{ne_eqb}
 use Rattle.std.proofs.lemmas.Bool.Decides.{nat_tests}
 use mathlib.Core.Path.{fun_ext}
-use Rattle.std.specs.Prelude.{Some, None, slice_get, slice_set, Vec}
+use Rattle.std.specs.Prelude.{slice_get, slice_set, Vec}
 use Rattle.std.specs.Global.{Global}
 use Rattle.dh_tree.specs.declared.trees.counters.Counter.{Counter}
 use Rattle.dh_events.specs.Accesses.{loops_found}

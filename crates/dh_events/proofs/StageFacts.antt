@@ -1,7 +1,7 @@
 -- How many phases parts have together.
-use Rattle.std.proofs.Common.{◌≡◌, ℕ, ◌+◌, ◌≤◌, List, [], ◌∷◌, min, max, map, drop, refl, ap, sym, ◌∙◌, arith}
+use Rattle.std.proofs.Common.{◌≡◌, ℕ, ◌+◌, List, ◌∷◌, min, max, map, refl, ap, sym, ◌∙◌, arith}
 use Rattle.dh_tree.specs.declared.trees.commands.Command.{Command}
-use Rattle.dh_tree.specs.PlainTrees.{Actions, action_then, Groups, no_groups, group_then}
+use Rattle.dh_tree.specs.PlainTrees.{Groups, no_groups, group_then}
 use Rattle.dh_tree.specs.Seen.{action_seen, actions}
 use Rattle.dh_events.specs.Stages.{stage_of, groups_stage, part_stage, stages_in, part_stages}
 

@@ -1,15 +1,14 @@
 -- Two expressions have one number exactly where they are alike, where no structure has two numbers.
-use Rattle.std.proofs.Common.{◌≡◌, ℕ, ◌==◌, ◌&&◌, not, Bool, true, false, List, refl, ap, sym, ◌∙◌, subst}
-use Rattle.std.specs.Prelude.{Option, Some, None, slice_get}
+use Rattle.std.proofs.Common.{◌≡◌, ℕ, true, List, refl, ap, sym, ◌∙◌}
+use Rattle.std.specs.Prelude.{Some}
 use Rattle.std.proofs.lemmas.Bool.{eqb-true, eq-eqb}
 use Rattle.dh_value.specs.declared.kinds.Kind.{Kind}
 use Rattle.dh_value.specs.declared.kinds.Kind.TheVariants as kind
-use Rattle.dh_tree.specs.Memories.{same_entity}
-use Rattle.dh_meets.specs.Sharing.{same_kind, same_maybe_kind}
+use Rattle.dh_meets.specs.Sharing.{same_kind}
 use Rattle.dh_events.specs.declared.structures.Structure.{Structure}
 use Rattle.dh_events.specs.declared.structures.Sort.{Sort}
 use Rattle.dh_events.specs.declared.structures.Form.{Form}
-use Rattle.dh_events.specs.Structures.{sort_of, sort_found, structure, Stands, AreDistinct}
+use Rattle.dh_events.specs.Structures.{sort_of, structure, Stands, AreDistinct}
 
 -- of one number one sort and one form are told
 pub one_sort : (known : List Structure) (n : ℕ) (s t : Sort) (f g : Form) → Stands known n s f → Stands known n t g → s ≡ t

@@ -3,7 +3,6 @@
 
 use crate::texts::{LONGEST, repeated, stores, tree_of, typed_of};
 use dh_check::{Forms, check, check_without_ports};
-use dh_ports::check_ports;
 use dh_shape::within;
 use dh_tree::{CommandForm, Tree};
 use dh_views::shapes;
@@ -43,16 +42,30 @@ fn names_and_kinds_of_a_long_text(rt: HostRuntime) -> Result<(), Fail> {
     Ok(())
 }
 
+/// `check` calls `check_ports`, so that this one answers too.
 #[test]
 fn accepts_a_long_text(rt: HostRuntime) -> Result<(), Fail> {
     let alloc = rt.alloc();
     let text = stores(alloc, 4_000)?;
-    let bytes = text.as_bytes();
-    assert!(rt; bytes.len() <= LONGEST);
-    assert!(rt; check(alloc, bytes, Forms::Checked).is_ok());
-    let accepted = check(alloc, bytes, Forms::Compiled)?;
-    assert_eq!(rt; accepted.typed().memories().len(), 1);
-    let typed = check_without_ports(alloc, bytes, Forms::Unchecked)?;
-    assert!(rt; check_ports(alloc, typed).is_ok());
+    assert!(rt; text.len() <= LONGEST);
+    assert!(rt; check(alloc, text.as_bytes(), Forms::Checked).is_ok());
+    Ok(())
+}
+
+#[test]
+fn accepts_a_long_text_to_compile(rt: HostRuntime) -> Result<(), Fail> {
+    let alloc = rt.alloc();
+    let text = stores(alloc, 4_000)?;
+    assert!(rt; text.len() <= LONGEST);
+    assert!(rt; check(alloc, text.as_bytes(), Forms::Compiled).is_ok());
+    Ok(())
+}
+
+#[test]
+fn accepts_a_long_text_without_ports(rt: HostRuntime) -> Result<(), Fail> {
+    let alloc = rt.alloc();
+    let text = stores(alloc, 4_000)?;
+    assert!(rt; text.len() <= LONGEST);
+    assert!(rt; check_without_ports(alloc, text.as_bytes(), Forms::Unchecked).is_ok());
     Ok(())
 }

@@ -1,6 +1,6 @@
 -- Paths: which copy of each of the unrolled loops round a command, from the outside. (Lockstep copies are of
 -- Nigam and others, PLDI 2020; paths are this profile's.)
-use Rattle.std.specs.Prelude.{ℕ, zero, suc, nat_eq, Bool, List, [], ◌∷◌, ◌++◌}
+use Rattle.std.specs.Prelude.{ℕ, ◌*◌, zero, suc, nat_eq, Bool, List, [], ◌∷◌, ◌++◌}
 use Rattle.std.specs.Cmp.Lexicographic.{pointwise}
 
 abbrev pub Path : Type 0
@@ -30,3 +30,8 @@ paths_from paths (factor ∷ factors) = paths_from (all_copies paths factor) fac
 
 abbrev pub paths_in : (factors : List ℕ) → List Path
 paths_in factors = paths_from outer_paths factors
+
+-- the copies in loops of these factors
+abbrev pub copies_in : (factors : List ℕ) → ℕ
+copies_in [] = 1
+copies_in (factor ∷ factors) = factor * copies_in factors

@@ -1,4 +1,4 @@
-//! What programs mean whose loops may be copied: the core of a program, what its steps do at a list of copies in
-//! lockstep, its runs, and the lengths of its steps in clocks. It has definitions alone, which `dh_meets` and
-//! `dh_sound` speak of; the interpreter and the compiler still stand on the meaning without copies of `dh_tree`.
+//! What programs mean: the core of a program, what its steps do at a list of copies in lockstep, its runs, and the
+//! lengths of its steps in clocks. It has definitions alone, on which the interpreter, the rules on ports and the
+//! laws of `dh_sound` stand; the compiler of stores comes to them by `dh_bridge`.
 #![tactic(auto)]

@@ -3,3 +3,4 @@ pub mod MayMeet
 pub mod Sharing
 pub mod Charges
 pub mod Ports
+pub mod FewCopies

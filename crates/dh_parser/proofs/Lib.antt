@@ -23,6 +23,7 @@ pub mod AlikePrograms
 pub mod PlacedTokens
 pub mod TextWidths
 pub mod TextTargets
+pub mod TextBounds
 pub mod TextNames
 pub mod TextLocals
 pub mod TextNumbers

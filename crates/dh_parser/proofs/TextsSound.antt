@@ -14,6 +14,7 @@ use Rattle.dh_parser.proofs.Fronts.{front_of, items_front}
 use Rattle.dh_parser.proofs.TextLocals.{parts_named}
 use Rattle.dh_parser.proofs.TextNames.{AreSound, ended_sound, behind, decls_declared, parts_names, items_names}
 use Rattle.dh_parser.proofs.TextNumbers.{parts_numbered}
+use Rattle.dh_parser.proofs.TextBounds.{parts_bounded}
 use Rattle.dh_parser.proofs.TextTargets.{parts_targets}
 use Rattle.dh_parser.proofs.TextWidths.{program_sized}
 
@@ -32,6 +33,7 @@ of_text t tokens fits same ended =
       names = omega (arith, begin, body, all);
       widths = program_sized t fits;
       targets = parts_targets (suc (count_items t.items)) t.parts;
+      numbers = parts_bounded (suc (count_items t.items)) t.parts (put kind.End t.end []) (behind (front_of spell_items items_front t.items) _ sound);
     }
 
 pub texts_are_sound : (p : Program) (tokens : List Token) → Spells p tokens → AreEnded tokens → IsOfText (length tokens) p

@@ -2,13 +2,12 @@
 use Rattle.std.proofs.Common.{◌≡◌, ℕ, suc, ◌+◌, ◌-◌, ◌<◌, ◌≤◌, ◌==◌, Bool, true, false, if◌then◌else◌, List, [], ◌∷◌, ◌++◌, min, max, refl, ap, sym, ◌∙◌, subst, arith, ◌⊎◌, inl, inr}
 use Rattle.std.proofs.lemmas.Bool.{eqb-true, eq-eqb, cases_Bool, cases_lt, or_cases}
 use Rattle.std.proofs.Math.Nat.{le_refl}
-use Rattle.std.specs.Prelude.{Option}
-use Rattle.dh_base.specs.declared.places.Place.{Place}
-use Rattle.dh_tree.specs.Happenings.{Target}
+use Rattle.dh_tree.specs.PlainTrees.{Term}
+use Rattle.dh_events.specs.declared.events.Site.{Site}
 use Rattle.dh_tree.specs.Meets.{Meets, nothing, access, all, one, In, has, load, upto}
 use Rattle.dh_tree.proofs.LargestSums.{in_has, upto_first, upto_second, upto_one_first, upto_one_second}
 use Rattle.dh_ports.specs.Levels.{Level, level, begun, kept_back, settled}
-use Rattle.dh_ports.specs.Incidents.{Incident, touches, assigned, arm_begins, arm_ends, begins, next, ends}
+use Rattle.dh_events.specs.Incidents.{Incident, touches, assigned, arm_begins, arm_ends, begins, next, ends}
 use Rattle.dh_ports.specs.Courses.{count, less, course, before_at, Ties, PartsTie}
 
 absurd : {A : Type 0} → ⊥ → A
@@ -35,7 +34,7 @@ count_append [] ys = from_none (count ys)
   where
     from_none : (n : ℕ) → n ≡ 0 + n
     from_none n = omega arith
-count_append (touches p e t w f ∷ xs) ys = ap suc (count_append xs ys) ∙ more (count xs) (count ys)
+count_append (touches a w s ∷ xs) ys = ap suc (count_append xs ys) ∙ more (count xs) (count ys)
   where
     more : (m n : ℕ) → suc (m + n) ≡ suc m + n
     more m n = omega arith
@@ -48,7 +47,7 @@ count_append (ends ∷ xs) ys = count_append xs ys
 
 pub course_append : (c : ℕ → ℕ) (n : ℕ) (l : Level) (xs ys : List Incident) → course c n l (xs ++ ys) ≡ course c (n + count xs) (course c n l xs) ys
 course_append c n l [] ys = ap (λ m. course c m l ys) (no_more n)
-course_append c n l (touches p e t w f ∷ xs) ys = course_append c (suc n) (less (c n) l) xs ys ∙ ap (λ m. course c m (course c (suc n) (less (c n) l) xs) ys) (shift n (count xs))
+course_append c n l (touches a w s ∷ xs) ys = course_append c (suc n) (less (c n) l) xs ys ∙ ap (λ m. course c m (course c (suc n) (less (c n) l) xs) ys) (shift n (count xs))
 course_append c n l (assigned e ∷ xs) ys = course_append c n l xs ys
 course_append c n l (arm_begins ∷ xs) ys = course_append c n l xs ys
 course_append c n l (arm_ends ∷ xs) ys = course_append c n l xs ys
@@ -67,7 +66,7 @@ before_first c n l [] ys k least most = absurd (none n k least most)
   where
     none : (n k : ℕ) → n ≤ k → k < n + 0 → ⊥
     none n k a b = omega (arith, a, b)
-before_first c n l (touches p e t w f ∷ xs) ys k least most = by_test (cases_Bool (n == k)) (λ a b. before_first c (suc n) (less (c n) l) xs ys k a b)
+before_first c n l (touches a w s ∷ xs) ys k least most = by_test (cases_Bool (n == k)) (λ a b. before_first c (suc n) (less (c n) l) xs ys k a b)
   where
     more : (n k m : ℕ) → n ≤ k → (n ≡ k → ⊥) → k < n + suc m → (suc n ≤ k) × (k < suc n + m)
     more n k m a none b = elim (cases_lt n k) [ inl d ↦ (omega (arith, d), omega (arith, b)) | inr d ↦ absurd (none (omega (arith, a, d))) ]
@@ -88,7 +87,7 @@ before_first c n l (ends ∷ xs) ys k a b = before_first c n (settled (kept_back
 
 pub before_second : (c : ℕ → ℕ) (n : ℕ) (l : Level) (xs ys : List Incident) (k : ℕ) → n + count xs ≤ k → before_at c n l (xs ++ ys) k ≡ before_at c (n + count xs) (course c n l xs) ys k
 before_second c n l [] ys k least = ap (λ m. before_at c m l ys k) (no_more n)
-before_second c n l (touches p e t w f ∷ xs) ys k least =
+before_second c n l (touches a w s ∷ xs) ys k least =
     ap (λ b. if b then l.now else before_at c (suc n) (less (c n) l) (xs ++ ys) k) (unequal n k (λ s. far n k (count xs) least s))
     ∙ (before_second c (suc n) (less (c n) l) xs ys k (subst (λ (m : ℕ). m ≤ k) (sym (shift n (count xs))) least)
     ∙ ap (λ m. before_at c m (course c (suc n) (less (c n) l) xs) ys k) (shift n (count xs)))
@@ -253,8 +252,8 @@ module _ (c : ℕ → ℕ) (n : ℕ) where
       both x a b = grind arith
 
   -- one access
-  pub ties_access : (place : Place) (entity : Option ℕ) (target : Target) (writes : Bool) (phase : ℕ) → Ties c n (touches place entity target writes phase ∷ []) (access n)
-  ties_access place entity target writes phase = record {
+  pub ties_access : (t : Term) (writes : Bool) (site : Site) → Ties c n (touches t writes site ∷ []) (access n)
+  ties_access t writes site = record {
     first = λ k i. least k i;
     last = λ k i. most k i;
     after = λ l. refl;
@@ -278,3 +277,15 @@ module _ (c : ℕ → ℕ) (n : ℕ) where
     where
       longer : (n m p k : ℕ) → k < n + m → k < n + (m + p)
       longer n m p k e = omega (arith, e)
+
+  -- of a part beside nothing none begins and none ends
+  pub ties_single : (xs : List Incident) (t : Meets) → Ties c n xs t → Ties c n xs (one t nothing)
+  ties_single xs t f = record {
+    first = λ k i. elim i [ inl j ↦ f.first k j | inr j ↦ absurd j ];
+    last = λ k i. elim i [ inl j ↦ f.last k j | inr j ↦ absurd j ];
+    after = λ l. f.after l ∙ ap (λ v. less v l) (alone (load c t));
+    during = λ l k i. elim i [ inl j ↦ f.during l k j ∙ sym (ap (λ v. l.now - (v - c k)) (upto_one_first c k t nothing j)) | inr j ↦ absurd j ];
+  }
+    where
+      alone : (x : ℕ) → x ≡ max x 0
+      alone x = grind arith

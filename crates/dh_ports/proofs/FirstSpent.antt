@@ -1,15 +1,16 @@
 -- From loads to sets: where ports are spent, and where none are.
-use Rattle.std.proofs.Common.{◌≡◌, ℕ, ◌+◌, ◌-◌, ◌<◌, ◌≤◌, [], max, refl, sym, subst, arith, ◌⊎◌, inl, inr}
+use Rattle.std.proofs.Common.{◌≡◌, ℕ, ◌+◌, ◌-◌, ◌<◌, ◌≤◌, max, refl, sym, subst, arith, ◌⊎◌, inl, inr}
 use Rattle.std.specs.Prelude.{Some}
 use Rattle.std.proofs.lemmas.Bool.{cases_lt}
 use Rattle.dh_base.specs.declared.places.Place.{Place}
 use Rattle.dh_tree.specs.PlainTrees.{Program}
-use Rattle.dh_tree.specs.Happenings.{count_in}
 use Rattle.dh_tree.specs.Meets.{Meets, nothing, access, all, one, In, Distinct, Before, total, load, upto}
-use Rattle.dh_tree.specs.Ports.{charge, ports_of, trace, meets_in, place_in, KeepsPorts, PortsSpent}
+use Rattle.dh_meets.specs.Charges.{charge}
+use Rattle.dh_meets.specs.MayMeet.{meets_in}
+use Rattle.dh_meets.specs.Ports.{ports_of, place_in, KeepsPorts, PortsSpent}
 use Rattle.dh_tree.proofs.LargestSums.{before_left, upto_first, upto_second, upto_one_first, upto_one_second, load_is_largest, upto_is_largest}
 use Rattle.dh_ports.specs.Spent.{Spends}
-use Rattle.dh_ports.proofs.MeetsNumbered.{Numbered, numbered}
+use Rattle.dh_ports.proofs.Wholes.{whole}
 
 absurd : {A : Type 0} → ⊥ → A
 absurd e = elim e [ ]
@@ -111,9 +112,6 @@ upto_exceeds c p (one l r) k d (inr i) e =
     }
 
 module _ (p : Program) where
-  whole : Numbered 0 (count_in (trace p)) (meets_in p)
-  whole = numbered [] 0 p.body
-
   above : (a b n : ℕ) → a < n → n ≤ b → a < b
   above a b n e f = omega (arith, e, f)
 
@@ -121,7 +119,7 @@ module _ (p : Program) where
   pub none_spends : ((k : ℕ) → In k (meets_in p) → Spends p k → ⊥) → KeepsPorts p
   none_spends none chosen together memory bank =
       elim (cases_lt (ports_of p memory) (total (charge p memory bank) chosen (meets_in p))) [
-        | inl over ↦ let x = load_exceeds (charge p memory bank) (ports_of p memory) (meets_in p) whole.distinct (above _ _ _ over ((load_is_largest (charge p memory bank) (meets_in p) whole.distinct).most chosen together)) in
+        | inl over ↦ let x = load_exceeds (charge p memory bank) (ports_of p memory) (meets_in p) (whole p).distinct (above _ _ _ over ((load_is_largest (charge p memory bank) (meets_in p) (whole p).distinct).most chosen together)) in
             absurd (none x.number x.inside (record { memory = memory; bank = bank; charged = x.charged; beyond = x.beyond }))
         | inr fits ↦ fits
       ]
@@ -129,15 +127,15 @@ module _ (p : Program) where
   -- and where one is, the first of them is where ports are spent
   pub first_spends : (k : ℕ) (place : Place) → place_in p k ≡ Some place → In k (meets_in p) → Spends p k → ((x : ℕ) → x < k → Spends p x → ⊥) → PortsSpent p place
   first_spends k place stands inside s earlier =
-      let reached = (upto_is_largest (charge p s.memory s.bank) (meets_in p) k whole.distinct inside).attained in
+      let reached = (upto_is_largest (charge p s.memory s.bank) (meets_in p) k (whole p).distinct inside).attained in
       record {
         number = k;
         stands = stands;
         spent = record { memory = s.memory; bank = s.bank; chosen = reached.0; completes = reached.1.0; beyond = subst (λ (n : ℕ). ports_of p s.memory < n) (sym reached.1.1) s.beyond };
         first = λ x before o.
-            let at = upto_exceeds (charge p o.memory o.bank) (ports_of p o.memory) (meets_in p) x whole.distinct (before_left (meets_in p) x k before)
-            (above _ _ _ o.beyond ((upto_is_largest (charge p o.memory o.bank) (meets_in p) x whole.distinct (before_left (meets_in p) x k before)).most o.chosen o.completes)) in
-            earlier at.at.number (sooner x k at.at.number (whole.before x k before) (elim at.by [ inl e ↦ inl e | inr b ↦ inr (whole.before at.at.number x b) ])) (record { memory = o.memory; bank = o.bank; charged = at.at.charged; beyond = at.at.beyond });
+            let at = upto_exceeds (charge p o.memory o.bank) (ports_of p o.memory) (meets_in p) x (whole p).distinct (before_left (meets_in p) x k before)
+            (above _ _ _ o.beyond ((upto_is_largest (charge p o.memory o.bank) (meets_in p) x (whole p).distinct (before_left (meets_in p) x k before)).most o.chosen o.completes)) in
+            earlier at.at.number (sooner x k at.at.number ((whole p).before x k before) (elim at.by [ inl e ↦ inl e | inr b ↦ inr ((whole p).before at.at.number x b) ])) (record { memory = o.memory; bank = o.bank; charged = at.at.charged; beyond = at.at.beyond });
       }
     where
       sooner : (x k y : ℕ) → x < k → (y ≡ x) ⊎ (y < x) → y < k

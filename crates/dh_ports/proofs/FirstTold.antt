@@ -1,274 +1,221 @@
--- The first breach of the rules on ports, from the accesses that are flagged.
-use Rattle.std.proofs.Common.{◌≡◌, ℕ, zero, suc, ◌<◌, ◌≤◌, Bool, true, false, List, [], ◌∷◌, map, Contains, refl, ap, sym, ◌∙◌, subst, arith, inl, inr}
-use Rattle.std.specs.Prelude.{Option, Some, None, option_map, slice_get}
-use Rattle.std.proofs.lemmas.Option.{slice_get_within, slice_get-map, slice_get-get_or, get_or_from_slice_get}
+-- The first breach of the rules on ports, from where ports are spent and which reads are late.
+use Rattle.std.proofs.Common.{◌≡◌, ℕ, zero, suc, ◌+◌, ◌<◌, ◌≤◌, Bool, true, false, if◌then◌else◌, List, [], ◌∷◌, ◌++◌, length, map, Contains, refl, ap, sym, ◌∙◌, subst, arith, inl, inr}
+use mathlib.Core.Path.{fun_ext}
+use Rattle.std.specs.Prelude.{Option, Some, None, option_map, slice_get, slice_index, Vec}
+use Rattle.std.specs.Global.{Global}
+use Rattle.std.proofs.lemmas.List.Elements.{Contains-append_cases}
 use Rattle.dh_base.specs.declared.places.Place.{Place}
 use Rattle.dh_base.specs.declared.rules.Rule.TheVariants as rule
 use Rattle.dh_tree.specs.declared.breaches.Breach.{Breach}
-use Rattle.dh_tree.specs.Happenings.{Access, accesses_in}
-use Rattle.dh_tree.specs.LeastBreach.{breach, least_of}
-use Rattle.dh_tree.specs.Meets.{In}
-use Rattle.dh_tree.specs.PlainTrees.{Program}
-use Rattle.dh_tree.specs.Ports.{trace, meets_in, place_in, KeepsPorts, PortsSpent, ReadsAfterWrite, IsPortBreach}
+use Rattle.dh_tree.specs.declared.trees.counters.Counter.{Counter}
+use Rattle.dh_tree.specs.LeastBreach.{breach, least_of, Precedes, IsLeast}
+use Rattle.dh_tree.specs.Memories.{table_of}
+use Rattle.dh_tree.specs.PlainTrees.{Term, Program}
 use Rattle.dh_tree.proofs.FirstBreaches.{none_is_kept, least_is_kept}
-use Rattle.dh_ports.specs.Flags.{IsLate, TellsSpent, TellsLate, TellsFirst}
-use Rattle.dh_ports.specs.Incidents.{Incident, touches, assigned, arm_begins, arm_ends, begins, next, ends, incidents}
-use Rattle.dh_ports.specs.Scanned.{flagged, first_spent, late_at}
-use Rattle.dh_ports.specs.Spending.{at_touches}
-use Rattle.dh_ports.specs.Touched.{Touched, touched, of_access}
-use Rattle.dh_ports.specs.WritesFound.{FindsWrite}
-use Rattle.dh_ports.proofs.FirstSpent.{none_spends, first_spends}
-use Rattle.dh_ports.proofs.PlacesOnce.{whole, access_in, spent_once, kept_not_spent}
-use Rattle.dh_ports.proofs.ReadsBehind.{finds_is, is_found}
-use Rattle.dh_ports.proofs.TouchedSame.{action_touched}
+use Rattle.dh_meets.specs.Charges.{factors_of}
+use Rattle.dh_meets.specs.Ports.{KeepsPorts, PortsSpent, ReadsAfterWrite, IsPortBreach, IsFirstPortBreach, KeepsPortRules}
+use Rattle.dh_meets.specs.SourceEvents.{SourceAccess, accesses_in, trace}
+use Rattle.dh_events.specs.declared.events.Event.{Event}
+use Rattle.dh_events.specs.declared.events.Event.TheVariants as event
+use Rattle.dh_events.specs.declared.events.Site.{Site}
+use Rattle.dh_ports.specs.declared.levels.Step.{Step}
+use Rattle.dh_ports.specs.declared.moves.Layout.{Layout}
+use Rattle.dh_ports.specs.declared.moves.Move.{Move}
+use Rattle.dh_events.specs.Accesses.{loops_in}
+use Rattle.dh_ports.specs.Claims.{moves_from}
+use Rattle.dh_ports.specs.Copies.{copies_round}
+use Rattle.dh_ports.specs.Courses.{count}
+use Rattle.dh_events.specs.declared.events.Notes.{Notes}
+use Rattle.dh_events.specs.declared.structures.Structure.{Structure}
+use Rattle.dh_events.specs.Elements.{AreReads, no_clocks, IsNoted}
+use Rattle.dh_events.specs.Incidents.{Incident, touches, assigned, arm_begins, arm_ends, begins, next, ends, closed, incidents}
+use Rattle.dh_ports.specs.Layouts.{no_rounds, IsLayout, HaveFewCopies}
+use Rattle.dh_events.specs.Noted.{event_seen, all_seen}
+use Rattle.dh_events.specs.Rounds.{rounds_in, rounds_of}
+use Rattle.dh_ports.specs.Scanned.{is_late, late_at, place_in, all_late, spent_place, spent_at, FindsLate, FindsShared, KeepsLate}
+use Rattle.dh_events.specs.Stages.{stages_in}
+use Rattle.dh_events.specs.Structures.{AreDistinct}
+use Rattle.dh_events.specs.Tables.{numbered}
+use Rattle.dh_meaning.specs.Paths.{copies_in}
+use Rattle.dh_meets.specs.FewCopies.{most_copies, HasFewCopies}
+use Rattle.dh_ports.specs.Told.{IsToldBefore, TellsFirst}
+use Rattle.dh_ports.specs.Wholes.{no_stages, happenings_of, sites_in, TellsPhases, TellsLoops, loops_known, AreEventsOf, TellsShared, TellsSpent, TellsLate}
+use Rattle.dh_ports.proofs.PlacesOnce.{spent_once, kept_not_spent}
+use Rattle.dh_ports.proofs.SpentTold.{IsWhole, whole_is, access_there}
 
-one_some : {A : Type 0} (a b : A) → Some a ≡ Some b → a ≡ b
-one_some a b e = cc
+absurd : {A : Type 0} → ⊥ → A
+absurd e = elim e [ ]
 
-not_flagged : Some false ≡ Some true → ⊥
-not_flagged e = cc
+some_same : {A : Type 0} (x y : A) → Some x ≡ Some y → x ≡ y
+some_same x y e = cc
 
--- Places.
+-- What is kept.
 
-place_of : Touched → Place
-place_of t = t.place
+nothing_in : (b : Breach) → Contains [] b → ⊥
+nothing_in b (k, l, e) = none k l
+  where
+    none : (k : ℕ) → k < 0 → ⊥
+    none k e = omega (arith, e)
 
--- an access that is flagged stands here
-record FlagAt (xs : List Incident) (bs : List Bool) (place : Place) (k : ℕ) : Type 0 where
-  flag : slice_get (at_touches bs xs) k ≡ Some true
-  stands : option_map (λ (t : Touched). t.place) (slice_get (touched xs) k) ≡ Some place
+one_late : (o : Option Place) (b : Breach) → Contains (late_at o) b → b ≡ breach rule.ReadAfterWrite b.place
+one_late None b c = absurd (nothing_in b c)
+one_late (Some place) b (zero, l, e) = sym e ∙ ap (λ q. breach rule.ReadAfterWrite q) (ap (λ (x : Breach). x.place) e)
+one_late (Some place) b (suc k, l, e) = absurd (none k l)
+  where
+    none : (k : ℕ) → suc k < 1 → ⊥
+    none k e = omega (arith, e)
 
-flagged_none : (xs : List Incident) (bs : List Bool) → flagged xs bs ≡ [] → (k : ℕ) → slice_get (at_touches bs xs) k ≡ Some true → ⊥
-flagged_none [] [] e k f = cc
-flagged_none [] (b ∷ bs) e k f = cc
-flagged_none (x ∷ xs) [] e k f = cc
-flagged_none (touches p n t w h ∷ xs) (true ∷ bs) e k f = cc
-flagged_none (touches p n t w h ∷ xs) (false ∷ bs) e zero f = not_flagged f
-flagged_none (touches p n t w h ∷ xs) (false ∷ bs) e (suc k) f = flagged_none xs bs e k f
-flagged_none (assigned n ∷ xs) (b ∷ bs) e k f = flagged_none xs bs e k f
-flagged_none (arm_begins ∷ xs) (b ∷ bs) e k f = flagged_none xs bs e k f
-flagged_none (arm_ends ∷ xs) (b ∷ bs) e k f = flagged_none xs bs e k f
-flagged_none (begins ∷ xs) (b ∷ bs) e k f = flagged_none xs bs e k f
-flagged_none (next ∷ xs) (b ∷ bs) e k f = flagged_none xs bs e k f
-flagged_none (ends ∷ xs) (b ∷ bs) e k f = flagged_none xs bs e k f
+late_reads : (whole : List Incident) (ms : List Move) (ss : List Step) (ls : List ℕ) (b : Breach) → Contains (all_late whole ms ss ls) b → b ≡ breach rule.ReadAfterWrite b.place
+late_reads whole [] ss ls b c = absurd (nothing_in b c)
+late_reads whole (m ∷ ms) [] ls b c = absurd (nothing_in b c)
+late_reads whole (m ∷ ms) (s ∷ ss) [] b c = absurd (nothing_in b c)
+late_reads whole (m ∷ ms) (s ∷ ss) (l ∷ ls) b c = by_test (is_late s l) c (late_reads whole ms ss ls b)
+  where
+    by_test : (t : Bool) → Contains (if t then late_at (place_in whole m) ++ all_late whole ms ss ls else all_late whole ms ss ls) b → (Contains (all_late whole ms ss ls) b → b ≡ breach rule.ReadAfterWrite b.place) → b ≡ breach rule.ReadAfterWrite b.place
+    by_test true c rest = elim (Contains-append_cases (late_at (place_in whole m)) (all_late whole ms ss ls) b c) [ inl d ↦ one_late (place_in whole m) b d | inr d ↦ rest d ]
+    by_test false c rest = rest c
 
--- the first of them
-record FirstAt (xs : List Incident) (bs : List Bool) (place : Place) : Type 0 where
-  number : ℕ
-  at : FlagAt xs bs place number
-  first : (j : ℕ) → j < number → slice_get (at_touches bs xs) j ≡ Some true → ⊥
+module _ (p : Program) (late : List Breach) (tells : TellsLate p late) (only : (b : Breach) → Contains late b → b ≡ breach rule.ReadAfterWrite b.place) where
+  is_read : (b : Breach) → Contains late b → IsPortBreach p b
+  is_read b c = inr (only b c, (tells b.place).0 (subst (λ (x : Breach). Contains late x) (only b c) c))
 
-abbrev same_first : (xs ys : List Incident) (bs cs : List Bool) (place : Place) → FirstAt xs bs place → ((k : ℕ) → slice_get (at_touches cs ys) k ≡ slice_get (at_touches bs xs) k) → touched ys ≡ touched xs → FirstAt ys cs place
-same_first xs ys bs cs place f e g = record {
-  number = f.number;
-  at = record { flag = e f.number ∙ f.at.flag; stands = ap (λ l. option_map (λ (t : Touched). t.place) (slice_get l f.number)) g ∙ f.at.stands };
-  first = λ j l h. f.first j l (sym (e j) ∙ h);
+  read_is : (o : Breach) → o ≡ breach rule.ReadAfterWrite o.place → ReadsAfterWrite p o.place → Contains late o
+  read_is o e r = subst (λ (x : Breach). Contains late x) (sym e) ((tells o.place).1 r)
+
+  -- no ports are spent
+  kept_told : KeepsPorts p → (o : Option Breach) → least_of None late ≡ o → TellsFirst p o
+  kept_told k None e = record { ports = k; order = λ place r. nothing_in (breach rule.ReadAfterWrite place) (subst (λ (l : List Breach). Contains l (breach rule.ReadAfterWrite place)) (none_is_kept late e) ((tells place).1 r)) }
+  kept_told k (Some b) e = let l = least_is_kept late b e in record {
+    breaks = is_read b l.among;
+    first = λ o h before. elim h [ inl s ↦ kept_not_spent p o.place k s.1 | inr r ↦ l.least o (read_is o r.0 r.1) before ];
+  }
+
+  -- ports are spent at a place
+  more_in : (x o : Breach) → Contains late o → Contains (x ∷ late) o
+  more_in x o (k, l, e) = (suc k, more k (length late) l, e)
+    where
+      more : (k n : ℕ) → k < n → suc k < suc n
+      more k n e = omega (arith, e)
+
+  first_in : (x : Breach) → Contains (x ∷ late) x
+  first_in x = (zero, some (length late), refl)
+    where
+      some : (n : ℕ) → 0 < suc n
+      some n = omega arith
+
+  spent_told_by : (place : Place) → PortsSpent p place → (o : Option Breach) → least_of None (breach rule.PortsSpent place ∷ late) ≡ o → TellsFirst p o
+  spent_told_by place s None e = absurd (apart (breach rule.PortsSpent place) late (none_is_kept (breach rule.PortsSpent place ∷ late) e))
+    where
+      apart : (x : Breach) (xs : List Breach) → ◌≡◌ {A = List Breach} (x ∷ xs) [] → ⊥
+      apart x xs e = cc
+  spent_told_by place s (Some b) e = let l = least_is_kept (breach rule.PortsSpent place ∷ late) b e in record {
+    breaks = breaks_so l.among;
+    first = λ o h before. elim h [
+      | inl t ↦ l.least o (subst (λ (x : Breach). Contains (breach rule.PortsSpent place ∷ late) x) (sym (t.0 ∙ ap (λ q. breach rule.PortsSpent q) (spent_once p o.place place t.1 s))) (first_in (breach rule.PortsSpent place))) before
+      | inr r ↦ l.least o (more_in (breach rule.PortsSpent place) o (read_is o r.0 r.1)) before
+    ];
+  }
+    where
+      breaks_so : Contains (breach rule.PortsSpent place ∷ late) b → IsPortBreach p b
+      breaks_so (zero, l, e) = inl (sym e ∙ ap (λ q. breach rule.PortsSpent q) (ap (λ (x : Breach). x.place) e), subst (λ (q : Place). PortsSpent p q) (ap (λ (x : Breach). x.place) e) s)
+      breaks_so (suc k, l, e) = is_read b (k, less k (length late) l, e)
+        where
+          less : (k n : ℕ) → suc k < suc n → k < n
+          less k n e = omega (arith, e)
+
+  first_told : (place : Option Place) → TellsSpent p place → (o : Option Breach) → least_of (spent_at place) late ≡ o → TellsFirst p o
+  first_told None s o e = kept_told s o e
+  first_told (Some place) s o e = spent_told_by place s o e
+
+-- The whole.
+
+found_first : (p : Program) (events : List Event) (flags : List Bool) (moves : List Move) → moves ≡ moves_from p (loops_known p) 0 (all_seen events)
+    → TellsSpent p (spent_place (table_of p) events flags (moves_from p (loops_known p) 0 (all_seen events))) → ((late : List Breach) → FindsLate events (moves_from p (loops_known p) 0 (all_seen events)) late → TellsLate p late)
+    → (place : Option Place) → place ≡ spent_place (table_of p) events flags moves → (old new : Option Breach) → old ≡ spent_at place → KeepsLate events moves old new → TellsFirst p new
+found_first p events flags moves moves_are tells_spent tells_late place place_is old new old_is kept =
+    let late_finds : FindsLate events (moves_from p (loops_known p) 0 (all_seen events)) kept.late = subst (λ (ms : List Move). FindsLate events ms kept.late) moves_are kept.found in
+    let spent : TellsSpent p place = subst (λ (o : Option Place). TellsSpent p o) (sym (place_is ∙ ap (λ ms. spent_place (table_of p) events flags ms) moves_are)) tells_spent in
+    first_told p kept.late (tells_late kept.late late_finds)
+    (λ b c. late_reads (all_seen events) _ kept.found.steps _ b (subst (λ (l : List Breach). Contains l b) kept.found.told c)) place spent new (sym (kept.kept ∙ ap (λ o. least_of o kept.late) old_is))
+
+-- the loops that the layout knows
+layout_loops : (p : Program) (layout : Layout) → IsLayout p layout → ◌≡◌ {A = Option ℕ → List Counter} (loops_in layout.rounds.items) (loops_known p)
+layout_loops p layout l = fun_ext each
+  where
+    each : (o : Option ℕ) → loops_in layout.rounds.items o ≡ loops_known p o
+    each None = refl
+    each (Some id) = ap (λ (f : ℕ → List Counter). f id) l.rounds
+
+-- the number of an access by its event
+number_at : (xs : List Incident) (i : ℕ) (t : Term) (w : Bool) (s : Site) → slice_get xs i ≡ Some (touches t w s) → (k : ℕ) × ((slice_get (sites_in xs) k ≡ Some s) × (k < count xs))
+number_at [] i t w s e = cc
+number_at (touches u v z ∷ xs) zero t w s e = (0, (ap (λ x. Some x) (site_same u t v w z s (some_same _ _ e)), some (count xs)))
+  where
+    site_same : (u t : Term) (v w : Bool) (z s : Site) → touches u v z ≡ touches t w s → z ≡ s
+    site_same u t v w z s e = cc
+
+    some : (n : ℕ) → 0 < suc n
+    some n = omega arith
+number_at (touches u v z ∷ xs) (suc i) t w s e = let r = number_at xs i t w s e in (suc r.0, (r.1.0, more r.0 (count xs) r.1.1))
+  where
+    more : (k n : ℕ) → k < n → suc k < suc n
+    more k n e = omega (arith, e)
+number_at (assigned n ∷ xs) zero t w s e = cc
+number_at (assigned n ∷ xs) (suc i) t w s e = number_at xs i t w s e
+number_at (arm_begins ∷ xs) zero t w s e = cc
+number_at (arm_begins ∷ xs) (suc i) t w s e = number_at xs i t w s e
+number_at (arm_ends ∷ xs) zero t w s e = cc
+number_at (arm_ends ∷ xs) (suc i) t w s e = number_at xs i t w s e
+number_at (begins ∷ xs) zero t w s e = cc
+number_at (begins ∷ xs) (suc i) t w s e = number_at xs i t w s e
+number_at (next ∷ xs) zero t w s e = cc
+number_at (next ∷ xs) (suc i) t w s e = number_at xs i t w s e
+number_at (ends ∷ xs) zero t w s e = cc
+number_at (ends ∷ xs) (suc i) t w s e = number_at xs i t w s e
+
+seen_at : (es : List Event) (i : ℕ) → slice_get (all_seen es) i ≡ option_map event_seen (slice_get es i)
+seen_at [] i = refl
+seen_at (e ∷ es) zero = refl
+seen_at (e ∷ es) (suc i) = seen_at es i
+
+pub few_copies : (p : Program) (events : List Event) (layout : Layout) → HasFewCopies p → TellsLoops p → all_seen events ≡ happenings_of p → IsLayout p layout → HaveFewCopies layout.rounds.items events
+few_copies p events layout few loops seen l i access writes phase round element newest e =
+    let n = number_at (all_seen events) i _ writes _ (seen_at events i ∙ ap (option_map event_seen) e) in
+    let w = whole_is p (all_seen events) loops seen in
+    let a = access_there p (all_seen events) w n.0 n.1.1 in
+    subst (λ (ls : List Counter). copies_round ls ≤ most_copies) (sym (ap (λ (f : Option ℕ → List Counter). f round) (layout_loops p layout l) ∙ w.loops n.0 _ a.0 n.1.0 a.1)) (few n.0 a.0 a.1)
+
+-- what is noted of a body
+body_seen : (p : Program) (old new : List ℕ) (events before : List Event) → old ≡ [] → numbered new ≡ stages_in p.body (numbered old) → before ≡ [] → all_seen events ≡ all_seen before ++ incidents (numbered new) None closed p.body → all_seen events ≡ happenings_of p
+body_seen p old new events before none noted empty seen =
+    seen
+    ∙ (ap (λ l. all_seen l ++ incidents (numbered new) None closed p.body) empty
+    ∙ ap (λ f. incidents f None closed p.body) (noted ∙ ap (stages_in p.body) (ap numbered none ∙ fun_ext nothing)))
+  where
+    nothing : (n : ℕ) → numbered [] n ≡ no_stages n
+    nothing zero = refl
+    nothing (suc n) = refl
+
+pub events_seen : (p q : Program) → q ≡ p → (old new shown : List ℕ) (before noted events : List Event) → old ≡ [] → numbered new ≡ stages_in q.body (numbered old) → shown ≡ new → before ≡ []
+    → all_seen noted ≡ all_seen before ++ incidents (numbered shown) None closed q.body → events ≡ noted → all_seen events ≡ happenings_of p
+events_seen p q same old new shown before noted events none counted shown_is empty seen events_are =
+    ap all_seen events_are
+    ∙ (body_seen q old new noted before none counted empty (seen ∙ ap (λ l. all_seen before ++ incidents (numbered l) None closed q.body) shown_is) ∙ ap happenings_of same)
+
+-- events that were noted from nothing on, with the structures that the notes keep
+pub are_events : (p : Program) (notes : Notes) (events : List Event) → events ≡ notes.events.items → all_seen events ≡ happenings_of p → (keys : List Structure) → keys ≡ notes.structures → AreDistinct keys → IsNoted notes → AreEventsOf p events
+are_events p notes events events_are seen keys keys_are distinct noted = record {
+  seen = seen;
+  known = notes.structures;
+  distinct = subst (λ (l : List Structure). AreDistinct l) keys_are distinct;
+  reads = subst (λ (l : List Event). AreReads notes.structures no_clocks 0 l) (sym events_are) noted.reads;
 }
 
-flagged_first : (xs : List Incident) (bs : List Bool) (place : Place) (places : List Place) → flagged xs bs ≡ place ∷ places → FirstAt xs bs place
-flagged_first [] [] place places e = cc
-flagged_first [] (b ∷ bs) place places e = cc
-flagged_first (x ∷ xs) [] place places e = cc
-flagged_first (touches p n t w h ∷ xs) (true ∷ bs) place places e =
-    let same : p ≡ place = cc in
-    record { number = 0; at = record { flag = refl; stands = ap (λ q. Some q) same }; first = λ j l f. none j l }
-  where
-    none : (j : ℕ) → j < 0 → ⊥
-    none j e = omega (arith, e)
-flagged_first (touches p n t w h ∷ xs) (false ∷ bs) place places e = later (flagged_first xs bs place places e)
-  where
-    fewer : (j k : ℕ) → suc j < suc k → j < k
-    fewer j k e = omega (arith, e)
-
-    later : FirstAt xs bs place → FirstAt (touches p n t w h ∷ xs) (false ∷ bs) place
-    later f = record { number = suc f.number; at = record { flag = f.at.flag; stands = f.at.stands }; first = λ j. by j }
-      where
-        by : (j : ℕ) → j < suc f.number → slice_get (false ∷ at_touches bs xs) j ≡ Some true → ⊥
-        by zero l g = not_flagged g
-        by (suc j) l g = f.first j (fewer j f.number l) g
-flagged_first (assigned n ∷ xs) (b ∷ bs) place places e = same_first xs (assigned n ∷ xs) bs (b ∷ bs) place (flagged_first xs bs place places e) (λ k. refl) refl
-flagged_first (arm_begins ∷ xs) (b ∷ bs) place places e = same_first xs (arm_begins ∷ xs) bs (b ∷ bs) place (flagged_first xs bs place places e) (λ k. refl) refl
-flagged_first (arm_ends ∷ xs) (b ∷ bs) place places e = same_first xs (arm_ends ∷ xs) bs (b ∷ bs) place (flagged_first xs bs place places e) (λ k. refl) refl
-flagged_first (begins ∷ xs) (b ∷ bs) place places e = same_first xs (begins ∷ xs) bs (b ∷ bs) place (flagged_first xs bs place places e) (λ k. refl) refl
-flagged_first (next ∷ xs) (b ∷ bs) place places e = same_first xs (next ∷ xs) bs (b ∷ bs) place (flagged_first xs bs place places e) (λ k. refl) refl
-flagged_first (ends ∷ xs) (b ∷ bs) place places e = same_first xs (ends ∷ xs) bs (b ∷ bs) place (flagged_first xs bs place places e) (λ k. refl) refl
-
--- the place of one that is flagged is among those, and each of those is of one
-record FlaggedAt (xs : List Incident) (bs : List Bool) (place : Place) : Type 0 where
-  number : ℕ
-  at : FlagAt xs bs place number
-
-flagged_at : (xs : List Incident) (bs : List Bool) (i : ℕ) (place : Place) → slice_get (flagged xs bs) i ≡ Some place → FlaggedAt xs bs place
-flagged_at [] [] i place e = cc
-flagged_at [] (b ∷ bs) i place e = cc
-flagged_at (x ∷ xs) [] i place e = cc
-flagged_at (touches p n t w h ∷ xs) (true ∷ bs) zero place e = record { number = 0; at = record { flag = refl; stands = e } }
-flagged_at (touches p n t w h ∷ xs) (true ∷ bs) (suc i) place e = let f = flagged_at xs bs i place e in record { number = suc f.number; at = record { flag = f.at.flag; stands = f.at.stands } }
-flagged_at (touches p n t w h ∷ xs) (false ∷ bs) i place e = let f = flagged_at xs bs i place e in record { number = suc f.number; at = record { flag = f.at.flag; stands = f.at.stands } }
-flagged_at (assigned n ∷ xs) (b ∷ bs) i place e = let f = flagged_at xs bs i place e in record { number = f.number; at = record { flag = f.at.flag; stands = f.at.stands } }
-flagged_at (arm_begins ∷ xs) (b ∷ bs) i place e = let f = flagged_at xs bs i place e in record { number = f.number; at = record { flag = f.at.flag; stands = f.at.stands } }
-flagged_at (arm_ends ∷ xs) (b ∷ bs) i place e = let f = flagged_at xs bs i place e in record { number = f.number; at = record { flag = f.at.flag; stands = f.at.stands } }
-flagged_at (begins ∷ xs) (b ∷ bs) i place e = let f = flagged_at xs bs i place e in record { number = f.number; at = record { flag = f.at.flag; stands = f.at.stands } }
-flagged_at (next ∷ xs) (b ∷ bs) i place e = let f = flagged_at xs bs i place e in record { number = f.number; at = record { flag = f.at.flag; stands = f.at.stands } }
-flagged_at (ends ∷ xs) (b ∷ bs) i place e = let f = flagged_at xs bs i place e in record { number = f.number; at = record { flag = f.at.flag; stands = f.at.stands } }
-
-abbrev Among : {A : Type 0} → List A → A → Type 0
-Among list a = (i : ℕ) × (slice_get list i ≡ Some a)
-
-further : {A : Type 0} (list : List A) (b a : A) → Among list a → Among (b ∷ list) a
-further list b a (i, e) = (suc i, e)
-
-at_flagged : (xs : List Incident) (bs : List Bool) (k : ℕ) (place : Place) → slice_get (at_touches bs xs) k ≡ Some true → option_map (λ (t : Touched). t.place) (slice_get (touched xs) k) ≡ Some place → Among (flagged xs bs) place
-at_flagged [] [] k place e f = cc
-at_flagged [] (b ∷ bs) k place e f = cc
-at_flagged (x ∷ xs) [] k place e f = cc
-at_flagged (touches p n t w h ∷ xs) (true ∷ bs) zero place e f = (0, f)
-at_flagged (touches p n t w h ∷ xs) (false ∷ bs) zero place e f = absurd (not_flagged e)
-at_flagged (touches p n t w h ∷ xs) (true ∷ bs) (suc k) place e f = further (flagged xs bs) p place (at_flagged xs bs k place e f)
-at_flagged (touches p n t w h ∷ xs) (false ∷ bs) (suc k) place e f = at_flagged xs bs k place e f
-at_flagged (assigned n ∷ xs) (b ∷ bs) k place e f = at_flagged xs bs k place e f
-at_flagged (arm_begins ∷ xs) (b ∷ bs) k place e f = at_flagged xs bs k place e f
-at_flagged (arm_ends ∷ xs) (b ∷ bs) k place e f = at_flagged xs bs k place e f
-at_flagged (begins ∷ xs) (b ∷ bs) k place e f = at_flagged xs bs k place e f
-at_flagged (next ∷ xs) (b ∷ bs) k place e f = at_flagged xs bs k place e f
-at_flagged (ends ∷ xs) (b ∷ bs) k place e f = at_flagged xs bs k place e f
-
--- Breaches.
-
-contained : (bs : List Breach) (b : Breach) → Contains bs b → Among bs b
-contained bs b (k, l, e) = (k, slice_get-get_or bs k b l ∙ ap (λ x. Some x) e)
-
-among : (bs : List Breach) (b : Breach) → Among bs b → Contains bs b
-among bs b (i, e) = (i, slice_get_within bs i b e, get_or_from_slice_get bs i b b e)
-
-late_among : (places : List Place) (place : Place) → Among places place → Among (map late_at places) (late_at place)
-late_among places place (i, e) = (i, slice_get-map late_at places i ∙ ap (option_map late_at) e)
-
-record IsLateAt (places : List Place) (b : Breach) : Type 0 where
-  place : Place
-  is : b ≡ late_at place
-  at : Among places place
-
-late_of : (places : List Place) (i : ℕ) (b : Breach) → slice_get (map late_at places) i ≡ Some b → IsLateAt places b
-late_of [] i b e = cc
-late_of (place ∷ places) zero b e = record { place = place; is = one_some b (late_at place) (sym e); at = (0, refl) }
-late_of (place ∷ places) (suc i) b e = let f = late_of places i b e in record { place = f.place; is = f.is; at = further places place f.place f.at }
-
--- those that break a rule are told by a list
-record TellsAll (p : Program) (bs : List Breach) : Type 0 where
-  all : (b : Breach) → IsPortBreach p b → Among bs b
-  only : (i : ℕ) (b : Breach) → slice_get bs i ≡ Some b → IsPortBreach p b
-  kept : bs ≡ [] → KeepsPorts p
-
-first_of : (p : Program) (bs : List Breach) → TellsAll p bs → (o : Option Breach) → least_of None bs ≡ o → TellsFirst p o
-first_of p bs t None e =
-    let none : bs ≡ [] = none_is_kept bs e in
-    record { ports = t.kept none; order = λ place r. never none (late_at place) (t.all (late_at place) (inr (refl, r))) }
-  where
-    never : (none : bs ≡ []) (b : Breach) → Among bs b → ⊥
-    never none b (i, f) = let gone : slice_get {X = Breach} [] i ≡ Some b = ap (λ l. slice_get l i) (sym none) ∙ f in empty i gone
-      where
-        empty : (i : ℕ) → slice_get {X = Breach} [] i ≡ Some b → ⊥
-        empty i e = cc
-first_of p bs t (Some b) e =
-    let l = least_is_kept bs b e in
-    record { breaks = (let c = contained bs b l.among in t.only c.0 b c.1); first = λ other x before. l.least other (among bs other (t.all other x)) before }
-
-module _ (p : Program) where
-  abbrev xs : List Incident
-  xs = incidents None p.body
-
-  same_place : (o : Option Access) → option_map (λ (t : Touched). t.place) (option_map of_access o) ≡ option_map (λ (a : Access). a.place) o
-  same_place None = refl
-  same_place (Some a) = refl
-
-  place_is : (k : ℕ) → option_map (λ (t : Touched). t.place) (slice_get (touched xs) k) ≡ place_in p k
-  place_is k = ap (λ l. option_map (λ (t : Touched). t.place) (slice_get l k)) (action_touched [] None p.body) ∙ (ap (option_map (λ (t : Touched). t.place)) (slice_get-map of_access (accesses_in (trace p)) k) ∙ same_place (slice_get (accesses_in (trace p)) k))
-
-  access_there : (o : Option Access) (place : Place) → option_map (λ (a : Access). a.place) o ≡ Some place → (a : Access) × (o ≡ Some a)
-  access_there None place e = cc
-  access_there (Some a) place e = (a, refl)
-
-  in_at : (k : ℕ) (place : Place) → place_in p k ≡ Some place → In k (meets_in p)
-  in_at k place e = let a = access_there (slice_get (accesses_in (trace p)) k) place e in access_in p k a.0 a.1
-
-  in_before : (j k : ℕ) → j < k → In k (meets_in p) → In j (meets_in p)
-  in_before j k l i = (whole p).inside j (at_least j) (below j k _ l ((whole p).last k i))
-    where
-      at_least : (j : ℕ) → 0 ≤ j
-      at_least j = omega arith
-
-      below : (j k n : ℕ) → j < k → k < n → j < n
-      below j k n e f = omega (arith, e, f)
-
-  module _ (spent late : List Bool) (s : TellsSpent p spent) (l : TellsLate p late) where
-    -- reads behind writes
-    late_all : (place : Place) → ReadsAfterWrite p place → Among (map late_at (flagged xs late)) (late_at place)
-    late_all place r =
-        let f = is_found p place r in
-        let is : IsLate p f.read = record { later = f.later; memory = f.memory; bank = f.bank; reads = f.reads; read_is = f.read_is; reached = f.reached; found = f.found } in
-        let stands : place_in p f.read ≡ Some place = ap (option_map (λ (a : Access). a.place)) f.reads ∙ ap (λ q. Some q) f.stands in
-        late_among (flagged xs late) place (at_flagged xs late f.read place (l.all f.read (access_in p f.read f.later f.reads) is) (place_is f.read ∙ stands))
-
-    late_only : (i : ℕ) (b : Breach) → slice_get (map late_at (flagged xs late)) i ≡ Some b → IsPortBreach p b
-    late_only i b e =
-        let f = late_of (flagged xs late) i b e in
-        let at = flagged_at xs late f.at.0 f.place f.at.1 in
-        let is = l.right at.number at.at.flag in
-        let stands : is.later.place ≡ f.place = one_some _ _ (sym (ap (option_map (λ (a : Access). a.place)) is.reads) ∙ (sym (place_is at.number) ∙ at.at.stands)) in
-        let found : FindsWrite p f.place = record { read = at.number; later = is.later; memory = is.memory; bank = is.bank; reads = is.reads; read_is = is.read_is; stands = stands; reached = is.reached; found = is.found } in
-        subst (λ (x : Breach). IsPortBreach p x) (sym f.is) (inr (refl, finds_is p f.place found))
-
-    spent_at : (place : Place) → FirstAt xs spent place → PortsSpent p place
-    spent_at place f =
-        let stands = sym (place_is f.number) ∙ f.at.stands in
-        let inside = in_at f.number place stands in
-        first_spends p f.number place stands inside (s.right f.number f.at.flag) (λ x less spends. f.first x less (s.all x (in_before x f.number less inside) spends))
-
-    none_at : flagged xs spent ≡ [] → KeepsPorts p
-    none_at e = none_spends p (λ k i spends. flagged_none xs spent e k (s.all k i spends))
-
-    pub first_told : TellsFirst p (least_of (first_spent (flagged xs spent)) (map late_at (flagged xs late)))
-    first_told = by (flagged xs spent) refl
-      where
-        spent_is : (place : Place) (b : Breach) → PortsSpent p place → b ≡ breach rule.PortsSpent b.place → PortsSpent p b.place → breach rule.PortsSpent place ≡ b
-        spent_is place b h e i = ap (λ q. breach rule.PortsSpent q) (spent_once p place b.place h i) ∙ sym e
-
-        by : (places : List Place) → flagged xs spent ≡ places → TellsFirst p (least_of (first_spent places) (map late_at (flagged xs late)))
-        by [] e =
-            let keeps = none_at e in
-            first_of p (map late_at (flagged xs late)) (record {
-              all = λ b x. elim x [ inl y ↦ absurd (kept_not_spent p b.place keeps y.1) | inr y ↦ subst (λ (c : Breach). Among (map late_at (flagged xs late)) c) (sym y.0) (late_all b.place y.1) ];
-              only = late_only;
-              kept = λ f. keeps;
-            }) _ refl
-        by (place ∷ places) e =
-            let h = spent_at place (flagged_first xs spent place places e) in
-            first_of p (breach rule.PortsSpent place ∷ map late_at (flagged xs late)) (record {
-              all = λ b x. elim x [
-                | inl y ↦ (0, ap (λ c. Some c) (spent_is place b h y.0 y.1))
-                | inr y ↦ further (map late_at (flagged xs late)) (breach rule.PortsSpent place) b (subst (λ (c : Breach). Among (map late_at (flagged xs late)) c) (sym y.0) (late_all b.place y.1))
-              ];
-              only = λ i. only_at place h i;
-              kept = λ f. absurd (not_empty f);
-            }) _ refl
-          where
-            not_empty : breach rule.PortsSpent place ∷ map late_at (flagged xs late) ≡ [] → ⊥
-            not_empty f = cc
-
-            only_at : (place : Place) → PortsSpent p place → (i : ℕ) (b : Breach) → slice_get (breach rule.PortsSpent place ∷ map late_at (flagged xs late)) i ≡ Some b → IsPortBreach p b
-            only_at place h zero b f = subst (λ (x : Breach). IsPortBreach p x) (one_some (breach rule.PortsSpent place) b f) (inl (refl, h))
-            only_at place h (suc i) b f = late_only i b f
-
-pub first_done : (p : Program) (events : List Incident) (spent late sf lf : List Bool) (sp lp : List Place) (first kept : Option Breach) → events ≡ incidents None p.body → TellsSpent p spent → TellsLate p late → sf ≡ spent → lf ≡ late
-    → sp ≡ flagged events sf → lp ≡ flagged events lf → first ≡ first_spent sp → kept ≡ least_of first (map late_at lp) → TellsFirst p kept
-first_done p events spent late sf lf sp lp first kept a s l b c d e f g =
-    let spent_is : sp ≡ flagged (incidents None p.body) spent = d ∙ (ap (λ y. flagged y sf) a ∙ ap (λ y. flagged (incidents None p.body) y) b) in
-    let late_is : lp ≡ flagged (incidents None p.body) late = e ∙ (ap (λ y. flagged y lf) a ∙ ap (λ y. flagged (incidents None p.body) y) c) in
-    let kept_is : kept ≡ least_of (first_spent (flagged (incidents None p.body) spent)) (map late_at (flagged (incidents None p.body) late)) =
-    g ∙ (ap (λ y. least_of y (map late_at lp)) (f ∙ ap first_spent spent_is) ∙ ap (λ y. least_of (first_spent (flagged (incidents None p.body) spent)) (map late_at y)) late_is) in
-    subst (λ (o : Option Breach). TellsFirst p o) (sym kept_is) (first_told p spent late s l)
-
--- where no breach is the first, ports are kept
-pub ports_kept : (p : Program) (o : Option Breach) → TellsFirst p o → o ≡ None → KeepsPorts p
-ports_kept p o t e = let kept : TellsFirst p None = subst (λ (x : Option Breach). TellsFirst p x) e t in kept.ports
+-- the first breach, as the code finds it over copies of its lists
+pub first_done : (p : Program) (events : List Event) (layout : Layout) → IsLayout p layout → (flags shared : List Bool) (moves spent_moves late_moves : List Move) → moves ≡ moves_from p (loops_in layout.rounds.items) 0 (all_seen events)
+    → TellsSpent p (spent_place (table_of p) events flags (moves_from p (loops_known p) 0 (all_seen events))) → ((late : List Breach) → FindsLate events (moves_from p (loops_known p) 0 (all_seen events)) late → TellsLate p late)
+    → shared ≡ flags → spent_moves ≡ moves → late_moves ≡ moves → (place : Option Place) → place ≡ spent_place (table_of p) events shared spent_moves → (old new : Option Breach) → old ≡ spent_at place → KeepsLate events late_moves old new → TellsFirst p new
+first_done p events layout l flags shared moves spent_moves late_moves moves_are tells_spent tells_late shared_is spent_is late_is place place_is old new old_is kept =
+    found_first p events flags late_moves (late_is ∙ (moves_are ∙ ap (λ (f : Option ℕ → List Counter). moves_from p f 0 (all_seen events)) (layout_loops p layout l))) tells_spent tells_late place
+    (place_is ∙ (ap (λ (fs : List Bool). spent_place (table_of p) events fs spent_moves) shared_is ∙ ap (λ (ms : List Move). spent_place (table_of p) events flags ms) (spent_is ∙ sym late_is)))
+    old new old_is kept

@@ -1,351 +1,554 @@
--- Reads of a slot of which nothing is left are those that come behind a write.
-use Rattle.std.proofs.Common.{◌≡◌, ℕ, zero, suc, ◌+◌, ◌-◌, ◌<◌, ◌≤◌, ◌==◌, ◌&&◌, not, Bool, true, false, if◌then◌else◌, List, [], ◌∷◌, length, map, replicate, bytes_eq, refl, ap, sym, ◌∙◌, subst, arith, inl, inr}
+-- Reads of a slot of which nothing is left are those that come behind a write of their bank in their phase.
+use Rattle.std.proofs.Common.{◌≡◌, ◌↔◌, ℕ, zero, suc, ◌+◌, ◌-◌, ◌<◌, ◌≤◌, ◌==◌, ◌&&◌, Bool, true, false, if◌then◌else◌, List, [], ◌∷◌, ◌++◌, length, map, replicate, refl, ap, sym, ◌∙◌, subst, arith, ◌⊎◌, inl, inr, Contains}
 use Rattle.std.specs.Prelude.{Option, Some, None, option_map, slice_get, slice_index}
-use Rattle.std.proofs.lemmas.Bool.{cases_Bool, eqb-true, eq-eqb}
-use Rattle.std.proofs.lemmas.List.{length-map, get_or-replicate}
+use Rattle.std.specs.List.{AllByRecursion}
+use Rattle.std.proofs.lemmas.Bool.{cases_Bool, cases_lt, eqb-true, eq-eqb}
+use Rattle.std.proofs.lemmas.List.{get_or-replicate}
 use Rattle.std.proofs.lemmas.Option.{slice_get_within, slice_get-map}
-use Rattle.std.proofs.lemmas.Slice.Eq.{bytes_eq-Decides}
-use Rattle.dh_tree.specs.Happenings.{Access, accesses_in}
-use Rattle.dh_tree.specs.Meets.{upto}
-use Rattle.dh_tree.specs.PlainTrees.{Program}
-use Rattle.dh_tree.specs.Ports.{trace, meets_in, reaches}
-use Rattle.dh_tree.specs.Sharing.{in_one_phase}
-use Rattle.dh_tree.proofs.SpentAlike.{both_are}
-use Rattle.dh_ports.specs.Classes.{first_place}
-use Rattle.dh_ports.specs.Courses.{before_at}
-use Rattle.dh_ports.specs.Flags.{IsLate, TellsLate}
-use Rattle.dh_ports.specs.Incidents.{Incident, touches}
-use Rattle.dh_ports.specs.Levels.{start, lefts_of}
-use Rattle.dh_ports.specs.Phased.{TellsPhases}
-use Rattle.dh_ports.specs.Reached.{reach, reach_of}
-use Rattle.dh_ports.specs.Scanned.{order_key, order_keys, order_charge, order_charges, is_late, late_flags}
-use Rattle.dh_ports.specs.Shared.{classes_of}
-use Rattle.dh_ports.specs.Spending.{spending_steps, at_touches, amount, Matches}
-use Rattle.dh_ports.specs.WritesFound.{write_of, write_charge}
-use Rattle.dh_ports.specs.declared.reaching.Reach.{Reach}
-use Rattle.dh_ports.specs.declared.spending.Charge.{Charge}
-use Rattle.dh_ports.proofs.ClassFacts.{same_key}
-use Rattle.dh_ports.proofs.IncidentTies.{action_ties}
-use Rattle.dh_ports.proofs.KeyTurns.{lefts_long}
-use Rattle.dh_ports.proofs.PlacesOnce.{access_in}
-use Rattle.dh_ports.proofs.ReachFacts.{Reached, reach_seen, reached_is, then_reaches, IsWithin, reaching_is, not_reached, reached_test}
-use Rattle.dh_ports.proofs.ScanFacts.{event_of, at_event, at_within, there_is, events, Noted, noted_is, noted_at, counted}
-use Rattle.dh_ports.proofs.SpendingFacts.{lefts_found}
+use Rattle.dh_base.specs.declared.places.Place.{Place}
+use Rattle.dh_base.specs.declared.rules.Rule.TheVariants as rule
+use Rattle.dh_tree.specs.declared.breaches.Breach.{Breach}
+use Rattle.dh_tree.specs.declared.tables.MemEntry.{MemEntry}
+use Rattle.dh_tree.specs.Elements.{banks_of}
+use Rattle.dh_tree.specs.LeastBreach.{breach}
+use Rattle.dh_tree.specs.Meets.{In, upto}
+use Rattle.dh_tree.specs.declared.trees.counters.Counter.{Counter}
+use Rattle.dh_tree.specs.Memories.{Memory, memories_of, number_in, same_entity, table_of, entry_of}
+use Rattle.dh_tree.specs.PlainTrees.{Term, term, Program}
+use Rattle.dh_meaning.specs.OnePhase.{in_one_phase}
+use Rattle.dh_meets.specs.MayMeet.{meets_in}
+use Rattle.dh_meets.specs.Ports.{ReadsAfterWrite}
+use Rattle.dh_meets.specs.SourceEvents.{SourceAccess, accesses_in, trace}
+use Rattle.dh_events.specs.declared.classes.Key.{Key}
+use Rattle.dh_events.specs.declared.events.Event.{Event}
+use Rattle.dh_events.specs.declared.events.Event.TheVariants as event
+use Rattle.dh_events.specs.declared.events.Site.{Site}
+use Rattle.dh_ports.specs.declared.levels.Step.{Step}
+use Rattle.dh_ports.specs.declared.levels.Step.TheVariants as step
+use Rattle.dh_ports.specs.declared.moves.Move.{Move}
+use Rattle.dh_ports.specs.declared.moves.Move.TheVariants as move
+use Rattle.dh_ports.specs.Claims.{access_of, base_of, claims_of, moves_from}
+use Rattle.dh_events.specs.Classes.{AreDistinct}
+use Rattle.dh_ports.specs.Courses.{count, before_at}
+use Rattle.dh_ports.specs.Expanded.{taken_by, all_taken}
+use Rattle.dh_events.specs.Incidents.{Incident, touches, assigned, arm_begins, arm_ends, begins, next, ends}
+use Rattle.dh_ports.specs.Levels.{Level, start, lefts_from}
+use Rattle.dh_events.specs.Noted.{event_seen, all_seen}
+use Rattle.dh_ports.specs.Scanned.{bank_key, take_of, IsWritten, IsNoted, FindsLate}
+use Rattle.dh_ports.specs.Told.{IsToldBefore}
+use Rattle.dh_ports.specs.Wholes.{happenings_of, banks_in, Touched, touched, touched_by, of_access, sites_in, TellsPhases, TellsLoops, loops_known, AreEventsOf, TellsLate}
+use Rattle.dh_ports.specs.WritesFound.{Meeting, can_reach, write_of, write_charge, FindsWrite}
+use Rattle.dh_ports.proofs.ClaimFacts.{Declared, found, one_entity, bases_apart}
+use Rattle.dh_ports.proofs.ClaimedBanks.{Claims, IsClaimOf, all_claims, Claimed, claimed, claims_back, Bounds, Reaching, reaching, reaching_claims, claimed_reaches}
+use Rattle.dh_ports.proofs.AccessClaims.{event_of, Follows, follow_all, nth_claims, claim_lists, none_claims, TouchAt}
+use Rattle.dh_ports.proofs.MeetingFacts.{found_meeting, meeting_found}
+use Rattle.dh_ports.proofs.ReadsBehind.{finds_is, is_found}
+use Rattle.dh_ports.proofs.SpentTold.{IsWhole, whole_is, AccessAt, access_at, access_there, bounds_of}
+use Rattle.dh_ports.proofs.LateWalk.{slot_in, slot_found, slot_is, step_in, order_of, order_step, orders_are, IsLook, IsTake, Looks, looks_nothing, all_look, scan, Late, walk}
+use Rattle.dh_ports.proofs.Wholes.{whole, access_in}
 
--- Lists.
+absurd : {A : Type 0} → ⊥ → A
+absurd e = elim e [ ]
 
-one_less : (m n : ℕ) → suc m ≡ suc n → m ≡ n
-one_less m n e = omega (arith, e)
+some_same : {A : Type 0} (x y : A) → Some x ≡ Some y → x ≡ y
+some_same x y e = cc
 
-none_more : (n : ℕ) → 0 ≡ suc n → ⊥
-none_more n e = omega (arith, e)
+none_one : 1 ≤ 0 → ⊥
+none_one e = omega (arith, e)
 
-more_none : (n : ℕ) → suc n ≡ 0 → ⊥
-more_none n e = omega (arith, e)
-
-one_some : {A : Type 0} (a b : A) → Some a ≡ Some b → a ≡ b
-one_some a b e = cc
-
-keys_long : (rs : List (Option Reach)) (xs : List Incident) → length rs ≡ length xs → length (order_keys rs xs) ≡ length xs
-keys_long [] [] e = refl
-keys_long [] (x ∷ xs) e = absurd (none_more _ e)
-keys_long (r ∷ rs) [] e = absurd (more_none _ e)
-keys_long (r ∷ rs) (x ∷ xs) e = ap suc (keys_long rs xs (one_less _ _ e))
-
-keys_at : (rs : List (Option Reach)) (xs : List Incident) (i : ℕ) (r : Option Reach) (x : Incident) → slice_get rs i ≡ Some r → slice_get xs i ≡ Some x → slice_get (order_keys rs xs) i ≡ Some (order_key r x)
-keys_at [] xs i r x e f = cc
-keys_at (q ∷ rs) [] i r x e f = cc
-keys_at (q ∷ rs) (y ∷ xs) zero r x e f = ap (λ n. Some (order_key n y)) (one_some q r e) ∙ ap (λ n. Some (order_key r n)) (one_some y x f)
-keys_at (q ∷ rs) (y ∷ xs) (suc i) r x e f = keys_at rs xs i r x e f
-
--- one slot for each
-pub slots_long_at : (rs : List (Option Reach)) (xs : List Incident) (keys : List (List ℕ)) (slots : List ℕ) → length rs ≡ length xs → keys ≡ order_keys rs xs → slots ≡ map (λ k. first_place k keys) keys → length slots ≡ length xs
-slots_long_at rs xs keys slots e f g = ap length g ∙ (length-map _ _ ∙ (ap length f ∙ keys_long rs xs e))
-
-pub charges_long : (rs : List (Option Reach)) (ss : List ℕ) (xs : List Incident) → length rs ≡ length xs → length ss ≡ length xs → length (order_charges rs ss xs) ≡ length xs
-charges_long [] [] [] e f = refl
-charges_long [] (s ∷ ss) [] e f = absurd (more_none _ f)
-charges_long (r ∷ rs) ss [] e f = absurd (more_none _ e)
-charges_long [] ss (x ∷ xs) e f = absurd (none_more _ e)
-charges_long (r ∷ rs) [] (x ∷ xs) e f = absurd (none_more _ f)
-charges_long (r ∷ rs) (s ∷ ss) (x ∷ xs) e f = ap suc (charges_long rs ss xs (one_less _ _ e) (one_less _ _ f))
-
-charges_at : (rs : List (Option Reach)) (ss : List ℕ) (xs : List Incident) (i : ℕ) (r : Option Reach) (s : ℕ) (x : Incident) → slice_get rs i ≡ Some r → slice_get ss i ≡ Some s → slice_get xs i ≡ Some x
-    → slice_get (order_charges rs ss xs) i ≡ Some (order_charge r s x)
-charges_at [] ss xs i r s x e f g = cc
-charges_at (q ∷ rs) [] xs i r s x e f g = cc
-charges_at (q ∷ rs) (t ∷ ss) [] i r s x e f g = cc
-charges_at (q ∷ rs) (t ∷ ss) (y ∷ xs) zero r s x e f g = ap (λ n. Some (order_charge n t y)) (one_some q r e) ∙ (ap (λ n. Some (order_charge r n y)) (one_some t s f) ∙ ap (λ n. Some (order_charge r s n)) (one_some y x g))
-charges_at (q ∷ rs) (t ∷ ss) (y ∷ xs) (suc i) r s x e f g = charges_at rs ss xs i r s x e f g
-
-pub steps_long : (cs : List Charge) (xs : List Incident) → length cs ≡ length xs → length (spending_steps cs xs) ≡ length xs
-steps_long [] [] e = refl
-steps_long [] (x ∷ xs) e = absurd (none_more _ e)
-steps_long (c ∷ cs) [] e = absurd (more_none _ e)
-steps_long (c ∷ cs) (x ∷ xs) e = ap suc (steps_long cs xs (one_less _ _ e))
-
-flags_long : (rs : List (Option Reach)) (ls : List ℕ) (xs : List Incident) → length rs ≡ length xs → length ls ≡ length xs → length (late_flags rs ls xs) ≡ length xs
-flags_long [] [] [] e f = refl
-flags_long [] (l ∷ ls) [] e f = absurd (more_none _ f)
-flags_long (r ∷ rs) ls [] e f = absurd (more_none _ e)
-flags_long [] ls (x ∷ xs) e f = absurd (none_more _ e)
-flags_long (r ∷ rs) [] (x ∷ xs) e f = absurd (none_more _ f)
-flags_long (r ∷ rs) (l ∷ ls) (x ∷ xs) e f = ap suc (flags_long rs ls xs (one_less _ _ e) (one_less _ _ f))
-
-flags_at : (rs : List (Option Reach)) (ls : List ℕ) (xs : List Incident) (i : ℕ) (r : Option Reach) (l : ℕ) (x : Incident) → slice_get rs i ≡ Some r → slice_get ls i ≡ Some l → slice_get xs i ≡ Some x
-    → slice_get (late_flags rs ls xs) i ≡ Some (is_late r l x)
-flags_at [] ls xs i r l x e f g = cc
-flags_at (q ∷ rs) [] xs i r l x e f g = cc
-flags_at (q ∷ rs) (m ∷ ls) [] i r l x e f g = cc
-flags_at (q ∷ rs) (m ∷ ls) (y ∷ xs) zero r l x e f g = ap (λ n. Some (is_late n m y)) (one_some q r e) ∙ (ap (λ n. Some (is_late r n y)) (one_some m l f) ∙ ap (λ n. Some (is_late r l n)) (one_some y x g))
-flags_at (q ∷ rs) (m ∷ ls) (y ∷ xs) (suc i) r l x e f g = flags_at rs ls xs i r l x e f g
-
--- Classes.
-
-clash : (b : Bool) → b ≡ true → b ≡ false → ⊥
-clash b e f = cc
-
--- keys with one first place are one
-place_same : (keys : List (List ℕ)) (a b : List ℕ) (i : ℕ) → slice_get keys i ≡ Some a → first_place a keys ≡ first_place b keys → a ≡ b
-place_same [] a b i e f = cc
-place_same (k ∷ ks) a b i e f = by (bytes_eq a k) (bytes_eq b k) refl refl f i e (λ j. place_same ks a b j)
+-- one bank of all is of one memory
+one_bank : (p : Program) (slot : ℕ) (a b : SourceAccess) (c : Claimed p slot a) (d : Claimed p slot b) → (c.memory ≡ d.memory) × (c.bank ≡ d.bank)
+one_bank p slot a b c d = by_place (cases_lt c.number d.number) (cases_lt d.number c.number)
   where
-    by : (x y : Bool) → bytes_eq a k ≡ x → bytes_eq b k ≡ y → (if x then 0 else suc (first_place a ks)) ≡ (if y then 0 else suc (first_place b ks)) → (i : ℕ) → slice_get (k ∷ ks) i ≡ Some a
-        → ((j : ℕ) → slice_get ks j ≡ Some a → first_place a ks ≡ first_place b ks → a ≡ b) → a ≡ b
-    by true true g h f i e rest = (bytes_eq-Decides a k).0 g ∙ sym ((bytes_eq-Decides b k).0 h)
-    by true false g h f i e rest = absurd (none_more _ f)
-    by false true g h f i e rest = absurd (more_none _ f)
-    by false false g h f zero e rest = absurd (clash (bytes_eq a k) (ap (λ n. bytes_eq a n) (one_some k a e) ∙ same_key a) g)
-    by false false g h f (suc i) e rest = rest i e (one_less _ _ f)
+    banks_c : c.bank < banks_in (slice_get (table_of p) c.number)
+    banks_c = subst (λ (o : Option MemEntry). c.bank < banks_in o) (sym c.stands) c.within
 
-place_within : (keys : List (List ℕ)) (a : List ℕ) (i : ℕ) → slice_get keys i ≡ Some a → first_place a keys < length keys
-place_within [] a i e = cc
-place_within (k ∷ ks) a i e = by (bytes_eq a k) refl i e (λ j. place_within ks a j)
+    banks_d : d.bank < banks_in (slice_get (table_of p) d.number)
+    banks_d = subst (λ (o : Option MemEntry). d.bank < banks_in o) (sym d.stands) d.within
+
+    apart : (s m b n i j : ℕ) → s ≡ m + i → s ≡ n + j → m + b ≤ n → i < b → ⊥
+    apart s m b n i j e f g h = omega (arith, e, f, g, h)
+
+    equal : (m n : ℕ) → m ≤ n → n ≤ m → m ≡ n
+    equal m n e f = omega (arith, e, f)
+
+    cancel : (s m i j : ℕ) → s ≡ m + i → s ≡ m + j → i ≡ j
+    cancel s m i j e f = omega (arith, e, f)
+
+    by_place : (c.number < d.number) ⊎ (d.number ≤ c.number) → (d.number < c.number) ⊎ (c.number ≤ d.number) → (c.memory ≡ d.memory) × (c.bank ≡ d.bank)
+    by_place (inl f) g = absurd (apart slot (base_of (table_of p) c.number) _ (base_of (table_of p) d.number) c.bank d.bank c.is d.is (bases_apart (table_of p) c.number d.number f) banks_c)
+    by_place (inr f) (inl g) = absurd (apart slot (base_of (table_of p) d.number) _ (base_of (table_of p) c.number) d.bank c.bank d.is c.is (bases_apart (table_of p) d.number c.number g) banks_d)
+    by_place (inr f) (inr g) =
+        let same : c.number ≡ d.number = equal c.number d.number g f in
+        let mine = found (memories_of p) (Some c.memory) c.number c.known in
+        let its = found (memories_of p) (Some d.memory) d.number d.known in
+        let one : mine.memory ≡ its.memory = some_same mine.memory its.memory (sym mine.named ∙ (ap (slice_get (memories_of p)) same ∙ its.named)) in
+        let entities : Some c.memory ≡ Some d.memory = one_entity mine.memory.name.entity (Some c.memory) (Some d.memory) mine.same (ap (λ (x : Memory). same_entity x.name.entity (Some d.memory)) one ∙ its.same) in
+        (some_same c.memory d.memory entities, cancel slot (base_of (table_of p) d.number) c.bank d.bank (c.is ∙ ap (λ n. base_of (table_of p) n + c.bank) same) d.is)
+
+-- Claims among all moves.
+
+all_append : {A : Type 0} (P : A → Type 0) (xs ys : List A) → AllByRecursion P (xs ++ ys) → AllByRecursion P xs × AllByRecursion P ys
+all_append P [] ys h = (tt, h)
+all_append P (x ∷ xs) ys h = let r = all_append P xs ys h.1 in ((h.0, r.0), r.1)
+
+-- what holds of all moves holds of the claims of each access
+claims_all : (P : Move → Type 0) (p : Program) (loops : _) (event : ℕ) (xs : List Incident) → AllByRecursion P (moves_from p loops event xs) → (k : ℕ) → AllByRecursion P (nth_claims (claim_lists p loops event xs) k)
+claims_all P p loops event [] h k = tt
+claims_all P p loops event (touches t w s ∷ xs) h zero = (all_append P (claims_of p event (access_of (loops s.round) w t)) (moves_from p loops (event + 1) xs) h).0
+claims_all P p loops event (touches t w s ∷ xs) h (suc k) = claims_all P p loops (event + 1) xs (all_append P (claims_of p event (access_of (loops s.round) w t)) (moves_from p loops (event + 1) xs) h).1 k
+claims_all P p loops event (assigned e ∷ xs) h k = claims_all P p loops (event + 1) xs h k
+claims_all P p loops event (arm_begins ∷ xs) h k = claims_all P p loops (event + 1) xs h k
+claims_all P p loops event (arm_ends ∷ xs) h k = claims_all P p loops (event + 1) xs h k
+claims_all P p loops event (begins ∷ xs) h k = claims_all P p loops (event + 1) xs h.1 k
+claims_all P p loops event (next ∷ xs) h k = claims_all P p loops (event + 1) xs h.1 k
+claims_all P p loops event (ends ∷ xs) h k = claims_all P p loops (event + 1) xs h.1 k
+
+-- a claim of a slot in a list of claims of one event
+claim_there : (P : Move → Type 0) (event slot : ℕ) (ms : List Move) → AllByRecursion (IsClaimOf event) ms → AllByRecursion P ms → Claims slot ms → (keys : ℕ) × P (move.Claim event slot keys)
+claim_there P event slot [] h i c = absurd c
+claim_there P event slot (move.Claim e other keys ∷ ms) h i (inl c) = (keys, subst (λ (n : ℕ). P (move.Claim n slot keys)) h.0 (subst (λ (n : ℕ). P (move.Claim e n keys)) c i.0))
+claim_there P event slot (move.Claim e other keys ∷ ms) h i (inr c) = claim_there P event slot ms h.1 i.1 c
+claim_there P event slot (move.Begin ∷ ms) h i c = absurd h.0
+claim_there P event slot (move.Next ∷ ms) h i c = absurd h.0
+claim_there P event slot (move.End ∷ ms) h i c = absurd h.0
+
+-- Steps of claims.
+
+module _ (known : List Key) (events : List Event) where
+  abbrev step_of : Move → Step
+  step_of m = order_step known events m
+
+  -- a step that looks is of a claim whose key has the slot
+  pub record LooksAt (event slot : ℕ) (ms : List Move) : Type 0 where
+    pub bank : ℕ
+    pub claimed : Claims bank ms
+    pub takes : ℕ
+    pub is : order_of known (slice_get events event) bank ≡ step.Access slot takes
+    pub none : takes ≡ 0
+
+  looks_at : (event slot : ℕ) (ms : List Move) → AllByRecursion (IsClaimOf event) ms → Looks slot (map step_of ms) → LooksAt event slot ms
+  looks_at event slot [] h l = absurd l
+  looks_at event slot (move.Claim e bank keys ∷ ms) h l = by_step (order_of known (slice_get events e) bank) refl l (looks_at event slot ms h.1)
+    where
+      later : LooksAt event slot ms → LooksAt event slot (move.Claim e bank keys ∷ ms)
+      later r = record { bank = r.bank; claimed = inr r.claimed; takes = r.takes; is = r.is; none = r.none }
+
+      by_step : (s : Step) → order_of known (slice_get events e) bank ≡ s → Looks slot (s ∷ map step_of ms) → (Looks slot (map step_of ms) → LooksAt event slot ms) → LooksAt event slot (move.Claim e bank keys ∷ ms)
+      by_step (step.Access other takes) q (inl l) rest = record { bank = bank; claimed = inl refl; takes = takes; is = ap (λ n. order_of known (slice_get events n) bank) (sym h.0) ∙ (q ∙ ap (λ n. step.Access n takes) l.0); none = l.1 }
+      by_step (step.Access other takes) q (inr l) rest = later (rest l)
+      by_step step.Other q l rest = later (rest l)
+      by_step step.Begin q l rest = later (rest l)
+      by_step step.Next q l rest = later (rest l)
+      by_step step.End q l rest = later (rest l)
+      by_step step.Back q l rest = later (rest l)
+  looks_at event slot (move.Begin ∷ ms) h l = absurd h.0
+  looks_at event slot (move.Next ∷ ms) h l = absurd h.0
+  looks_at event slot (move.End ∷ ms) h l = absurd h.0
+
+  at_looks : (event slot bank : ℕ) (ms : List Move) → AllByRecursion (IsClaimOf event) ms → Claims bank ms → order_of known (slice_get events event) bank ≡ step.Access slot 0 → Looks slot (map step_of ms)
+  at_looks event slot bank [] h c q = absurd c
+  at_looks event slot bank (move.Claim e other keys ∷ ms) h (inl c) q =
+      subst (λ (s : Step). Looks slot (s ∷ map step_of ms)) (sym (ap (λ n. order_of known (slice_get events n) other) h.0 ∙ (ap (order_of known (slice_get events event)) c ∙ q))) (inl (refl, refl))
+  at_looks event slot bank (move.Claim e other keys ∷ ms) h (inr c) q = behind (order_of known (slice_get events e) other) (at_looks event slot bank ms h.1 c q)
+    where
+      behind : (s : Step) → Looks slot (map step_of ms) → Looks slot (s ∷ map step_of ms)
+      behind (step.Access n takes) l = inr l
+      behind step.Other l = l
+      behind step.Begin l = l
+      behind step.Next l = l
+      behind step.End l = l
+      behind step.Back l = l
+  at_looks event slot bank (move.Begin ∷ ms) h c q = absurd h.0
+  at_looks event slot bank (move.Next ∷ ms) h c q = absurd h.0
+  at_looks event slot bank (move.End ∷ ms) h c q = absurd h.0
+
+  -- a step that takes of a slot
+  pub record TakesAt (event slot : ℕ) (ms : List Move) : Type 0 where
+    pub bank : ℕ
+    pub claimed : Claims bank ms
+    pub takes : ℕ
+    pub is : order_of known (slice_get events event) bank ≡ step.Access slot takes
+    pub some : 1 ≤ takes
+
+  takes_at : (event slot : ℕ) (ms : List Move) → AllByRecursion (IsClaimOf event) ms → 1 ≤ all_taken slot (map step_of ms) → TakesAt event slot ms
+  takes_at event slot [] h l = absurd (none_one l)
+  takes_at event slot (move.Claim e bank keys ∷ ms) h l = by_step (order_of known (slice_get events e) bank) refl l (takes_at event slot ms h.1)
+    where
+      only : (n : ℕ) → 1 ≤ 0 + n → 1 ≤ n
+      only n e = omega (arith, e)
+
+      later : TakesAt event slot ms → TakesAt event slot (move.Claim e bank keys ∷ ms)
+      later r = record { bank = r.bank; claimed = inr r.claimed; takes = r.takes; is = r.is; some = r.some }
+
+      by_slot : (other takes : ℕ) → order_of known (slice_get events e) bank ≡ step.Access other takes → ((other == slot) ≡ true) ⊎ ((other == slot) ≡ false) → (1 ≤ takes) ⊎ (takes ≤ 0) → 1 ≤ (if other == slot then takes else 0) + all_taken slot (map step_of ms) → (1 ≤ all_taken slot (map step_of ms) → TakesAt event slot ms) → TakesAt event slot (move.Claim e bank keys ∷ ms)
+      by_slot other takes q (inl f) (inl g) l rest = record { bank = bank; claimed = inl refl; takes = takes; is = ap (λ n. order_of known (slice_get events n) bank) (sym h.0) ∙ (q ∙ ap (λ n. step.Access n takes) (eqb-true other slot f)); some = g }
+      by_slot other takes q (inl f) (inr g) l rest = later (rest (none takes _ g (subst (λ (b : Bool). 1 ≤ (if b then takes else 0) + all_taken slot (map step_of ms)) f l)))
+        where
+          none : (t n : ℕ) → t ≤ 0 → 1 ≤ t + n → 1 ≤ n
+          none t n e f = omega (arith, e, f)
+      by_slot other takes q (inr f) g l rest = later (rest (only _ (subst (λ (b : Bool). 1 ≤ (if b then takes else 0) + all_taken slot (map step_of ms)) f l)))
+
+      by_step : (s : Step) → order_of known (slice_get events e) bank ≡ s → 1 ≤ all_taken slot (s ∷ map step_of ms) → (1 ≤ all_taken slot (map step_of ms) → TakesAt event slot ms) → TakesAt event slot (move.Claim e bank keys ∷ ms)
+      by_step (step.Access other takes) q l rest = by_slot other takes q (cases_Bool (other == slot)) (cases_lt 0 takes) l rest
+      by_step step.Other q l rest = later (rest (only _ l))
+      by_step step.Begin q l rest = later (rest (only _ l))
+      by_step step.Next q l rest = later (rest (only _ l))
+      by_step step.End q l rest = later (rest (only _ l))
+      by_step step.Back q l rest = later (rest (only _ l))
+  takes_at event slot (move.Begin ∷ ms) h l = absurd h.0
+  takes_at event slot (move.Next ∷ ms) h l = absurd h.0
+  takes_at event slot (move.End ∷ ms) h l = absurd h.0
+
+  at_takes : (event slot bank : ℕ) (ms : List Move) → AllByRecursion (IsClaimOf event) ms → Claims bank ms → order_of known (slice_get events event) bank ≡ step.Access slot 1 → 1 ≤ all_taken slot (map step_of ms)
+  at_takes event slot bank [] h c q = absurd c
+  at_takes event slot bank (move.Claim e other keys ∷ ms) h (inl c) q =
+      subst (λ (s : Step). 1 ≤ all_taken slot (s ∷ map step_of ms)) (sym (ap (λ n. order_of known (slice_get events n) other) h.0 ∙ (ap (order_of known (slice_get events event)) c ∙ q)))
+      (subst (λ (b : Bool). 1 ≤ (if b then 1 else 0) + all_taken slot (map step_of ms)) (sym (eq-eqb slot slot refl)) (some (all_taken slot (map step_of ms))))
+    where
+      some : (n : ℕ) → 1 ≤ 1 + n
+      some n = omega arith
+  at_takes event slot bank (move.Claim e other keys ∷ ms) h (inr c) q = behind (order_of known (slice_get events e) other) (at_takes event slot bank ms h.1 c q)
+    where
+      more : (a n : ℕ) → 1 ≤ n → 1 ≤ a + n
+      more a n e = omega (arith, e)
+
+      behind : (s : Step) → 1 ≤ all_taken slot (map step_of ms) → 1 ≤ all_taken slot (s ∷ map step_of ms)
+      behind s l = more (taken_by slot s) (all_taken slot (map step_of ms)) l
+  at_takes event slot bank (move.Begin ∷ ms) h c q = absurd h.0
+  at_takes event slot bank (move.Next ∷ ms) h c q = absurd h.0
+  at_takes event slot bank (move.End ∷ ms) h c q = absurd h.0
+
+-- The event of an access.
+
+touch_writes : (t u : Term) (a b : Bool) (s z : Site) → touches t a s ≡ touches u b z → a ≡ b
+touch_writes t u a b s z e = cc
+
+touch_site : (t u : Term) (a b : Bool) (s z : Site) → touches t a s ≡ touches u b z → s ≡ z
+touch_site t u a b s z e = cc
+
+seen_at : (es : List Event) (i : ℕ) → slice_get (all_seen es) i ≡ option_map event_seen (slice_get es i)
+seen_at [] i = refl
+seen_at (e ∷ es) zero = refl
+seen_at (e ∷ es) (suc i) = seen_at es i
+
+-- the step of a claim of an access, by its phase and whether it writes
+ordered : (known : List Key) (o : Option Event) (t : Term) (writes : Bool) (site : Site) (bank : ℕ) → option_map event_seen o ≡ Some (touches t writes site) → order_of known o bank ≡ step_in (slot_in known (bank_key site.phase bank)) (take_of writes)
+ordered known None t writes site bank e = cc
+ordered known (Some (event.Touch access w phase round element newest)) t writes site bank e =
+    ap (λ b. step_in (slot_in known (bank_key phase bank)) (take_of b)) (touch_writes _ _ _ _ _ _ (some_same _ _ e))
+    ∙ ap (λ (s : Site). step_in (slot_in known (bank_key s.phase bank)) (take_of writes)) (touch_site _ _ _ _ _ _ (some_same _ _ e))
+ordered known (Some (event.Assigned entity)) t writes site bank e = cc
+ordered known (Some event.ArmBegins) t writes site bank e = cc
+ordered known (Some event.ArmEnds) t writes site bank e = cc
+ordered known (Some event.Begins) t writes site bank e = cc
+ordered known (Some event.Next) t writes site bank e = cc
+ordered known (Some event.Ends) t writes site bank e = cc
+
+-- a write's key of its bank is known
+written_key : (known : List Key) (o : Option Event) (t : Term) (site : Site) (bank : ℕ) → option_map event_seen o ≡ Some (touches t true site) → IsWritten known o bank → (slot : ℕ) × (slice_get known slot ≡ Some (bank_key site.phase bank))
+written_key known None t site bank e h = absurd h
+written_key known (Some (event.Touch access true phase round element newest)) t site bank e h = (h.0, h.1 ∙ ap (λ (s : Site). Some (bank_key s.phase bank)) (touch_site _ _ _ _ _ _ (some_same _ _ e)))
+written_key known (Some (event.Touch access false phase round element newest)) t site bank e h = absurd (untrue (touch_writes _ _ _ _ _ _ (some_same _ _ e)))
   where
-    none_less : (n : ℕ) → 0 < suc n
-    none_less n = omega arith
+    untrue : false ≡ true → ⊥
+    untrue e = cc
+written_key known (Some (event.Assigned entity)) t site bank e h = cc
+written_key known (Some event.ArmBegins) t site bank e h = cc
+written_key known (Some event.ArmEnds) t site bank e h = cc
+written_key known (Some event.Begins) t site bank e h = cc
+written_key known (Some event.Next) t site bank e h = cc
+written_key known (Some event.Ends) t site bank e h = cc
 
-    more_less : (m n : ℕ) → m < n → suc m < suc n
-    more_less m n e = omega (arith, e)
+step_slot : (o : Option ℕ) (takes slot t : ℕ) → step_in o takes ≡ step.Access slot t → (o ≡ Some slot) × (takes ≡ t)
+step_slot None takes slot t e = cc
+step_slot (Some s) takes slot t e = (ap (λ x. Some x) (access_slot s slot takes t e), access_takes s slot takes t e)
+  where
+    access_slot : (s slot a b : ℕ) → step.Access s a ≡ step.Access slot b → s ≡ slot
+    access_slot s slot a b e = cc
 
-    by : (x : Bool) → bytes_eq a k ≡ x → (i : ℕ) → slice_get (k ∷ ks) i ≡ Some a → ((j : ℕ) → slice_get ks j ≡ Some a → first_place a ks < length ks) → (if x then 0 else suc (first_place a ks)) < suc (length ks)
-    by true g i e rest = none_less _
-    by false g zero e rest = absurd (clash (bytes_eq a k) (ap (λ n. bytes_eq a n) (one_some k a e) ∙ same_key a) g)
-    by false g (suc i) e rest = more_less _ _ (rest i e)
+    access_takes : (s slot a b : ℕ) → step.Access s a ≡ step.Access slot b → a ≡ b
+    access_takes s slot a b e = cc
 
-abbrev key_with : (phase memory bank : ℕ) → List ℕ
-key_with phase memory bank = phase ∷ memory ∷ bank ∷ []
+take_true : (w : Bool) (t : ℕ) → take_of w ≡ t → 1 ≤ t → w ≡ true
+take_true true t e f = refl
+take_true false t e f = absurd (none_one (subst (λ (n : ℕ). 1 ≤ n) (sym e) f))
 
-all_true : (a b c : Bool) → a ≡ true → b ≡ true → c ≡ true → (a && (b && c)) ≡ true
-all_true true b c e f g = (let h : (b && c) ≡ true = ap (λ x. x && c) f ∙ g in h)
-all_true false b c e f g = e
+take_false : (w : Bool) (t : ℕ) → take_of w ≡ t → t ≡ 0 → w ≡ false
+take_false true t e f = absurd (one_zero (e ∙ f))
+  where
+    one_zero : ◌≡◌ {A = ℕ} 1 0 → ⊥
+    one_zero e = omega (arith, e)
+take_false false t e f = refl
 
-key_test : (keys : List (List ℕ)) (i f m b g n c : ℕ) → slice_get keys i ≡ Some (key_with f m b) → (first_place (key_with f m b) keys == first_place (key_with g n c) keys) ≡ ((f == g) && ((m == n) && (b == c)))
-key_test keys i f m b g n c e = elim (cases_Bool ((f == g) && ((m == n) && (b == c)))) [
-  | inl h ↦
-      let x = both_are (f == g) ((m == n) && (b == c)) h in
-      let y = both_are (m == n) (b == c) x.1 in
-      let same : key_with f m b ≡ key_with g n c = ap (λ k. key_with k m b) (eqb-true f g x.0) ∙ (ap (λ k. key_with g k b) (eqb-true m n y.0) ∙ ap (λ k. key_with g n k) (eqb-true b c y.1)) in
-      eq-eqb _ _ (ap (λ k. first_place k keys) same) ∙ sym h
-  | inr h ↦ elim (cases_Bool (first_place (key_with f m b) keys == first_place (key_with g n c) keys)) [
-    | inl k ↦
-        let same = place_same keys (key_with f m b) (key_with g n c) i e (eqb-true _ _ k) in
-        absurd (clash ((f == g) && ((m == n) && (b == c))) (all_true (f == g) (m == n) (b == c) (eq-eqb f g (ap (λ l. slice_index l 0) same)) (eq-eqb m n (ap (λ l. slice_index l 1) same)) (eq-eqb b c (ap (λ l. slice_index l 2) same))) h)
-    | inr k ↦ k ∙ sym h
-  ]
-]
+access_writes : (loops : List Counter) (b : Bool) (t : Term) → (access_of loops b t).writes ≡ b
+access_writes loops b (term place kind form) = refl
 
-abbrev one_if : Bool → ℕ
-one_if b = if b then 1 else 0
+key_phase : (f g b c : ℕ) → bank_key f b ≡ bank_key g c → f ≡ g
+key_phase f g b c e = ap (λ (k : Key). k.phase) e
 
-no_amount : (b : Bool) → one_if (b && false) ≡ 0
-no_amount true = refl
-no_amount false = refl
+key_bank : (f g b c : ℕ) → bank_key f b ≡ bank_key g c → b ≡ c
+key_bank f g b c e = ap (λ (k : Key). k.element) e
 
-same_charge : (writes phase memory bank : Bool) → one_if ((writes && phase) && (memory && bank)) ≡ one_if ((phase && (memory && bank)) && (true && writes))
-same_charge true true true true = refl
-same_charge true true true false = refl
-same_charge true true false bank = refl
-same_charge true false memory bank = refl
-same_charge false true true true = refl
-same_charge false true true false = refl
-same_charge false true false bank = refl
-same_charge false false memory bank = refl
+-- a write that is charged
+pub record Charged (p : Program) (memory bank read number : ℕ) : Type 0 where
+  pub access : SourceAccess
+  pub is : slice_get (accesses_in (trace p)) number ≡ Some access
+  pub writes : access.writes ≡ true
+  pub phase : in_one_phase p number read ≡ true
+  pub reached : can_reach p access memory bank ≡ true
 
-of_not : (b : Bool) → not b ≡ true → b ≡ false
-of_not true e = cc
-of_not false e = refl
+charged_is : (p : Program) (memory bank read number : ℕ) → 1 ≤ write_charge p memory bank read number → Charged p memory bank read number
+charged_is p memory bank read number h = by_access (slice_get (accesses_in (trace p)) number) refl h
+  where
+    by_test : (a : SourceAccess) → slice_get (accesses_in (trace p)) number ≡ Some a → (x y z : Bool) → a.writes ≡ x → in_one_phase p number read ≡ y → can_reach p a memory bank ≡ z → 1 ≤ (if (x && y) && z then 1 else 0) → Charged p memory bank read number
+    by_test a e true true true f g i h = record { access = a; is = e; writes = f; phase = g; reached = i }
+    by_test a e true true false f g i h = absurd (none_one h)
+    by_test a e true false z f g i h = absurd (none_one h)
+    by_test a e false y z f g i h = absurd (none_one h)
 
-module _ (p : Program) (fits : (k : ℕ) (x : Access) → slice_get (accesses_in (trace p)) k ≡ Some x → IsWithin p x) (phases : TellsPhases p.body) where
+    by_access : (o : Option SourceAccess) → slice_get (accesses_in (trace p)) number ≡ o → 1 ≤ write_of p memory bank read number o → Charged p memory bank read number
+    by_access None e h = absurd (none_one h)
+    by_access (Some a) e h = by_test a e a.writes (in_one_phase p number read) (can_reach p a memory bank) refl refl refl h
+
+is_charged : (p : Program) (memory bank read number : ℕ) → Charged p memory bank read number → 1 ≤ write_charge p memory bank read number
+is_charged p memory bank read number c =
+    subst (λ (n : ℕ). 1 ≤ n)
+    (sym (ap (λ o. write_of p memory bank read number o) c.is
+    ∙ (ap (λ b. if (b && in_one_phase p number read) && can_reach p c.access memory bank then 1 else 0) c.writes
+    ∙ (ap (λ b. if b && can_reach p c.access memory bank then 1 else 0) c.phase ∙ ap (λ b. if b then 1 else 0) c.reached)))) one
+  where
+    one : 1 ≤ 1
+    one = omega arith
+
+-- Late reads.
+
+module _ (p : Program) (events : List Event) (h0 : IsToldBefore p) (loops : TellsLoops p) (phases : TellsPhases p) (are : AreEventsOf p events) (late : List Breach) (finds : FindsLate events (moves_from p (loops_known p) 0 (all_seen events)) late) where
   abbrev xs : List Incident
-  xs = events p
+  xs = all_seen events
 
-  abbrev rs : List (Option Reach)
-  rs = map (reach_of p) xs
+  w : IsWhole p (all_seen events)
+  w = whole_is p (all_seen events) loops are.seen
 
-  abbrev keys : List (List ℕ)
-  keys = order_keys rs xs
+  abbrev steps_of : ℕ → List Step
+  steps_of k = map (order_step finds.known events) (nth_claims (claim_lists p (loops_known p) 0 (all_seen events)) k)
 
-  abbrev slots : List ℕ
-  slots = classes_of keys
+  abbrev takes : (slot k : ℕ) → ℕ
+  takes slot k = all_taken slot (steps_of k)
 
-  abbrev charges : List Charge
-  charges = order_charges rs slots xs
+  abbrev levels : ℕ → Level
+  levels slot = start (slice_index (replicate (length finds.known) 1) slot)
 
-  abbrev ones : List ℕ
-  ones = replicate (length xs) 1
+  -- the event of an access, and the steps of its claims
+  module _ (k : ℕ) (a : SourceAccess) (e : slice_get (accesses_in (trace p)) k ≡ Some a) where
+    abbrev at : AccessAt p (all_seen events) k a
+    at = access_at p (all_seen events) w k a e
 
-  abbrev pub lefts : List ℕ
-  lefts = lefts_of (λ s. start (slice_index ones s)) (spending_steps charges xs)
+    abbrev site : Site
+    site = (access_at p (all_seen events) w k a e).touch.site
 
-  abbrev flags : List Bool
-  flags = late_flags rs lefts xs
+    abbrev event_at : ℕ
+    event_at = event_of (all_seen events) k
 
-  rs_long : length rs ≡ length xs
-  rs_long = length-map _ _
+    writes_is : (access_at p (all_seen events) w k a e).touch.writes ≡ a.writes
+    writes_is = sym (access_writes (loops_known p site.round) at.touch.writes at.touch.access) ∙ ap (λ (x : SourceAccess). x.writes) at.same
 
-  slots_long : length slots ≡ length xs
-  slots_long = length-map _ _ ∙ keys_long rs xs rs_long
+    seen_is : option_map event_seen (slice_get events (event_of (all_seen events) k)) ≡ Some (touches at.touch.access a.writes site)
+    seen_is = sym (seen_at events event_at) ∙ (at.touch.stands ∙ ap (λ b. Some (touches at.touch.access b site)) writes_is)
 
-  charges_are_long : length charges ≡ length xs
-  charges_are_long = charges_long rs slots xs rs_long slots_long
+    order_is : (bank : ℕ) → order_of finds.known (slice_get events (event_of (all_seen events) k)) bank ≡ step_in (slot_in finds.known (bank_key site.phase bank)) (take_of a.writes)
+    order_is bank = ordered finds.known (slice_get events event_at) at.touch.access a.writes site bank seen_is
 
-  lefts_are_long : length lefts ≡ length xs
-  lefts_are_long = lefts_long _ _ ∙ steps_long charges xs charges_are_long
+    sited : slice_get (sites_in (happenings_of p)) k ≡ Some site
+    sited = ap (λ l. slice_get (sites_in l) k) (sym are.seen) ∙ at.touch.sited
 
-  flags_are_long : length flags ≡ length xs
-  flags_are_long = flags_long rs lefts xs rs_long lefts_are_long
+    own : AllByRecursion (IsClaimOf (event_of (all_seen events) k)) (nth_claims (claim_lists p (loops_known p) 0 (all_seen events)) k)
+    own = subst (λ (ms : List Move). AllByRecursion (IsClaimOf (event_of (all_seen events) k)) ms) (sym at.claims) (all_claims p event_at a)
 
-  abbrev touch : (k : ℕ) → Noted p k → Incident
-  touch k n = touches n.access.place n.access.entity n.access.target n.access.writes n.phase
+    -- what is claimed
+    pub claimed_at : (slot : ℕ) → Claims slot (nth_claims (claim_lists p (loops_known p) 0 (all_seen events)) k) → Claimed p slot a
+    claimed_at slot c = claimed p event_at slot a (subst (λ (ms : List Move). Claims slot ms) at.claims c)
 
-  reach_is : (k : ℕ) (n : Noted p k) → slice_get rs (event_of xs k) ≡ Some (reach_seen p n.access)
-  reach_is k n = slice_get-map (reach_of p) xs (event_of xs k) ∙ ap (option_map (reach_of p)) n.event
+    pub at_claimed : (slot : ℕ) → Claimed p slot a → Claims slot (nth_claims (claim_lists p (loops_known p) 0 (all_seen events)) k)
+    at_claimed slot c = subst (λ (ms : List Move). Claims slot ms) (sym at.claims) (claims_back p event_at slot a c)
 
-  key_is : (k : ℕ) (n : Noted p k) → slice_get keys (event_of xs k) ≡ Some (order_key (reach_seen p n.access) (touch k n))
-  key_is k n = keys_at rs xs (event_of xs k) (reach_seen p n.access) (touch k n) (reach_is k n) n.event
+  phase_told : (j k : ℕ) (b a : SourceAccess) (f : slice_get (accesses_in (trace p)) j ≡ Some b) (e : slice_get (accesses_in (trace p)) k ≡ Some a) → in_one_phase p j k ≡ ((site j b f).phase == (site k a e).phase)
+  phase_told j k b a f e = phases j k (site j b f) (site k a e) (sited j b f) (sited k a e)
 
-  charge_at : (k : ℕ) (n : Noted p k) → slice_get (at_touches charges xs) k ≡ Some (order_charge (reach_seen p n.access) (first_place (order_key (reach_seen p n.access) (touch k n)) keys) (touch k n))
-  charge_at k n =
-      at_event charges xs k charges_are_long n.within
-      ∙ charges_at rs slots xs (event_of xs k) (reach_seen p n.access) _ (touch k n) (reach_is k n) (slice_get-map (λ l. first_place l keys) keys (event_of xs k) ∙ ap (option_map (λ l. first_place l keys)) (key_is k n)) n.event
+  -- a bank of a memory by its place among all
+  bank_place : (memory number bank slot : ℕ) (a b : SourceAccess) (c : Claimed p slot a) (r : Reaching p b c.memory c.bank) → base_of (table_of p) r.number + c.bank ≡ slot
+  bank_place memory number bank slot a b c r = ap (λ n. base_of (table_of p) n + c.bank) (some_same r.number c.number (sym r.known ∙ c.known)) ∙ sym c.is
 
-  module _ (k : ℕ) (n : Noted p k) (r : Reach) (e : reach_seen p n.access ≡ Some r) (q : Reached p n.access r.memory r.bank) where
-    abbrev key : List ℕ
-    key = key_with n.phase r.memory r.bank
+  -- a read, with the slot of the key of a bank that it claims
+  module _ (k : ℕ) (a : SourceAccess) (e : slice_get (accesses_in (trace p)) k ≡ Some a) (reads : a.writes ≡ false) (slot place : ℕ) (c : Claimed p place a)
+      (keyed : slice_get finds.known slot ≡ Some (bank_key (site k a e).phase place)) where
+    -- what takes of the slot is a write of the bank in the phase
+    taken_charged : (j : ℕ) → 1 ≤ takes slot j → 1 ≤ write_charge p c.memory c.bank k j
+    taken_charged j h = elim (cases_lt j (count (all_seen events))) [
+      | inl less ↦
+          let b = access_there p (all_seen events) w j less in
+          let t = takes_at finds.known events (event_of (all_seen events) j) slot (nth_claims (claim_lists p (loops_known p) 0 (all_seen events)) j) (own j b.0 b.1) h in
+          let s = step_slot (slot_in finds.known (bank_key (site j b.0 b.1).phase t.bank)) (take_of b.0.writes) slot t.takes (sym (order_is j b.0 b.1 t.bank) ∙ t.is) in
+          let keys : bank_key (site j b.0 b.1).phase t.bank ≡ bank_key (site k a e).phase place = some_same _ _ (sym (slot_found finds.known (bank_key (site j b.0 b.1).phase t.bank) slot s.0) ∙ keyed) in
+          let d = claimed_at j b.0 b.1 place (subst (λ (n : ℕ). Claims n (nth_claims (claim_lists p (loops_known p) 0 (all_seen events)) j)) (key_bank _ _ _ _ keys) t.claimed) in
+          let one = one_bank p place b.0 a d c in
+          is_charged p c.memory c.bank k j (record {
+            access = b.0;
+            is = b.1;
+            writes = take_true b.0.writes t.takes s.1 t.some;
+            phase = phase_told j k b.0 a b.1 e ∙ eq-eqb _ _ (key_phase _ _ _ _ keys);
+            reached = ap (λ m. can_reach p b.0 m c.bank) (sym one.0) ∙ (ap (λ n. can_reach p b.0 d.memory n) (sym one.1) ∙ claimed_reaches p place b.0 d);
+          })
+      | inr more ↦ absurd (none_one (subst (λ (ms : List Move). 1 ≤ all_taken slot (map (order_step finds.known events) ms)) (none_claims p (loops_known p) 0 (all_seen events) j more) h))
+    ]
 
-    key_here : slice_get keys (event_of xs k) ≡ Some key
-    key_here = key_is k n ∙ ap (λ o. Some (order_key o (touch k n))) e
+    -- and a write of the bank in the phase takes of it
+    charged_taken : (j : ℕ) → 1 ≤ write_charge p c.memory c.bank k j → 1 ≤ takes slot j
+    charged_taken j h =
+        let x = charged_is p c.memory c.bank k j h in
+        let r = reaching p x.access c.memory c.bank (bounds_of p h0 j x.access x.is) x.reached in
+        let d : Claimed p place x.access = subst (λ (n : ℕ). Claimed p n x.access) (bank_place c.memory c.number c.bank place a x.access c r) (reaching_claims p x.access c.memory c.bank r) in
+        let phase : (site j x.access x.is).phase ≡ (site k a e).phase = eqb-true _ _ (sym (phase_told j k x.access a x.is e) ∙ x.phase) in
+        at_takes finds.known events (event_of (all_seen events) j) slot place (nth_claims (claim_lists p (loops_known p) 0 (all_seen events)) j) (own j x.access x.is) (at_claimed j x.access x.is place d)
+        (order_is j x.access x.is place
+        ∙ (ap (λ f. step_in (slot_in finds.known (bank_key f place)) (take_of x.access.writes)) phase
+        ∙ (ap (λ o. step_in o (take_of x.access.writes)) (slot_is finds.known finds.distinct (bank_key (site k a e).phase place) slot keyed) ∙ ap (λ b. step.Access slot (take_of b)) x.writes)))
 
-    amount_is : (j : ℕ) (m : Noted p j) → one_if ((m.access.writes && in_one_phase m.access.spot.command n.access.spot.command p.body) && reaches p m.access q.entity r.bank)
-        ≡ amount (first_place key keys) (order_charge (reach_seen p m.access) (first_place (order_key (reach_seen p m.access) (touch j m)) keys) (touch j m))
-    amount_is j m = by (reach_seen p m.access) refl
+    takes_none : takes slot k ≡ 0
+    takes_none = by_taken (cases_lt 0 (takes slot k))
       where
-        by : (o : Option Reach) → reach_seen p m.access ≡ o → one_if ((m.access.writes && in_one_phase m.access.spot.command n.access.spot.command p.body) && reaches p m.access q.entity r.bank) ≡ amount (first_place key keys) (order_charge (reach_seen p m.access) (first_place (order_key (reach_seen p m.access) (touch j m)) keys) (touch j m))
-        by None f =
-            ap (λ b. one_if ((m.access.writes && in_one_phase m.access.spot.command n.access.spot.command p.body) && b)) (not_reached p m.access (fits j m.access m.is) f q.entity r.bank)
-            ∙ (no_amount (m.access.writes && in_one_phase m.access.spot.command n.access.spot.command p.body)
-            ∙ (sym (no_amount (first_place [] keys == first_place key keys)) ∙ sym (ap (λ o. amount (first_place key keys) (order_charge o (first_place (order_key o (touch j m)) keys) (touch j m))) f)))
-        by (Some s) f =
-            ap (λ b. one_if ((m.access.writes && in_one_phase m.access.spot.command n.access.spot.command p.body) && b)) (reached_test p m.access (fits j m.access m.is) s f q.entity r.memory r.bank q.known)
-            ∙ (ap (λ b. one_if ((m.access.writes && b) && ((s.memory == r.memory) && (s.bank == r.bank)))) (phases j k m.access n.access m.phase n.phase m.is n.is m.phased n.phased)
-            ∙ (same_charge m.access.writes (m.phase == n.phase) (s.memory == r.memory) (s.bank == r.bank)
-            ∙ (ap (λ b. one_if (b && (true && m.access.writes))) (sym (key_test keys (event_of xs j) m.phase s.memory s.bank n.phase r.memory r.bank (key_is j m ∙ ap (λ o. Some (order_key o (touch j m))) f)))
-            ∙ sym (ap (λ o. amount (first_place key keys) (order_charge o (first_place (order_key o (touch j m)) keys) (touch j m))) f))))
+        zero_of : (n : ℕ) → n ≤ 0 → n ≡ 0
+        zero_of n e = omega (arith, e)
 
-    matches : Matches (write_charge p q.entity r.bank n.access) (first_place key keys) 0 (at_touches charges xs)
-    matches j ch f =
-        let m = noted_at p j (at_within charges xs j ch f) in
-        ap (write_charge p q.entity r.bank n.access) (plus_none j)
-        ∙ (ap (λ o. write_of p q.entity r.bank n.access o) m.is ∙ (amount_is j m ∙ ap (amount (first_place key keys)) (one_some _ _ (sym (charge_at j m) ∙ f))))
+        clash : (b : Bool) → b ≡ true → b ≡ false → ⊥
+        clash b e f = cc
+
+        by_taken : (0 < takes slot k) ⊎ (takes slot k ≤ 0) → takes slot k ≡ 0
+        by_taken (inl h) =
+            let x = charged_is p c.memory c.bank k k (taken_charged k (some (takes slot k) h)) in
+            absurd (clash a.writes (ap (λ (y : SourceAccess). y.writes) (some_same _ _ (sym e ∙ x.is)) ∙ x.writes) reads)
+          where
+            some : (n : ℕ) → 0 < n → 1 ≤ n
+            some n e = omega (arith, e)
+        by_taken (inr h) = zero_of (takes slot k) h
+
+    left_is : before_at (takes slot) 0 (levels slot) (all_seen events) k ≡ 1 - upto (takes slot) k (meets_in p)
+    left_is =
+        (w.ties (takes slot)).during (levels slot) k (access_in p k a e)
+        ∙ (ap (λ n. n - (upto (takes slot) k (meets_in p) - takes slot k)) (get_or-replicate (length finds.known) slot 1 0 (slice_get_within finds.known slot _ keyed))
+        ∙ ap (λ n. 1 - n) (ap (λ n. upto (takes slot) k (meets_in p) - n) takes_none ∙ less_none (upto (takes slot) k (meets_in p))))
       where
-        plus_none : (j : ℕ) → 0 + j ≡ j
-        plus_none j = omega arith
-
-    none_charged : n.access.writes ≡ false → write_charge p q.entity r.bank n.access k ≡ 0
-    none_charged f = ap (λ o. write_of p q.entity r.bank n.access o) n.is ∙ ap (λ b. one_if ((b && in_one_phase n.access.spot.command n.access.spot.command p.body) && reaches p n.access q.entity r.bank)) f
-
-    one_there : slice_index ones (first_place key keys) ≡ 1
-    one_there = get_or-replicate (length xs) (first_place key keys) 1 0 (at_length _ _ _ (keys_long rs xs rs_long) (place_within keys key (event_of xs k) key_here))
-      where
-        at_length : (k m n : ℕ) → m ≡ n → k < m → k < n
-        at_length k m n e f = omega (arith, e, f)
-
-    left_is : n.access.writes ≡ false → slice_get lefts (event_of xs k) ≡ Some (1 - upto (write_charge p q.entity r.bank n.access) k (meets_in p))
-    left_is f =
-        let c : ℕ → ℕ = write_charge p q.entity r.bank n.access in
-        sym (at_event lefts xs k lefts_are_long n.within)
-        ∙ (lefts_found (write_charge p q.entity r.bank n.access) (first_place key keys) 0 (λ s. start (slice_index ones s)) charges xs matches k (order_charge (Some r) (first_place key keys) (touch k n))
-        (charge_at k n ∙ ap (λ o. Some (order_charge o (first_place (order_key o (touch k n)) keys) (touch k n))) e) refl
-        ∙ (ap (λ j. Some (before_at (write_charge p q.entity r.bank n.access) 0 (start (slice_index ones (first_place key keys))) xs j)) (plus_none k)
-        ∙ (ap (λ v. Some v) ((action_ties (write_charge p q.entity r.bank n.access) [] 0 None p.body).during (start (slice_index ones (first_place key keys))) k (access_in p k n.access n.is))
-        ∙ (ap (λ v. Some (v - (upto (write_charge p q.entity r.bank n.access) k (meets_in p) - write_charge p q.entity r.bank n.access k))) one_there
-        ∙ ap (λ v. Some (1 - v)) (ap (λ v. upto (write_charge p q.entity r.bank n.access) k (meets_in p) - v) (none_charged f) ∙ less_none _)))))
-      where
-        plus_none : (j : ℕ) → 0 + j ≡ j
-        plus_none j = omega arith
-
         less_none : (n : ℕ) → n - 0 ≡ n
         less_none n = omega arith
 
-  flag_is : (k : ℕ) (n : Noted p k) (l : ℕ) → slice_get lefts (event_of xs k) ≡ Some l → slice_get (at_touches flags xs) k ≡ Some (is_late (reach_seen p n.access) l (touch k n))
-  flag_is k n l e = at_event flags xs k flags_are_long n.within ∙ flags_at rs lefts xs (event_of xs k) _ l (touch k n) (reach_is k n) e n.event
+    -- nothing is left exactly where a write comes before
+    gone_meets : before_at (takes slot) 0 (levels slot) (all_seen events) k ≡ 0 → 1 ≤ upto (write_charge p c.memory c.bank k) k (meets_in p)
+    gone_meets g =
+        let m = found_meeting (takes slot) (meets_in p) k (whole p).distinct (access_in p k a e) takes_none (some (upto (takes slot) k (meets_in p)) (sym left_is ∙ g)) in
+        meeting_found (write_charge p c.memory c.bank k) (meets_in p) k (whole p).distinct (access_in p k a e) (record { number = m.number; charged = taken_charged m.number m.charged; before = m.before; meet = m.meet })
+      where
+        some : (n : ℕ) → 1 - n ≡ 0 → 1 ≤ n
+        some n e = omega (arith, e)
 
-  left_there : (k : ℕ) (n : Noted p k) → (l : ℕ) × (slice_get lefts (event_of xs k) ≡ Some l)
-  left_there k n = there_is lefts (event_of xs k) (at_length _ _ _ lefts_are_long (slice_get_within xs (event_of xs k) _ n.event))
+    meets_gone : Meeting (write_charge p c.memory c.bank k) (meets_in p) k → before_at (takes slot) 0 (levels slot) (all_seen events) k ≡ 0
+    meets_gone m =
+        left_is
+        ∙ none (upto (takes slot) k (meets_in p))
+        (meeting_found (takes slot) (meets_in p) k (whole p).distinct (access_in p k a e) (record { number = m.number; charged = charged_taken m.number m.charged; before = m.before; meet = m.meet }))
+      where
+        none : (n : ℕ) → 1 ≤ n → 1 - n ≡ 0
+        none n e = omega (arith, e)
+
+  abbrev left : (slot k : ℕ) → ℕ
+  left slot k = before_at (takes slot) 0 (levels slot) (all_seen events) k
+
+  -- the access of a place
+  there : (k : ℕ) (place : Place) → option_map (λ (t : Touched). t.place) (slice_get (touched (all_seen events)) k) ≡ Some place → (a : SourceAccess) × ((slice_get (accesses_in (trace p)) k ≡ Some a) × (a.place ≡ place))
+  there k place e = by_access (slice_get (accesses_in (trace p)) k) refl (sym (ap (option_map (λ (t : Touched). t.place)) (ap (λ l. slice_get l k) w.touched_all ∙ slice_get-map of_access (accesses_in (trace p)) k)) ∙ e)
     where
-      at_length : (k m n : ℕ) → m ≡ n → k < n → k < m
-      at_length k m n e f = omega (arith, e, f)
+      by_access : (o : Option SourceAccess) → slice_get (accesses_in (trace p)) k ≡ o → option_map (λ (t : Touched). t.place) (option_map of_access o) ≡ Some place → (a : SourceAccess) × ((slice_get (accesses_in (trace p)) k ≡ Some a) × (a.place ≡ place))
+      by_access None f g = cc
+      by_access (Some a) f g = (a, (f, some_same _ _ g))
 
-  late_at_flag : (k : ℕ) (n : Noted p k) (o : Option Reach) → reach_seen p n.access ≡ o → (l : ℕ) → slice_get lefts (event_of xs k) ≡ Some l → is_late o l (touch k n) ≡ true → IsLate p k
-  late_at_flag k n None e l at f = cc
-  late_at_flag k n (Some r) e l at f =
-      let q = reached_is p n.access r e in
-      let h = both_are (not n.access.writes) (l == 0) f in
-      let reads = of_not n.access.writes h.0 in
-      let left = left_is k n r e q reads in
+  late_found : (k slot : ℕ) (a : SourceAccess) (e : slice_get (accesses_in (trace p)) k ≡ Some a) → Looks slot (steps_of k) → left slot k ≡ 0 → FindsWrite p a.place
+  late_found k slot a e looks gone =
+      let l = looks_at finds.known events (event_of (all_seen events) k) slot (nth_claims (claim_lists p (loops_known p) 0 (all_seen events)) k) (own k a e) looks in
+      let s = step_slot (slot_in finds.known (bank_key (site k a e).phase l.bank)) (take_of a.writes) slot l.takes (sym (order_is k a e l.bank) ∙ l.is) in
+      let reads : a.writes ≡ false = take_false a.writes l.takes s.1 l.none in
+      let c = claimed_at k a e l.bank l.claimed in
       record {
-        later = n.access;
-        memory = q.entity;
-        bank = r.bank;
-        reads = n.is;
+        read = k;
+        later = a;
+        memory = c.memory;
+        bank = c.bank;
+        reads = e;
         read_is = reads;
-        reached = then_reaches p n.access r.memory r.bank q;
-        found = some (upto (write_charge p q.entity r.bank n.access) k (meets_in p)) (one_some _ _ (sym left ∙ at) ∙ eqb-true l 0 h.1);
+        stands = refl;
+        reached = claimed_reaches p l.bank a c;
+        found = gone_meets k a e reads slot l.bank c (slot_found finds.known (bank_key (site k a e).phase l.bank) slot s.0) gone;
+      }
+
+  abbrev LateAt : Breach → Type 0
+  LateAt b = Late finds.known events p (loops_known p) steps_of left 0 (touched (all_seen events)) b
+
+  from_late : (place : Place) → LateAt (breach rule.ReadAfterWrite place) → ReadsAfterWrite p place
+  from_late place r =
+      let number_is : r.number ≡ r.behind = r.is ∙ from_none r.behind in
+      let a = there r.behind r.place r.stands in
+      let same : r.place ≡ place = sym (ap (λ (b : Breach). b.place) r.breaks) in
+      finds_is p place (subst (λ (q : Place). FindsWrite p q) (a.1.1 ∙ same) (late_found r.number r.slot a.0 (ap (slice_get (accesses_in (trace p))) number_is ∙ a.1.0) r.looks r.gone))
+    where
+      from_none : (n : ℕ) → 0 + n ≡ n
+      from_none n = omega arith
+
+  to_late : (place : Place) → FindsWrite p place → LateAt (breach rule.ReadAfterWrite place)
+  to_late place f =
+      let k = f.read in
+      let a = f.later in
+      let m = found_meeting (write_charge p f.memory f.bank f.read) (meets_in p) f.read (whole p).distinct (access_in p f.read f.later f.reads) (free f.later f.reads f.read_is) f.found in
+      let x = charged_is p f.memory f.bank f.read m.number m.charged in
+      let r = reaching p f.later f.memory f.bank (bounds_of p h0 f.read f.later f.reads) f.reached in
+      let c = reaching_claims p f.later f.memory f.bank r in
+      let q = reaching p x.access f.memory f.bank (bounds_of p h0 m.number x.access x.is) x.reached in
+      let numbers : q.number ≡ r.number = some_same q.number r.number (sym q.known ∙ r.known) in
+      let d : Claimed p (base_of (table_of p) r.number + f.bank) x.access = subst (λ (n : ℕ). Claimed p (base_of (table_of p) n + f.bank) x.access) numbers (reaching_claims p x.access f.memory f.bank q) in
+      let written = claim_there (IsNoted finds.known events) (event_of (all_seen events) m.number) (base_of (table_of p) r.number + f.bank) (nth_claims (claim_lists p (loops_known p) 0 (all_seen events)) m.number) (own m.number x.access x.is)
+      (claims_all (IsNoted finds.known events) p (loops_known p) 0 (all_seen events) finds.written m.number) (at_claimed m.number x.access x.is (base_of (table_of p) r.number + f.bank) d) in
+      let key = written_key finds.known (slice_get events (event_of (all_seen events) m.number)) (at m.number x.access x.is).touch.access (site m.number x.access x.is) (base_of (table_of p) r.number + f.bank) (seen_is m.number x.access x.is ∙ ap (λ b. Some (touches (at m.number x.access x.is).touch.access b (site m.number x.access x.is))) x.writes) written.1 in
+      let phase : (site m.number x.access x.is).phase ≡ (site f.read f.later f.reads).phase = eqb-true _ _ (sym (phase_told m.number f.read x.access f.later x.is f.reads) ∙ x.phase) in
+      let keyed : slice_get finds.known key.0 ≡ Some (bank_key (site f.read f.later f.reads).phase (base_of (table_of p) r.number + f.bank)) = key.1 ∙ ap (λ g. Some (bank_key g (base_of (table_of p) r.number + f.bank))) phase in
+      record {
+        number = f.read;
+        behind = f.read;
+        is = from_none f.read;
+        place = f.later.place;
+        stands = ap (option_map (λ (t : Touched). t.place)) (ap (λ l. slice_get l f.read) w.touched_all ∙ (slice_get-map of_access (accesses_in (trace p)) f.read ∙ ap (option_map of_access) f.reads));
+        breaks = ap (λ q. breach rule.ReadAfterWrite q) (sym f.stands);
+        slot = key.0;
+        looks = at_looks finds.known events (event_of (all_seen events) f.read) key.0 (base_of (table_of p) r.number + f.bank) (nth_claims (claim_lists p (loops_known p) 0 (all_seen events)) f.read) (own f.read f.later f.reads)
+            (at_claimed f.read f.later f.reads (base_of (table_of p) r.number + f.bank) c)
+            (order_is f.read f.later f.reads (base_of (table_of p) r.number + f.bank)
+            ∙ (ap (λ o. step_in o (take_of f.later.writes)) (slot_is finds.known finds.distinct (bank_key (site f.read f.later f.reads).phase (base_of (table_of p) r.number + f.bank)) key.0 keyed) ∙ ap (λ b. step.Access key.0 (take_of b)) f.read_is));
+        gone = meets_gone f.read f.later f.reads f.read_is key.0 (base_of (table_of p) r.number + f.bank) c keyed m;
       }
     where
-      some : (n : ℕ) → 1 - n ≡ 0 → 1 ≤ n
-      some n e = omega (arith, e)
+      from_none : (n : ℕ) → n ≡ 0 + n
+      from_none n = omega arith
 
-  flag_at_late : (k : ℕ) (n : Noted p k) (memory bank : ℕ) → n.access.writes ≡ false → reaches p n.access memory bank ≡ true → 1 ≤ upto (write_charge p memory bank n.access) k (meets_in p) → slice_get (at_touches flags xs) k ≡ Some true
-  flag_at_late k n memory bank reads reached found =
-      let g = reaching_is p n.access (fits k n.access n.is) memory bank reached in
-      let q = reached_is p n.access (reach g.number bank) g.seen in
-      let same : q.entity ≡ memory = one_some _ _ (sym q.is ∙ g.is) in
-      let left = left_is k n (reach g.number bank) g.seen q reads ∙ ap (λ e. Some (1 - upto (write_charge p e bank n.access) k (meets_in p))) same in
-      flag_is k n _ left
-      ∙ (ap (λ o. Some (is_late o (1 - upto (write_charge p memory bank n.access) k (meets_in p)) (touch k n))) g.seen
-      ∙ (ap (λ b. Some ((true && not b) && (1 - upto (write_charge p memory bank n.access) k (meets_in p) == 0))) reads
-      ∙ ap (λ b. Some b) (eq-eqb _ 0 (none_left _ found))))
+      free : (later : SourceAccess) → slice_get (accesses_in (trace p)) f.read ≡ Some later → later.writes ≡ false → write_charge p f.memory f.bank f.read f.read ≡ 0
+      free later e g = ap (λ o. write_of p f.memory f.bank f.read f.read o) e ∙ ap (λ b. if (b && in_one_phase p f.read f.read) && can_reach p later f.memory f.bank then 1 else 0) g
+
+  pub told : TellsLate p late
+  told place = (
+    λ c. from_late place ((walked (breach rule.ReadAfterWrite place)).0 (subst (λ (l : List Breach). Contains l (breach rule.ReadAfterWrite place)) late_is c)),
+    λ r. subst (λ (l : List Breach). Contains l (breach rule.ReadAfterWrite place)) (sym late_is) ((walked (breach rule.ReadAfterWrite place)).1 (to_late place (is_found p place r))),
+  )
     where
-      none_left : (n : ℕ) → 1 ≤ n → 1 - n ≡ 0
-      none_left n e = omega (arith, e)
+      from_none : (j : ℕ) → 0 + j ≡ j
+      from_none j = omega arith
 
-  pub told : TellsLate p flags
-  told = record { long = flags_are_long; right = λ k e. right_at k e; all = λ k i s. all_at k s }
-    where
-      true_of : (a b : Bool) → Some a ≡ Some b → b ≡ true → a ≡ true
-      true_of a b e f = cc
+      late_is : late ≡ scan (all_seen events) levels (moves_from p (loops_known p) 0 (all_seen events)) (map (order_step finds.known events) (moves_from p (loops_known p) 0 (all_seen events)))
+      late_is = finds.told ∙ ap (λ ss. scan (all_seen events) levels (moves_from p (loops_known p) 0 (all_seen events)) ss) (orders_are finds.known finds.distinct events (moves_from p (loops_known p) 0 (all_seen events)) finds.steps finds.ordering)
 
-      right_at : (k : ℕ) → slice_get (at_touches flags xs) k ≡ Some true → IsLate p k
-      right_at k e =
-          let n = noted_at p k (at_within flags xs k true e) in
-          let l = left_there k n in
-          late_at_flag k n (reach_seen p n.access) refl l.0 l.1 (true_of _ true (sym (flag_is k n l.0 l.1) ∙ e) refl)
-
-      all_at : (k : ℕ) → IsLate p k → slice_get (at_touches flags xs) k ≡ Some true
-      all_at k s =
-          let n = noted_is p k s.later s.reads (counted p k s.later s.reads) in
-          let same : s.later ≡ n.access = one_some _ _ (sym s.reads ∙ n.is) in
-          flag_at_late k n s.memory s.bank (ap (λ (x : Access). x.writes) (sym same) ∙ s.read_is) (ap (λ x. reaches p x s.memory s.bank) (sym same) ∙ s.reached)
-          (subst (λ (x : Access). 1 ≤ upto (write_charge p s.memory s.bank x) k (meets_in p)) same s.found)
+      walked : (b : Breach) → (Contains (scan (all_seen events) levels (moves_from p (loops_known p) 0 (all_seen events)) (map (order_step finds.known events) (moves_from p (loops_known p) 0 (all_seen events)))) b → LateAt b) × (LateAt b → Contains (scan (all_seen events) levels (moves_from p (loops_known p) 0 (all_seen events)) (map (order_step finds.known events) (moves_from p (loops_known p) 0 (all_seen events)))) b)
+      walked = walk finds.known events p (loops_known p) steps_of 0 0 levels (all_seen events) (λ j. ap steps_of (from_none j)) (follow_all (all_seen events))

@@ -9,7 +9,7 @@ use Rattle.std.specs.List.{AllByRecursion}
 use Rattle.dh_ports.specs.Logs.{AreMarks}
 use Rattle.dh_ports.specs.Levels.{Level, start, advance, left_before, lefts_of, lefts_from, level_at, level_of, IsKept, FrameKept}
 use Rattle.dh_ports.proofs.LogFacts.{no_marks}
-use Rattle.dh_ports.proofs.Turns.{at_place}
+use Rattle.dh_events.proofs.Turns.{at_place}
 
 -- equal levels leave the same
 before_same : (l l1 : ℕ → Level) → ((m : ℕ) → l m ≡ l1 m) → (s : Step) → left_before s l ≡ left_before s l1

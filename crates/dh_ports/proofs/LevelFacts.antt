@@ -14,23 +14,20 @@ use Rattle.dh_ports.proofs.MarkedLevels.{less_level, back_level}
 abbrev level_with : List Mark → List Frame → (slot now base : ℕ) → Level
 level_with lows outer slot now base = level now base (least lows slot base) (floors_of (reverse outer) slot base)
 
--- one less of a slot
-pub taken_level : (left : List ℕ) (log log1 lows : List Mark) (outer : List Frame) (k x v s : ℕ) → k < length left → x ≡ get_or left k x → v ≡ x - 1 → log1 ≡ log ++ mark k x ∷ []
-    → level_of (slice_set left k v) log1 lows outer s ≡ taken s k (level_of left log lows outer s)
-taken_level left log log1 lows outer k x v s inside is less more =
+-- so much less of a slot
+pub taken_level : (left : List ℕ) (log log1 lows : List Mark) (outer : List Frame) (k m x v s : ℕ) → k < length left → x ≡ get_or left k x → v ≡ x - m → log1 ≡ log ++ mark k x ∷ []
+    → level_of (slice_set left k v) log1 lows outer s ≡ taken k m s (level_of left log lows outer s)
+taken_level left log log1 lows outer k m x v s inside is less more =
     let there : x ≡ slice_index left k = is ∙ any_default left k x 0 inside in
-    less_level left log log1 lows (floors_of (reverse outer) s) k v s inside (more ∙ ap (λ n. log ++ mark k n ∷ []) there) (less ∙ ap (λ n. n - 1) there)
+    less_level left log log1 lows (floors_of (reverse outer) s) k v s inside (more ∙ ap (λ n. log ++ mark k n ∷ []) there) m (less ∙ ap (λ n. n - m) there)
 
--- nothing is taken of a slot without more
-pub taken_none : (l : Level) (s k : ℕ) → ((k == s) ≡ true → l.now ≡ 0) → l ≡ taken s k l
-taken_none l s k none = by_test (cases_Bool (k == s))
+-- nothing is taken of a slot of which nothing is left, or where nothing is to be taken
+pub taken_none : (l : Level) (k m s : ℕ) → ((k == s) ≡ true → l.now ≡ l.now - m) → l ≡ taken k m s l
+taken_none l k m s none = by_test (cases_Bool (k == s))
   where
-    less : (n : ℕ) → n ≡ 0 → n ≡ n - 1
-    less n e = e ∙ sym (ap (λ m. m - 1) e)
-
-    by_test : ((k == s) ≡ true) ⊎ ((k == s) ≡ false) → l ≡ taken s k l
-    by_test (inl e) = ap (λ n. level n l.base l.low l.outer) (less l.now (none e)) ∙ sym (ap (λ t. if t then level (l.now - 1) l.base l.low l.outer else l) e)
-    by_test (inr e) = sym (ap (λ t. if t then level (l.now - 1) l.base l.low l.outer else l) e)
+    by_test : ((k == s) ≡ true) ⊎ ((k == s) ≡ false) → l ≡ taken k m s l
+    by_test (inl e) = ap (λ n. level n l.base l.low l.outer) (none e) ∙ sym (ap (λ t. if t then level (l.now - m) l.base l.low l.outer else l) e)
+    by_test (inr e) = sym (ap (λ t. if t then level (l.now - m) l.base l.low l.outer else l) e)
 
 -- a part is given back
 pub kept_back_level : (left left1 : List ℕ) (log log1 lows lows1 : List Mark) (outer : List Frame) (s : ℕ) → slice_index left1 s ≡ at_begin log s (slice_index left s) → log1 ≡ [] → lows1 ≡ lows ++ marks_now left log

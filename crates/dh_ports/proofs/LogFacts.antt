@@ -4,20 +4,11 @@ use Rattle.std.proofs.lemmas.Bool.{eqb-true, eq-eqb, cases_Bool}
 use Rattle.std.proofs.lemmas.Option.{slice_get-get_or}
 use Rattle.std.proofs.lemmas.List.{get_or-set_same, get_or-set_other, length-set}
 use Rattle.dh_ports.specs.declared.marks.Mark.{Mark}
+use Rattle.dh_events.proofs.Turns.{index_set}
 use Rattle.dh_ports.specs.Logs.{at_begin, least, AreMarks, marks_now}
 
 abbrev pub mark : ℕ → ℕ → Mark
 mark slot left = record { slot = slot; left = left }
-
-other_number : (a b : ℕ) → (a == b) ≡ false → b ≡ a → ⊥
-other_number a b f i = let g : (a == b) ≡ true = eq-eqb a b (sym i) in cc
-
-pub index_set : (xs : List ℕ) (k v m : ℕ) → k < length xs → slice_index (slice_set xs k v) m ≡ (if k == m then v else slice_index xs m)
-index_set xs k v m within = by_test (cases_Bool (k == m))
-  where
-    by_test : ((k == m) ≡ true) ⊎ ((k == m) ≡ false) → slice_index (slice_set xs k v) m ≡ (if k == m then v else slice_index xs m)
-    by_test (inl e) = ap (λ j. slice_index (slice_set xs k v) j) (sym (eqb-true k m e)) ∙ (get_or-set_same xs k v 0 within ∙ sym (ap (λ b. if b then v else slice_index xs m) e))
-    by_test (inr e) = get_or-set_other xs k m v 0 (λ i. elim (other_number k m e i) [ ]) ∙ sym (ap (λ b. if b then v else slice_index xs m) e)
 
 pub begin_more : (log : List Mark) (k v m x : ℕ) → at_begin (log ++ mark k v ∷ []) m x ≡ at_begin log m (if k == m then v else x)
 begin_more [] k v m x = refl

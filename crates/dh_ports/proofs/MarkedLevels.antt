@@ -5,8 +5,13 @@ use Rattle.std.proofs.lemmas.Bool.{eqb-true, cases_Bool}
 use Rattle.dh_ports.specs.declared.marks.Mark.{Mark}
 use Rattle.dh_ports.specs.Logs.{at_begin, least, marks_now}
 use Rattle.dh_ports.specs.Levels.{Floor, Level, level, floor, taken, kept_back, settled}
-use Rattle.dh_ports.specs.Walked.{level_by}
-use Rattle.dh_ports.proofs.LogFacts.{mark, index_set, logged_turn, lows_after}
+use Rattle.dh_events.proofs.Turns.{index_set}
+use Rattle.dh_ports.proofs.LogFacts.{mark, logged_turn, lows_after}
+
+-- the level of a slot, from what is left and the marks
+abbrev pub level_by : List ℕ → List Mark → List Mark → (ℕ → List Floor) → (slot : ℕ) → Level
+level_by left log lows floors slot =
+    level (slice_index left slot) (at_begin log slot (slice_index left slot)) (least lows slot (at_begin log slot (slice_index left slot))) (floors (at_begin log slot (slice_index left slot)))
 
 -- the level where what was left at the part's begin is known
 abbrev level_with : List Mark → (ℕ → List Floor) → (slot now base : ℕ) → Level
@@ -19,24 +24,17 @@ module _ (left : List ℕ) (log log1 lows : List Mark) (floors : ℕ → List Fl
       ap (λ b. level_with lows floors s (slice_index (slice_set left k v) s) b) (ap (λ l. at_begin l s (slice_index (slice_set left k v) s)) more ∙ logged_turn left log k v s inside)
       ∙ ap (λ n. level_with lows floors s n (at_begin log s (slice_index left s))) (index_set left k v s inside)
 
-  pub same_level : v ≡ slice_index left k → level_by (slice_set left k v) log1 lows floors s ≡ level_by left log lows floors s
-  same_level is = put_level ∙ ap (λ n. level_with lows floors s n (at_begin log s (slice_index left s))) (by_test (cases_Bool (k == s)))
+  pub less_level : (m : ℕ) → v ≡ slice_index left k - m → level_by (slice_set left k v) log1 lows floors s ≡ taken k m s (level_by left log lows floors s)
+  less_level m is = put_level ∙ by_test (cases_Bool (k == s))
     where
-      by_test : ((k == s) ≡ true) ⊎ ((k == s) ≡ false) → (if k == s then v else slice_index left s) ≡ slice_index left s
-      by_test (inl e) = ap (λ t. if t then v else slice_index left s) e ∙ (is ∙ ap (λ j. slice_index left j) (eqb-true k s e))
-      by_test (inr e) = ap (λ t. if t then v else slice_index left s) e
-
-  pub less_level : v ≡ slice_index left k - 1 → level_by (slice_set left k v) log1 lows floors s ≡ taken s k (level_by left log lows floors s)
-  less_level is = put_level ∙ by_test (cases_Bool (k == s))
-    where
-      by_test : ((k == s) ≡ true) ⊎ ((k == s) ≡ false) → level_with lows floors s (if k == s then v else slice_index left s) (at_begin log s (slice_index left s)) ≡ taken s k (level_by left log lows floors s)
+      by_test : ((k == s) ≡ true) ⊎ ((k == s) ≡ false) → level_with lows floors s (if k == s then v else slice_index left s) (at_begin log s (slice_index left s)) ≡ taken k m s (level_by left log lows floors s)
       by_test (inl e) =
           ap (λ t. level_with lows floors s (if t then v else slice_index left s) (at_begin log s (slice_index left s))) e
-          ∙ (ap (λ n. level_with lows floors s n (at_begin log s (slice_index left s))) (is ∙ ap (λ j. slice_index left j - 1) (eqb-true k s e))
-          ∙ sym (ap (λ t. if t then level_with lows floors s (slice_index left s - 1) (at_begin log s (slice_index left s)) else level_by left log lows floors s) e))
+          ∙ (ap (λ n. level_with lows floors s n (at_begin log s (slice_index left s))) (is ∙ ap (λ j. slice_index left j - m) (eqb-true k s e))
+          ∙ sym (ap (λ t. if t then level_with lows floors s (slice_index left s - m) (at_begin log s (slice_index left s)) else level_by left log lows floors s) e))
       by_test (inr e) =
           ap (λ t. level_with lows floors s (if t then v else slice_index left s) (at_begin log s (slice_index left s))) e
-          ∙ sym (ap (λ t. if t then level_with lows floors s (slice_index left s - 1) (at_begin log s (slice_index left s)) else level_by left log lows floors s) e)
+          ∙ sym (ap (λ t. if t then level_with lows floors s (slice_index left s - m) (at_begin log s (slice_index left s)) else level_by left log lows floors s) e)
 
 -- a part is given back
 pub back_level : (left left1 : List ℕ) (log log1 lows lows1 : List Mark) (floors : ℕ → List Floor) (s : ℕ) → slice_index left1 s ≡ at_begin log s (slice_index left s) → log1 ≡ [] → lows1 ≡ lows ++ marks_now left log
@@ -46,11 +44,3 @@ back_level left left1 log log1 lows lows1 floors s undone empty noted =
     ∙ (ap (λ n. level n n (least lows1 s n) (floors n)) undone
     ∙ ap (λ m. level (at_begin log s (slice_index left s)) (at_begin log s (slice_index left s)) m (floors (at_begin log s (slice_index left s))))
     (ap (λ l. least l s (at_begin log s (slice_index left s))) noted ∙ lows_after lows log left s (at_begin log s (slice_index left s)) refl))
-
--- parts end, of which the last was given back
-pub end_level : (left left1 : List ℕ) (log lows log0 log1 lows1 : List Mark) (floors : ℕ → List Floor) (s : ℕ) → slice_index left1 s ≡ least lows s (slice_index left s) → at_begin log1 s (slice_index left1 s) ≡ at_begin log0 s (slice_index left s)
-    → slice_index left s ≡ at_begin log s (slice_index left s)
-    → level_by left1 log1 lows1 floors s ≡ settled (level_by left log lows (λ n. floor (at_begin log0 s n) (least lows1 s (at_begin log0 s n)) ∷ floors (at_begin log0 s n)) s)
-end_level left left1 log lows log0 log1 lows1 floors s lowered logged rest =
-    ap (λ b. level_with lows1 floors s (slice_index left1 s) b) (logged ∙ ap (λ n. at_begin log0 s n) rest)
-    ∙ ap (λ n. level_with lows1 floors s n (at_begin log0 s (at_begin log s (slice_index left s)))) (lowered ∙ ap (λ n. least lows s n) rest)

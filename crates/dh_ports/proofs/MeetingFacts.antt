@@ -93,11 +93,11 @@ pair a b x = (x == a) || (x == b)
 either : (a b x : ℕ) → IsTrue (pair a b x) → (x ≡ a) ⊎ (x ≡ b)
 either a b x e = elim (or_cases (x == a) (x == b) e) [ inl f ↦ inl (eqb-true x a f) | inr f ↦ inr (eqb-true x b f) ]
 
-or_second : (x y : Bool) → y ≡ true → (x || y) ≡ true
+pub or_second : (x y : Bool) → y ≡ true → (x || y) ≡ true
 or_second true y e = refl
 or_second false y e = e
 
-or_first : (x y : Bool) → x ≡ true → (x || y) ≡ true
+pub or_first : (x y : Bool) → x ≡ true → (x || y) ≡ true
 or_first true y e = refl
 or_first false y e = cc
 

@@ -1,10 +1,10 @@
 -- The accesses of a command are numbered in order of evaluation.
-use Rattle.std.proofs.Common.{◌≡◌, ℕ, suc, ◌+◌, ◌<◌, ◌≤◌, true, false, List, [], ◌∷◌, ◌++◌, length, ap, sym, ◌∙◌, subst, arith, ◌⊎◌, inl, inr}
+use Rattle.std.proofs.Common.{◌≡◌, ℕ, zero, suc, ◌+◌, ◌<◌, ◌≤◌, ◌||◌, nat_lt, Bool, true, false, sym, subst, arith, ◌⊎◌, inl, inr}
 use Rattle.std.proofs.lemmas.Bool.{cases_lt}
 use Rattle.dh_tree.specs.Meets.{Meets, nothing, access, all, one, In, Distinct, Before}
-use Rattle.dh_tree.specs.Happenings.{Arm, accesses_in, count_in, row, at_command, with_arm, term_happenings, maybe_happenings, target_happenings, happenings, command_happenings, other_happenings, groups_happenings, part_happenings, meets, command_meets, other_meets, groups_meets, part_meets}
 use Rattle.dh_tree.specs.PlainTrees.{Action, action, ActionForm, lets, lets_memory, views, assigns, stores, reduces, calls, blocks, decides, repeats, counts, MaybeAction, no_action, one_action, Actions, no_actions, action_then, Groups, no_groups, group_then}
-use Rattle.dh_ports.proofs.IncidentTies.{counted_append}
+use Rattle.dh_meaning.specs.AccessNumbers.{term_accesses, maybe_accesses, own_accesses, inner_accesses, accesses_of, other_accesses, groups_accesses, part_accesses}
+use Rattle.dh_meets.specs.MayMeet.{row_of, arms_meet, meets, command_meets, other_meets, groups_meet, part_meets}
 
 absurd : {A : Type 0} → ⊥ → A
 absurd e = elim e [ ]
@@ -88,58 +88,63 @@ module _ (n m p : ℕ) (l r : Meets) (f : Numbered n m l) (g : Numbered (n + m) 
   pub numbered_one : Numbered n (m + p) (one l r)
   numbered_one = record { distinct = ((f.distinct, g.distinct), disjoint); inside = which; first = least; last = most; before = order; behind = from_order }
 
-numbered_row : {A : Type 0} (n : ℕ) (xs : List A) → Numbered n (length xs) (row n xs)
-numbered_row n [] = numbered_nothing n
-numbered_row n (x ∷ xs) = subst (λ (m : ℕ). Numbered n m (row n (x ∷ xs))) (one_more (length xs)) (numbered_all n 1 (length xs) (access n) (row (n + 1) xs) (numbered_access n) (numbered_row (n + 1) xs))
+numbered_row : (n m : ℕ) → Numbered n m (row_of n m)
+numbered_row n zero = numbered_nothing n
+numbered_row n (suc m) =
+    subst (λ (k : ℕ). Numbered n k (row_of n (suc m))) (one_more m)
+    (numbered_all n 1 m (access n) (row_of (suc n) m) (numbered_access n) (subst (λ (k : ℕ). Numbered k m (row_of (suc n) m)) (next_one n) (numbered_row (suc n) m)))
   where
     one_more : (m : ℕ) → 1 + m ≡ suc m
     one_more m = omega arith
 
+    next_one : (n : ℕ) → suc n ≡ n + 1
+    next_one n = omega arith
+
 at_sum : (n a b : ℕ) (t : Meets) → a ≡ b → Numbered n b t → Numbered n a t
 at_sum n a b t e f = subst (λ (m : ℕ). Numbered n m t) (sym e) f
 
+with_none : (x : ℕ) → x + 0 ≡ x
+with_none x = omega arith
+
+zero_more : (x : ℕ) → 0 + x ≡ x
+zero_more x = omega arith
+
+numbered_arms : (unrolled : Bool) (n m p : ℕ) (t u : Meets) → Numbered n m t → Numbered (n + m) p u → Numbered n (m + p) (arms_meet unrolled t u)
+numbered_arms true n m p t u f g = numbered_all n m p t u f g
+numbered_arms false n m p t u f g = numbered_one n m p t u f g
+
 mutual
-  pub numbered : (arms : List Arm) (n : ℕ) (a : Action) → Numbered n (count_in (happenings arms a)) (meets arms n a)
-  numbered arms n (action id place form) = command_numbered arms n id form
+  pub numbered : (unrolled : Bool) (n : ℕ) (a : Action) → Numbered n (accesses_of a) (meets unrolled n a)
+  numbered unrolled n (action id place form) = command_numbered unrolled n form
 
-  command_numbered : (arms : List Arm) (n id : ℕ) (form : ActionForm) → Numbered n (count_in (command_happenings arms id form)) (command_meets arms n id form)
-  command_numbered arms n id (lets name declared value) = at_sum n _ _ _ (counted_append (maybe_happenings (at_command id arms) value) _ ∙ none _) (numbered_row n (accesses_in (maybe_happenings (at_command id arms) value)))
-    where
-      none : (x : ℕ) → x + 0 ≡ x
-      none x = omega arith
-  command_numbered arms n id (lets_memory name shape shape_places value) = numbered_nothing n
-  command_numbered arms n id (views name parent form) = numbered_nothing n
-  command_numbered arms n id (assigns target value) = at_sum n _ _ _ (counted_append (term_happenings (at_command id arms) value) _ ∙ none _) (numbered_row n (accesses_in (term_happenings (at_command id arms) value)))
-    where
-      none : (x : ℕ) → x + 0 ≡ x
-      none x = omega arith
-  command_numbered arms n id (stores target value) = numbered_row n (accesses_in (term_happenings (at_command id arms) value ++ target_happenings (at_command id arms) target))
-  command_numbered arms n id (reduces target op value) = numbered_nothing n
-  command_numbered arms n id (calls function arguments) = numbered_nothing n
-  command_numbered arms n id (blocks body) = groups_numbered arms n body
-  command_numbered arms n id (decides test chosen other) =
-      at_sum n _ _ _ (counted_append (term_happenings (at_command id arms) test) _ ∙ ap (λ m. count_in (term_happenings (at_command id arms) test) + m) (counted_append (happenings (with_arm arms id true) chosen) (other_happenings (with_arm arms id false) other)))
-      (numbered_all n (count_in (term_happenings (at_command id arms) test)) (count_in (happenings (with_arm arms id true) chosen) + count_in (other_happenings (with_arm arms id false) other)) _ _ (numbered_row n (accesses_in (term_happenings (at_command id arms) test)))
-      (numbered_one (n + count_in (term_happenings (at_command id arms) test)) (count_in (happenings (with_arm arms id true) chosen)) (count_in (other_happenings (with_arm arms id false) other)) _ _
-      (numbered (with_arm arms id true) (n + count_in (term_happenings (at_command id arms) test)) chosen)
-      (other_numbered (with_arm arms id false) (n + count_in (term_happenings (at_command id arms) test) + count_in (happenings (with_arm arms id true) chosen)) other)))
-  command_numbered arms n id (repeats test body) =
-      at_sum n _ _ _ (counted_append (term_happenings (at_command id arms) test) (happenings arms body))
-      (numbered_one n (count_in (term_happenings (at_command id arms) test)) (count_in (happenings arms body)) _ _ (numbered_row n (accesses_in (term_happenings (at_command id arms) test))) (numbered arms (n + count_in (term_happenings (at_command id arms) test)) body))
-  command_numbered arms n id (counts iterator declared low high factor body combine combine_place) = numbered arms n body
+  command_numbered : (unrolled : Bool) (n : ℕ) (form : ActionForm) → Numbered n (own_accesses form + inner_accesses form) (command_meets unrolled n form)
+  command_numbered unrolled n (lets name declared value) = at_sum n _ _ _ (with_none (maybe_accesses value)) (numbered_row n (maybe_accesses value))
+  command_numbered unrolled n (lets_memory name shape shape_places value) = numbered_nothing n
+  command_numbered unrolled n (views name parent form) = numbered_nothing n
+  command_numbered unrolled n (assigns target value) = at_sum n _ _ _ (with_none (term_accesses value)) (numbered_row n (term_accesses value))
+  command_numbered unrolled n (stores target value) = at_sum n _ _ _ (with_none (term_accesses value + term_accesses target)) (numbered_row n (term_accesses value + term_accesses target))
+  command_numbered unrolled n (reduces target op value) = at_sum n _ _ _ (with_none (term_accesses value)) (numbered_row n (term_accesses value))
+  command_numbered unrolled n (calls function arguments) = numbered_nothing n
+  command_numbered unrolled n (blocks body) = at_sum n _ _ _ (zero_more _) (groups_numbered unrolled n body)
+  command_numbered unrolled n (decides test chosen other) =
+      numbered_all n (term_accesses test) (accesses_of chosen + other_accesses other) _ _ (numbered_row n (term_accesses test))
+      (numbered_arms unrolled (n + term_accesses test) (accesses_of chosen) (other_accesses other) _ _
+      (numbered unrolled (n + term_accesses test) chosen) (other_numbered unrolled (n + term_accesses test + accesses_of chosen) other))
+  command_numbered unrolled n (repeats test body) =
+      numbered_one n (term_accesses test) (accesses_of body) _ _ (numbered_row n (term_accesses test)) (numbered unrolled (n + term_accesses test) body)
+  command_numbered unrolled n (counts iterator declared low high factor body combine combine_place) =
+      at_sum n _ _ _ (zero_more _) (numbered_all n (accesses_of body) (other_accesses combine) _ _ (numbered (unrolled || nat_lt 1 factor.value) n body) (other_numbered (unrolled || nat_lt 1 factor.value) (n + accesses_of body) combine))
 
-  other_numbered : (arms : List Arm) (n : ℕ) (o : MaybeAction) → Numbered n (count_in (other_happenings arms o)) (other_meets arms n o)
-  other_numbered arms n no_action = numbered_nothing n
-  other_numbered arms n (one_action a) = numbered arms n a
+  other_numbered : (unrolled : Bool) (n : ℕ) (o : MaybeAction) → Numbered n (other_accesses o) (other_meets unrolled n o)
+  other_numbered unrolled n no_action = numbered_nothing n
+  other_numbered unrolled n (one_action a) = numbered unrolled n a
 
-  groups_numbered : (arms : List Arm) (n : ℕ) (body : Groups) → Numbered n (count_in (groups_happenings arms body)) (groups_meets arms n body)
-  groups_numbered arms n no_groups = numbered_nothing n
-  groups_numbered arms n (group_then part rest) =
-      at_sum n _ _ _ (counted_append (part_happenings arms part) (groups_happenings arms rest))
-      (numbered_one n (count_in (part_happenings arms part)) (count_in (groups_happenings arms rest)) _ _ (part_numbered arms n part) (groups_numbered arms (n + count_in (part_happenings arms part)) rest))
+  groups_numbered : (unrolled : Bool) (n : ℕ) (body : Groups) → Numbered n (groups_accesses body) (groups_meet unrolled n body)
+  groups_numbered unrolled n no_groups = numbered_nothing n
+  groups_numbered unrolled n (group_then part rest) =
+      numbered_one n (part_accesses part) (groups_accesses rest) _ _ (part_numbered unrolled n part) (groups_numbered unrolled (n + part_accesses part) rest)
 
-  part_numbered : (arms : List Arm) (n : ℕ) (part : Actions) → Numbered n (count_in (part_happenings arms part)) (part_meets arms n part)
-  part_numbered arms n no_actions = numbered_nothing n
-  part_numbered arms n (action_then a rest) =
-      at_sum n _ _ _ (counted_append (happenings arms a) (part_happenings arms rest))
-      (numbered_all n (count_in (happenings arms a)) (count_in (part_happenings arms rest)) _ _ (numbered arms n a) (part_numbered arms (n + count_in (happenings arms a)) rest))
+  part_numbered : (unrolled : Bool) (n : ℕ) (part : Actions) → Numbered n (part_accesses part) (part_meets unrolled n part)
+  part_numbered unrolled n no_actions = numbered_nothing n
+  part_numbered unrolled n (action_then a rest) =
+      numbered_all n (accesses_of a) (part_accesses rest) _ _ (numbered unrolled n a) (part_numbered unrolled (n + accesses_of a) rest)

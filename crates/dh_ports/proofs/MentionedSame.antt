@@ -2,10 +2,10 @@
 use Rattle.std.proofs.Common.{◌≡◌, ℕ, ◌==◌, ◌&&◌, ◌||◌, Bool, true, false, List, [], ◌∷◌, refl, ap, sym, ◌∙◌}
 use Rattle.std.specs.Prelude.{Option, Some, None}
 use Rattle.std.proofs.lemmas.Bool.{eqb-true, eq-eqb}
-use Rattle.dh_tree.specs.Happenings.{Target, by_indices, by_row, Happening, accesses, sets}
 use Rattle.dh_tree.specs.Memories.{same_entity}
 use Rattle.dh_tree.specs.PlainTrees.{Term, term, TermForm, number, truth_value, named, accessed, in_bank, applied, converted, Terms, no_terms, term_then}
-use Rattle.dh_tree.specs.Sharing.{number_of_op, same_kind, alike, alike_forms, all_alike, alike_targets, mentions, form_mentions, terms_mention, target_mentions, reassigned}
+use Rattle.dh_meets.specs.Sharing.{number_of_op, same_kind, same_maybe_kind, alike, alike_forms, all_alike, alike_elements, mentions, form_mentions, terms_mention, element_mentions, reassigned}
+use Rattle.dh_meets.specs.SourceEvents.{Element, with_indices, in_row, SourceEvent, accesses, assigned}
 
 absurd : {A : Type 0} → ⊥ → A
 absurd e = elim e [ ]
@@ -30,7 +30,7 @@ entity_mentioned (Some x) (Some y) (Some n) e = ap (λ z. z == n) (eqb-true x y 
 
 mutual
   mentioned_same : (n : Option ℕ) (t u : Term) → alike t u ≡ true → mentions n t ≡ mentions n u
-  mentioned_same n (term place kind f) (term place' kind' g) e = form_mentioned n f g e
+  mentioned_same n (term place kind f) (term place' kind' g) e = form_mentioned n f g (second_true (same_maybe_kind kind kind') _ e)
 
   form_mentioned : (n : Option ℕ) (f g : TermForm) → alike_forms f g ≡ true → form_mentions n f ≡ form_mentions n g
   form_mentioned n (number s m) (number s' m') e = refl
@@ -65,11 +65,11 @@ mutual
   all_mentioned n (term_then t ts) no_terms e = cc
   all_mentioned n (term_then t ts) (term_then u us) e = either_same (mentions n t) (terms_mention n ts) (mentions n u) (terms_mention n us) (mentioned_same n t u (first_true (alike t u) _ e)) (all_mentioned n ts us (second_true (alike t u) _ e))
 
-pub target_mentioned : (n : Option ℕ) (t u : Target) → alike_targets t u ≡ true → target_mentions n t ≡ target_mentions n u
-target_mentioned n (by_indices ts) (by_indices us) e = all_mentioned n ts us e
-target_mentioned n (by_indices ts) (by_row b u) e = cc
-target_mentioned n (by_row b t) (by_indices us) e = cc
-target_mentioned n (by_row b t) (by_row b' u) e = mentioned_same n t u (second_true (b == b') _ e)
+pub element_mentioned : (n : Option ℕ) (t u : Element) → alike_elements t u ≡ true → element_mentions n t ≡ element_mentions n u
+element_mentioned n (with_indices ts) (with_indices us) e = all_mentioned n ts us e
+element_mentioned n (with_indices ts) (in_row b u) e = cc
+element_mentioned n (in_row b t) (with_indices us) e = cc
+element_mentioned n (in_row b t) (in_row b' u) e = mentioned_same n t u (second_true (b == b') _ e)
 
 -- no expression mentions a name that stands for nothing
 none_either : (a b : Bool) → a ≡ false → b ≡ false → (a || b) ≡ false
@@ -96,16 +96,16 @@ mutual
   all_none no_terms = refl
   all_none (term_then t ts) = none_either (mentions None t) (terms_mention None ts) (none_mentioned t) (all_none ts)
 
-target_none : (t : Target) → target_mentions None t ≡ false
-target_none (by_indices ts) = all_none ts
-target_none (by_row b t) = none_mentioned t
+element_none : (t : Element) → element_mentions None t ≡ false
+element_none (with_indices ts) = all_none ts
+element_none (in_row b t) = none_mentioned t
 
 -- whether a variable is assigned to
-abbrev pub set_by : ℕ → Happening → Bool
+abbrev pub set_by : ℕ → SourceEvent → Bool
 set_by e (accesses a) = false
-set_by e (sets entity) = same_entity entity (Some e)
+set_by e (assigned entity) = same_entity entity (Some e)
 
-abbrev pub set_in : ℕ → List Happening → Bool
+abbrev pub set_in : ℕ → List SourceEvent → Bool
 set_in e [] = false
 set_in e (h ∷ hs) = set_by e h || set_in e hs
 
@@ -114,24 +114,24 @@ neither true b e = cc
 neither false b e = (refl, e)
 
 -- nothing that the indices mention is assigned to
-pub unset_where : (t : Target) (hs : List Happening) → reassigned t hs ≡ false → (e : ℕ) → target_mentions (Some e) t ≡ true → set_in e hs ≡ false
+pub unset_where : (t : Element) (hs : List SourceEvent) → reassigned t hs ≡ false → (e : ℕ) → element_mentions (Some e) t ≡ true → set_in e hs ≡ false
 unset_where t [] r e m = refl
 unset_where t (accesses a ∷ hs) r e m = unset_where t hs r e m
-unset_where t (sets None ∷ hs) r e m = unset_where t hs (neither (target_mentions None t) (reassigned t hs) r).1 e m
-unset_where t (sets (Some n) ∷ hs) r e m =
-    none_either (n == e) (set_in e hs) (by_test (n == e) refl) (unset_where t hs (neither (target_mentions (Some n) t) (reassigned t hs) r).1 e m)
+unset_where t (assigned None ∷ hs) r e m = unset_where t hs (neither (element_mentions None t) (reassigned t hs) r).1 e m
+unset_where t (assigned (Some n) ∷ hs) r e m =
+    none_either (n == e) (set_in e hs) (by_test (n == e) refl) (unset_where t hs (neither (element_mentions (Some n) t) (reassigned t hs) r).1 e m)
   where
     by_test : (b : Bool) → (n == e) ≡ b → b ≡ false
-    by_test true h = sym m ∙ (ap (λ x. target_mentions (Some x) t) (sym (eqb-true n e h)) ∙ (neither (target_mentions (Some n) t) (reassigned t hs) r).0)
+    by_test true h = sym m ∙ (ap (λ x. element_mentions (Some x) t) (sym (eqb-true n e h)) ∙ (neither (element_mentions (Some n) t) (reassigned t hs) r).0)
     by_test false h = refl
 
-pub reassigned_where : (t : Target) (hs : List Happening) → ((e : ℕ) → target_mentions (Some e) t ≡ true → set_in e hs ≡ false) → reassigned t hs ≡ false
+pub reassigned_where : (t : Element) (hs : List SourceEvent) → ((e : ℕ) → element_mentions (Some e) t ≡ true → set_in e hs ≡ false) → reassigned t hs ≡ false
 reassigned_where t [] f = refl
 reassigned_where t (accesses a ∷ hs) f = reassigned_where t hs f
-reassigned_where t (sets None ∷ hs) f = none_either (target_mentions None t) (reassigned t hs) (target_none t) (reassigned_where t hs f)
-reassigned_where t (sets (Some n) ∷ hs) f =
-    none_either (target_mentions (Some n) t) (reassigned t hs) (by_test (target_mentions (Some n) t) refl) (reassigned_where t hs (λ e m. (neither (n == e) (set_in e hs) (f e m)).1))
+reassigned_where t (assigned None ∷ hs) f = none_either (element_mentions None t) (reassigned t hs) (element_none t) (reassigned_where t hs f)
+reassigned_where t (assigned (Some n) ∷ hs) f =
+    none_either (element_mentions (Some n) t) (reassigned t hs) (by_test (element_mentions (Some n) t) refl) (reassigned_where t hs (λ e m. (neither (n == e) (set_in e hs) (f e m)).1))
   where
-    by_test : (b : Bool) → target_mentions (Some n) t ≡ b → b ≡ false
+    by_test : (b : Bool) → element_mentions (Some n) t ≡ b → b ≡ false
     by_test true h = sym (eq-eqb n n refl) ∙ (neither (n == n) (set_in n hs) (f n h)).0
     by_test false h = refl

@@ -1,360 +1,557 @@
--- A command has no phase, one Straight phase, or others, as its `kind` says, and the phase that is open
--- behind it is the one before it, its only phase, or none. The phases of a list of commands are a Straight
--- phase of the commands that lead, up to the first command of more phases, and those of what stands behind.
-use Rattle.std.proofs.Common.{◌≡◌, ℕ, ◌+◌, ◌-◌, ◌≤◌, ◌<◌, ◌==◌, ◌&&◌, ◌||◌, not, nat_le, Bool, true, false, if◌then◌else◌, List, [], ◌∷◌, ◌++◌, min, max, Option, Some, None, ◌⊎◌, inl, inr, refl, ap, sym, ◌∙◌, subst, arith, append_assoc, append-nil}
+-- How many phases lists of phases are (none, one Straight phase, or others), which phase is open behind them,
+-- and where accesses stand in the phases that are joined from those of parts.
+use Rattle.std.proofs.Common.{◌≡◌, ℕ, suc, ◌+◌, ◌≤◌, ◌==◌, ◌&&◌, ◌||◌, nat_le, not, Bool, true, false, if◌then◌else◌, List, [], ◌∷◌, ◌++◌, min, max, ◌⊎◌, inl, inr, refl, ap, sym, ◌∙◌, subst, arith}
+use Rattle.std.specs.Prelude.{Option, Some, None}
 use Rattle.std.specs.List.{list_any}
-use Rattle.std.proofs.lemmas.Bool.{eq-eqb, ne_eqb, le-leb, lt-leb, or_from}
-use Rattle.dh_base.specs.declared.places.Place.{Place}
-use Rattle.dh_tree.specs.Phases as source
-use Rattle.dh_tree.specs.Phases.{of_list, one_straight, joined, are_straight, one_command, turn_phases, choice_phases, phases, form_phases, other_phases, groups_phases, parts_phases, id_of}
-use Rattle.dh_tree.specs.PlainTrees.{Action, action, ActionForm, lets, lets_memory, views, assigns, stores, reduces, calls, blocks, decides, repeats, counts, MaybeAction, no_action, one_action, Actions, no_actions, action_then, Groups, no_groups, group_then}
-use Rattle.dh_tree.specs.Sharing.{takes_part}
-use Rattle.dh_tree.proofs.SpentAlike.{or_first, or_second}
-use Rattle.dh_ports.specs.Incidents.{kind, form_kind, other_kind, groups_kind, part_kind, phase_at, released, is_stepped, tested, choice_stepped, going_after, form_going, other_going, groups_going, part_going}
-use Rattle.dh_ports.proofs.PhaseRuns.{member, flat, first_tag, or_none}
+use Rattle.std.proofs.lemmas.List.Folds.{list_any-append}
+use Rattle.dh_meaning.specs.OnePhase.{makes, any_makes}
+use Rattle.dh_meaning.specs.Phases.{Located, Phase, straight, turns, repeated, decided, Phases, of_list, one_straight, joined, are_straight, folded}
+use Rattle.dh_events.specs.declared.noting.Open.{Open}
+use Rattle.dh_events.specs.Incidents.{phase_at, open_phases, open_at, closed}
+use Rattle.dh_ports.proofs.PhaseRuns.{Run, tag_of, stands, times, straight_run, flat_one, flat_all, flat, or_none, or_assoc, or_both, runs_nil, flat_append, flat_straight, stands_append, times_append}
 
--- Lists of phases.
+-- none, one Straight phase, or others
+abbrev pub some_straight : List Located → ℕ
+some_straight [] = 0
+some_straight (c ∷ cs) = 1
 
-two_stepped : (p q : source.Phase) (ps : List source.Phase) → are_straight (p ∷ q ∷ ps) ≡ false
-two_stepped (source.straight cs) q ps = refl
-two_stepped (source.turns loop count body) q ps = refl
-two_stepped (source.repeated loop body) q ps = refl
-two_stepped (source.decided choice chosen other) q ps = refl
+abbrev pub size : List Phase → ℕ
+size [] = 0
+size (straight cs ∷ []) = some_straight cs
+size (turns loop count body ∷ []) = 2
+size (repeated loop body ∷ []) = 2
+size (decided choice chosen other ∷ []) = 2
+size (p ∷ q ∷ ps) = 2
 
--- others behind make others
-pub append_stepped : (ps qs : List source.Phase) → are_straight qs ≡ false → are_straight (ps ++ qs) ≡ false
-append_stepped [] qs e = e
-append_stepped (p ∷ []) [] e = absurd cc
-append_stepped (p ∷ []) (q ∷ qs) e = two_stepped p q qs
-append_stepped (p ∷ p' ∷ ps) qs e = two_stepped p p' (ps ++ qs)
+abbrev pub most : List (List Phase) → ℕ
+most [] = 0
+most (ps ∷ pss) = max (size ps) (most pss)
 
-more_stepped : (p : source.Phase) (qs : List source.Phase) → are_straight (p ∷ []) ≡ false → are_straight (p ∷ qs) ≡ false
-more_stepped p [] e = e
-more_stepped p (q ∷ qs) e = two_stepped p q qs
+-- one Straight phase has commands
+abbrev pub FullStraight : List Located → Type 0
+FullStraight [] = ⊥
+FullStraight (c ∷ cs) = Unit {0}
 
-pub stepped_append : (ps qs : List source.Phase) → are_straight ps ≡ false → are_straight (ps ++ qs) ≡ false
-stepped_append [] qs e = absurd cc
-stepped_append (p ∷ []) qs e = more_stepped p qs e
-stepped_append (p ∷ p' ∷ ps) qs e = two_stepped p p' (ps ++ qs)
+abbrev pub IsFull : List Phase → Type 0
+IsFull [] = Unit {0}
+IsFull (straight cs ∷ []) = FullStraight cs
+IsFull (turns loop count body ∷ []) = Unit {0}
+IsFull (repeated loop body ∷ []) = Unit {0}
+IsFull (decided choice chosen other ∷ []) = Unit {0}
+IsFull (p ∷ q ∷ ps) = Unit {0}
 
--- others are some
-full : (ps : List source.Phase) → are_straight ps ≡ false → (p : source.Phase) × ((rest : List source.Phase) × (ps ≡ p ∷ rest))
-full [] e = absurd cc
-full (p ∷ ps) e = (p, (ps, refl))
+pub data Shaped (k : ℕ) (ps : List Phase) : Type 0 where
+  no_phase : k ≡ 0 → ps ≡ [] → Shaped k ps
+  one_phase : (d : Located) → (ds : List Located) → k ≡ 1 → ps ≡ straight (d ∷ ds) ∷ [] → Shaped k ps
+  more_phases : k ≡ 2 → are_straight ps ≡ false → Shaped k ps
 
-abbrev pub lead_of : List source.Phase → List Action → List Action
-lead_of [] r = r
-lead_of (source.straight ds ∷ []) r = ds ++ r
-lead_of (source.turns loop count body ∷ []) r = []
-lead_of (source.repeated loop body ∷ []) r = []
-lead_of (source.decided choice chosen other ∷ []) r = []
-lead_of (p ∷ q ∷ ps) r = []
+pub shape : (ps : List Phase) → IsFull ps → Shaped (size ps) ps
+shape [] h = no_phase refl refl
+shape (straight [] ∷ []) h = absurd h
+shape (straight (c ∷ cs) ∷ []) h = one_phase c cs refl refl
+shape (turns loop count body ∷ []) h = more_phases refl refl
+shape (repeated loop body ∷ []) h = more_phases refl refl
+shape (decided choice chosen other ∷ []) h = more_phases refl refl
+shape (p ∷ q ∷ ps) h = more_phases refl refl
 
-abbrev pub behind_of : List source.Phase → List Action → List source.Phase → List source.Phase
-behind_of [] r b = b
-behind_of (source.straight ds ∷ []) r b = b
-behind_of (source.turns loop count body ∷ []) r b = source.turns loop count body ∷ (one_straight r ++ b)
-behind_of (source.repeated loop body ∷ []) r b = source.repeated loop body ∷ (one_straight r ++ b)
-behind_of (source.decided choice chosen other ∷ []) r b = source.decided choice chosen other ∷ (one_straight r ++ b)
-behind_of (p ∷ q ∷ ps) r b = (p ∷ q ∷ ps) ++ (one_straight r ++ b)
+pub straight_size : (ps : List Phase) → are_straight ps ≡ not (nat_le 2 (size ps))
+straight_size [] = refl
+straight_size (straight [] ∷ []) = refl
+straight_size (straight (c ∷ cs) ∷ []) = refl
+straight_size (turns loop count body ∷ []) = refl
+straight_size (repeated loop body ∷ []) = refl
+straight_size (decided choice chosen other ∷ []) = refl
+straight_size (p ∷ q ∷ ps) = refl
 
--- the commands that lead the phases of a list, and the phases behind them
-abbrev pub lead : List (List source.Phase) → List Action
-lead [] = []
-lead (ps ∷ parts) = lead_of ps (lead parts)
+some_few : (cs : List Located) → some_straight cs ≤ 1
+some_few [] = omega arith
+some_few (c ∷ cs) = omega arith
 
-abbrev pub behind : List (List source.Phase) → List source.Phase
-behind [] = []
-behind (ps ∷ parts) = behind_of ps (lead parts) (behind parts)
+pub size_few : (ps : List Phase) → size ps ≤ 2
+size_few [] = omega arith
+size_few (straight cs ∷ []) = let h = some_few cs in omega (arith, h)
+size_few (turns loop count body ∷ []) = omega arith
+size_few (repeated loop body ∷ []) = omega arith
+size_few (decided choice chosen other ∷ []) = omega arith
+size_few (p ∷ q ∷ ps) = omega arith
 
-pub stepped_lead : (ps : List source.Phase) (r : List Action) → are_straight ps ≡ false → lead_of ps r ≡ []
-stepped_lead [] r e = absurd cc
-stepped_lead (source.straight ds ∷ []) r e = absurd cc
-stepped_lead (source.turns loop count body ∷ []) r e = refl
-stepped_lead (source.repeated loop body ∷ []) r e = refl
-stepped_lead (source.decided choice chosen other ∷ []) r e = refl
-stepped_lead (p ∷ q ∷ ps) r e = refl
+max_few : (a b : ℕ) → a ≤ 2 → b ≤ 2 → max a b ≤ 2
+max_few a b e f = grind (arith, e, f)
 
-pub stepped_behind : (ps : List source.Phase) (r : List Action) (b : List source.Phase) → are_straight ps ≡ false → behind_of ps r b ≡ ps ++ (one_straight r ++ b)
-stepped_behind [] r b e = absurd cc
-stepped_behind (source.straight ds ∷ []) r b e = absurd cc
-stepped_behind (source.turns loop count body ∷ []) r b e = refl
-stepped_behind (source.repeated loop body ∷ []) r b e = refl
-stepped_behind (source.decided choice chosen other ∷ []) r b e = refl
-stepped_behind (p ∷ q ∷ ps) r b e = refl
+most_few : (pss : List (List Phase)) → most pss ≤ 2
+most_few [] = omega arith
+most_few (ps ∷ pss) = max_few (size ps) (most pss) (size_few ps) (most_few pss)
 
-last_behind : (cs : List Action) (ps : List source.Phase) (rest later : List source.Phase) → rest ≡ later → one_straight cs ++ (ps ++ rest) ≡ one_straight (cs ++ []) ++ (ps ++ later)
-last_behind cs ps rest later e = ap (λ l. one_straight cs ++ (ps ++ l)) e ∙ ap (λ l. one_straight l ++ (ps ++ later)) (sym (append-nil cs))
+-- Sizes of joined phases.
 
-pub joined_is : (cs : List Action) (parts : List (List source.Phase)) → joined cs parts ≡ one_straight (cs ++ lead parts) ++ behind parts
-joined_is cs [] = ap one_straight (sym (append-nil cs)) ∙ sym (append-nil (one_straight (cs ++ [])))
-joined_is cs ([] ∷ parts) = joined_is cs parts
-joined_is cs ((source.straight ds ∷ []) ∷ parts) = joined_is (cs ++ ds) parts ∙ ap (λ l. one_straight l ++ behind parts) (append_assoc cs ds (lead parts))
-joined_is cs ((source.turns loop count body ∷ []) ∷ parts) = last_behind cs (source.turns loop count body ∷ []) (joined [] parts) (one_straight (lead parts) ++ behind parts) (joined_is [] parts)
-joined_is cs ((source.repeated loop body ∷ []) ∷ parts) = last_behind cs (source.repeated loop body ∷ []) (joined [] parts) (one_straight (lead parts) ++ behind parts) (joined_is [] parts)
-joined_is cs ((source.decided choice chosen other ∷ []) ∷ parts) = last_behind cs (source.decided choice chosen other ∷ []) (joined [] parts) (one_straight (lead parts) ++ behind parts) (joined_is [] parts)
-joined_is cs ((p ∷ q ∷ ps) ∷ parts) = last_behind cs (p ∷ q ∷ ps) (joined [] parts) (one_straight (lead parts) ++ behind parts) (joined_is [] parts)
+size_two : (xs : List Located) (p : Phase) (ys : List Phase) → size (p ∷ []) ≡ 2 → size (one_straight xs ++ (p ∷ ys)) ≡ 2
+size_two [] p [] e = e
+size_two [] p (y ∷ ys) e = refl
+size_two (x ∷ xs) p ys e = refl
 
--- Shapes.
+size_more : (xs : List Located) (p q : Phase) (ys : List Phase) → size (one_straight xs ++ (p ∷ q ∷ ys)) ≡ 2
+size_more [] p q ys = refl
+size_more (x ∷ xs) p q ys = refl
 
--- a kind, the phases, and the open phase behind them where one was open before
-pub data Shaped (o : Option ℕ) (k : ℕ) (ps : List source.Phase) (g : Option ℕ) : Type 0 where
-  no_phase : k ≡ 0 → ps ≡ [] → g ≡ o → Shaped o k ps g
-  one_phase : (d : Action) → (ds : List Action) → k ≡ 1 → ps ≡ source.straight (d ∷ ds) ∷ [] → takes_part (id_of d) d ≡ true → g ≡ Some (phase_at o (id_of d)) → Shaped o k ps g
-  more_phases : k ≡ 2 → are_straight ps ≡ false → Shaped o k ps g
+max_two : (a b : ℕ) → a ≤ 1 → b ≤ 2 → max a (max 2 b) ≡ 2
+max_two a b e f = grind (arith, e, f)
 
--- the first command of some takes part itself
-abbrev pub IsHeaded : List Action → Type 0
-IsHeaded [] = Unit {0}
-IsHeaded (c ∷ cs) = takes_part (id_of c) c ≡ true
+max_none : (a : ℕ) → a ≡ max a 0
+max_none a = grind arith
 
--- the same of a list, by the commands that lead and the phases behind them
-pub data PartShaped (o : Option ℕ) (k : ℕ) (r : List Action) (b : List source.Phase) (g : Option ℕ) : Type 0 where
-  no_lead : k ≡ 0 → r ≡ [] → b ≡ [] → g ≡ o → PartShaped o k r b g
-  one_lead : (d : Action) → (ds : List Action) → k ≡ 1 → r ≡ d ∷ ds → b ≡ [] → takes_part (id_of d) d ≡ true → g ≡ Some (phase_at o (id_of d)) → PartShaped o k r b g
-  more_behind : k ≡ 2 → IsHeaded r → ((ps : List source.Phase) → are_straight (ps ++ b) ≡ false) → PartShaped o k r b g
+none_max : (a b : ℕ) → max a b ≡ max a (max 0 b)
+none_max a b = grind arith
 
-shaped_le : (o : Option ℕ) (k : ℕ) (ps : List source.Phase) (g : Option ℕ) → Shaped o k ps g → k ≤ 2
-shaped_le o k ps g (no_phase e _ _) = omega (arith, e)
-shaped_le o k ps g (one_phase _ _ e _ _ _) = omega (arith, e)
-shaped_le o k ps g (more_phases e _) = omega (arith, e)
+size_one : (cs : List Located) → size (one_straight cs) ≡ max (some_straight cs) 0
+size_one [] = refl
+size_one (c ∷ cs) = refl
 
-part_le : (o : Option ℕ) (k : ℕ) (r : List Action) (b : List source.Phase) (g : Option ℕ) → PartShaped o k r b g → k ≤ 2
-part_le o k r b g (no_lead e _ _ _) = omega (arith, e)
-part_le o k r b g (one_lead _ _ e _ _ _ _) = omega (arith, e)
-part_le o k r b g (more_behind e _ _) = omega (arith, e)
+some_more : (cs ds : List Located) (m : ℕ) → max (some_straight (cs ++ ds)) m ≡ max (some_straight cs) (max (some_straight ds) m)
+some_more [] ds m = grind arith
+some_more (c ∷ cs) [] m = grind arith
+some_more (c ∷ cs) (d ∷ ds) m = grind arith
 
-max_is : (k l a b : ℕ) → k ≡ a → l ≡ b → max k l ≡ max a b
-max_is k l a b e f = ap (λ x. max x l) e ∙ ap (λ x. max a x) f
+pub size_joined : (cs : List Located) (pss : List (List Phase)) → size (joined cs pss) ≡ max (some_straight cs) (most pss)
+size_joined cs [] = size_one cs
+size_joined cs ([] ∷ parts) = size_joined cs parts ∙ none_max (some_straight cs) (most parts)
+size_joined cs ((straight ds ∷ []) ∷ parts) = size_joined (cs ++ ds) parts ∙ some_more cs ds (most parts)
+size_joined cs ((turns loop count body ∷ []) ∷ parts) = size_two cs (turns loop count body) (joined [] parts) refl ∙ sym (max_two (some_straight cs) (most parts) (some_few cs) (most_few parts))
+size_joined cs ((repeated loop body ∷ []) ∷ parts) = size_two cs (repeated loop body) (joined [] parts) refl ∙ sym (max_two (some_straight cs) (most parts) (some_few cs) (most_few parts))
+size_joined cs ((decided choice chosen other ∷ []) ∷ parts) = size_two cs (decided choice chosen other) (joined [] parts) refl ∙ sym (max_two (some_straight cs) (most parts) (some_few cs) (most_few parts))
+size_joined cs ((p ∷ q ∷ ps) ∷ parts) = size_more cs p q (ps ++ joined [] parts) ∙ sym (max_two (some_straight cs) (most parts) (some_few cs) (most_few parts))
 
-max_first : (k l : ℕ) → k ≡ 2 → l ≤ 2 → max k l ≡ 2
-max_first k l e f = grind (arith, e, f)
+full_two : (xs : List Located) (p : Phase) (ys : List Phase) → IsFull (p ∷ []) → IsFull (one_straight xs ++ (p ∷ ys))
+full_two [] p [] h = h
+full_two [] p (y ∷ ys) h = tt
+full_two (x ∷ xs) p ys h = tt
 
-headed_more : (d : Action) (ds : List Action) (r l : List Action) → r ≡ d ∷ ds → takes_part (id_of d) d ≡ true → IsHeaded (r ++ l)
-headed_more d ds r l e h = subst (λ (x : List Action). IsHeaded (x ++ l)) (sym e) h
+full_one : (cs : List Located) → IsFull (one_straight cs)
+full_one [] = tt
+full_one (c ∷ cs) = tt
 
--- a list of one command more
-part_turn : (o g g' : Option ℕ) (k k' : ℕ) (ps : List source.Phase) (r : List Action) (b : List source.Phase) → Shaped o k ps g → PartShaped g k' r b g' → PartShaped o (max k k') (lead_of ps r) (behind_of ps r b) g'
-part_turn o g g' k k' ps r b (no_phase e is go) (no_lead f x y to) =
-    no_lead (max_is k k' 0 0 e f) (ap (λ l. lead_of l r) is ∙ x) (ap (λ l. behind_of l r b) is ∙ y) (to ∙ go)
-part_turn o g g' k k' ps r b (no_phase e is go) (one_lead d ds f x y own to) =
-    one_lead d ds (max_is k k' 0 1 e f) (ap (λ l. lead_of l r) is ∙ x) (ap (λ l. behind_of l r b) is ∙ y) own (to ∙ ap (λ v. Some (phase_at v (id_of d))) go)
-part_turn o g g' k k' ps r b (no_phase e is go) (more_behind f x y) =
-    more_behind (max_is k k' 0 2 e f) (subst (λ (l : List source.Phase). IsHeaded (lead_of l r)) (sym is) x) (λ qs. ap (λ l. are_straight (qs ++ behind_of l r b)) is ∙ y qs)
-part_turn o g g' k k' ps r b (one_phase d ds e is own go) (no_lead f x y to) =
-    one_lead d (ds ++ []) (max_is k k' 1 0 e f) (ap (λ l. lead_of l r) is ∙ ap (λ l. (d ∷ ds) ++ l) x) (ap (λ l. behind_of l r b) is ∙ y) own (to ∙ go)
-part_turn o g g' k k' ps r b (one_phase d ds e is own go) (one_lead c cs f x y _ to) =
-    one_lead d (ds ++ (c ∷ cs)) (max_is k k' 1 1 e f) (ap (λ l. lead_of l r) is ∙ ap (λ l. (d ∷ ds) ++ l) x) (ap (λ l. behind_of l r b) is ∙ y) own (to ∙ ap (λ v. Some (phase_at v (id_of c))) go)
-part_turn o g g' k k' ps r b (one_phase d ds e is own go) (more_behind f x y) =
-    more_behind (max_is k k' 1 2 e f) (subst (λ (l : List source.Phase). IsHeaded (lead_of l r)) (sym is) own) (λ qs. ap (λ l. are_straight (qs ++ behind_of l r b)) is ∙ y qs)
-part_turn o g g' k k' ps r b (more_phases e is) h =
-    more_behind (max_first k k' e (part_le g k' r b g' h)) (subst IsHeaded (sym (stepped_lead ps r is)) tt)
-    (λ qs. ap (λ l. are_straight (qs ++ l)) (stepped_behind ps r b is) ∙ append_stepped qs (ps ++ (one_straight r ++ b)) (stepped_append ps (one_straight r ++ b) is))
+full_more : (xs : List Located) (p q : Phase) (ys : List Phase) → IsFull (one_straight xs ++ (p ∷ q ∷ ys))
+full_more [] p q ys = tt
+full_more (x ∷ xs) p q ys = tt
 
-joined_shape : (o g : Option ℕ) (k : ℕ) (r : List Action) (b : List source.Phase) → PartShaped o k r b g → Shaped o k (one_straight r ++ b) g
-joined_shape o g k r b (no_lead e x y go) = no_phase e (ap (λ l. one_straight l ++ b) x ∙ y) go
-joined_shape o g k r b (one_lead d ds e x y own go) = one_phase d ds e (ap (λ l. one_straight l ++ b) x ∙ ap (λ l. source.straight (d ∷ ds) ∷ l) y) own go
-joined_shape o g k r b (more_behind e x y) = more_phases e (y (one_straight r))
+pub full_joined : (cs : List Located) (pss : List (List Phase)) → IsFull (joined cs pss)
+full_joined cs [] = full_one cs
+full_joined cs ([] ∷ parts) = full_joined cs parts
+full_joined cs ((straight ds ∷ []) ∷ parts) = full_joined (cs ++ ds) parts
+full_joined cs ((turns loop count body ∷ []) ∷ parts) = full_two cs (turns loop count body) (joined [] parts) tt
+full_joined cs ((repeated loop body ∷ []) ∷ parts) = full_two cs (repeated loop body) (joined [] parts) tt
+full_joined cs ((decided choice chosen other ∷ []) ∷ parts) = full_two cs (decided choice chosen other) (joined [] parts) tt
+full_joined cs ((p ∷ q ∷ ps) ∷ parts) = full_more cs p q (ps ++ joined [] parts)
 
--- parts between `---`
-sum_is : (k l a b : ℕ) → k ≡ a → l ≡ b → min 2 (k + l) ≡ min 2 (a + b)
-sum_is k l a b e f = ap (λ x. min 2 (x + l)) e ∙ ap (λ x. min 2 (a + x)) f
+-- of the parts of a block
 
-sum_none : (k l : ℕ) → k ≡ 0 → l ≤ 2 → min 2 (k + l) ≡ l
-sum_none k l e f = grind (arith, e, f)
+two_more : (n : ℕ) → 1 ≤ n → 2 ≡ min 2 (1 + n)
+two_more n e = grind (arith, e)
 
-sum_more : (k l : ℕ) → k ≡ 2 → min 2 (k + l) ≡ 2
-sum_more k l e = grind (arith, e)
+two_two : (n : ℕ) → 2 ≡ min 2 (2 + n)
+two_two n = grind arith
 
-shaped_at : (o o' k' : _) (k : ℕ) (ps qs : List source.Phase) (g : Option ℕ) → o ≡ o' → k ≡ k' → ps ≡ qs → Shaped o' k' qs g → Shaped o k ps g
-shaped_at o o' k' k ps qs g e f is (no_phase x y z) = no_phase (f ∙ x) (is ∙ y) (z ∙ sym e)
-shaped_at o o' k' k ps qs g e f is (one_phase d ds x y own z) = one_phase d ds (f ∙ x) (is ∙ y) own (z ∙ ap (λ v. Some (phase_at v (id_of d))) (sym e))
-shaped_at o o' k' k ps qs g e f is (more_phases x y) = more_phases (f ∙ x) (ap are_straight is ∙ y)
+pub some_size : (y : Phase) (ys : List Phase) → IsFull (y ∷ ys) → 1 ≤ size (y ∷ ys)
+some_size (straight []) [] h = absurd h
+some_size (straight (c ∷ cs)) [] h = omega arith
+some_size (turns loop count body) [] h = omega arith
+some_size (repeated loop body) [] h = omega arith
+some_size (decided choice chosen other) [] h = omega arith
+some_size y (z ∷ ys) h = omega arith
 
-groups_turn : (o g g' : Option ℕ) (k k' : ℕ) (ps qs : List source.Phase) → Shaped o k ps g → Shaped g k' qs g' → Shaped o (min 2 (k + k')) (ps ++ qs) g'
-groups_turn o g g' k k' ps qs (no_phase e is go) h = shaped_at o g k' (min 2 (k + k')) (ps ++ qs) qs g' (sym go) (sum_none k k' e (shaped_le g k' qs g' h)) (ap (λ l. l ++ qs) is) h
-groups_turn o g g' k k' ps qs (one_phase d ds e is own go) (no_phase f x to) = one_phase d ds (sum_is k k' 1 0 e f) (ap (λ l. l ++ qs) is ∙ ap (λ l. source.straight (d ∷ ds) ∷ l) x) own (to ∙ go)
-groups_turn o g g' k k' ps qs (one_phase d ds e is own go) (one_phase c cs f x _ to) = more_phases (sum_is k k' 1 1 e f) (ap (λ l. are_straight (l ++ qs)) is ∙ ap (λ l. are_straight (source.straight (d ∷ ds) ∷ l)) x)
-groups_turn o g g' k k' ps qs (one_phase d ds e is own go) (more_phases f x) = more_phases (sum_is k k' 1 2 e f) (append_stepped ps qs x)
-groups_turn o g g' k k' ps qs (more_phases e is) h = more_phases (sum_more k k' e) (stepped_append ps qs is)
+size_itself : (n : ℕ) → n ≤ 2 → n ≡ min 2 (0 + n)
+size_itself n e = grind (arith, e)
 
--- a block, behind which no phase is open where it has others
-block_shape : (o : Option ℕ) (k : ℕ) (ps : List source.Phase) (go : Bool → Option ℕ) → Shaped o k ps (go false) → Shaped o k ps (released (is_stepped k) (go (is_stepped k)))
-block_shape o k ps go (no_phase e is f) = no_phase e is (ap (λ n. released (is_stepped n) (go (is_stepped n))) e ∙ f)
-block_shape o k ps go (one_phase d ds e is own f) = one_phase d ds e is own (ap (λ n. released (is_stepped n) (go (is_stepped n))) e ∙ f)
-block_shape o k ps go (more_phases e is) = more_phases e is
+size_none : (n : ℕ) → n ≤ 2 → n ≡ min 2 (n + 0)
+size_none n e = grind (arith, e)
 
--- a phase that goes on into a straight command goes on behind it
-pub sides : (o : Option ℕ) (k : ℕ) (ps : List source.Phase) (g : Option ℕ) → Shaped o k ps g → ((k ≡ 2) × (are_straight ps ≡ false)) ⊎ ((k ≤ 1) × ((are_straight ps ≡ true) × ((j : ℕ) → o ≡ Some j → g ≡ Some j)))
-sides o k ps g (no_phase e is go) = inr (omega (arith, e), (ap are_straight is, λ j f. go ∙ f))
-sides o k ps g (one_phase d ds e is own go) = inr (omega (arith, e), (ap are_straight is, λ j f. go ∙ ap (λ v. Some (phase_at v (id_of d))) f))
-sides o k ps g (more_phases e is) = inl (e, is)
+nothing_more : (xs : List Phase) → xs ++ [] ≡ xs
+nothing_more [] = refl
+nothing_more (x ∷ xs) = ap (λ l. x ∷ l) (nothing_more xs)
 
-not_two : (k l : ℕ) → k ≤ 1 → l ≤ 1 → nat_le 2 (max k l) ≡ false
-not_two k l e f = lt-leb 2 (max k l) (small k l e f)
+pub size_append : (xs ys : List Phase) → IsFull xs → IsFull ys → size (xs ++ ys) ≡ min 2 (size xs + size ys)
+size_append [] ys g h = size_itself (size ys) (size_few ys)
+size_append (x ∷ xs) [] g h = ap size (nothing_more (x ∷ xs)) ∙ size_none (size (x ∷ xs)) (size_few (x ∷ xs))
+size_append (straight [] ∷ []) (y ∷ ys) g h = absurd g
+size_append (straight (c ∷ cs) ∷ []) (y ∷ ys) g h = two_more (size (y ∷ ys)) (some_size y ys h)
+size_append (turns loop count body ∷ []) (y ∷ ys) g h = two_two (size (y ∷ ys))
+size_append (repeated loop body ∷ []) (y ∷ ys) g h = two_two (size (y ∷ ys))
+size_append (decided choice chosen other ∷ []) (y ∷ ys) g h = two_two (size (y ∷ ys))
+size_append (x ∷ z ∷ xs) (y ∷ ys) g h = two_two (size (y ∷ ys))
+
+pub full_append : (xs ys : List Phase) → IsFull xs → IsFull ys → IsFull (xs ++ ys)
+full_append [] ys g h = h
+full_append (x ∷ []) [] g h = g
+full_append (x ∷ []) (y ∷ ys) g h = tt
+full_append (x ∷ z ∷ xs) ys g h = tt
+
+-- Open phases.
+
+-- the number of the run that is open behind commands
+abbrev pub behind_all : Option ℕ → List Located → Option ℕ
+behind_all g [] = g
+behind_all g (c ∷ cs) = Some (phase_at g (tag_of c))
+
+abbrev pub last_one : Phase → Option ℕ
+last_one (straight cs) = behind_all None cs
+last_one (turns loop count body) = None
+last_one (repeated loop body) = None
+last_one (decided choice chosen other) = None
+
+-- the last phase, where it is Straight
+abbrev pub last_behind : Option ℕ → List Phase → Option ℕ
+last_behind l [] = l
+last_behind l (p ∷ ps) = last_behind (last_one p) ps
+
+abbrev pub opened_straight : Open → List Located → Open
+opened_straight b [] = b
+opened_straight b (c ∷ cs) = open_at (Some (phase_at b.going (tag_of c)))
+
+-- what is open behind phases
+abbrev pub opened : Open → List Phase → Open
+opened b [] = b
+opened b (straight cs ∷ []) = opened_straight b cs
+opened b (turns loop count body ∷ []) = closed
+opened b (repeated loop body ∷ []) = closed
+opened b (decided choice chosen other ∷ []) = closed
+opened b (p ∷ q ∷ ps) = open_phases None (last_behind None (q ∷ ps))
+
+abbrev pub opened_all : Open → List (List Phase) → Open
+opened_all b [] = b
+opened_all b (ps ∷ pss) = opened_all (opened b ps) pss
+
+-- the phase that goes on behind phases
+abbrev pub next_going : Option ℕ → List Phase → Option ℕ
+next_going g [] = g
+next_going g (straight cs ∷ []) = behind_all g cs
+next_going g (turns loop count body ∷ []) = None
+next_going g (repeated loop body ∷ []) = None
+next_going g (decided choice chosen other ∷ []) = None
+next_going g (p ∷ q ∷ ps) = None
+
+straight_going : (b : Open) (cs : List Located) → (opened_straight b cs).going ≡ behind_all b.going cs
+straight_going b [] = refl
+straight_going b (c ∷ cs) = refl
+
+pub going_opened : (b : Open) (ps : List Phase) → (opened b ps).going ≡ next_going b.going ps
+going_opened b [] = refl
+going_opened b (straight cs ∷ []) = straight_going b cs
+going_opened b (turns loop count body ∷ []) = refl
+going_opened b (repeated loop body ∷ []) = refl
+going_opened b (decided choice chosen other ∷ []) = refl
+going_opened b (p ∷ q ∷ ps) = refl
+
+straight_more : (b : Open) (cs ds : List Located) → opened_straight (opened_straight b cs) ds ≡ opened_straight b (cs ++ ds)
+straight_more b [] ds = refl
+straight_more b (c ∷ cs) [] = refl
+straight_more b (c ∷ cs) (d ∷ ds) = refl
+
+opened_one : (b : Open) (cs : List Located) → opened_straight b cs ≡ opened b (one_straight cs)
+opened_one b [] = refl
+opened_one b (c ∷ cs) = refl
+
+max_left : (k l : ℕ) → max k l ≤ 1 → k ≤ 1
+max_left k l e = grind (arith, e)
+
+pub max_right : (k l : ℕ) → max k l ≤ 1 → l ≤ 1
+max_right k l e = grind (arith, e)
+
+two_one : 2 ≤ 1 → ⊥
+two_one e = omega (arith, e)
+
+-- two parts that both have phases
+pub two_sum : (m n : ℕ) → 1 ≤ m → 1 ≤ n → min 2 (m + n) ≤ 1 → ⊥
+two_sum m n e f h = let x : 2 ≤ min 2 (m + n) = large m n e f in omega (arith, x, h)
   where
-    small : (k l : ℕ) → k ≤ 1 → l ≤ 1 → max k l < 2
-    small k l e f = grind (arith, e, f)
+    large : (m n : ℕ) → 1 ≤ m → 1 ≤ n → 2 ≤ min 2 (m + n)
+    large m n e f = grind (arith, e, f)
 
-two_first : (k l : ℕ) → k ≡ 2 → nat_le 2 (max k l) ≡ true
-two_first k l e = le-leb 2 (max k l) (large k l e)
+-- behind straight parts
+pub opened_joined : (b : Open) (cs : List Located) (pss : List (List Phase)) → most pss ≤ 1 → opened_all (opened_straight b cs) pss ≡ opened b (joined cs pss)
+opened_joined b cs [] h = opened_one b cs
+opened_joined b cs ([] ∷ parts) h = opened_joined b cs parts (max_right 0 (most parts) h)
+opened_joined b cs ((straight ds ∷ []) ∷ parts) h = ap (λ c. opened_all c parts) (straight_more b cs ds) ∙ opened_joined b (cs ++ ds) parts (max_right (some_straight ds) (most parts) h)
+opened_joined b cs ((turns loop count body ∷ []) ∷ parts) h = absurd (two_one (max_left 2 (most parts) h))
+opened_joined b cs ((repeated loop body ∷ []) ∷ parts) h = absurd (two_one (max_left 2 (most parts) h))
+opened_joined b cs ((decided choice chosen other ∷ []) ∷ parts) h = absurd (two_one (max_left 2 (most parts) h))
+opened_joined b cs ((p ∷ q ∷ ps) ∷ parts) h = absurd (two_one (max_left 2 (most parts) h))
+
+pub last_append : (l : Option ℕ) (xs ys : List Phase) → last_behind l (xs ++ ys) ≡ last_behind (last_behind l xs) ys
+last_append l [] ys = refl
+last_append l (x ∷ xs) ys = last_append (last_one x) xs ys
+
+last_straight : (l : Option ℕ) (cs : List Located) → (opened_straight (open_phases None l) cs).last ≡ last_behind l (one_straight cs)
+last_straight l [] = refl
+last_straight l (c ∷ cs) = refl
+
+last_stepped : (l : Option ℕ) (cs : List Located) (p : Phase) (ys : List Phase) → last_behind l (one_straight cs ++ (p ∷ ys)) ≡ last_behind (last_one p) ys
+last_stepped l cs p ys = last_append l (one_straight cs) (p ∷ ys)
+
+-- behind parts of which none goes on with an open phase
+pub last_joined : (l : Option ℕ) (cs : List Located) (pss : List (List Phase)) → (opened_all (opened_straight (open_phases None l) cs) pss).last ≡ last_behind l (joined cs pss)
+last_joined l cs [] = last_straight l cs
+last_joined l cs ([] ∷ parts) = last_joined l cs parts
+last_joined l cs ((straight ds ∷ []) ∷ parts) = ap (λ c. (opened_all c parts).last) (straight_more (open_phases None l) cs ds) ∙ last_joined l (cs ++ ds) parts
+last_joined l cs ((turns loop count body ∷ []) ∷ parts) = last_joined None [] parts ∙ sym (last_stepped l cs (turns loop count body) (joined [] parts))
+last_joined l cs ((repeated loop body ∷ []) ∷ parts) = last_joined None [] parts ∙ sym (last_stepped l cs (repeated loop body) (joined [] parts))
+last_joined l cs ((decided choice chosen other ∷ []) ∷ parts) = last_joined None [] parts ∙ sym (last_stepped l cs (decided choice chosen other) (joined [] parts))
+last_joined l cs ((p ∷ q ∷ ps) ∷ parts) =
+    last_joined (last_behind None (q ∷ ps)) [] parts
+    ∙ (sym (last_append (last_one q) ps (joined [] parts)) ∙ sym (last_stepped l cs p (q ∷ (ps ++ joined [] parts))))
+
+pub opened_more : (b : Open) (l : Option ℕ) (ps : List Phase) → are_straight ps ≡ false → open_phases None (last_behind l ps) ≡ opened b ps
+opened_more b l [] e = absurd cc
+opened_more b l (straight cs ∷ []) e = absurd cc
+opened_more b l (turns loop count body ∷ []) e = refl
+opened_more b l (repeated loop body ∷ []) e = refl
+opened_more b l (decided choice chosen other ∷ []) e = refl
+opened_more b l (p ∷ q ∷ ps) e = refl
+
+pub last_opened : (ps : List Phase) → (opened closed ps).last ≡ last_behind None ps
+last_opened [] = refl
+last_opened (straight [] ∷ []) = refl
+last_opened (straight (c ∷ cs) ∷ []) = refl
+last_opened (turns loop count body ∷ []) = refl
+last_opened (repeated loop body ∷ []) = refl
+last_opened (decided choice chosen other ∷ []) = refl
+last_opened (p ∷ q ∷ ps) = refl
+
+-- two parts of a block that is straight
+pub opened_beside : (b : Open) (xs ys : List Phase) → IsFull xs → IsFull ys → min 2 (size xs + size ys) ≤ 1 → opened (opened b xs) ys ≡ opened b (xs ++ ys)
+opened_beside b [] ys f g h = refl
+opened_beside b (x ∷ xs) [] f g h = ap (opened b) (sym (nothing_more (x ∷ xs)))
+opened_beside b (x ∷ xs) (y ∷ ys) f g h = absurd (two_sum (size (x ∷ xs)) (size (y ∷ ys)) (some_size x xs f) (some_size y ys g) h)
+
+-- Where accesses stand.
+
+-- no phase goes on into phases that are more than one Straight phase
+abbrev pub into : List Phase → Option ℕ → Option ℕ
+into ps g = if nat_le 2 (size ps) then None else g
+
+pub into_none : (ps : List Phase) → into ps None ≡ None
+into_none ps = same (nat_le 2 (size ps)) None
   where
-    large : (k l : ℕ) → k ≡ 2 → 2 ≤ max k l
-    large k l e = grind (arith, e)
+    same : (b : Bool) (o : Option ℕ) → (if b then o else o) ≡ o
+    same true o = refl
+    same false o = refl
 
-two_second : (k l : ℕ) → l ≡ 2 → nat_le 2 (max k l) ≡ true
-two_second k l e = le-leb 2 (max k l) (large k l e)
+abbrev pub all_stand : Option ℕ → List (List Phase) → (k p : ℕ) → Bool
+all_stand g [] k p = false
+all_stand g (ps ∷ pss) k p = stands (into ps g) (flat ps) k p || all_stand (next_going g ps) pss k p
+
+-- an open phase goes on only into straight parts
+abbrev pub Fits : Option ℕ → List (List Phase) → Type 0
+Fits o pss = (o ≡ None) ⊎ (most pss ≤ 1)
+
+fits_rest : (o : Option ℕ) (ps : List Phase) (pss : List (List Phase)) → Fits o (ps ∷ pss) → Fits o pss
+fits_rest o ps pss (inl e) = inl e
+fits_rest o ps pss (inr h) = inr (max_right (size ps) (most pss) h)
+
+fits_none : (o : Option ℕ) (ps : List Phase) (pss : List (List Phase)) → size ps ≡ 2 → Fits o (ps ∷ pss) → o ≡ None
+fits_none o ps pss e (inl f) = f
+fits_none o ps pss e (inr h) = absurd (too_many (size ps) e (max_left (size ps) (most pss) h))
   where
-    large : (k l : ℕ) → l ≡ 2 → 2 ≤ max k l
-    large k l e = grind (arith, e)
+    too_many : (n : ℕ) → n ≡ 2 → n ≤ 1 → ⊥
+    too_many n e f = omega (arith, e, f)
 
-and_yes : (x y : Bool) → x ≡ true → y ≡ true → (x && y) ≡ true
-and_yes true y e f = f
-and_yes false y e f = e
+split_run : (b a c x : Bool) → ((b && (a || c)) || false) || x ≡ (((b && a) || false) || (((b && c) || false) || x))
+split_run true true c x = refl
+split_run true false c x = refl
+split_run false a c x = refl
 
-and_first : (x y : Bool) → x ≡ false → (x && y) ≡ false
-and_first true y e = absurd cc
-and_first false y e = refl
+same_run : (b a x : Bool) → ((b && (a || false)) || false) || x ≡ (((b && a) || false) || (false || x))
+same_run true true x = refl
+same_run true false x = refl
+same_run false a x = refl
 
-and_second : (x y : Bool) → y ≡ false → (x && y) ≡ false
-and_second true y e = e
-and_second false y e = refl
+more_run : (o : Option ℕ) (cs ds : List Located) (parts : List (List Phase)) (k p : ℕ)
+    → (stands o (straight_run (cs ++ ds)) k p || all_stand (behind_all o (cs ++ ds)) parts k p)
+    ≡ (stands o (straight_run cs) k p || (stands (behind_all o cs) (flat (straight ds ∷ [])) k p || all_stand (behind_all (behind_all o cs) ds) parts k p))
+more_run o [] [] parts k p = refl
+more_run o [] (d ∷ ds) parts k p = refl
+more_run o (c ∷ cs) [] parts k p =
+    ap (λ b. (((phase_at o (tag_of c) == p) && b) || false) || all_stand (Some (phase_at o (tag_of c))) parts k p) (list_any-append (λ c. makes k c.first c.command) (c ∷ cs) [])
+    ∙ same_run (phase_at o (tag_of c) == p) (any_makes k (c ∷ cs)) (all_stand (Some (phase_at o (tag_of c))) parts k p)
+more_run o (c ∷ cs) (d ∷ ds) parts k p =
+    ap (λ b. (((phase_at o (tag_of c) == p) && b) || false) || all_stand (Some (phase_at o (tag_of c))) parts k p) (list_any-append (λ c. makes k c.first c.command) (c ∷ cs) (d ∷ ds))
+    ∙ split_run (phase_at o (tag_of c) == p) (any_makes k (c ∷ cs)) (any_makes k (d ∷ ds)) (all_stand (Some (phase_at o (tag_of c))) parts k p)
 
-abbrev Sided : ℕ → List source.Phase → Option ℕ → Option ℕ → Type 0
-Sided k ps o g = ((k ≡ 2) × (are_straight ps ≡ false)) ⊎ ((k ≤ 1) × ((are_straight ps ≡ true) × ((j : ℕ) → o ≡ Some j → g ≡ Some j)))
+stepped_stands : (o : Option ℕ) (cs : List Located) (ps rest : List Phase) (k p : ℕ) (x : Bool) → o ≡ None → stands None (flat rest) k p ≡ x
+    → stands o (flat (one_straight cs ++ (ps ++ rest))) k p ≡ (stands o (straight_run cs) k p || (stands None (flat ps) k p || x))
+stepped_stands o cs ps rest k p x none e =
+    subst (λ (v : Option ℕ). stands v (flat (one_straight cs ++ (ps ++ rest))) k p ≡ (stands v (straight_run cs) k p || (stands None (flat ps) k p || x))) (sym none)
+    (ap (λ l. stands None l k p) (flat_append (one_straight cs) (ps ++ rest)) ∙ (stands_append (flat (one_straight cs)) (flat (ps ++ rest)) k p
+    ∙ or_both _ _ _ _ (ap (λ l. stands None l k p) (flat_straight cs)) (ap (λ l. stands None l k p) (flat_append ps rest) ∙ (stands_append (flat ps) (flat rest) k p ∙ ap (λ v. stands None (flat ps) k p || v) e))))
 
--- whether an `if` is straight, by its arms
-pub both_sides : (k l : ℕ) (ps qs : List source.Phase) (o g o' g' : Option ℕ) → Sided k ps o g → Sided l qs o' g' → ((nat_le 2 (max k l) ≡ true) × ((are_straight ps && are_straight qs) ≡ false)) ⊎ ((nat_le 2 (max k l) ≡ false) × (((are_straight ps && are_straight qs) ≡ true) × ((k ≤ 1) × (l ≤ 1))))
-both_sides k l ps qs o g o' g' (inl h) i = inl (two_first k l h.0, and_first (are_straight ps) (are_straight qs) h.1)
-both_sides k l ps qs o g o' g' (inr h) (inl i) = inl (two_second k l i.0, and_second (are_straight ps) (are_straight qs) i.1)
-both_sides k l ps qs o g o' g' (inr h) (inr i) = inr (not_two k l h.0 i.0, (and_yes (are_straight ps) (are_straight qs) h.1.0 i.1.0, (h.0, i.0)))
-
-choice_shape : (g : Option ℕ) (id : ℕ) (choice : Action) (k l : ℕ) (ps qs : List source.Phase) (f f' : Option ℕ → Option ℕ) → id_of choice ≡ id → takes_part (id_of choice) choice ≡ true → ((o : Option ℕ) → Shaped o k ps (f o)) → ((o : Option ℕ) → Shaped o l qs (f' o))
-    → Shaped g (if nat_le 2 (max k l) then 2 else 1) (choice_phases choice ps qs) (released (nat_le 2 (max k l)) (f' (released (nat_le 2 (max k l)) (f (tested (nat_le 2 (max k l)) g id)))))
-choice_shape g id choice k l ps qs f f' same own h i = by (sides _ k ps _ (h (Some (phase_at g id)))) (sides _ l qs _ (i (Some (phase_at g id))))
+-- in joined phases, where they stand in those of the parts
+pub joined_stands : (o : Option ℕ) (cs : List Located) (pss : List (List Phase)) (k p : ℕ) → Fits o pss
+    → stands o (flat (joined cs pss)) k p ≡ (stands o (straight_run cs) k p || all_stand (behind_all o cs) pss k p)
+joined_stands o cs [] k p f = ap (λ l. stands o l k p) (flat_straight cs) ∙ sym (or_none (stands o (straight_run cs) k p))
+joined_stands o cs ([] ∷ parts) k p f = joined_stands o cs parts k p (fits_rest o [] parts f)
+joined_stands o cs ((straight ds ∷ []) ∷ parts) k p f =
+    joined_stands o (cs ++ ds) parts k p (fits_rest o (straight ds ∷ []) parts f)
+    ∙ (more_run o cs ds parts k p
+    ∙ ap (λ v. stands o (straight_run cs) k p || (stands v (flat (straight ds ∷ [])) k p || all_stand (behind_all (behind_all o cs) ds) parts k p)) (into_straight ds (behind_all o cs)))
   where
-    stepped : nat_le 2 (max k l) ≡ true → (are_straight ps && are_straight qs) ≡ false → Shaped g (if nat_le 2 (max k l) then 2 else 1) (choice_phases choice ps qs) (released (nat_le 2 (max k l)) (f' (released (nat_le 2 (max k l)) (f (tested (nat_le 2 (max k l)) g id)))))
-    stepped e x = more_phases (ap (λ v. if v then 2 else 1) e) (ap (λ v. are_straight (if v then one_command choice else source.decided choice (of_list ps) (of_list qs) ∷ [])) x)
+    into_straight : (ds : List Located) (g : Option ℕ) → g ≡ into (straight ds ∷ []) g
+    into_straight [] g = refl
+    into_straight (d ∷ ds) g = refl
+joined_stands o cs ((turns loop count body ∷ []) ∷ parts) k p f =
+    stepped_stands o cs (turns loop count body ∷ []) (joined [] parts) k p _ (fits_none o (turns loop count body ∷ []) parts refl f) (joined_stands None [] parts k p (inl refl))
+joined_stands o cs ((repeated loop body ∷ []) ∷ parts) k p f =
+    stepped_stands o cs (repeated loop body ∷ []) (joined [] parts) k p _ (fits_none o (repeated loop body ∷ []) parts refl f) (joined_stands None [] parts k p (inl refl))
+joined_stands o cs ((decided choice chosen other ∷ []) ∷ parts) k p f =
+    stepped_stands o cs (decided choice chosen other ∷ []) (joined [] parts) k p _ (fits_none o (decided choice chosen other ∷ []) parts refl f) (joined_stands None [] parts k p (inl refl))
+joined_stands o cs ((q ∷ r ∷ ps) ∷ parts) k p f =
+    stepped_stands o cs (q ∷ r ∷ ps) (joined [] parts) k p _ (fits_none o (q ∷ r ∷ ps) parts refl f) (joined_stands None [] parts k p (inl refl))
 
-    by : Sided k ps (Some (phase_at g id)) (f (Some (phase_at g id))) → Sided l qs (Some (phase_at g id)) (f' (Some (phase_at g id)))
-        → Shaped g (if nat_le 2 (max k l) then 2 else 1) (choice_phases choice ps qs) (released (nat_le 2 (max k l)) (f' (released (nat_le 2 (max k l)) (f (tested (nat_le 2 (max k l)) g id)))))
-    by (inl x) y = stepped (two_first k l x.0) (and_first (are_straight ps) (are_straight qs) x.1)
-    by (inr x) (inl y) = stepped (two_second k l y.0) (and_second (are_straight ps) (are_straight qs) y.1)
-    by (inr x) (inr y) =
-        one_phase choice [] (ap (λ v. if v then 2 else 1) (not_two k l x.0 y.0)) (ap (λ v. if v then one_command choice else source.decided choice (of_list ps) (of_list qs) ∷ []) (and_yes (are_straight ps) (are_straight qs) x.1.0 y.1.0)) own
-        (ap (λ v. released v (f' (released v (f (tested v g id))))) (not_two k l x.0 y.0) ∙ (ap f' (x.1.1 (phase_at g id) refl) ∙ (y.1.1 (phase_at g id) refl ∙ ap (λ v. Some (phase_at g v)) (sym same))))
+one_stands : (q : Phase) (fold : List Phase) (k p : ℕ) → stands None (flat (q ∷ fold)) k p ≡ (stands None (flat (q ∷ [])) k p || stands (into fold None) (flat fold) k p)
+one_stands q fold k p =
+    stands_append (flat_one q) (flat fold) k p ∙ or_both _ _ _ _ (ap (λ l. stands None l k p) (sym (runs_nil (flat_one q)))) (ap (λ v. stands v (flat fold) k p) (sym (into_none fold)))
 
--- a `for`
-turn_full : (g : Option ℕ) (count : ℕ) (loop : Action) (k : ℕ) (p : source.Phase) (ps qs : List source.Phase) → qs ≡ p ∷ ps → (k == 0) ≡ false → Shaped g (if (count == 0) || (k == 0) then 0 else 2) (turn_phases loop count qs) (released (not ((count == 0) || (k == 0))) g)
-turn_full g count loop k p ps qs is f = by (count == 0) refl
+-- in the phases of a turn, where they stand in those of its body or of the block that joins its copies
+pub folded_stands : (ps fold : List Phase) (k p : ℕ) → stands None (flat (folded ps fold)) k p ≡ (stands None (flat ps) k p || stands (into fold (last_behind None ps)) (flat fold) k p)
+folded_stands [] fold k p = ap (λ v. stands v (flat fold) k p) (sym (into_none fold))
+folded_stands (straight cs ∷ []) fold k p =
+    joined_stands None cs (fold ∷ []) k p (inl refl)
+    ∙ or_both _ _ _ _ (ap (λ l. stands None l k p) (sym (runs_nil (straight_run cs)))) (or_none (stands (into fold (behind_all None cs)) (flat fold) k p))
+folded_stands (turns loop count body ∷ []) fold k p = one_stands (turns loop count body) fold k p
+folded_stands (repeated loop body ∷ []) fold k p = one_stands (repeated loop body) fold k p
+folded_stands (decided choice chosen other ∷ []) fold k p = one_stands (decided choice chosen other) fold k p
+folded_stands (q ∷ r ∷ ps) fold k p =
+    stands_append (flat_one q) (flat (folded (r ∷ ps) fold)) k p
+    ∙ (ap (λ v. stands None (flat_one q) k p || v) (folded_stands (r ∷ ps) fold k p)
+    ∙ (sym (or_assoc (stands None (flat_one q) k p) (stands None (flat (r ∷ ps)) k p) (stands (into fold (last_behind None (r ∷ ps))) (flat fold) k p))
+    ∙ ap (λ v. v || stands (into fold (last_behind None (r ∷ ps))) (flat fold) k p) (sym (stands_append (flat_one q) (flat (r ∷ ps)) k p))))
+
+-- in two parts of a block that is straight
+pub beside_stands : (o : Option ℕ) (xs ys : List Phase) (k p : ℕ) → IsFull xs → IsFull ys → min 2 (size xs + size ys) ≤ 1
+    → stands o (flat (xs ++ ys)) k p ≡ (stands o (flat xs) k p || stands (next_going o xs) (flat ys) k p)
+beside_stands o [] ys k p f g h = refl
+beside_stands o (x ∷ xs) [] k p f g h = ap (λ l. stands o (flat l) k p) (nothing_more (x ∷ xs)) ∙ sym (or_none (stands o (flat (x ∷ xs)) k p))
+beside_stands o (x ∷ xs) (y ∷ ys) k p f g h = absurd (two_sum (size (x ∷ xs)) (size (y ∷ ys)) (some_size x xs f) (some_size y ys g) h)
+
+-- the accesses of the Straight phases of phases
+abbrev pub tops : ℕ → List Phase → Bool
+tops k [] = false
+tops k (straight cs ∷ ps) = any_makes k cs || tops k ps
+tops k (turns loop count body ∷ ps) = tops k ps
+tops k (repeated loop body ∷ ps) = tops k ps
+tops k (decided choice chosen other ∷ ps) = tops k ps
+
+and_none : (b : Bool) → (b && false) ≡ false
+and_none true = refl
+and_none false = refl
+
+-- what stands in one Straight phase goes by the open one
+pub straight_stands : (q : ℕ) (ps : List Phase) (k p : ℕ) → are_straight ps ≡ true → stands (Some q) (flat ps) k p ≡ ((q == p) && tops k ps)
+straight_stands q [] k p e = sym (and_none (q == p))
+straight_stands q (straight [] ∷ []) k p e = sym (and_none (q == p))
+straight_stands q (straight (c ∷ cs) ∷ []) k p e = or_none ((q == p) && any_makes k (c ∷ cs)) ∙ ap (λ v. (q == p) && v) (sym (or_none (any_makes k (c ∷ cs))))
+straight_stands q (turns loop count body ∷ []) k p e = absurd cc
+straight_stands q (repeated loop body ∷ []) k p e = absurd cc
+straight_stands q (decided choice chosen other ∷ []) k p e = absurd cc
+straight_stands q (r ∷ s ∷ ps) k p e = absurd cc
+
+abbrev pub all_tops : ℕ → List (List Phase) → Bool
+all_tops k [] = false
+all_tops k (ps ∷ pss) = tops k ps || all_tops k pss
+
+pub tops_append : (k : ℕ) (xs ys : List Phase) → tops k (xs ++ ys) ≡ (tops k xs || tops k ys)
+tops_append k [] ys = refl
+tops_append k (straight cs ∷ xs) ys = ap (λ v. any_makes k cs || v) (tops_append k xs ys) ∙ sym (or_assoc (any_makes k cs) (tops k xs) (tops k ys))
+tops_append k (turns loop count body ∷ xs) ys = tops_append k xs ys
+tops_append k (repeated loop body ∷ xs) ys = tops_append k xs ys
+tops_append k (decided choice chosen other ∷ xs) ys = tops_append k xs ys
+
+tops_one : (k : ℕ) (cs : List Located) → tops k (one_straight cs) ≡ any_makes k cs
+tops_one k [] = refl
+tops_one k (c ∷ cs) = or_none (any_makes k (c ∷ cs))
+
+tops_stepped : (k : ℕ) (cs : List Located) (ps rest : List Phase) (x : Bool) → tops k rest ≡ x → tops k (one_straight cs ++ (ps ++ rest)) ≡ (any_makes k cs || (tops k ps || x))
+tops_stepped k cs ps rest x e =
+    tops_append k (one_straight cs) (ps ++ rest) ∙ or_both _ _ _ _ (tops_one k cs) (tops_append k ps rest ∙ ap (λ v. tops k ps || v) e)
+
+pub tops_joined : (k : ℕ) (cs : List Located) (pss : List (List Phase)) → tops k (joined cs pss) ≡ (any_makes k cs || all_tops k pss)
+tops_joined k cs [] = tops_one k cs ∙ sym (or_none (any_makes k cs))
+tops_joined k cs ([] ∷ parts) = tops_joined k cs parts
+tops_joined k cs ((straight ds ∷ []) ∷ parts) =
+    tops_joined k (cs ++ ds) parts ∙ (ap (λ v. v || all_tops k parts) (list_any-append (λ c. makes k c.first c.command) cs ds)
+    ∙ (or_assoc (any_makes k cs) (any_makes k ds) (all_tops k parts) ∙ ap (λ v. any_makes k cs || (v || all_tops k parts)) (sym (or_none (any_makes k ds)))))
+tops_joined k cs ((turns loop count body ∷ []) ∷ parts) = tops_stepped k cs (turns loop count body ∷ []) (joined [] parts) _ (tops_joined k [] parts)
+tops_joined k cs ((repeated loop body ∷ []) ∷ parts) = tops_stepped k cs (repeated loop body ∷ []) (joined [] parts) _ (tops_joined k [] parts)
+tops_joined k cs ((decided choice chosen other ∷ []) ∷ parts) = tops_stepped k cs (decided choice chosen other ∷ []) (joined [] parts) _ (tops_joined k [] parts)
+tops_joined k cs ((q ∷ r ∷ ps) ∷ parts) = tops_stepped k cs (q ∷ r ∷ ps) (joined [] parts) _ (tops_joined k [] parts)
+
+-- Numbers of runs.
+
+abbrev pub all_times : ℕ → List (List Phase) → ℕ
+all_times t [] = 0
+all_times t (ps ∷ pss) = times t (flat ps) + all_times t pss
+
+times_straight : (t : ℕ) (cs ds : List Located) → times t (straight_run (cs ++ ds)) ≤ times t (straight_run cs) + times t (straight_run ds)
+times_straight t [] ds = none (times t (straight_run ds))
   where
-    by : (c : Bool) → (count == 0) ≡ c → Shaped g (if (count == 0) || (k == 0) then 0 else 2) (turn_phases loop count qs) (released (not ((count == 0) || (k == 0))) g)
-    by true e =
-        let h = or_first (count == 0) (k == 0) e in
-        no_phase (ap (λ v. if v then 0 else 2) h) (ap (λ l. turn_phases loop count l) is ∙ ap (λ v. if v then [] else source.turns loop count (of_list (p ∷ ps)) ∷ []) e) (ap (λ v. released (not v) g) h)
-    by false e =
-        let h = or_from (count == 0) (k == 0) e f in
-        more_phases (ap (λ v. if v then 0 else 2) h) (ap (λ l. are_straight (turn_phases loop count l)) is ∙ ap (λ v. are_straight (if v then [] else source.turns loop count (of_list (p ∷ ps)) ∷ [])) e)
-
-turn_shape : (g : Option ℕ) (count : ℕ) (loop : Action) (k : ℕ) (ps : List source.Phase) (go : Option ℕ) → Shaped None k ps go → Shaped g (if (count == 0) || (k == 0) then 0 else 2) (turn_phases loop count ps) (released (not ((count == 0) || (k == 0))) g)
-turn_shape g count loop k ps go (no_phase e is to) =
-    let h = or_second (count == 0) (k == 0) (eq-eqb k 0 e) in
-    no_phase (ap (λ v. if v then 0 else 2) h) (ap (λ l. turn_phases loop count l) is) (ap (λ v. released (not v) g) h)
-turn_shape g count loop k ps go (one_phase d ds e is own to) = turn_full g count loop k (source.straight (d ∷ ds)) [] ps is (ne_eqb k 0 (λ f. differ f))
+    none : (n : ℕ) → n ≤ 0 + n
+    none n = omega arith
+times_straight t (c ∷ cs) ds = more (times t (straight_run (c ∷ cs))) (times t (straight_run ds))
   where
-    differ : k ≡ 0 → ⊥
-    differ f = omega (arith, e, f)
-turn_shape g count loop k ps go (more_phases e is) = let x = full ps is in turn_full g count loop k x.0 x.1.0 ps x.1.1 (ne_eqb k 0 (λ f. differ f))
+    more : (m n : ℕ) → m ≤ m + n
+    more m n = omega arith
+
+times_stepped : (t : ℕ) (cs : List Located) (ps rest : List Phase) (n : ℕ) → times t (flat rest) ≤ 0 + n → times t (flat (one_straight cs ++ (ps ++ rest))) ≤ times t (straight_run cs) + (times t (flat ps) + n)
+times_stepped t cs ps rest n e =
+    let x = ap (times t) (flat_append (one_straight cs) (ps ++ rest)) ∙ times_append t (flat (one_straight cs)) (flat (ps ++ rest)) in
+    let y = ap (times t) (flat_append ps rest) ∙ times_append t (flat ps) (flat rest) in
+    let z = ap (times t) (flat_straight cs) in
+    sums _ _ _ _ _ _ _ x y z e
   where
-    differ : k ≡ 0 → ⊥
-    differ f = omega (arith, e, f)
+    sums : (all a b c d e n : ℕ) → all ≡ a + b → b ≡ c + d → a ≡ e → d ≤ 0 + n → all ≤ e + (c + n)
+    sums all a b c d e n x y z w = omega (arith, x, y, z, w)
 
-pub own_part : (id : ℕ) (x : Bool) → ((id == id) || x) ≡ true
-own_part id x = or_first (id == id) x (eq-eqb id id refl)
-
-mutual
-  pub shape_of : (g : Option ℕ) (a : Action) → Shaped g (kind a) (phases a) (going_after g a)
-  shape_of g (action id place form) = form_shape g id place form
-
-  form_shape : (g : Option ℕ) (id : ℕ) (place : Place) (form : ActionForm) → Shaped g (form_kind form) (form_phases id place form) (form_going g id form)
-  form_shape g id place (lets name declared value) = one_phase (action id place (lets name declared value)) [] refl refl (eq-eqb id id refl) refl
-  form_shape g id place (lets_memory name shape shape_places value) = no_phase refl refl refl
-  form_shape g id place (views name parent form) = no_phase refl refl refl
-  form_shape g id place (assigns target value) = one_phase (action id place (assigns target value)) [] refl refl (eq-eqb id id refl) refl
-  form_shape g id place (stores target value) = one_phase (action id place (stores target value)) [] refl refl (eq-eqb id id refl) refl
-  form_shape g id place (reduces target op value) = no_phase refl refl refl
-  form_shape g id place (calls function arguments) = no_phase refl refl refl
-  form_shape g id place (blocks body) = block_shape g (groups_kind body) (groups_phases body) (λ s. groups_going s g body) (groups_shape g body)
-  form_shape g id place (decides test chosen other) =
-      choice_shape g id (action id place (decides test chosen other)) (kind chosen) (other_kind other) (phases chosen) (other_phases other) (λ o. going_after o chosen) (λ o. other_going o other) refl (own_part id _)
-      (λ o. shape_of o chosen) (λ o. other_shape o other)
-  form_shape g id place (repeats test body) = more_phases refl refl
-  form_shape g id place (counts iterator declared low high factor body combine combine_place) =
-      turn_shape g (high.value - low.value) (action id place (counts iterator declared low high factor body combine combine_place)) (kind body) (phases body) (going_after None body) (shape_of None body)
-
-  pub other_shape : (g : Option ℕ) (o : MaybeAction) → Shaped g (other_kind o) (other_phases o) (other_going g o)
-  other_shape g no_action = no_phase refl refl refl
-  other_shape g (one_action a) = shape_of g a
-
-  groups_shape : (g : Option ℕ) (body : Groups) → Shaped g (groups_kind body) (groups_phases body) (groups_going false g body)
-  groups_shape g no_groups = no_phase refl refl refl
-  groups_shape g (group_then part rest) =
-      groups_turn g (part_going g part) (groups_going false (part_going g part) rest) (part_kind part) (groups_kind rest) (joined [] (parts_phases part)) (groups_phases rest)
-      (shaped_at g g (part_kind part) (part_kind part) (joined [] (parts_phases part)) (one_straight (lead (parts_phases part)) ++ behind (parts_phases part)) (part_going g part) refl refl (joined_is [] (parts_phases part))
-      (joined_shape g (part_going g part) (part_kind part) (lead (parts_phases part)) (behind (parts_phases part)) (part_shape g part)))
-      (groups_shape (part_going g part) rest)
-
-  pub part_shape : (g : Option ℕ) (part : Actions) → PartShaped g (part_kind part) (lead (parts_phases part)) (behind (parts_phases part)) (part_going g part)
-  part_shape g no_actions = no_lead refl refl refl refl
-  part_shape g (action_then a rest) =
-      part_turn g (going_after g a) (part_going (going_after g a) rest) (kind a) (part_kind rest) (phases a) (lead (parts_phases rest)) (behind (parts_phases rest)) (shape_of g a) (part_shape (going_after g a) rest)
-
--- the phases of one part
-pub list_shape : (g : Option ℕ) (part : Actions) → Shaped g (part_kind part) (joined [] (parts_phases part)) (part_going g part)
-list_shape g part =
-    shaped_at g g (part_kind part) (part_kind part) (joined [] (parts_phases part)) (one_straight (lead (parts_phases part)) ++ behind (parts_phases part)) (part_going g part) refl refl (joined_is [] (parts_phases part))
-    (joined_shape g (part_going g part) (part_kind part) (lead (parts_phases part)) (behind (parts_phases part)) (part_shape g part))
-
-pub groups_shaped : (g : Option ℕ) (body : Groups) → Shaped g (groups_kind body) (groups_phases body) (groups_going false g body)
-groups_shaped = groups_shape
-
--- no phase is open behind others
-choice_ends : (s : Bool) (x : Option ℕ) → ◌≡◌ {A = ℕ} (if s then 2 else 1) 2 → released s x ≡ None
-choice_ends true x e = refl
-choice_ends false x e = absurd cc
-
-turn_ends : (s : Bool) (x : Option ℕ) → ◌≡◌ {A = ℕ} (if s then 0 else 2) 2 → released (not s) x ≡ None
-turn_ends true x e = absurd cc
-turn_ends false x e = refl
-
-pub stepped_ends : (g : Option ℕ) (a : Action) → kind a ≡ 2 → going_after g a ≡ None
-stepped_ends g (action id place (lets name declared value)) e = absurd cc
-stepped_ends g (action id place (lets_memory name shape shape_places value)) e = absurd cc
-stepped_ends g (action id place (views name parent form)) e = absurd cc
-stepped_ends g (action id place (assigns target value)) e = absurd cc
-stepped_ends g (action id place (stores target value)) e = absurd cc
-stepped_ends g (action id place (reduces target op value)) e = absurd cc
-stepped_ends g (action id place (calls function arguments)) e = absurd cc
-stepped_ends g (action id place (blocks body)) e = ap (λ n. released (is_stepped n) (groups_going (is_stepped n) g body)) e
-stepped_ends g (action id place (decides test chosen other)) e = choice_ends (choice_stepped chosen other) _ e
-stepped_ends g (action id place (repeats test body)) e = refl
-stepped_ends g (action id place (counts iterator declared low high factor body combine combine_place)) e = turn_ends ((high.value - low.value == 0) || (kind body == 0)) g e
-
-pub same_some : (a b : ℕ) → Some a ≡ Some b → a ≡ b
-same_some a b e = cc
-
--- the phase that is open behind was open before, or goes by one of the commands
-shaped_after : (o : Option ℕ) (k : ℕ) (ps : List source.Phase) (g : Option ℕ) (p : ℕ) → Shaped o k ps g → (k ≡ 2 → g ≡ None) → g ≡ Some p → (o ≡ Some p) ⊎ (member p (flat ps) ≡ true)
-shaped_after o k ps g p (no_phase e is go) over f = inl (sym go ∙ f)
-shaped_after o k ps g p (one_phase d ds e is own go) over f = by (first_tag o (id_of d) p (same_some p (phase_at o (id_of d)) (sym f ∙ go)))
+pub times_joined : (t : ℕ) (cs : List Located) (pss : List (List Phase)) → times t (flat (joined cs pss)) ≤ times t (straight_run cs) + all_times t pss
+times_joined t cs [] = let e = ap (times t) (flat_straight cs) in same _ _ e
   where
-    by : (o ≡ Some p) ⊎ (p ≡ id_of d) → (o ≡ Some p) ⊎ (member p (flat ps) ≡ true)
-    by (inl x) = inl x
-    by (inr x) = inr (ap (λ l. member p (flat l)) is ∙ (or_none (list_any (takes_part p) (d ∷ ds)) ∙ or_first (takes_part p d) (list_any (takes_part p) ds) (ap (λ i. takes_part i d) x ∙ own)))
-shaped_after o k ps g p (more_phases e is) over f = let x = over e in absurd (never (sym x ∙ f))
+    same : (m n : ℕ) → m ≡ n → m ≤ n + 0
+    same m n e = omega (arith, e)
+times_joined t cs ([] ∷ parts) = none (times t (flat (joined cs parts))) (times t (straight_run cs)) (all_times t parts) (times_joined t cs parts)
   where
-    never : None ≡ Some p → ⊥
-    never x = cc
+    none : (a b c : ℕ) → a ≤ b + c → a ≤ b + (0 + c)
+    none a b c e = omega (arith, e)
+times_joined t cs ((straight ds ∷ []) ∷ parts) =
+    let e = ap (times t) (runs_nil (straight_run ds)) in
+    sums _ _ _ _ _ _ (times_joined t (cs ++ ds) parts) (times_straight t cs ds) e
+  where
+    sums : (all a b c d n : ℕ) → all ≤ a + n → a ≤ b + c → d ≡ c → all ≤ b + (d + n)
+    sums all a b c d n x y z = omega (arith, x, y, z)
+times_joined t cs ((turns loop count body ∷ []) ∷ parts) = times_stepped t cs (turns loop count body ∷ []) (joined [] parts) _ (times_joined t [] parts)
+times_joined t cs ((repeated loop body ∷ []) ∷ parts) = times_stepped t cs (repeated loop body ∷ []) (joined [] parts) _ (times_joined t [] parts)
+times_joined t cs ((decided choice chosen other ∷ []) ∷ parts) = times_stepped t cs (decided choice chosen other ∷ []) (joined [] parts) _ (times_joined t [] parts)
+times_joined t cs ((q ∷ r ∷ ps) ∷ parts) = times_stepped t cs (q ∷ r ∷ ps) (joined [] parts) _ (times_joined t [] parts)
 
-pub after_member : (g : Option ℕ) (a : Action) (p : ℕ) → going_after g a ≡ Some p → (g ≡ Some p) ⊎ (member p (flat (phases a)) ≡ true)
-after_member g a p e = shaped_after g (kind a) (phases a) (going_after g a) p (shape_of g a) (stepped_ends g a) e
+times_two : (t : ℕ) (q : Phase) (fold : List Phase) → times t (flat (q ∷ fold)) ≤ times t (flat (q ∷ [])) + times t (flat fold)
+times_two t q fold = let x = times_append t (flat_one q) (flat fold) in let y = ap (times t) (runs_nil (flat_one q)) in sums _ _ _ _ x y
+  where
+    sums : (all a b c : ℕ) → all ≡ a + c → b ≡ a → all ≤ b + c
+    sums all a b c x y = omega (arith, x, y)
+
+pub times_folded : (t : ℕ) (ps fold : List Phase) → times t (flat (folded ps fold)) ≤ times t (flat ps) + times t (flat fold)
+times_folded t [] fold = none (times t (flat fold))
+  where
+    none : (n : ℕ) → n ≤ 0 + n
+    none n = omega arith
+times_folded t (straight cs ∷ []) fold =
+    let e = ap (times t) (runs_nil (straight_run cs)) in
+    sums _ _ _ _ (times_joined t cs (fold ∷ [])) e
+  where
+    sums : (all a b c : ℕ) → all ≤ a + (c + 0) → b ≡ a → all ≤ b + c
+    sums all a b c x y = omega (arith, x, y)
+times_folded t (turns loop count body ∷ []) fold = times_two t (turns loop count body) fold
+times_folded t (repeated loop body ∷ []) fold = times_two t (repeated loop body) fold
+times_folded t (decided choice chosen other ∷ []) fold = times_two t (decided choice chosen other) fold
+times_folded t (q ∷ r ∷ ps) fold =
+    let x = times_append t (flat_one q) (flat (folded (r ∷ ps) fold)) in
+    let y = times_append t (flat_one q) (flat (r ∷ ps)) in
+    sums _ _ _ _ _ _ x y (times_folded t (r ∷ ps) fold)
+  where
+    sums : (all a b c d e : ℕ) → all ≡ a + b → c ≡ a + d → b ≤ d + e → all ≤ c + e
+    sums all a b c d e x y z = omega (arith, x, y, z)

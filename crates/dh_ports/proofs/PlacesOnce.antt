@@ -3,50 +3,37 @@
 use Rattle.std.proofs.Common.{◌≡◌, ℕ, ◌+◌, ◌<◌, ◌≤◌, inl, inr, [], ◌∷◌, Option, Some, None, option_map, ap, sym, ◌∙◌, subst, arith, Contains, zero, suc}
 use Rattle.std.specs.Prelude.{slice_get}
 use Rattle.std.proofs.lemmas.Bool.{cases_lt}
-use Rattle.std.proofs.lemmas.Option.{slice_get_within}
 use Rattle.dh_base.specs.declared.places.Place.{Place}
 use Rattle.dh_tree.specs.declared.breaches.Breach.{Breach}
-use Rattle.dh_tree.specs.Happenings.{Access, accesses_in, count_in}
 use Rattle.dh_tree.specs.LeastBreach.{IsLeast}
 use Rattle.dh_tree.specs.Meets.{In}
 use Rattle.dh_tree.specs.PlainTrees.{Program}
-use Rattle.dh_tree.specs.Ports.{trace, meets_in, place_in, KeepsPorts, PortsSpent, IsPortBreach, IsFirstPortBreach, KeepsPortRules}
+use Rattle.dh_meets.specs.MayMeet.{meets_in}
+use Rattle.dh_meets.specs.Ports.{place_in, KeepsPorts, PortsSpent, IsPortBreach, IsFirstPortBreach, KeepsPortRules}
+use Rattle.dh_meets.specs.SourceEvents.{SourceAccess, accesses_in, trace}
 use Rattle.dh_tree.proofs.FirstBreaches.{least_is_one}
-use Rattle.dh_ports.proofs.MeetsNumbered.{Numbered, numbered}
+use Rattle.dh_ports.proofs.Wholes.{whole, access_in}
 
-there_is : (o : Option Access) (place : Place) → option_map (λ a. a.place) o ≡ Some place → (a : Access) × (o ≡ Some a)
+there_is : (o : Option SourceAccess) (place : Place) → option_map (λ a. a.place) o ≡ Some place → (a : SourceAccess) × (o ≡ Some a)
 there_is None place e = cc
 there_is (Some a) place e = (a, refl_of (Some a))
   where
-    refl_of : (o : Option Access) → o ≡ o
+    refl_of : (o : Option SourceAccess) → o ≡ o
     refl_of o = cc
 
 one_place : (o : Option Place) (a b : Place) → o ≡ Some a → o ≡ Some b → a ≡ b
 one_place o a b e f = let both : Some a ≡ Some b = sym e ∙ f in cc
 
 module _ (p : Program) where
-  pub whole : Numbered 0 (count_in (trace p)) (meets_in p)
-  whole = numbered [] 0 p.body
-
-  -- an access stands in the tree
-  pub access_in : (k : ℕ) (a : Access) → slice_get (accesses_in (trace p)) k ≡ Some a → In k (meets_in p)
-  access_in k a e = whole.inside k (from_none k) (from_0 k (count_in (trace p)) (slice_get_within (accesses_in (trace p)) k a e))
-    where
-      from_none : (k : ℕ) → 0 ≤ k
-      from_none k = omega arith
-
-      from_0 : (k n : ℕ) → k < n → k < 0 + n
-      from_0 k n e = omega (arith, e)
-
   stands_in : (k : ℕ) (place : Place) → place_in p k ≡ Some place → In k (meets_in p)
-  stands_in k place e = let found = there_is (slice_get (accesses_in (trace p)) k) place e in access_in k found.0 found.1
+  stands_in k place e = let found = there_is (slice_get (accesses_in (trace p)) k) place e in access_in p k found.0 found.1
 
   pub spent_once : (a b : Place) → PortsSpent p a → PortsSpent p b → a ≡ b
   spent_once a b s t =
       elim (cases_lt s.number t.number) [
-        | inl less ↦ absurd (t.first s.number (whole.behind s.number t.number (stands_in s.number a s.stands) (stands_in t.number b t.stands) less) s.spent)
+        | inl less ↦ absurd (t.first s.number ((whole p).behind s.number t.number (stands_in s.number a s.stands) (stands_in t.number b t.stands) less) s.spent)
         | inr more ↦ elim (cases_lt t.number s.number) [
-          | inl less ↦ absurd (s.first t.number (whole.behind t.number s.number (stands_in t.number b t.stands) (stands_in s.number a s.stands) less) t.spent)
+          | inl less ↦ absurd (s.first t.number ((whole p).behind t.number s.number (stands_in t.number b t.stands) (stands_in s.number a s.stands) less) t.spent)
           | inr most ↦ one_place (place_in p t.number) a b (ap (place_in p) (equal t.number s.number more most) ∙ s.stands) t.stands
         ]
       ]

@@ -2,16 +2,17 @@
 -- are all open. An arm that ends leaves what was left before it, since what stood in it has an arm that is not
 -- open any more.
 use Rattle.std.proofs.Common.{◌≡◌, ℕ, ◌+◌, ◌-◌, ◌<◌, ◌≤◌, ◌==◌, ◌&&◌, ◌||◌, not, Bool, true, false, if◌then◌else◌, List, [], ◌∷◌, ◌++◌, length, refl, ap, sym, ◌∙◌, subst, arith}
-use Rattle.std.specs.Prelude.{Option}
+use Rattle.std.specs.Prelude.{Option, Some, None}
 use Rattle.std.proofs.lemmas.List.Folds.{list_any-append}
 use Rattle.std.proofs.lemmas.Bool.{eqb-true, eq-eqb}
-use Rattle.dh_tree.specs.Happenings.{Arm, Access}
-use Rattle.dh_tree.specs.Sharing.{same_arm, same_truth, all_arms_of}
-use Rattle.dh_ports.specs.Classes.{first_place}
+use Rattle.dh_tree.specs.Memories.{same_entity}
+use Rattle.dh_meaning.specs.Sites.{Arm}
+use Rattle.dh_meets.specs.Sharing.{same_arm, same_truth, all_arms_of}
+use Rattle.dh_meets.specs.SourceEvents.{SourceAccess}
 use Rattle.dh_ports.specs.Levels.{Floor, Level, level, taken, begun, gone_back}
-use Rattle.dh_ports.specs.Shared.{assign_at}
+use Rattle.dh_events.specs.Elements.{assigned_at}
 use Rattle.dh_ports.proofs.JoinedWalks.{has_arm}
-use Rattle.dh_ports.proofs.PastReads.{Noted, noted_access, noted_set, spends, spends_append, or_false, Held, Kept, kept_later, kept_access, kept_set, bounded_set}
+use Rattle.dh_ports.proofs.PastReads.{Noted, noted_access, noted_set, many, many_set, many_access, spends, spends_append, or_false, Walk, Held, Kept, kept_later, kept_access, kept_set, bounded_set}
 
 absurd : {A : Type 0} → ⊥ → A
 absurd e = elim e [ ]
@@ -105,7 +106,7 @@ KnowsAll seen (o ∷ os) = Knows seen o × KnowsAll seen os
 
 abbrev pub KnowsPast : (seen : List Arm) → List Noted → Type 0
 KnowsPast seen [] = Unit {0}
-KnowsPast seen (noted_access a key ∷ ns) = Knows seen a.spot.arms × KnowsPast seen ns
+KnowsPast seen (noted_access a key ∷ ns) = Knows seen a.site.arms × KnowsPast seen ns
 KnowsPast seen (noted_set entity ∷ ns) = KnowsPast seen ns
 
 knows_more : (seen arms : List Arm) (a : Arm) → Knows seen arms → Knows (a ∷ seen) arms
@@ -117,7 +118,7 @@ all_more seen a (o ∷ os) k = (knows_more seen o a k.0, all_more seen a os k.1)
 
 past_more : (seen : List Arm) (a : Arm) (ns : List Noted) → KnowsPast seen ns → KnowsPast (a ∷ seen) ns
 past_more seen a [] k = tt
-past_more seen a (noted_access x key ∷ ns) k = (knows_more seen x.spot.arms a k.0, past_more seen a ns k.1)
+past_more seen a (noted_access x key ∷ ns) k = (knows_more seen x.site.arms a k.0, past_more seen a ns k.1)
 past_more seen a (noted_set e ∷ ns) k = past_more seen a ns k
 
 past_append : (seen : List Arm) (xs ys : List Noted) → KnowsPast seen xs → KnowsPast seen ys → KnowsPast seen (xs ++ ys)
@@ -163,8 +164,8 @@ inner_more arms a [] n = tt
 inner_more arms a (o ∷ os) n = (still_not arms a o n.0, inner_more arms a os n.1)
 
 -- what is left of a slot in open arms
-abbrev pub left_in : (class : List ℕ → ℕ) → (slot : ℕ) → (past : List Noted) → (arms : List Arm) → ℕ
-left_in class slot past arms = if spends class slot arms past then 0 else 1
+abbrev pub left_in : (slot : ℕ) → (past : List Noted) → (arms : List Arm) → ℕ
+left_in slot past arms = if spends slot arms past then 0 else 1
 
 abbrev pub Stacked : (left : List Arm → ℕ) → (outer : List (List Arm)) → (base : ℕ) → List Floor → Type 0
 Stacked left [] base floors = Unit {0}
@@ -192,150 +193,173 @@ gone_leaves left o outer n b w [] k = absurd k
 gone_leaves left o outer n b w (f ∷ fs) k = record { present = k.0; stacked = k.1 }
 
 -- an access more
-module _ (class : List ℕ → ℕ) (slot : ℕ) (past : List Noted) (a : Access) (key : List ℕ) where
-  spends_one : (arms : List Arm) → spends class slot arms (past ++ noted_access a key ∷ []) ≡ (spends class slot arms past || (not a.writes && (all_arms_of a.spot.arms arms && (class key == slot))))
-  spends_one arms = spends_append class slot arms past (noted_access a key ∷ []) ∙ ap (λ b. spends class slot arms past || b) (or_false (not a.writes && (all_arms_of a.spot.arms arms && (class key == slot))))
+module _ (slot : ℕ) (past : List Noted) (a : SourceAccess) (key : Option ℕ) where
+  spends_one : (arms : List Arm) → spends slot arms (past ++ noted_access a key ∷ []) ≡ (spends slot arms past || (not a.writes && (all_arms_of a.site.arms arms && same_entity key (Some slot))))
+  spends_one arms = spends_append slot arms past (noted_access a key ∷ []) ∙ ap (λ b. spends slot arms past || b) (or_false (not a.writes && (all_arms_of a.site.arms arms && same_entity key (Some slot))))
 
   -- none of other arms
-  spends_outside : (arms : List Arm) → all_arms_of a.spot.arms arms ≡ false → spends class slot arms past ≡ spends class slot arms (past ++ noted_access a key ∷ [])
-  spends_outside arms h = sym (spends_one arms ∙ (ap (λ b. spends class slot arms past || (not a.writes && (b && (class key == slot)))) h ∙ (ap (λ b. spends class slot arms past || b) (nothing a.writes) ∙ or_false (spends class slot arms past))))
+  spends_outside : (arms : List Arm) → all_arms_of a.site.arms arms ≡ false → spends slot arms past ≡ spends slot arms (past ++ noted_access a key ∷ [])
+  spends_outside arms h = sym (spends_one arms ∙ (ap (λ b. spends slot arms past || (not a.writes && (b && same_entity key (Some slot)))) h ∙ (ap (λ b. spends slot arms past || b) (nothing a.writes) ∙ or_false (spends slot arms past))))
     where
       nothing : (b : Bool) → (not b && false) ≡ false
       nothing true = refl
       nothing false = refl
 
-  same_outside : (outer : List (List Arm)) → Inner a.spot.arms outer → SameIn (left_in class slot past) (left_in class slot (past ++ noted_access a key ∷ [])) outer
+  same_outside : (outer : List (List Arm)) → Inner a.site.arms outer → SameIn (left_in slot past) (left_in slot (past ++ noted_access a key ∷ [])) outer
   same_outside [] n = tt
   same_outside (o ∷ os) n = (ap (λ b. if b then 0 else 1) (spends_outside o n.0), same_outside os n.1)
 
   -- a write spends nothing
-  spends_write : (arms : List Arm) → a.writes ≡ true → spends class slot arms past ≡ spends class slot arms (past ++ noted_access a key ∷ [])
-  spends_write arms h = sym (spends_one arms ∙ (ap (λ b. spends class slot arms past || (not b && (all_arms_of a.spot.arms arms && (class key == slot)))) h ∙ or_false (spends class slot arms past)))
+  spends_write : (arms : List Arm) → a.writes ≡ true → spends slot arms past ≡ spends slot arms (past ++ noted_access a key ∷ [])
+  spends_write arms h = sym (spends_one arms ∙ (ap (λ b. spends slot arms past || (not b && (all_arms_of a.site.arms arms && same_entity key (Some slot)))) h ∙ or_false (spends slot arms past)))
 
-  leaves_write : (outer : List (List Arm)) (l : Level) → a.writes ≡ true → Inner a.spot.arms outer → Leaves (left_in class slot past) a.spot.arms outer l → Leaves (left_in class slot (past ++ noted_access a key ∷ [])) a.spot.arms outer l
+  leaves_write : (outer : List (List Arm)) (l : Level) → a.writes ≡ true → Inner a.site.arms outer → Leaves (left_in slot past) a.site.arms outer l → Leaves (left_in slot (past ++ noted_access a key ∷ [])) a.site.arms outer l
   leaves_write outer l h n k = record {
-    present = k.present ∙ ap (λ b. if b then 0 else 1) (spends_write a.spot.arms h);
+    present = k.present ∙ ap (λ b. if b then 0 else 1) (spends_write a.site.arms h);
     stacked = stacked_same _ _ outer l.base l.outer (same_outside outer n) k.stacked;
   }
 
-  spends_here : a.writes ≡ false → spends class slot a.spot.arms (past ++ noted_access a key ∷ []) ≡ (spends class slot a.spot.arms past || (class key == slot))
-  spends_here h = spends_one a.spot.arms ∙ (ap (λ b. spends class slot a.spot.arms past || (not b && (all_arms_of a.spot.arms a.spot.arms && (class key == slot)))) h ∙ ap (λ b. spends class slot a.spot.arms past || (b && (class key == slot))) (arms_self a.spot.arms))
+  spends_here : a.writes ≡ false → spends slot a.site.arms (past ++ noted_access a key ∷ []) ≡ (spends slot a.site.arms past || same_entity key (Some slot))
+  spends_here h = spends_one a.site.arms ∙ (ap (λ b. spends slot a.site.arms past || (not b && (all_arms_of a.site.arms a.site.arms && same_entity key (Some slot)))) h ∙ ap (λ b. spends slot a.site.arms past || (b && same_entity key (Some slot))) (arms_self a.site.arms))
+
+  -- a read of no class takes nothing
+  leaves_other : (outer : List (List Arm)) (l : Level) → key ≡ None → Inner a.site.arms outer → Leaves (left_in slot past) a.site.arms outer l → Leaves (left_in slot (past ++ noted_access a key ∷ [])) a.site.arms outer l
+  leaves_other outer l h n k = record {
+    present = k.present ∙ ap (λ b. if b then 0 else 1) (sym (spends_one a.site.arms ∙ (ap (λ q. spends slot a.site.arms past || (not a.writes && (all_arms_of a.site.arms a.site.arms && same_entity q (Some slot)))) h ∙ (ap (λ b. spends slot a.site.arms past || b) (none a.writes (all_arms_of a.site.arms a.site.arms)) ∙ or_false (spends slot a.site.arms past)))));
+    stacked = stacked_same _ _ outer l.base l.outer (same_outside outer n) k.stacked;
+  }
+    where
+      none : (b c : Bool) → (not b && (c && false)) ≡ false
+      none true c = refl
+      none false true = refl
+      none false false = refl
 
   -- a read takes the slot of its class
-  leaves_read : (outer : List (List Arm)) (l : Level) → a.writes ≡ false → Inner a.spot.arms outer → Leaves (left_in class slot past) a.spot.arms outer l → Leaves (left_in class slot (past ++ noted_access a key ∷ [])) a.spot.arms outer (taken slot (class key) l)
-  leaves_read outer l h n k = by_test (class key == slot) refl
+  leaves_read : (own : ℕ) (outer : List (List Arm)) (l : Level) → key ≡ Some own → a.writes ≡ false → Inner a.site.arms outer → Leaves (left_in slot past) a.site.arms outer l → Leaves (left_in slot (past ++ noted_access a key ∷ [])) a.site.arms outer (taken own 1 slot l)
+  leaves_read own outer l q h n k = by_test (own == slot) refl
     where
       less : (b : Bool) (m : ℕ) → m ≡ (if b then 0 else 1) → m - 1 ≡ (if b || true then 0 else 1)
       less true m e = ap (λ n. n - 1) e
       less false m e = ap (λ n. n - 1) e
 
-      by_test : (t : Bool) → (class key == slot) ≡ t → Leaves (left_in class slot (past ++ noted_access a key ∷ [])) a.spot.arms outer (if class key == slot then level (l.now - 1) l.base l.low l.outer else l)
-      by_test true e = subst (λ (t : Bool). Leaves (left_in class slot (past ++ noted_access a key ∷ [])) a.spot.arms outer (if t then level (l.now - 1) l.base l.low l.outer else l)) (sym e)
+      here : spends slot a.site.arms (past ++ noted_access a key ∷ []) ≡ (spends slot a.site.arms past || (own == slot))
+      here = spends_here h ∙ ap (λ o. spends slot a.site.arms past || same_entity o (Some slot)) q
+
+      by_test : (t : Bool) → (own == slot) ≡ t → Leaves (left_in slot (past ++ noted_access a key ∷ [])) a.site.arms outer (if own == slot then level (l.now - 1) l.base l.low l.outer else l)
+      by_test true e = subst (λ (t : Bool). Leaves (left_in slot (past ++ noted_access a key ∷ [])) a.site.arms outer (if t then level (l.now - 1) l.base l.low l.outer else l)) (sym e)
           (record {
-            present = less (spends class slot a.spot.arms past) l.now k.present ∙ ap (λ b. if b then 0 else 1) (sym (spends_here h ∙ ap (λ b. spends class slot a.spot.arms past || b) e));
+            present = less (spends slot a.site.arms past) l.now k.present ∙ ap (λ b. if b then 0 else 1) (sym (here ∙ ap (λ b. spends slot a.site.arms past || b) e));
             stacked = stacked_same _ _ outer l.base l.outer (same_outside outer n) k.stacked;
           })
-      by_test false e = subst (λ (t : Bool). Leaves (left_in class slot (past ++ noted_access a key ∷ [])) a.spot.arms outer (if t then level (l.now - 1) l.base l.low l.outer else l)) (sym e)
+      by_test false e = subst (λ (t : Bool). Leaves (left_in slot (past ++ noted_access a key ∷ [])) a.site.arms outer (if t then level (l.now - 1) l.base l.low l.outer else l)) (sym e)
           (record {
-            present = k.present ∙ ap (λ b. if b then 0 else 1) (sym (spends_here h ∙ (ap (λ b. spends class slot a.spot.arms past || b) e ∙ or_false (spends class slot a.spot.arms past))));
+            present = k.present ∙ ap (λ b. if b then 0 else 1) (sym (here ∙ (ap (λ b. spends slot a.site.arms past || b) e ∙ or_false (spends slot a.site.arms past))));
             stacked = stacked_same _ _ outer l.base l.outer (same_outside outer n) k.stacked;
           })
 
 -- an arm that opens changes nothing yet
-opened_same : (class : List ℕ → ℕ) (slot : ℕ) (seen arms : List Arm) (a : Arm) (past : List Noted) → has_arm a seen ≡ false → KnowsPast seen past → spends class slot arms past ≡ spends class slot (arms ++ a ∷ []) past
-opened_same class slot seen arms a [] h k = refl
-opened_same class slot seen arms a (noted_access x key ∷ past) h k =
-    ap (λ b. (not x.writes && (b && (class key == slot))) || spends class slot arms past) (sym (more_open x.spot.arms arms a (new_to seen x.spot.arms a h k.0)))
-    ∙ ap (λ b. (not x.writes && (all_arms_of x.spot.arms (arms ++ a ∷ []) && (class key == slot))) || b) (opened_same class slot seen arms a past h k.1)
-opened_same class slot seen arms a (noted_set e ∷ past) h k = opened_same class slot seen arms a past h k
+opened_same : (slot : ℕ) (seen arms : List Arm) (a : Arm) (past : List Noted) → has_arm a seen ≡ false → KnowsPast seen past → spends slot arms past ≡ spends slot (arms ++ a ∷ []) past
+opened_same slot seen arms a [] h k = refl
+opened_same slot seen arms a (noted_access x key ∷ past) h k =
+    ap (λ b. (not x.writes && (b && same_entity key (Some slot))) || spends slot arms past) (sym (more_open x.site.arms arms a (new_to seen x.site.arms a h k.0)))
+    ∙ ap (λ b. (not x.writes && (all_arms_of x.site.arms (arms ++ a ∷ []) && same_entity key (Some slot))) || b) (opened_same slot seen arms a past h k.1)
+opened_same slot seen arms a (noted_set e ∷ past) h k = opened_same slot seen arms a past h k
 
-set_same : (class : List ℕ → ℕ) (slot : ℕ) (past : List Noted) (entity : Option ℕ) (arms : List Arm) → spends class slot arms past ≡ spends class slot arms (past ++ noted_set entity ∷ [])
-set_same class slot past entity arms = sym (spends_append class slot arms past (noted_set entity ∷ []) ∙ or_false (spends class slot arms past))
+set_same : (slot : ℕ) (past : List Noted) (entity : Option ℕ) (arms : List Arm) → spends slot arms past ≡ spends slot arms (past ++ noted_set entity ∷ [])
+set_same slot past entity arms = sym (spends_append slot arms past (noted_set entity ∷ []) ∙ or_false (spends slot arms past))
 
-set_outside : (class : List ℕ → ℕ) (slot : ℕ) (past : List Noted) (entity : Option ℕ) (outer : List (List Arm)) → SameIn (left_in class slot past) (left_in class slot (past ++ noted_set entity ∷ [])) outer
-set_outside class slot past entity [] = tt
-set_outside class slot past entity (o ∷ os) = (ap (λ b. if b then 0 else 1) (set_same class slot past entity o), set_outside class slot past entity os)
+set_outside : (slot : ℕ) (past : List Noted) (entity : Option ℕ) (outer : List (List Arm)) → SameIn (left_in slot past) (left_in slot (past ++ noted_set entity ∷ [])) outer
+set_outside slot past entity [] = tt
+set_outside slot past entity (o ∷ os) = (ap (λ b. if b then 0 else 1) (set_same slot past entity o), set_outside slot past entity os)
 
 -- Where a walk stands.
-pub record Standing (all : List (List ℕ)) (accs : List Access) (phs : List ℕ) (seen : List Arm) (outer : List (List Arm)) (arms : List Arm) (past : List Noted) (v : ℕ → ℕ) (at : ℕ) (levels : ℕ → Level) : Type 0 where
+pub record Standing (w : Walk) (slots : ℕ) (seen : List Arm) (outer : List (List Arm)) (arms : List Arm) (past : List Noted) (v : ℕ → ℕ) (at number : ℕ) (levels : ℕ → Level) : Type 0 where
   pub known : Knows seen arms
   pub known_outside : KnowsAll seen outer
   pub known_past : KnowsPast seen past
   pub nested : Nested arms outer
-  pub kept : Kept all accs phs v at past
+  pub kept : Kept w v at 0 past
+  pub counted : number ≡ many past
   pub bounded : (e : ℕ) → v e ≤ at
-  pub leaves : (slot : ℕ) → slot < length all → Leaves (left_in (λ k. first_place k all) slot past) arms outer (levels slot)
+  pub leaves : (slot : ℕ) → slot < slots → Leaves (left_in slot past) arms outer (levels slot)
 
 more_bounded : (n m : ℕ) → n ≤ m → n ≤ m + 1
 more_bounded n m e = omega (arith, e)
 
-module _ (all : List (List ℕ)) (accs : List Access) (phs : List ℕ) (seen : List Arm) (past : List Noted) (v : ℕ → ℕ) (at : ℕ) (levels : ℕ → Level) where
-  pub stands_later : (outer : List (List Arm)) (arms : List Arm) → Standing all accs phs seen outer arms past v at levels → Standing all accs phs seen outer arms past v (at + 1) levels
+module _ (w : Walk) (slots : ℕ) (seen : List Arm) (past : List Noted) (v : ℕ → ℕ) (at number : ℕ) (levels : ℕ → Level) where
+  pub stands_later : (outer : List (List Arm)) (arms : List Arm) → Standing w slots seen outer arms past v at number levels → Standing w slots seen outer arms past v (at + 1) number levels
   stands_later outer arms s = record {
     known = s.known;
     known_outside = s.known_outside;
     known_past = s.known_past;
     nested = s.nested;
-    kept = kept_later all accs phs v at past s.kept;
+    kept = kept_later w v at 0 past s.kept;
+    counted = s.counted;
     bounded = λ e. more_bounded (v e) at (s.bounded e);
     leaves = s.leaves;
   }
 
-  pub stands_set : (outer : List (List Arm)) (arms : List Arm) (entity : Option ℕ) → Standing all accs phs seen outer arms past v at levels → Standing all accs phs seen outer arms (past ++ noted_set entity ∷ []) (λ e. assign_at v (at + 1) entity e) (at + 1) levels
+  pub stands_set : (outer : List (List Arm)) (arms : List Arm) (entity : Option ℕ) → Standing w slots seen outer arms past v at number levels → Standing w slots seen outer arms (past ++ noted_set entity ∷ []) (assigned_at v (at + 1) entity) (at + 1) number levels
   stands_set outer arms entity s = record {
     known = s.known;
     known_outside = s.known_outside;
     known_past = past_append seen past (noted_set entity ∷ []) s.known_past tt;
     nested = s.nested;
-    kept = kept_set all accs phs v at past entity s.kept;
-    bounded = bounded_set all accs phs v at entity s.bounded;
-    leaves = λ slot w. let k = s.leaves slot w in record {
-      present = k.present ∙ ap (λ b. if b then 0 else 1) (set_same (λ k. first_place k all) slot past entity arms);
-      stacked = stacked_same _ _ outer (levels slot).base (levels slot).outer (set_outside (λ k. first_place k all) slot past entity outer) k.stacked;
+    kept = kept_set w v at past entity s.kept;
+    counted = s.counted ∙ sym (many_set past entity);
+    bounded = bounded_set v at entity s.bounded;
+    leaves = λ slot h. let k = s.leaves slot h in record {
+      present = k.present ∙ ap (λ b. if b then 0 else 1) (set_same slot past entity arms);
+      stacked = stacked_same _ _ outer (levels slot).base (levels slot).outer (set_outside slot past entity outer) k.stacked;
     };
   }
 
-  pub stands_opens : (outer : List (List Arm)) (arms : List Arm) (a : Arm) → has_arm a seen ≡ false → Standing all accs phs seen outer arms past v at levels → Standing all accs phs (a ∷ seen) (arms ∷ outer) (arms ++ a ∷ []) past v (at + 1) (λ slot. begun (levels slot))
+  pub stands_opens : (outer : List (List Arm)) (arms : List Arm) (a : Arm) → has_arm a seen ≡ false → Standing w slots seen outer arms past v at number levels → Standing w slots (a ∷ seen) (arms ∷ outer) (arms ++ a ∷ []) past v (at + 1) number (λ slot. begun (levels slot))
   stands_opens outer arms a h s = record {
     known = knows_open seen arms a s.known;
     known_outside = (knows_more seen arms a s.known, all_more seen a outer s.known_outside);
     known_past = past_more seen a past s.known_past;
     nested = ((not_among arms a arms (new_to seen arms a h s.known), inner_more arms a outer (inner_of arms outer s.nested)), s.nested);
-    kept = kept_later all accs phs v at past s.kept;
+    kept = kept_later w v at 0 past s.kept;
+    counted = s.counted;
     bounded = λ e. more_bounded (v e) at (s.bounded e);
-    leaves = λ slot w. leaves_begun (left_in (λ k. first_place k all) slot past) arms (arms ++ a ∷ []) outer (levels slot) (ap (λ b. if b then 0 else 1) (opened_same (λ k. first_place k all) slot seen arms a past h s.known_past)) (s.leaves slot w);
+    leaves = λ slot l. leaves_begun (left_in slot past) arms (arms ++ a ∷ []) outer (levels slot) (ap (λ b. if b then 0 else 1) (opened_same slot seen arms a past h s.known_past)) (s.leaves slot l);
   }
 
-  pub stands_closes : (o : List Arm) (outer : List (List Arm)) (arms : List Arm) → Standing all accs phs seen (o ∷ outer) arms past v at levels → Standing all accs phs seen outer o past v (at + 1) (λ slot. gone_back (levels slot))
+  pub stands_closes : (o : List Arm) (outer : List (List Arm)) (arms : List Arm) → Standing w slots seen (o ∷ outer) arms past v at number levels → Standing w slots seen outer o past v (at + 1) number (λ slot. gone_back (levels slot))
   stands_closes o outer arms s = record {
     known = s.known_outside.0;
     known_outside = s.known_outside.1;
     known_past = s.known_past;
     nested = s.nested.1;
-    kept = kept_later all accs phs v at past s.kept;
+    kept = kept_later w v at 0 past s.kept;
+    counted = s.counted;
     bounded = λ e. more_bounded (v e) at (s.bounded e);
-    leaves = λ slot w. gone_leaves (left_in (λ k. first_place k all) slot past) o outer (levels slot).now (levels slot).base (levels slot).low (levels slot).outer (s.leaves slot w).stacked;
+    leaves = λ slot h. gone_leaves (left_in slot past) o outer (levels slot).now (levels slot).base (levels slot).low (levels slot).outer (s.leaves slot h).stacked;
   }
 
-  pub stands_write : (outer : List (List Arm)) (a : Access) (key : List ℕ) → a.writes ≡ true → Held all accs phs v (at + 1) a key [] → Standing all accs phs seen outer a.spot.arms past v at levels → Standing all accs phs seen outer a.spot.arms (past ++ noted_access a key ∷ []) v (at + 1) levels
-  stands_write outer a key h x s = record {
+  -- an access more, by what it leaves
+  stands_access : (outer : List (List Arm)) (a : SourceAccess) (key : Option ℕ) (next : ℕ → Level) → Held w v (at + 1) number a key [] → Standing w slots seen outer a.site.arms past v at number levels
+      → ((slot : ℕ) → slot < slots → Leaves (left_in slot (past ++ noted_access a key ∷ [])) a.site.arms outer (next slot)) → Standing w slots seen outer a.site.arms (past ++ noted_access a key ∷ []) v (at + 1) (number + 1) next
+  stands_access outer a key next x s leaves = record {
     known = s.known;
     known_outside = s.known_outside;
     known_past = past_append seen past (noted_access a key ∷ []) s.known_past (s.known, tt);
     nested = s.nested;
-    kept = kept_access all accs phs v at past a key x s.kept;
+    kept = kept_access w v at past a key (subst (λ (n : ℕ). Held w v (at + 1) n a key []) s.counted x) s.kept;
+    counted = ap (λ n. n + 1) s.counted ∙ sym (many_access past a key);
     bounded = λ e. more_bounded (v e) at (s.bounded e);
-    leaves = λ slot w. leaves_write (λ k. first_place k all) slot past a key outer (levels slot) h (inner_of a.spot.arms outer s.nested) (s.leaves slot w);
+    leaves = leaves;
   }
 
-  pub stands_read : (outer : List (List Arm)) (a : Access) (key : List ℕ) → a.writes ≡ false → Held all accs phs v (at + 1) a key [] → Standing all accs phs seen outer a.spot.arms past v at levels
-      → Standing all accs phs seen outer a.spot.arms (past ++ noted_access a key ∷ []) v (at + 1) (λ slot. taken slot (first_place key all) (levels slot))
-  stands_read outer a key h x s = record {
-    known = s.known;
-    known_outside = s.known_outside;
-    known_past = past_append seen past (noted_access a key ∷ []) s.known_past (s.known, tt);
-    nested = s.nested;
-    kept = kept_access all accs phs v at past a key x s.kept;
-    bounded = λ e. more_bounded (v e) at (s.bounded e);
-    leaves = λ slot w. leaves_read (λ k. first_place k all) slot past a key outer (levels slot) h (inner_of a.spot.arms outer s.nested) (s.leaves slot w);
-  }
+  pub stands_write : (outer : List (List Arm)) (a : SourceAccess) (key : Option ℕ) → a.writes ≡ true → Held w v (at + 1) number a key [] → Standing w slots seen outer a.site.arms past v at number levels
+      → Standing w slots seen outer a.site.arms (past ++ noted_access a key ∷ []) v (at + 1) (number + 1) levels
+  stands_write outer a key h x s = stands_access outer a key levels x s (λ slot l. leaves_write slot past a key outer (levels slot) h (inner_of a.site.arms outer s.nested) (s.leaves slot l))
+
+  pub stands_other : (outer : List (List Arm)) (a : SourceAccess) (key : Option ℕ) → key ≡ None → Held w v (at + 1) number a key [] → Standing w slots seen outer a.site.arms past v at number levels
+      → Standing w slots seen outer a.site.arms (past ++ noted_access a key ∷ []) v (at + 1) (number + 1) levels
+  stands_other outer a key h x s = stands_access outer a key levels x s (λ slot l. leaves_other slot past a key outer (levels slot) h (inner_of a.site.arms outer s.nested) (s.leaves slot l))
+
+  pub stands_read : (own : ℕ) (outer : List (List Arm)) (a : SourceAccess) (key : Option ℕ) → key ≡ Some own → a.writes ≡ false → Held w v (at + 1) number a key [] → Standing w slots seen outer a.site.arms past v at number levels
+      → Standing w slots seen outer a.site.arms (past ++ noted_access a key ∷ []) v (at + 1) (number + 1) (λ slot. taken own 1 slot (levels slot))
+  stands_read own outer a key q h x s = stands_access outer a key (λ slot. taken own 1 slot (levels slot)) x s (λ slot l. leaves_read slot past a key own outer (levels slot) q h (inner_of a.site.arms outer s.nested) (s.leaves slot l))

@@ -1,351 +1,361 @@
--- Accesses that take a port where none is left are those with which ports are spent.
-use Rattle.std.proofs.Common.{◌≡◌, ℕ, zero, suc, ◌+◌, ◌-◌, ◌<◌, ◌≤◌, ◌==◌, ◌&&◌, not, Bool, true, false, if◌then◌else◌, List, [], ◌∷◌, length, map, replicate, refl, ap, sym, ◌∙◌, subst, arith}
+-- The first access that takes more ports than are left is where ports are spent.
+use Rattle.std.proofs.Common.{◌≡◌, ℕ, zero, suc, ◌+◌, ◌-◌, ◌<◌, ◌≤◌, ◌==◌, Bool, true, false, if◌then◌else◌, List, [], ◌∷◌, ◌++◌, length, map, replicate, refl, ap, sym, ◌∙◌, subst, arith, ◌⊎◌, inl, inr}
+use mathlib.Core.Path.{fun_ext}
 use Rattle.std.specs.Prelude.{Option, Some, None, option_map, slice_get, slice_index}
-use Rattle.std.proofs.lemmas.Bool.{eqb-true, eq-eqb}
+use Rattle.std.specs.Option.{is_some}
+use Rattle.std.specs.List.{filter}
+use Rattle.std.specs.Set.{distinct_count}
+use Rattle.std.proofs.lemmas.Bool.{cases_Bool, cases_lt, eqb-true}
 use Rattle.std.proofs.lemmas.List.{length-map}
 use Rattle.std.proofs.lemmas.Option.{slice_get_within, slice_get-map}
-use Rattle.dh_ledger.specs.Spending.{Spending, zeros}
+use Rattle.dh_base.specs.declared.places.Place.{Place}
 use Rattle.dh_tree.specs.declared.tables.MemEntry.{MemEntry}
-use Rattle.dh_tree.specs.Happenings.{Access, Happening, accesses_in}
-use Rattle.dh_tree.specs.Meets.{upto}
+use Rattle.dh_tree.specs.declared.trees.counters.Counter.{Counter}
+use Rattle.dh_tree.specs.Elements.{banks_of}
+use Rattle.dh_tree.specs.Meets.{Meets, nothing, access, all, one, In, Distinct, load, upto}
 use Rattle.dh_tree.specs.Memories.{Memory, memories_of, memory_in, number_in, table_of, entry_of}
 use Rattle.dh_tree.specs.PlainTrees.{Program}
-use Rattle.dh_tree.specs.Ports.{trace, meets_in, occurs_in, charge, charge_of, reaches, memory_ports, ports_of}
-use Rattle.dh_tree.specs.Sharing.{shares}
 use Rattle.dh_tree.specs.Shapes.{IsProgramTable}
-use Rattle.dh_tree.proofs.SpentAlike.{both_are}
-use Rattle.dh_ports.specs.Courses.{before_at}
-use Rattle.dh_ports.specs.Flags.{TellsSpent}
-use Rattle.dh_ports.specs.Incidents.{Incident, touches, assigned, arm_begins, arm_ends, begins, next, ends}
-use Rattle.dh_ports.specs.Levels.{Level, start, advance, begun, kept_back, settled, lefts_of}
-use Rattle.dh_ports.specs.Purses.{left_on, on_bank, TellsLeft}
-use Rattle.dh_ports.specs.Reached.{reach, reach_of}
-use Rattle.dh_ports.specs.Scanned.{ledger_of, spend_of, spend_at, spends_of, is_spent, spent_flags}
-use Rattle.dh_ports.specs.Shared.{shared_in, which_are, shared_lefts, shared_steps, classes_of, keys_from}
-use Rattle.dh_ports.specs.SharedTold.{TellsShared}
-use Rattle.dh_ports.specs.Spending.{spending_steps, at_touches, amount, Matches}
-use Rattle.dh_ports.specs.Spent.{Spends}
+use Rattle.dh_meaning.specs.Paths.{same_path}
+use Rattle.dh_meaning.specs.Bindings.{bindings_of}
+use Rattle.dh_meaning.specs.Sites.{nothing_around}
+use Rattle.dh_meets.specs.Charges.{charge, charge_of, key_of, paths_of, reaches}
+use Rattle.dh_meets.specs.MayMeet.{meets_in}
+use Rattle.dh_meets.specs.Ports.{memory_ports, ports_of, place_in}
+use Rattle.dh_meets.specs.Sharing.{shared}
+use Rattle.dh_meets.specs.SourceEvents.{SourceAccess, accesses_in, trace}
+use Rattle.dh_events.specs.declared.events.Event.{Event}
+use Rattle.dh_events.specs.declared.events.Site.{Site}
+use Rattle.dh_ports.specs.declared.levels.Step.{Step}
 use Rattle.dh_ports.specs.declared.levels.Step.TheVariants as step
-use Rattle.dh_ports.specs.declared.purses.Spend.{Spend}
-use Rattle.dh_ports.specs.declared.purses.Spend.TheVariants as spend
-use Rattle.dh_ports.specs.declared.reaching.Reach.{Reach}
-use Rattle.dh_ports.specs.declared.spending.Charge.{Charge}
+use Rattle.dh_ports.specs.declared.moves.Move.{Move}
+use Rattle.dh_ports.specs.declared.moves.Move.TheVariants as move
+use Rattle.dh_ports.specs.Claims.{access_of, base_of, ports_in, claims_of, moves_from}
+use Rattle.dh_ports.specs.Courses.{count, before_at, Ties}
+use Rattle.dh_ports.specs.Expanded.{all_taken}
+use Rattle.dh_events.specs.Incidents.{Incident, touches, closed, incidents}
+use Rattle.dh_ports.specs.Levels.{Level, start}
+use Rattle.dh_events.specs.Noted.{all_seen}
+use Rattle.dh_ports.specs.Scanned.{flag_at, spending_step, spent_place}
+use Rattle.dh_ports.specs.Spent.{Spends}
+use Rattle.dh_ports.specs.Told.{IsToldBefore}
+use Rattle.dh_ports.specs.Wholes.{no_stages, happenings_of, at_touches, Touched, touched, of_access, sites_in, TellsLoops, loops_known, AreEventsOf, TellsShared, TellsSpent, banks_in, banks_at}
+use Rattle.dh_events.specs.Stages.{stages_in}
+use Rattle.dh_ports.proofs.ClaimFacts.{Declared, found, takes_charge}
+use Rattle.dh_ports.proofs.ClaimedBanks.{Claims, Claimed, claimed, Bounds, Reaching, reaching, some_kept}
+use Rattle.dh_ports.proofs.AccessClaims.{event_of, at_event, there_is, touched_long, Follows, follow_all, nth_claims, claim_lists, TouchAt, touch_at, none_claims, stripped, claims_same, access_is}
+use Rattle.dh_ports.proofs.FirstSpent.{none_spends, first_spends}
 use Rattle.dh_ports.proofs.IncidentTies.{action_ties}
-use Rattle.dh_ports.proofs.KeyTurns.{keys_long, steps_long, lefts_long}
-use Rattle.dh_ports.proofs.PlacesOnce.{access_in}
-use Rattle.dh_ports.proofs.ReachFacts.{Reached, reach_seen, reached_is, then_reaches, IsWithin, reaching_is, not_reached, reached_test}
-use Rattle.dh_ports.proofs.RowsWithin.{memory_shape}
-use Rattle.dh_ports.proofs.ScanFacts.{event_of, at_event, at_within, there_is, events, Noted, noted_is, noted_at, counted, occurs_is}
-use Rattle.dh_ports.proofs.SpendingFacts.{lefts_found}
+use Rattle.dh_ports.proofs.SpentWalk.{FirstOver, Stops, walk}
+use Rattle.dh_ports.proofs.TouchedSame.{action_same}
+use Rattle.dh_ports.proofs.Wholes.{whole, access_in}
+use Rattle.dh_tree.proofs.LargestSums.{upto_first, upto_second, upto_one_first, upto_one_second}
 
--- Lists.
+absurd : {A : Type 0} → ⊥ → A
+absurd e = elim e [ ]
 
-one_less : (m n : ℕ) → suc m ≡ suc n → m ≡ n
-one_less m n e = omega (arith, e)
+some_same : {A : Type 0} (x y : A) → Some x ≡ Some y → x ≡ y
+some_same x y e = cc
 
-none_more : (n : ℕ) → 0 ≡ suc n → ⊥
-none_more n e = omega (arith, e)
+-- What is known of what happens in a whole program.
+pub record IsWhole (p : Program) (xs : List Incident) : Type 0 where
+  pub touched_all : touched xs ≡ map of_access (accesses_in (trace p))
+  pub loops : (k : ℕ) (s : Site) (a : SourceAccess) → slice_get (sites_in xs) k ≡ Some s → slice_get (accesses_in (trace p)) k ≡ Some a → loops_known p s.round ≡ a.site.loops
+  pub ties : (c : ℕ → ℕ) → Ties c 0 xs (meets_in p)
 
-more_none : (n : ℕ) → suc n ≡ 0 → ⊥
-more_none n e = omega (arith, e)
+pub whole_is : (p : Program) (xs : List Incident) → TellsLoops p → xs ≡ happenings_of p → IsWhole p xs
+whole_is p xs loops e = subst (λ (l : List Incident). IsWhole p l) (sym e) (record {
+  touched_all = action_same (stages_in p.body no_stages) None closed nothing_around p.body;
+  loops = loops;
+  ties = λ c. action_ties c (stages_in p.body no_stages) 0 None closed p.body;
+})
 
-which_long : (xs : List Incident) (ls : List ℕ) → length ls ≡ length xs → length (which_are xs ls) ≡ length xs
-which_long [] [] e = refl
-which_long [] (l ∷ ls) e = absurd (more_none _ e)
-which_long (x ∷ xs) [] e = absurd (none_more _ e)
-which_long (x ∷ xs) (l ∷ ls) e = ap suc (which_long xs ls (one_less _ _ e))
+-- an access, and the incident that it is
+pub record AccessAt (p : Program) (xs : List Incident) (k : ℕ) (a : SourceAccess) : Type 0 where
+  pub within : k < count xs
+  pub touch : TouchAt p (loops_known p) 0 xs k
+  pub same : access_of (loops_known p touch.site.round) touch.writes touch.access ≡ stripped a
+  pub claims : nth_claims (claim_lists p (loops_known p) 0 xs) k ≡ claims_of p (event_of xs k) a
 
-pub shared_long : (xs : List Incident) → length (shared_in xs) ≡ length xs
-shared_long xs =
-    which_long xs (shared_lefts xs) (lefts_long _ (shared_steps (classes_of (keys_from (λ e. 0) 0 xs)) xs) ∙ steps_long (classes_of (keys_from (λ e. 0) 0 xs)) xs (length-map _ _ ∙ keys_long (λ e. 0) 0 xs))
+module _ (p : Program) (xs : List Incident) (w : IsWhole p xs) where
+  counted : length (accesses_in (trace p)) ≡ count xs
+  counted = sym (length-map _ _) ∙ (ap length (sym w.touched_all) ∙ touched_long xs)
 
-pub spends_long : (rs : List (Option Reach)) (ss : List Bool) (xs : List Incident) → length rs ≡ length xs → length ss ≡ length xs → length (spends_of rs ss xs) ≡ length xs
-spends_long [] [] [] e f = refl
-spends_long [] (s ∷ ss) [] e f = absurd (more_none _ f)
-spends_long (r ∷ rs) ss [] e f = absurd (more_none _ e)
-spends_long [] ss (x ∷ xs) e f = absurd (none_more _ e)
-spends_long (r ∷ rs) [] (x ∷ xs) e f = absurd (none_more _ f)
-spends_long (r ∷ rs) (s ∷ ss) (x ∷ xs) e f = ap suc (spends_long rs ss xs (one_less _ _ e) (one_less _ _ f))
+  pub access_at : (k : ℕ) (a : SourceAccess) → slice_get (accesses_in (trace p)) k ≡ Some a → AccessAt p xs k a
+  access_at k a e = from_touch (touch_at p (loops_known p) 0 xs k within)
+    where
+      within : k < count xs
+      within = subst (λ (n : ℕ). k < n) counted (slice_get_within (accesses_in (trace p)) k a e)
 
-spend_given : (r q : Option Reach) (s t : Bool) (x y : Incident) → Some r ≡ Some q → Some s ≡ Some t → Some x ≡ Some y → spend_at r s x ≡ spend_at q t y
-spend_given r q s t x y e f g = let a : r ≡ q = cc in let b : s ≡ t = cc in let c : x ≡ y = cc in ap (λ n. spend_at n s x) a ∙ (ap (λ n. spend_at q n x) b ∙ ap (λ n. spend_at q t n) c)
+      from_none : (n : ℕ) → 0 + n ≡ n
+      from_none n = omega arith
 
-spends_at : (rs : List (Option Reach)) (ss : List Bool) (xs : List Incident) (i : ℕ) (r : Option Reach) (s : Bool) (x : Incident) → slice_get rs i ≡ Some r → slice_get ss i ≡ Some s → slice_get xs i ≡ Some x
-    → slice_get (spends_of rs ss xs) i ≡ Some (spend_at r s x)
-spends_at [] ss xs i r s x e f g = cc
-spends_at (q ∷ rs) [] xs i r s x e f g = cc
-spends_at (q ∷ rs) (t ∷ ss) [] i r s x e f g = cc
-spends_at (q ∷ rs) (t ∷ ss) (y ∷ xs) zero r s x e f g = ap (λ n. Some n) (spend_given q r t s y x e f g)
-spends_at (q ∷ rs) (t ∷ ss) (y ∷ xs) (suc i) r s x e f g = spends_at rs ss xs i r s x e f g
+      from_touch : TouchAt p (loops_known p) 0 xs k → AccessAt p xs k a
+      from_touch t =
+          let same = access_is (loops_known p t.site.round) t.writes t.access a (some_same _ _ (sym t.touch ∙ (ap (λ l. slice_get l k) w.touched_all ∙ (slice_get-map of_access (accesses_in (trace p)) k ∙ ap (option_map of_access) e)))) (w.loops k t.site a t.sited e) in
+          record {
+            within = within;
+            touch = t;
+            same = same;
+            claims = t.claims ∙ (ap (λ n. claims_of p n (access_of (loops_known p t.site.round) t.writes t.access)) (from_none (event_of xs k)) ∙ (ap (claims_of p (event_of xs k)) same ∙ claims_same p a (event_of xs k)));
+          }
 
-pub flags_long : (ss : List Spend) (ls : List ℕ) → length ls ≡ length ss → length (spent_flags ss ls) ≡ length ss
-flags_long [] [] e = refl
-flags_long [] (l ∷ ls) e = absurd (more_none _ e)
-flags_long (s ∷ ss) [] e = absurd (none_more _ e)
-flags_long (s ∷ ss) (l ∷ ls) e = ap suc (flags_long ss ls (one_less _ _ e))
-
-flag_given : (s t : Spend) (l m : ℕ) → Some s ≡ Some t → Some l ≡ Some m → is_spent s l ≡ is_spent t m
-flag_given s t l m e f = let a : s ≡ t = cc in let b : l ≡ m = cc in ap (λ n. is_spent n l) a ∙ ap (λ n. is_spent t n) b
-
-flags_at : (ss : List Spend) (ls : List ℕ) (i : ℕ) (s : Spend) (l : ℕ) → slice_get ss i ≡ Some s → slice_get ls i ≡ Some l → slice_get (spent_flags ss ls) i ≡ Some (is_spent s l)
-flags_at [] ls i s l e f = cc
-flags_at (t ∷ ss) [] i s l e f = cc
-flags_at (t ∷ ss) (m ∷ ls) zero s l e f = ap (λ n. Some n) (flag_given t s m l e f)
-flags_at (t ∷ ss) (m ∷ ls) (suc i) s l e f = flags_at ss ls i s l e f
-
--- the charge of a spend for banks of one number
-abbrev bank_charge : (bank : ℕ) → Spend → Charge
-bank_charge bank spend.Other = record { slot = 0; takes = false }
-bank_charge bank (spend.Access memory other takes) = record { slot = memory; takes = takes && (other == bank) }
-bank_charge bank spend.Begin = record { slot = 0; takes = false }
-bank_charge bank spend.Next = record { slot = 0; takes = false }
-bank_charge bank spend.End = record { slot = 0; takes = false }
-
-charges_long : (bank : ℕ) (ss : List Spend) (xs : List Incident) → length ss ≡ length xs → length (spending_steps (map (bank_charge bank) ss) xs) ≡ length xs
-charges_long bank [] [] e = refl
-charges_long bank [] (x ∷ xs) e = absurd (none_more _ e)
-charges_long bank (s ∷ ss) [] e = absurd (more_none _ e)
-charges_long bank (s ∷ ss) (x ∷ xs) e = ap suc (charges_long bank ss xs (one_less _ _ e))
-
--- the steps of the banks of one number leave at accesses what these charges leave
-same_lefts : (bank : ℕ) (levels : ℕ → Level) (rs : List (Option Reach)) (ss : List Bool) (xs : List Incident) (i number : ℕ) (takes : Bool) → slice_get (spends_of rs ss xs) i ≡ Some (spend.Access number bank takes)
-    → slice_get (lefts_of levels (map (on_bank bank) (spends_of rs ss xs))) i ≡ slice_get (lefts_of levels (spending_steps (map (bank_charge bank) (spends_of rs ss xs)) xs)) i
-same_lefts bank levels [] ss xs i number takes e = cc
-same_lefts bank levels (r ∷ rs) [] xs i number takes e = cc
-same_lefts bank levels (r ∷ rs) (s ∷ ss) [] i number takes e = cc
-same_lefts bank levels (None ∷ rs) (s ∷ ss) (touches p n t w f ∷ xs) zero number takes e = cc
-same_lefts bank levels (None ∷ rs) (s ∷ ss) (touches p n t w f ∷ xs) (suc i) number takes e = same_lefts bank levels rs ss xs i number takes e
-same_lefts bank levels (Some r ∷ rs) (s ∷ ss) (touches p n t w f ∷ xs) zero number takes e = refl
-same_lefts bank levels (Some r ∷ rs) (s ∷ ss) (touches p n t w f ∷ xs) (suc i) number takes e =
-    same_lefts bank (λ slot. advance slot (step.Access r.memory (not s && (r.bank == bank))) (levels slot)) rs ss xs i number takes e
-same_lefts bank levels (r ∷ rs) (s ∷ ss) (assigned n ∷ xs) zero number takes e = cc
-same_lefts bank levels (r ∷ rs) (s ∷ ss) (assigned n ∷ xs) (suc i) number takes e = same_lefts bank levels rs ss xs i number takes e
-same_lefts bank levels (r ∷ rs) (s ∷ ss) (arm_begins ∷ xs) zero number takes e = cc
-same_lefts bank levels (r ∷ rs) (s ∷ ss) (arm_begins ∷ xs) (suc i) number takes e = same_lefts bank levels rs ss xs i number takes e
-same_lefts bank levels (r ∷ rs) (s ∷ ss) (arm_ends ∷ xs) zero number takes e = cc
-same_lefts bank levels (r ∷ rs) (s ∷ ss) (arm_ends ∷ xs) (suc i) number takes e = same_lefts bank levels rs ss xs i number takes e
-same_lefts bank levels (r ∷ rs) (s ∷ ss) (begins ∷ xs) zero number takes e = cc
-same_lefts bank levels (r ∷ rs) (s ∷ ss) (begins ∷ xs) (suc i) number takes e = same_lefts bank (λ slot. begun (levels slot)) rs ss xs i number takes e
-same_lefts bank levels (r ∷ rs) (s ∷ ss) (next ∷ xs) zero number takes e = cc
-same_lefts bank levels (r ∷ rs) (s ∷ ss) (next ∷ xs) (suc i) number takes e = same_lefts bank (λ slot. kept_back (levels slot)) rs ss xs i number takes e
-same_lefts bank levels (r ∷ rs) (s ∷ ss) (ends ∷ xs) zero number takes e = cc
-same_lefts bank levels (r ∷ rs) (s ∷ ss) (ends ∷ xs) (suc i) number takes e = same_lefts bank (λ slot. settled (kept_back (levels slot))) rs ss xs i number takes e
+  pub access_there : (k : ℕ) → k < count xs → (a : SourceAccess) × (slice_get (accesses_in (trace p)) k ≡ Some a)
+  access_there k h = there_is (accesses_in (trace p)) k (subst (λ (n : ℕ). k < n) (sym counted) h)
 
 -- Numbers.
 
-abbrev one_if : Bool → ℕ
-one_if b = if b then 1 else 0
-
-no_amount : (b : Bool) → one_if (b && false) ≡ 0
-no_amount true = refl
-no_amount false = refl
-
-same_amount : (memory bank shared : Bool) → one_if ((memory && bank) && not shared) ≡ one_if (memory && (not shared && bank))
-same_amount true true true = refl
-same_amount true true false = refl
-same_amount true false true = refl
-same_amount true false false = refl
-same_amount false bank shared = refl
-
-no_zeros : (n i : ℕ) → slice_index (zeros n) i ≡ 0
-no_zeros n i = by n i
+-- a charge is part of the load up to it
+pub upto_most : (c : ℕ → ℕ) (k : ℕ) (t : Meets) → Distinct t → In k t → c k ≤ upto c k t
+upto_most c k nothing d i = absurd i
+upto_most c k (access b) d i = subst (λ (n : ℕ). c k ≤ c n) i (same (c k))
   where
-    by : (n i : ℕ) → slice_index (replicate n 0) i ≡ 0
-    by zero i = refl
-    by (suc n) zero = refl
-    by (suc n) (suc i) = by n i
-
-ledger_full : (e : MemEntry) (bank : ℕ) → left_on (Some (ledger_of e)) bank ≡ e.shape.ports
-ledger_full e bank = less_none e.shape.ports _ (no_zeros _ bank)
+    same : (n : ℕ) → n ≤ n
+    same n = omega arith
+upto_most c k (all l r) d (inl i) = subst (λ (n : ℕ). c k ≤ n) (sym (upto_first c k l r i)) (upto_most c k l d.0.0 i)
+upto_most c k (all l r) d (inr i) = subst (λ (n : ℕ). c k ≤ n) (sym (upto_second c k l r (λ j. d.1 k j i))) (more (c k) (load c l) (upto c k r) (upto_most c k r d.0.1 i))
   where
-    less_none : (n m : ℕ) → m ≡ 0 → n - m ≡ n
-    less_none n m e = omega (arith, e)
+    more : (a b d : ℕ) → a ≤ d → a ≤ b + d
+    more a b d e = omega (arith, e)
+upto_most c k (one l r) d (inl i) = subst (λ (n : ℕ). c k ≤ n) (sym (upto_one_first c k l r i)) (upto_most c k l d.0.0 i)
+upto_most c k (one l r) d (inr i) = subst (λ (n : ℕ). c k ≤ n) (sym (upto_one_second c k l r (λ j. d.1 k j i))) (upto_most c k r d.0.1 i)
 
-none_left : (ports upto : ℕ) → 1 ≤ ports → ports - (upto - 1) ≡ 0 → ports < upto
-none_left ports upto e f = omega (arith, e, f)
-
-all_gone : (ports upto : ℕ) → ports < upto → ports - (upto - 1) ≡ 0
-all_gone ports upto e = omega (arith, e)
-
-charged_one : (a b : Bool) → 1 ≤ one_if (a && b) → (a ≡ true) × (b ≡ true)
-charged_one true true e = (refl, refl)
-charged_one true false e = absurd (none e)
+-- the ports of a bank by its slot
+ports_at : (es : List MemEntry) (number bank : ℕ) (e : MemEntry) → slice_get es number ≡ Some e → bank < banks_of e.shape.dims → slice_index (ports_in es) (base_of es number + bank) ≡ e.shape.ports
+ports_at [] number bank e h b = cc
+ports_at (x ∷ es) zero bank e h b = let same : x ≡ e = some_same x e h in first (banks_of x.shape.dims) bank x.shape.ports (ports_in es) (subst (λ (y : MemEntry). bank < banks_of y.shape.dims) (sym same) b) ∙ ap (λ (y : MemEntry). y.shape.ports) same
   where
-    none : 1 ≤ 0 → ⊥
-    none e = omega (arith, e)
-charged_one false b e = absurd (none e)
-  where
-    none : 1 ≤ 0 → ⊥
-    none e = omega (arith, e)
-
-of_not : (b : Bool) → not b ≡ true → b ≡ false
-of_not true e = cc
-of_not false e = refl
-
-module _ (p : Program) (table : IsProgramTable (table_of p)) (fits : (k : ℕ) (x : Access) → slice_get (accesses_in (trace p)) k ≡ Some x → IsWithin p x) (shared : TellsShared p.body) where
-  abbrev xs : List Incident
-  xs = events p
-
-  abbrev ss : List Spend
-  ss = spends_of (map (reach_of p) xs) (shared_in xs) xs
-
-  abbrev ledgers : List Spending
-  ledgers = map ledger_of (table_of p)
-
-  ss_long : length ss ≡ length xs
-  ss_long = spends_long (map (reach_of p) xs) (shared_in xs) xs (length-map _ _) (shared_long xs)
-
-  abbrev is_shared : (k : ℕ) → Noted p k → Bool
-  is_shared k n = shares p.body n.before n.access
-
-  -- what an access spends
-  spend_is : (k : ℕ) (n : Noted p k) → slice_get ss (event_of xs k) ≡ Some (spend_of (reach_seen p n.access) (is_shared k n))
-  spend_is k n =
-      spends_at (map (reach_of p) xs) (shared_in xs) xs (event_of xs k) (reach_seen p n.access) (is_shared k n) (touches n.access.place n.access.entity n.access.target n.access.writes n.phase)
-      (slice_get-map (reach_of p) xs (event_of xs k) ∙ ap (option_map (reach_of p)) n.event)
-      (sym (at_event (shared_in xs) xs k (shared_long xs) n.within) ∙ shared k n.before n.access n.occurs) n.event
-
-  abbrev charges : (bank : ℕ) → List Charge
-  charges bank = map (bank_charge bank) ss
-
-  charge_at : (bank k : ℕ) (n : Noted p k) → slice_get (at_touches (charges bank) xs) k ≡ Some (bank_charge bank (spend_of (reach_seen p n.access) (is_shared k n)))
-  charge_at bank k n = at_event (charges bank) xs k (length-map _ _ ∙ ss_long) n.within ∙ (slice_get-map (bank_charge bank) ss (event_of xs k) ∙ ap (option_map (bank_charge bank)) (spend_is k n))
-
-  module _ (entity number bank : ℕ) (known : number_in (memories_of p) (Some entity) ≡ Some number) where
-    amount_is : (x : Access) (s : Bool) → IsWithin p x → one_if (reaches p x entity bank && not s) ≡ amount number (bank_charge bank (spend_of (reach_seen p x) s))
-    amount_is x s within = by (reach_seen p x) refl
+    first : (n b v : ℕ) (rest : List ℕ) → b < n → slice_index (replicate n v ++ rest) (0 + b) ≡ v
+    first n b v rest e = ap (slice_index (replicate n v ++ rest)) (none b) ∙ at n b v rest e
       where
-        by : (o : Option Reach) → reach_seen p x ≡ o → one_if (reaches p x entity bank && not s) ≡ amount number (bank_charge bank (spend_of (reach_seen p x) s))
-        by None e = ap (λ b. one_if (b && not s)) (not_reached p x within e entity bank) ∙ (sym (no_amount (0 == number)) ∙ sym (ap (λ o. amount number (bank_charge bank (spend_of o s))) e))
-        by (Some r) e =
-            ap (λ b. one_if (b && not s)) (reached_test p x within r e entity number bank known)
-            ∙ (same_amount (r.memory == number) (r.bank == bank) s ∙ sym (ap (λ o. amount number (bank_charge bank (spend_of o s))) e))
+        none : (b : ℕ) → 0 + b ≡ b
+        none b = omega arith
 
-    charge_is : (k : ℕ) (n : Noted p k) → charge p entity bank k ≡ one_if (reaches p n.access entity bank && not (is_shared k n))
-    charge_is k n = ap (λ o. charge_of p entity bank o) n.occurs
-
-    matches : Matches (charge p entity bank) number 0 (at_touches (charges bank) xs)
-    matches j ch e =
-        let n = noted_at p j (at_within (charges bank) xs j ch e) in
-        ap (charge p entity bank) (plus_none j)
-        ∙ (charge_is j n ∙ (amount_is n.access (is_shared j n) (fits j n.access n.is) ∙ ap (amount number) (one _ _ (sym (charge_at bank j n) ∙ e))))
-      where
-        plus_none : (j : ℕ) → 0 + j ≡ j
-        plus_none j = omega arith
-
-        one : (a b : Charge) → Some a ≡ Some b → a ≡ b
-        one a b e = cc
-
-  module _ (lefts : List ℕ) (tells : TellsLeft ledgers ss lefts) where
-    abbrev flags : List Bool
-    flags = spent_flags ss lefts
-
-    flags_are_long : length flags ≡ length xs
-    flags_are_long = flags_long ss lefts tells.long ∙ ss_long
-
-    left_there : (k : ℕ) (n : Noted p k) → (l : ℕ) × (slice_get lefts (event_of xs k) ≡ Some l)
-    left_there k n = there_is lefts (event_of xs k) (at_length _ _ _ (tells.long ∙ ss_long) (slice_get_within xs (event_of xs k) _ n.event))
-      where
-        at_length : (k m n : ℕ) → m ≡ n → k < n → k < m
-        at_length k m n e f = omega (arith, e, f)
-
-    flag_is : (k : ℕ) (n : Noted p k) (l : ℕ) → slice_get lefts (event_of xs k) ≡ Some l → slice_get (at_touches flags xs) k ≡ Some (is_spent (spend_of (reach_seen p n.access) (is_shared k n)) l)
-    flag_is k n l e = at_event flags xs k flags_are_long n.within ∙ flags_at ss lefts (event_of xs k) _ l (spend_is k n) e
-
-    -- what is left before an access of the bank that it reaches
-    left_is : (k : ℕ) (n : Noted p k) (r : Reach) (q : Reached p n.access r.memory r.bank) → reach_seen p n.access ≡ Some r
-        → slice_get lefts (event_of xs k) ≡ Some (q.memory.shape.ports - (upto (charge p q.entity r.bank) k (meets_in p) - charge p q.entity r.bank k))
-    left_is k n r q e =
-        let inside = access_in p k n.access n.is in
-        let here : slice_get ss (event_of xs k) ≡ Some (spend.Access r.memory r.bank (not (is_shared k n))) = spend_is k n ∙ ap (λ o. Some (spend_of o (is_shared k n))) e in
-        let levels : ℕ → Level = λ m. start (left_on (slice_get ledgers m) r.bank) in
-        let full : left_on (slice_get ledgers r.memory) r.bank ≡ q.memory.shape.ports = ap (λ o. left_on o r.bank) (slice_get-map ledger_of (table_of p) r.memory ∙ ap (option_map ledger_of) q.entry) ∙ ledger_full (entry_of q.memory) r.bank in
-        tells.each (event_of xs k) r.memory r.bank (not (is_shared k n)) here
-        ∙ (same_lefts r.bank (λ m. start (left_on (slice_get ledgers m) r.bank)) (map (reach_of p) xs) (shared_in xs) xs (event_of xs k) r.memory (not (is_shared k n)) here
-        ∙ (sym (at_event (lefts_of (λ m. start (left_on (slice_get ledgers m) r.bank)) (spending_steps (charges r.bank) xs)) xs k (lefts_long _ _ ∙ charges_long r.bank ss xs ss_long) n.within)
-        ∙ (lefts_found (charge p q.entity r.bank) r.memory 0 (λ m. start (left_on (slice_get ledgers m) r.bank)) (charges r.bank) xs (matches q.entity r.memory r.bank q.known) k (bank_charge r.bank (spend_of (Some r) (is_shared k n))) (charge_at r.bank k n ∙ ap (λ o. Some (bank_charge r.bank (spend_of o (is_shared k n)))) e) refl
-        ∙ (ap (λ j. Some (before_at (charge p q.entity r.bank) 0 (start (left_on (slice_get ledgers r.memory) r.bank)) xs j)) (plus_none k)
-        ∙ (ap (λ v. Some v) ((action_ties (charge p q.entity r.bank) [] 0 None p.body).during (start (left_on (slice_get ledgers r.memory) r.bank)) k inside)
-        ∙ ap (λ v. Some (v - (upto (charge p q.entity r.bank) k (meets_in p) - charge p q.entity r.bank k))) full)))))
-      where
-        plus_none : (j : ℕ) → 0 + j ≡ j
-        plus_none j = omega arith
-
-    ports_are : (entity : ℕ) (m : Memory) → memory_in (memories_of p) (Some entity) ≡ Some m → ports_of p entity ≡ m.shape.ports
-    ports_are entity m e = ap memory_ports e
-
-    -- an access that reaches a bank and shares none charges it
-    charges_one : (k : ℕ) (n : Noted p k) (entity bank : ℕ) → reaches p n.access entity bank ≡ true → not (is_shared k n) ≡ true → charge p entity bank k ≡ 1
-    charges_one k n entity bank e f = ap (λ o. charge_of p entity bank o) n.occurs ∙ (ap (λ b. one_if (b && not (is_shared k n))) e ∙ ap one_if f)
-
-    spends_at_flag : (k : ℕ) (n : Noted p k) (o : Option Reach) → reach_seen p n.access ≡ o → (l : ℕ) → slice_get lefts (event_of xs k) ≡ Some l → is_spent (spend_of o (is_shared k n)) l ≡ true → Spends p k
-    spends_at_flag k n None e l at f = cc
-    spends_at_flag k n (Some r) e l at f =
-        let q = reached_is p n.access r e in
-        let h = both_are (not (is_shared k n)) (l == 0) f in
-        let one = charges_one k n q.entity r.bank (then_reaches p n.access r.memory r.bank q) h.0 in
-        let left = left_is k n r q e in
-        let none : l ≡ 0 = eqb-true l 0 h.1 in
-        let shape = memory_shape p table (Some q.entity) q.memory q.stands in
-        let gone : q.memory.shape.ports - (upto (charge p q.entity r.bank) k (meets_in p) - 1) ≡ 0 = ap (λ c. q.memory.shape.ports - (upto (charge p q.entity r.bank) k (meets_in p) - c)) (sym one) ∙ (one_of _ _ (sym left ∙ at) ∙ none) in
-        record {
-          memory = q.entity;
-          bank = r.bank;
-          charged = subst (λ (c : ℕ). 1 ≤ c) (sym one) least;
-          beyond = subst (λ (c : ℕ). c < upto (charge p q.entity r.bank) k (meets_in p)) (sym (ports_are q.entity q.memory q.stands)) (none_left q.memory.shape.ports _ shape.least_ports gone);
-        }
-      where
-        one_of : (a b : ℕ) → Some a ≡ Some b → a ≡ b
-        one_of a b e = cc
-
-        least : 1 ≤ 1
-        least = omega arith
-
-    flag_at_spends : (k : ℕ) (n : Noted p k) → Spends p k → slice_get (at_touches flags xs) k ≡ Some true
-    flag_at_spends k n s =
-        let charged : 1 ≤ one_if (reaches p n.access s.memory s.bank && not (is_shared k n)) = subst (λ (c : ℕ). 1 ≤ c) (ap (λ o. charge_of p s.memory s.bank o) n.occurs) s.charged in
-        let h = charged_one (reaches p n.access s.memory s.bank) (not (is_shared k n)) charged in
-        let one = charges_one k n s.memory s.bank h.0 h.1 in
-        let g = reaching_is p n.access (fits k n.access n.is) s.memory s.bank h.0 in
-        let q = reached_is p n.access (reach g.number s.bank) g.seen in
-        let same : q.entity ≡ s.memory = named _ _ (sym q.is ∙ g.is) in
-        let left = left_is k n (reach g.number s.bank) q g.seen in
-        let left_so : slice_get lefts (event_of xs k) ≡ Some (q.memory.shape.ports - (upto (charge p s.memory s.bank) k (meets_in p) - charge p s.memory s.bank k)) =
-        left ∙ ap (λ e. Some (q.memory.shape.ports - (upto (charge p e s.bank) k (meets_in p) - charge p e s.bank k))) same in
-        let ports : ports_of p s.memory ≡ q.memory.shape.ports = ports_are s.memory q.memory (ap (λ e. memory_in (memories_of p) (Some e)) (sym same) ∙ q.stands) in
-        let none : q.memory.shape.ports - (upto (charge p s.memory s.bank) k (meets_in p) - charge p s.memory s.bank k) ≡ 0 =
-        ap (λ c. q.memory.shape.ports - (upto (charge p s.memory s.bank) k (meets_in p) - c)) one ∙ all_gone q.memory.shape.ports _ (subst (λ (c : ℕ). c < upto (charge p s.memory s.bank) k (meets_in p)) ports s.beyond) in
-        flag_is k n _ left_so
-        ∙ (ap (λ o. Some (is_spent (spend_of o (is_shared k n)) (q.memory.shape.ports - (upto (charge p s.memory s.bank) k (meets_in p) - charge p s.memory s.bank k)))) g.seen
-        ∙ ap (λ b. Some b) (both_true (not (is_shared k n)) _ h.1 (eq-eqb _ 0 none)))
-      where
-        named : (a b : ℕ) → Some a ≡ Some b → a ≡ b
-        named a b e = cc
-
-        both_true : (a b : Bool) → a ≡ true → b ≡ true → (a && b) ≡ true
-        both_true true b e f = f
-        both_true false b e f = e
-
-    pub told : TellsSpent p flags
-    told = record { long = flags_are_long; right = λ k e. right_at k e; all = λ k i s. all_at k s }
-      where
-        true_of : (a b : Bool) → Some a ≡ Some b → b ≡ true → a ≡ true
-        true_of a b e f = cc
-
-        right_at : (k : ℕ) → slice_get (at_touches flags xs) k ≡ Some true → Spends p k
-        right_at k e =
-            let n = noted_at p k (at_within flags xs k true e) in
-            let l = left_there k n in
-            spends_at_flag k n (reach_seen p n.access) refl l.0 l.1 (true_of _ true (sym (flag_is k n l.0 l.1) ∙ e) refl)
-
-        all_at : (k : ℕ) → Spends p k → slice_get (at_touches flags xs) k ≡ Some true
-        all_at k s = by (occurs_in (trace p) [] k) refl s.charged
+        at : (n b v : ℕ) (rest : List ℕ) → b < n → slice_index (replicate n v ++ rest) b ≡ v
+        at zero b v rest e = absurd (below b e)
           where
-            none : 1 ≤ 0 → ⊥
-            none e = omega (arith, e)
+            below : (b : ℕ) → b < 0 → ⊥
+            below b e = omega (arith, e)
+        at (suc n) zero v rest e = refl
+        at (suc n) (suc b) v rest e = at n b v rest (less b n e)
+          where
+            less : (b n : ℕ) → suc b < suc n → b < n
+            less b n e = omega (arith, e)
+ports_at (x ∷ es) (suc number) bank e h b =
+    ap (slice_index (replicate (banks_of x.shape.dims) x.shape.ports ++ ports_in es)) (grouped (banks_of x.shape.dims) (base_of es number) bank)
+    ∙ (past (banks_of x.shape.dims) (base_of es number + bank) x.shape.ports (ports_in es) ∙ ports_at es number bank e h b)
+  where
+    grouped : (a b c : ℕ) → a + b + c ≡ a + (b + c)
+    grouped a b c = omega arith
 
-            by : (o : Option (List Happening × Access)) → occurs_in (trace p) [] k ≡ o → 1 ≤ charge p s.memory s.bank k → slice_get (at_touches flags xs) k ≡ Some true
-            by None e f = absurd (none (subst (λ (c : ℕ). 1 ≤ c) (ap (λ o. charge_of p s.memory s.bank o) e) f))
-            by (Some (before, x)) e f =
-                let is = occurs_is (trace p) [] before k x e in
-                flag_at_spends k (noted_is p k x is (counted p k x is)) s
+    past : (n i v : ℕ) (rest : List ℕ) → slice_index (replicate n v ++ rest) (n + i) ≡ slice_index rest i
+    past zero i v rest = ap (slice_index rest) (none i)
+      where
+        none : (i : ℕ) → 0 + i ≡ i
+        none i = omega arith
+    past (suc n) i v rest = ap (slice_index (v ∷ (replicate n v ++ rest))) (shift n i) ∙ past n i v rest
+      where
+        shift : (n i : ℕ) → suc n + i ≡ suc (n + i)
+        shift n i = omega arith
+
+-- Spent ports.
+
+abbrev taken_at : (flags : List Bool) → (event keys : ℕ) → ℕ
+taken_at flags event keys = if flag_at (slice_get flags event) then 0 else keys
+
+module _ (p : Program) (xs : List Incident) (w : IsWhole p xs) (flags : List Bool) (table : IsProgramTable (table_of p))
+    (bounds : (k : ℕ) (a : SourceAccess) → slice_get (accesses_in (trace p)) k ≡ Some a → Bounds p a)
+    (told : (k : ℕ) → k < count xs → slice_get flags (event_of xs k) ≡ Some (is_some (shared p k))) where
+  abbrev keys_at : SourceAccess → (memory bank : ℕ) → ℕ
+  keys_at a memory bank = distinct_count same_path (map (key_of (bindings_of p) a) (filter (λ path. reaches p a path memory bank) (paths_of a)))
+
+  abbrev steps_of : ℕ → List Step
+  steps_of k = map (spending_step flags) (nth_claims (claim_lists p (loops_known p) 0 xs) k)
+
+  abbrev takes : (slot k : ℕ) → ℕ
+  takes slot k = all_taken slot (steps_of k)
+
+  abbrev levels : ℕ → Level
+  levels slot = start (slice_index (ports_in (table_of p)) slot)
+
+  -- what is taken of the bank of a memory is what is charged
+  module _ (memory number bank : ℕ) (entry : MemEntry) (known : number_in (memories_of p) (Some memory) ≡ Some number) (stands : slice_get (table_of p) number ≡ Some entry) (inside : bank < banks_of entry.shape.dims) where
+    abbrev slot : ℕ
+    slot = base_of (table_of p) number + bank
+
+    there : bank < banks_at p number
+    there = subst (λ (o : Option MemEntry). bank < banks_in o) (sym stands) inside
+
+    takes_one : (k : ℕ) → takes slot k ≡ charge p memory bank k
+    takes_one k = elim (cases_lt k (count xs)) [
+      | inl h ↦
+          let a = access_there p xs w k h in
+          let at = access_at p xs w k a.0 a.1 in
+          ap (λ ms. all_taken slot (map (spending_step flags) ms)) at.claims ∙ takes_charge p flags (event_of xs k) k memory number bank a.0 known there a.1 (told k h)
+      | inr h ↦
+          ap (λ ms. all_taken slot (map (spending_step flags) ms)) (none_claims p (loops_known p) 0 xs k h)
+          ∙ sym (beyond (slice_get (accesses_in (trace p)) k) refl h)
+    ]
+      where
+        beyond : (o : Option SourceAccess) → slice_get (accesses_in (trace p)) k ≡ o → count xs ≤ k → charge p memory bank k ≡ 0
+        beyond None e h = ap (charge_of p memory bank k) e
+        beyond (Some a) e h = absurd (not_both k (count xs) (access_at p xs w k a e).within h)
+          where
+            not_both : (k n : ℕ) → k < n → n ≤ k → ⊥
+            not_both k n e f = omega (arith, e, f)
+
+    takes_are : (λ k. takes slot k) ≡ charge p memory bank
+    takes_are = fun_ext takes_one
+
+    left_is : (k : ℕ) → In k (meets_in p) → before_at (takes slot) 0 (levels slot) xs k ≡ ports_of p memory - (upto (charge p memory bank) k (meets_in p) - charge p memory bank k)
+    left_is k i =
+        ap (λ (c : ℕ → ℕ). before_at c 0 (levels slot) xs k) takes_are
+        ∙ ((w.ties (charge p memory bank)).during (levels slot) k i
+        ∙ ap (λ n. n - (upto (charge p memory bank) k (meets_in p) - charge p memory bank k)) (ports_at (table_of p) number bank entry stands inside ∙ sym ports_are))
+      where
+        ports_are : ports_of p memory ≡ entry.shape.ports
+        ports_are =
+            let mine = found (memories_of p) (Some memory) number known in
+            ap memory_ports mine.is ∙ ap (λ (e : MemEntry). e.shape.ports) (some_same (entry_of mine.memory) entry (sym mine.entry ∙ stands))
+
+    over_beyond : (ports up c : ℕ) → c ≤ up → ports - (up - c) < c → ports < up
+    over_beyond ports up c e f = omega (arith, e, f)
+
+    beyond_over : (ports up c : ℕ) → 1 ≤ c → ports < up → ports - (up - c) < c
+    beyond_over ports up c e f = omega (arith, e, f)
+
+    spends_if : (k : ℕ) → In k (meets_in p) → before_at (takes slot) 0 (levels slot) xs k < takes slot k → Spends p k
+    spends_if k i over =
+        let more : ports_of p memory - (upto (charge p memory bank) k (meets_in p) - charge p memory bank k) < charge p memory bank k =
+        subst (λ (n : ℕ). n < charge p memory bank k) (left_is k i) (subst (λ (n : ℕ). before_at (takes slot) 0 (levels slot) xs k < n) (takes_one k) over) in
+        record { memory = memory; bank = bank; charged = some _ _ more; beyond = over_beyond (ports_of p memory) (upto (charge p memory bank) k (meets_in p)) (charge p memory bank k) (upto_most (charge p memory bank) k (meets_in p) (whole p).distinct i) more }
+      where
+        some : (m n : ℕ) → m < n → 1 ≤ n
+        some m n e = omega (arith, e)
+
+    if_spends : (k : ℕ) → In k (meets_in p) → 1 ≤ charge p memory bank k → ports_of p memory < upto (charge p memory bank) k (meets_in p) → before_at (takes slot) 0 (levels slot) xs k < takes slot k
+    if_spends k i some beyond =
+        subst (λ (n : ℕ). before_at (takes slot) 0 (levels slot) xs k < n) (sym (takes_one k))
+        (subst (λ (n : ℕ). n < charge p memory bank k) (sym (left_is k i)) (beyond_over (ports_of p memory) (upto (charge p memory bank) k (meets_in p)) (charge p memory bank k) some beyond))
+
+  -- steps that take of a slot are claims of it
+  taken_claims : (other : ℕ) (ms : List Move) → 1 ≤ all_taken other (map (spending_step flags) ms) → Claims other ms
+  taken_claims other [] h = absurd (none h)
+    where
+      none : 1 ≤ 0 → ⊥
+      none h = omega (arith, h)
+  taken_claims other (move.Claim event slot keys ∷ ms) h = by_test (cases_Bool (slot == other)) h (taken_claims other ms)
+    where
+      only : (n : ℕ) → 1 ≤ 0 + n → 1 ≤ n
+      only n e = omega (arith, e)
+
+      by_test : ((slot == other) ≡ true) ⊎ ((slot == other) ≡ false) → 1 ≤ (if slot == other then taken_at flags event keys else 0) + all_taken other (map (spending_step flags) ms) → (1 ≤ all_taken other (map (spending_step flags) ms) → Claims other ms) → (slot ≡ other) ⊎ Claims other ms
+      by_test (inl e) h rest = inl (eqb-true slot other e)
+      by_test (inr e) h rest = inr (rest (only _ (subst (λ (b : Bool). 1 ≤ (if b then taken_at flags event keys else 0) + all_taken other (map (spending_step flags) ms)) e h)))
+  taken_claims other (move.Begin ∷ ms) h = taken_claims other ms (only _ h)
+    where
+      only : (n : ℕ) → 1 ≤ 0 + n → 1 ≤ n
+      only n e = omega (arith, e)
+  taken_claims other (move.Next ∷ ms) h = taken_claims other ms (only _ h)
+    where
+      only : (n : ℕ) → 1 ≤ 0 + n → 1 ≤ n
+      only n e = omega (arith, e)
+  taken_claims other (move.End ∷ ms) h = taken_claims other ms (only _ h)
+    where
+      only : (n : ℕ) → 1 ≤ 0 + n → 1 ≤ n
+      only n e = omega (arith, e)
+
+  -- an access that takes more of a slot than is left spends ports
+  over_spends : (k other : ℕ) (a : SourceAccess) → slice_get (accesses_in (trace p)) k ≡ Some a → before_at (takes other) 0 (levels other) xs k < takes other k → Spends p k
+  over_spends k other a e over =
+      let at = access_at p xs w k a e in
+      let c = claimed p (event_of xs k) other a (subst (λ (ms : List Move). Claims other ms) at.claims (taken_claims other (nth_claims (claim_lists p (loops_known p) 0 xs) k) (some _ _ over))) in
+      spends_if c.memory c.number c.bank c.entry c.known c.stands c.within k (access_in p k a e) (subst (λ (n : ℕ). before_at (takes n) 0 (levels n) xs k < takes n k) c.is over)
+    where
+      some : (m n : ℕ) → m < n → 1 ≤ n
+      some m n e = omega (arith, e)
+
+  -- and one that spends ports takes more of some slot than is left
+  spends_over : (k : ℕ) → Spends p k → (k < count xs) × ((other : ℕ) × (before_at (takes other) 0 (levels other) xs k < takes other k))
+  spends_over k s = by_access (slice_get (accesses_in (trace p)) k) refl
+    where
+      none_one : 1 ≤ 0 → ⊥
+      none_one e = omega (arith, e)
+
+      by_access : (o : Option SourceAccess) → slice_get (accesses_in (trace p)) k ≡ o → (k < count xs) × ((other : ℕ) × (before_at (takes other) 0 (levels other) xs k < takes other k))
+      by_access None e = absurd (none_one (subst (λ (n : ℕ). 1 ≤ n) (ap (charge_of p s.memory s.bank k) e) s.charged))
+      by_access (Some a) e = ((access_at p xs w k a e).within, by_shared (is_some (shared p k)) refl)
+        where
+          by_shared : (b : Bool) → is_some (shared p k) ≡ b → (other : ℕ) × (before_at (takes other) 0 (levels other) xs k < takes other k)
+          by_shared true f = absurd (none_one (subst (λ (n : ℕ). 1 ≤ n) (ap (charge_of p s.memory s.bank k) e ∙ ap (λ b. if b then 0 else keys_at a s.memory s.bank) f) s.charged))
+          by_shared false f =
+              let r = reaching p a s.memory s.bank (bounds k a e) (some_kept same_path (key_of (bindings_of p) a) (λ path. reaches p a path s.memory s.bank) (paths_of a) (subst (λ (n : ℕ). 1 ≤ n) (ap (charge_of p s.memory s.bank k) e ∙ ap (λ b. if b then 0 else keys_at a s.memory s.bank) f) s.charged)) in
+              (base_of (table_of p) r.number + s.bank, if_spends s.memory r.number s.bank (entry_of r.owner) r.known r.stands r.within k (access_in p k a e) s.charged s.beyond)
+
+  pub stops_told : (o : Option Place) → Stops flags xs p (loops_known p) steps_of (λ slot k. before_at (takes slot) 0 (levels slot) xs k) 0 (count xs) (touched xs) o → TellsSpent p o
+  stops_told None r = none_spends p (λ k i s. let q = spends_over k s in absurd (not_both _ _ (r k q.1.0 (least k) (from_0 k (count xs) q.0)) q.1.1))
+    where
+      least : (k : ℕ) → 0 ≤ k
+      least k = omega arith
+
+      from_0 : (k n : ℕ) → k < n → k < 0 + n
+      from_0 k n e = omega (arith, e)
+
+      not_both : (m n : ℕ) → m ≤ n → n < m → ⊥
+      not_both m n e f = omega (arith, e, f)
+  stops_told (Some place) r =
+      let number_is : r.number ≡ r.behind = r.is ∙ from_none r.behind in
+      let stands : place_in p r.number ≡ Some place = ap (place_in p) number_is ∙ (place_same r.behind ∙ r.stands) in
+      let a = there (slice_get (accesses_in (trace p)) r.number) place stands in
+      first_spends p r.number place stands (access_in p r.number a.0 a.1) (over_spends r.number r.slot a.0 a.1 r.beyond)
+      (λ x less s. let q = spends_over x s in not_both _ _ (r.first x q.1.0 (least x) less) q.1.1)
+    where
+      least : (k : ℕ) → 0 ≤ k
+      least k = omega arith
+
+      from_none : (k : ℕ) → 0 + k ≡ k
+      from_none k = omega arith
+
+      not_both : (m n : ℕ) → m ≤ n → n < m → ⊥
+      not_both m n e f = omega (arith, e, f)
+
+      there : (o : Option SourceAccess) (place : Place) → option_map (λ (a : SourceAccess). a.place) o ≡ Some place → (a : SourceAccess) × (o ≡ Some a)
+      there None place e = cc
+      there (Some a) place e = (a, refl)
+
+      place_same : (k : ℕ) → place_in p k ≡ option_map (λ (t : Touched). t.place) (slice_get (touched xs) k)
+      place_same k = of_option (slice_get (accesses_in (trace p)) k) ∙ sym (ap (option_map (λ (t : Touched). t.place)) (ap (λ l. slice_get l k) w.touched_all ∙ slice_get-map of_access (accesses_in (trace p)) k))
+        where
+          of_option : (o : Option SourceAccess) → option_map (λ (a : SourceAccess). a.place) o ≡ option_map (λ (t : Touched). t.place) (option_map of_access o)
+          of_option None = refl
+          of_option (Some a) = refl
+
+-- what is told before keeps accesses in the banks of their memories
+pub bounds_of : (p : Program) → IsToldBefore p → (k : ℕ) (a : SourceAccess) → slice_get (accesses_in (trace p)) k ≡ Some a → Bounds p a
+bounds_of p h k a e = record { table = h.table; rows = λ bank row m f g. h.banks k bank a row m e f g }
+
+pub spent_told : (p : Program) (events : List Event) (flags : List Bool) → IsToldBefore p → TellsLoops p → AreEventsOf p events → length flags ≡ length events → TellsShared p events flags
+    → TellsSpent p (spent_place (table_of p) events flags (moves_from p (loops_known p) 0 (all_seen events)))
+spent_told p events flags h loops are long shared_told =
+    let w = whole_is p (all_seen events) loops are.seen in
+    let f : ℕ → List Step = λ k. map (spending_step flags) (nth_claims (claim_lists p (loops_known p) 0 (all_seen events)) k) in
+    stops_told p (all_seen events) w flags h.table (bounds_of p h) told _
+    (walk flags (all_seen events) p (loops_known p) (λ k. map (spending_step flags) (nth_claims (claim_lists p (loops_known p) 0 (all_seen events)) k)) 0 0 (λ slot. start (slice_index (ports_in (table_of p)) slot)) (all_seen events)
+    (λ j. ap (λ n. map (spending_step flags) (nth_claims (claim_lists p (loops_known p) 0 (all_seen events)) n)) (from_none j)) (follow_all (all_seen events)))
+  where
+    from_none : (j : ℕ) → 0 + j ≡ j
+    from_none j = omega arith
+
+    told : (k : ℕ) → k < count (all_seen events) → slice_get flags (event_of (all_seen events) k) ≡ Some (is_some (shared p k))
+    told k e = by_flag (there_is flags (event_of (all_seen events) k) (within k e))
+      where
+        at : slice_get (at_touches (all_seen events) flags) k ≡ slice_get flags (event_of (all_seen events) k)
+        at = at_event (all_seen events) flags k (long ∙ sym (length-map _ _)) e
+
+        within : (k : ℕ) → k < count (all_seen events) → event_of (all_seen events) k < length flags
+        within k e =
+            let t = touch_at p (loops_known p) 0 (all_seen events) k e in
+            subst (λ (n : ℕ). event_of (all_seen events) k < n) (sym (long ∙ sym (length-map _ _))) (slice_get_within (all_seen events) (event_of (all_seen events) k) _ t.stands)
+
+        by_flag : (flag : Bool) × (slice_get flags (event_of (all_seen events) k) ≡ Some flag) → slice_get flags (event_of (all_seen events) k) ≡ Some (is_some (shared p k))
+        by_flag (flag, f) = f ∙ ap (λ b. Some b) (shared_told k flag (at ∙ f))

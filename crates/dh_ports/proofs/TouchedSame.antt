@@ -1,21 +1,28 @@
--- The accesses of incidents are those of happenings.
-use Rattle.std.proofs.Common.{◌≡◌, ℕ, Bool, true, false, List, [], ◌∷◌, ◌++◌, map, refl, ap, sym, ◌∙◌, append-nil}
+-- The accesses of what happens in a command are those of its events, in order.
+use Rattle.std.proofs.Common.{◌≡◌, ℕ, Bool, true, false, List, [], ◌∷◌, ◌++◌, map, refl, ap, sym, ◌∙◌}
 use Rattle.std.specs.Prelude.{Option, Some, None}
-use Rattle.std.proofs.lemmas.List.{map-append}
 use Rattle.dh_base.specs.declared.places.Place.{Place}
-use Rattle.dh_tree.specs.Happenings.{Spot, Arm, Happening, accesses, sets, accesses_in, at_command, with_arm, term_happenings, form_happenings, terms_happenings, maybe_happenings, target_happenings, happenings, command_happenings, other_happenings, groups_happenings, part_happenings}
+use Rattle.dh_value.specs.declared.kinds.Kind.{Kind}
 use Rattle.dh_tree.specs.PlainTrees.{Term, term, TermForm, number, truth_value, named, accessed, in_bank, applied, converted, Terms, no_terms, term_then, Action, action, ActionForm, lets, lets_memory, views, assigns, stores, reduces, calls, blocks, decides, repeats, counts, MaybeAction, no_action, one_action, Actions, no_actions, action_then, Groups, no_groups, group_then}
-use Rattle.dh_ports.specs.Incidents.{Incident, touches, assigned, arm_begins, arm_ends, begins, next, ends, term_incidents, form_incidents, terms_incidents, maybe_incidents, target_incidents, incidents, command_incidents, other_incidents, groups_incidents, part_incidents, phase_at, released, tested, choice_stepped, is_stepped, groups_kind, going_after, part_going}
-use Rattle.dh_ports.specs.Touched.{touched, of_access, seen_in}
+use Rattle.dh_meaning.specs.Sites.{Around, in_arm, in_loop, loop_of}
+use Rattle.dh_meets.specs.SourceEvents as source
+use Rattle.dh_meets.specs.SourceEvents.{SourceEvent, accesses_in, site_of, term_events, form_events, terms_events, maybe_events, write_events, events, command_events, other_events, groups_events, part_events}
+use Rattle.dh_events.specs.declared.events.Site.{Site}
+use Rattle.dh_events.specs.declared.noting.Open.{Open}
+use Rattle.dh_events.specs.Incidents.{Incident, touches, assigned, arm_begins, arm_ends, begins, next, ends, site_at, term_incidents, form_incidents, terms_incidents, maybe_incidents, target_incidents, is_stepped, closed, released, phase_of, tested, inside_choice, round_inside, when_parted, arms_part, are_parts, open_after, part_open, open_combine, incidents, command_incidents, other_incidents, combine_incidents, groups_incidents, part_incidents}
+use Rattle.dh_ports.specs.Wholes.{Touched, touched, touched_by, of_access}
 
-accesses_append : (xs ys : List Happening) → accesses_in (xs ++ ys) ≡ accesses_in xs ++ accesses_in ys
-accesses_append [] ys = refl
-accesses_append (accesses a ∷ xs) ys = ap (λ l. a ∷ l) (accesses_append xs ys)
-accesses_append (sets e ∷ xs) ys = accesses_append xs ys
+-- the same of events
+abbrev seen_in : List SourceEvent → List Touched
+seen_in es = map of_access (accesses_in es)
+
+nothing_more : {X : Type 0} (xs : List X) → xs ++ [] ≡ xs
+nothing_more [] = refl
+nothing_more (x ∷ xs) = ap (λ l. x ∷ l) (nothing_more xs)
 
 touched_append : (xs ys : List Incident) → touched (xs ++ ys) ≡ touched xs ++ touched ys
 touched_append [] ys = refl
-touched_append (touches p e t w f ∷ xs) ys = ap (λ l. record { place = p; entity = e; target = t; writes = w } ∷ l) (touched_append xs ys)
+touched_append (touches t w s ∷ xs) ys = ap (λ l. touched_by t w ∷ l) (touched_append xs ys)
 touched_append (assigned e ∷ xs) ys = touched_append xs ys
 touched_append (arm_begins ∷ xs) ys = touched_append xs ys
 touched_append (arm_ends ∷ xs) ys = touched_append xs ys
@@ -23,72 +30,108 @@ touched_append (begins ∷ xs) ys = touched_append xs ys
 touched_append (next ∷ xs) ys = touched_append xs ys
 touched_append (ends ∷ xs) ys = touched_append xs ys
 
--- incidents and happenings have the same accesses
-both_touched : (xs ys : List Incident) (hs is : List Happening) → touched xs ≡ seen_in hs → touched ys ≡ seen_in is → touched (xs ++ ys) ≡ seen_in (hs ++ is)
-both_touched xs ys hs is e f =
-    touched_append xs ys ∙ (ap (λ l. l ++ touched ys) e ∙ (ap (λ l. seen_in hs ++ l) f ∙ sym (ap (λ l. map of_access l) (accesses_append hs is) ∙ map-append of_access (accesses_in hs) (accesses_in is))))
+seen_append : (xs ys : List SourceEvent) → seen_in (xs ++ ys) ≡ seen_in xs ++ seen_in ys
+seen_append [] ys = refl
+seen_append (source.accesses a ∷ xs) ys = ap (λ l. of_access a ∷ l) (seen_append xs ys)
+seen_append (source.assigned e ∷ xs) ys = seen_append xs ys
+
+both : (xs ys : List Incident) (es fs : List SourceEvent) → touched xs ≡ seen_in es → touched ys ≡ seen_in fs → touched (xs ++ ys) ≡ seen_in (es ++ fs)
+both xs ys es fs e f = touched_append xs ys ∙ (ap (λ l. l ++ touched ys) e ∙ (ap (λ l. seen_in es ++ l) f ∙ sym (seen_append es fs)))
+
+-- marks are no accesses
+none_more : (xs : List Incident) (y : Incident) (es : List SourceEvent) → touched (y ∷ []) ≡ [] → touched xs ≡ seen_in es → touched (xs ++ y ∷ []) ≡ seen_in es
+none_more xs y es e f = touched_append xs (y ∷ []) ∙ (ap (λ l. touched xs ++ l) e ∙ (nothing_more (touched xs) ∙ f))
+
+parted_first : (b : Bool) (y : Incident) (xs : List Incident) → touched (y ∷ xs) ≡ touched xs → touched (when_parted b y ++ xs) ≡ touched xs
+parted_first true y xs e = e
+parted_first false y xs e = refl
+
+parted_last : (b : Bool) (y : Incident) (xs : List Incident) → touched (y ∷ []) ≡ [] → touched (xs ++ when_parted b y) ≡ touched xs
+parted_last true y xs e = touched_append xs (y ∷ []) ∙ (ap (λ l. touched xs ++ l) e ∙ nothing_more (touched xs))
+parted_last false y xs e = ap touched (nothing_more xs)
 
 mutual
-  pub term_touched : (p : ℕ) (spot : Spot) (t : Term) → touched (term_incidents p t) ≡ seen_in (term_happenings spot t)
-  term_touched p spot (term place kind form) = form_touched p spot place form
+  term_same : (s : Site) (z : source.Site) (t : Term) → touched (term_incidents s t) ≡ seen_in (term_events z t)
+  term_same s z (term place kind form) = form_same s z place kind form
 
-  form_touched : (p : ℕ) (spot : Spot) (place : Place) (form : TermForm) → touched (form_incidents p place form) ≡ seen_in (form_happenings spot place form)
-  form_touched p spot place (number negative n) = refl
-  form_touched p spot place (truth_value value) = refl
-  form_touched p spot place (named r) = refl
-  form_touched p spot place (accessed r indices) = both_touched (terms_incidents p indices) _ (terms_happenings spot indices) _ (terms_touched p spot indices) refl
-  form_touched p spot place (in_bank r bank bank_place t) = both_touched (term_incidents p t) _ (term_happenings spot t) _ (term_touched p spot t) refl
-  form_touched p spot place (applied op left right) = both_touched (term_incidents p left) (term_incidents p right) (term_happenings spot left) (term_happenings spot right) (term_touched p spot left) (term_touched p spot right)
-  form_touched p spot place (converted inner to) = term_touched p spot inner
+  form_same : (s : Site) (z : source.Site) (place : Place) (kind : Option Kind) (form : TermForm) → touched (form_incidents s place kind form) ≡ seen_in (form_events z place form)
+  form_same s z place kind (number negative n) = refl
+  form_same s z place kind (truth_value value) = refl
+  form_same s z place kind (named r) = refl
+  form_same s z place kind (accessed r indices) = both (terms_incidents s indices) _ (terms_events z indices) _ (terms_same s z indices) refl
+  form_same s z place kind (in_bank r bank bank_place row) = both (term_incidents s row) _ (term_events z row) _ (term_same s z row) refl
+  form_same s z place kind (applied op left right) = both (term_incidents s left) (term_incidents s right) (term_events z left) (term_events z right) (term_same s z left) (term_same s z right)
+  form_same s z place kind (converted inner to) = term_same s z inner
 
-  terms_touched : (p : ℕ) (spot : Spot) (ts : Terms) → touched (terms_incidents p ts) ≡ seen_in (terms_happenings spot ts)
-  terms_touched p spot no_terms = refl
-  terms_touched p spot (term_then t ts) = both_touched (term_incidents p t) (terms_incidents p ts) (term_happenings spot t) (terms_happenings spot ts) (term_touched p spot t) (terms_touched p spot ts)
+  terms_same : (s : Site) (z : source.Site) (ts : Terms) → touched (terms_incidents s ts) ≡ seen_in (terms_events z ts)
+  terms_same s z no_terms = refl
+  terms_same s z (term_then t rest) = both (term_incidents s t) (terms_incidents s rest) (term_events z t) (terms_events z rest) (term_same s z t) (terms_same s z rest)
 
-pub maybe_touched : (p : ℕ) (spot : Spot) (t : Option Term) → touched (maybe_incidents p t) ≡ seen_in (maybe_happenings spot t)
-maybe_touched p spot None = refl
-maybe_touched p spot (Some t) = term_touched p spot t
+maybe_same : (s : Site) (z : source.Site) (t : Option Term) → touched (maybe_incidents s t) ≡ seen_in (maybe_events z t)
+maybe_same s z None = refl
+maybe_same s z (Some t) = term_same s z t
 
-pub target_touched : (p : ℕ) (spot : Spot) (t : Term) → touched (target_incidents p t) ≡ seen_in (target_happenings spot t)
-target_touched p spot (term place kind (number negative n)) = refl
-target_touched p spot (term place kind (truth_value value)) = refl
-target_touched p spot (term place kind (named r)) = refl
-target_touched p spot (term place kind (accessed r indices)) = both_touched (terms_incidents p indices) _ (terms_happenings spot indices) _ (terms_touched p spot indices) refl
-target_touched p spot (term place kind (in_bank r bank bank_place t)) = both_touched (term_incidents p t) _ (term_happenings spot t) _ (term_touched p spot t) refl
-target_touched p spot (term place kind (applied op left right)) = refl
-target_touched p spot (term place kind (converted inner to)) = refl
+target_same : (s : Site) (z : source.Site) (t : Term) → touched (target_incidents s t) ≡ seen_in (write_events z t)
+target_same s z (term place kind (accessed r indices)) = both (terms_incidents s indices) _ (terms_events z indices) _ (terms_same s z indices) refl
+target_same s z (term place kind (in_bank r bank bank_place row)) = both (term_incidents s row) _ (term_events z row) _ (term_same s z row) refl
+target_same s z (term place kind (number negative n)) = refl
+target_same s z (term place kind (truth_value value)) = refl
+target_same s z (term place kind (named r)) = refl
+target_same s z (term place kind (applied op left right)) = both (term_incidents s left) (term_incidents s right) (term_events z left) (term_events z right) (term_same s z left) (term_same s z right)
+target_same s z (term place kind (converted inner to)) = term_same s z inner
+
+-- a value and an assignment behind it
+assigned_same : (xs : List Incident) (es : List SourceEvent) (e : Option ℕ) → touched xs ≡ seen_in es → touched (xs ++ assigned e ∷ []) ≡ seen_in (es ++ source.assigned e ∷ [])
+assigned_same xs es e f = both xs (assigned e ∷ []) es (source.assigned e ∷ []) f refl
 
 mutual
-  pub action_touched : (arms : List Arm) (g : Option ℕ) (a : Action) → touched (incidents g a) ≡ seen_in (happenings arms a)
-  action_touched arms g (action id place form) = command_touched arms g id form
+  pub action_same : (f : ℕ → ℕ) (round : Option ℕ) (g : Open) (r : Around) (a : Action) → touched (incidents f round g a) ≡ seen_in (events r a)
+  action_same f round g r (action id place form) = command_same f round g r id form
 
-  command_touched : (arms : List Arm) (g : Option ℕ) (id : ℕ) (form : ActionForm) → touched (command_incidents g id form) ≡ seen_in (command_happenings arms id form)
-  command_touched arms g id (lets name declared value) = both_touched (maybe_incidents (phase_at g id) value) _ (maybe_happenings (at_command id arms) value) _ (maybe_touched (phase_at g id) (at_command id arms) value) refl
-  command_touched arms g id (lets_memory name shape shape_places value) = refl
-  command_touched arms g id (views name parent form) = refl
-  command_touched arms g id (assigns target value) = both_touched (term_incidents (phase_at g id) value) _ (term_happenings (at_command id arms) value) _ (term_touched (phase_at g id) (at_command id arms) value) refl
-  command_touched arms g id (stores target value) = both_touched (term_incidents (phase_at g id) value) (target_incidents (phase_at g id) target) (term_happenings (at_command id arms) value) (target_happenings (at_command id arms) target) (term_touched (phase_at g id) (at_command id arms) value) (target_touched (phase_at g id) (at_command id arms) target)
-  command_touched arms g id (reduces target op value) = refl
-  command_touched arms g id (calls function arguments) = refl
-  command_touched arms g id (blocks body) = touched_append (groups_incidents (is_stepped (groups_kind body)) g body) (ends ∷ []) ∙ (append-nil _ ∙ groups_touched arms (is_stepped (groups_kind body)) g body)
-  command_touched arms g id (decides test chosen other) =
-      both_touched (term_incidents (phase_at (released (choice_stepped chosen other) g) id) test) _ (term_happenings (at_command id arms) test) _ (term_touched (phase_at (released (choice_stepped chosen other) g) id) (at_command id arms) test)
-      (both_touched (incidents (tested (choice_stepped chosen other) g id) chosen) _ (happenings (with_arm arms id true) chosen) _ (action_touched (with_arm arms id true) (tested (choice_stepped chosen other) g id) chosen)
-      (touched_append (other_incidents (released (choice_stepped chosen other) (going_after (tested (choice_stepped chosen other) g id) chosen)) other) (ends ∷ [])
-      ∙ (append-nil _ ∙ other_touched (with_arm arms id false) (released (choice_stepped chosen other) (going_after (tested (choice_stepped chosen other) g id) chosen)) other)))
-  command_touched arms g id (repeats test body) =
-      both_touched (term_incidents id test) _ (term_happenings (at_command id arms) test) _ (term_touched id (at_command id arms) test)
-      (touched_append (incidents None body) (ends ∷ []) ∙ (append-nil _ ∙ action_touched arms None body))
-  command_touched arms g id (counts iterator declared low high factor body combine combine_place) = action_touched arms None body
+  command_same : (f : ℕ → ℕ) (round : Option ℕ) (g : Open) (r : Around) (id : ℕ) (form : ActionForm) → touched (command_incidents f round g id form) ≡ seen_in (command_events r (site_of r id) form)
+  command_same f round g r id (lets name declared value) = assigned_same (maybe_incidents (site_at (phase_of g id) round) value) (maybe_events (site_of r id) value) name.entity (maybe_same (site_at (phase_of g id) round) (site_of r id) value)
+  command_same f round g r id (lets_memory name shape shape_places value) = refl
+  command_same f round g r id (views name parent form) = refl
+  command_same f round g r id (assigns target value) = assigned_same (term_incidents (site_at (phase_of g id) round) value) (term_events (site_of r id) value) target.entity (term_same (site_at (phase_of g id) round) (site_of r id) value)
+  command_same f round g r id (stores target value) =
+      both (term_incidents (site_at (phase_of g id) round) value) (target_incidents (site_at (phase_of g id) round) target) (term_events (site_of r id) value) (write_events (site_of r id) target)
+      (term_same (site_at (phase_of g id) round) (site_of r id) value) (target_same (site_at (phase_of g id) round) (site_of r id) target)
+  command_same f round g r id (reduces target op value) = assigned_same (term_incidents (site_at (phase_of g id) round) value) (term_events (site_of r id) value) target.entity (term_same (site_at (phase_of g id) round) (site_of r id) value)
+  command_same f round g r id (calls function arguments) = refl
+  command_same f round g r id (blocks body) =
+      parted_first (are_parts body) begins _ refl
+      ∙ (parted_last (are_parts body) ends (groups_incidents f round (is_stepped f id) (are_parts body) (released (is_stepped f id) g) body) refl
+      ∙ groups_same f round (is_stepped f id) (are_parts body) (released (is_stepped f id) g) r body)
+  command_same f round g r id (decides test chosen other) =
+      both (term_incidents (site_at (tested (is_stepped f id) g id) round) test) _ (term_events (site_of r id) test) _ (term_same (site_at (tested (is_stepped f id) g id) round) (site_of r id) test)
+      (parted_first (arms_part round other) begins _ refl
+      ∙ both (incidents f round (inside_choice (is_stepped f id) (tested (is_stepped f id) g id)) chosen) (arm_ends ∷ (when_parted (arms_part round other) next ++ (other_incidents f round (inside_choice (is_stepped f id) (tested (is_stepped f id) g id)) other ++ when_parted (arms_part round other) ends)))
+      (events (in_arm r id true) chosen) (other_events (in_arm r id false) other)
+      (action_same f round (inside_choice (is_stepped f id) (tested (is_stepped f id) g id)) (in_arm r id true) chosen)
+      (parted_first (arms_part round other) next _ refl
+      ∙ (parted_last (arms_part round other) ends (other_incidents f round (inside_choice (is_stepped f id) (tested (is_stepped f id) g id)) other) refl
+      ∙ other_same f round (inside_choice (is_stepped f id) (tested (is_stepped f id) g id)) (in_arm r id false) other)))
+  command_same f round g r id (repeats test body) =
+      both (term_incidents (site_at id round) test) _ (term_events (site_of r id) test) (events r body) (term_same (site_at id round) (site_of r id) test)
+      (none_more (incidents f round closed body) ends (events r body) refl (action_same f round closed r body))
+  command_same f round g r id (counts iterator declared low high factor body combine combine_place) =
+      both (incidents f (round_inside round id factor.value) closed body) _ (events (in_loop r (loop_of iterator low high factor)) body) _ (action_same f (round_inside round id factor.value) closed (in_loop r (loop_of iterator low high factor)) body)
+      (combine_same f (round_inside round id factor.value) (open_combine f (open_after f closed body) combine) (in_loop r (loop_of iterator low high factor)) combine)
 
-  other_touched : (arms : List Arm) (g : Option ℕ) (o : MaybeAction) → touched (other_incidents g o) ≡ seen_in (other_happenings arms o)
-  other_touched arms g no_action = refl
-  other_touched arms g (one_action a) = touched_append (incidents g a) (arm_ends ∷ []) ∙ (append-nil _ ∙ action_touched arms g a)
+  other_same : (f : ℕ → ℕ) (round : Option ℕ) (g : Open) (r : Around) (o : MaybeAction) → touched (other_incidents f round g o) ≡ seen_in (other_events r o)
+  other_same f round g r no_action = refl
+  other_same f round g r (one_action a) = none_more (incidents f round g a) arm_ends (events r a) refl (action_same f round g r a)
 
-  groups_touched : (arms : List Arm) (stepped : Bool) (g : Option ℕ) (body : Groups) → touched (groups_incidents stepped g body) ≡ seen_in (groups_happenings arms body)
-  groups_touched arms stepped g no_groups = refl
-  groups_touched arms stepped g (group_then part rest) = both_touched (part_incidents (released stepped g) part) _ (part_happenings arms part) (groups_happenings arms rest) (part_touched arms (released stepped g) part) (groups_touched arms stepped (part_going (released stepped g) part) rest)
+  combine_same : (f : ℕ → ℕ) (round : Option ℕ) (g : Open) (r : Around) (o : MaybeAction) → touched (combine_incidents f round g o) ≡ seen_in (other_events r o)
+  combine_same f round g r no_action = refl
+  combine_same f round g r (one_action a) = action_same f round g r a
 
-  part_touched : (arms : List Arm) (g : Option ℕ) (part : Actions) → touched (part_incidents g part) ≡ seen_in (part_happenings arms part)
-  part_touched arms g no_actions = refl
-  part_touched arms g (action_then a rest) = both_touched (incidents g a) (part_incidents (going_after g a) rest) (happenings arms a) (part_happenings arms rest) (action_touched arms g a) (part_touched arms (going_after g a) rest)
+  groups_same : (f : ℕ → ℕ) (round : Option ℕ) (stepped parted : Bool) (g : Open) (r : Around) (body : Groups) → touched (groups_incidents f round stepped parted g body) ≡ seen_in (groups_events r body)
+  groups_same f round stepped parted g r no_groups = refl
+  groups_same f round stepped parted g r (group_then part rest) =
+      both (part_incidents f round (released stepped g) part) _ (part_events r part) (groups_events r rest) (part_same f round (released stepped g) r part)
+      (parted_first parted next _ refl ∙ groups_same f round stepped parted (part_open f (released stepped g) part) r rest)
+
+  part_same : (f : ℕ → ℕ) (round : Option ℕ) (g : Open) (r : Around) (part : Actions) → touched (part_incidents f round g part) ≡ seen_in (part_events r part)
+  part_same f round g r no_actions = refl
+  part_same f round g r (action_then a rest) = both (incidents f round g a) (part_incidents f round (open_after f g a) rest) (events r a) (part_events r rest) (action_same f round g r a) (part_same f round (open_after f g a) r rest)

@@ -2,12 +2,12 @@
 use Rattle.std.specs.Prelude.{◌≡◌, ℕ, suc, ◌+◌, ◌-◌, ◌<◌, ◌≤◌, ◌==◌, if◌then◌else◌, List, [], ◌∷◌, min}
 use Rattle.dh_tree.specs.Meets.{Meets, In, load, upto}
 use Rattle.dh_ports.specs.Levels.{Level, level, begun, kept_back, settled}
-use Rattle.dh_ports.specs.Incidents.{Incident, touches, assigned, arm_begins, arm_ends, begins, next, ends}
+use Rattle.dh_events.specs.Incidents.{Incident, touches, assigned, arm_begins, arm_ends, begins, next, ends}
 
 -- how many accesses happen
 abbrev pub count : List Incident → ℕ
 count [] = 0
-count (touches place entity target writes phase ∷ xs) = suc (count xs)
+count (touches t writes site ∷ xs) = suc (count xs)
 count (assigned entity ∷ xs) = count xs
 count (arm_begins ∷ xs) = count xs
 count (arm_ends ∷ xs) = count xs
@@ -21,7 +21,7 @@ less charge l = level (l.now - charge) l.base l.low l.outer
 -- what is left after incidents of which the first access has this number
 abbrev pub course : (ℕ → ℕ) → ℕ → Level → List Incident → Level
 course c n l [] = l
-course c n l (touches place entity target writes phase ∷ xs) = course c (suc n) (less (c n) l) xs
+course c n l (touches t writes site ∷ xs) = course c (suc n) (less (c n) l) xs
 course c n l (assigned entity ∷ xs) = course c n l xs
 course c n l (arm_begins ∷ xs) = course c n l xs
 course c n l (arm_ends ∷ xs) = course c n l xs
@@ -32,7 +32,7 @@ course c n l (ends ∷ xs) = course c n (settled (kept_back l)) xs
 -- what is left before the access of number k
 abbrev pub before_at : (ℕ → ℕ) → ℕ → Level → List Incident → (k : ℕ) → ℕ
 before_at c n l [] k = 0
-before_at c n l (touches place entity target writes phase ∷ xs) k = if n == k then l.now else before_at c (suc n) (less (c n) l) xs k
+before_at c n l (touches t writes site ∷ xs) k = if n == k then l.now else before_at c (suc n) (less (c n) l) xs k
 before_at c n l (assigned entity ∷ xs) k = before_at c n l xs k
 before_at c n l (arm_begins ∷ xs) k = before_at c n l xs k
 before_at c n l (arm_ends ∷ xs) k = before_at c n l xs k

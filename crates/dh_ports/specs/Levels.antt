@@ -38,8 +38,9 @@ level_of left log lows outer slot =
 abbrev pub level_at : Levels → (slot : ℕ) → Level
 level_at l slot = level_of l.left.items l.log.items l.lows.items l.outer.items slot
 
-abbrev pub taken : (slot other : ℕ) → Level → Level
-taken slot other l = if other == slot then level (l.now - 1) l.base l.low l.outer else l
+-- so much is taken of a slot, at another or this one
+abbrev pub taken : (slot takes other : ℕ) → Level → Level
+taken slot takes other l = if slot == other then level (l.now - takes) l.base l.low l.outer else l
 
 abbrev pub begun : Level → Level
 begun l = level l.now l.now l.now (floor l.base l.low ∷ l.outer)
@@ -67,7 +68,7 @@ gone_back l = gone_in l l.outer
 
 abbrev pub advance : (slot : ℕ) → Step → Level → Level
 advance slot step.Other l = l
-advance slot (step.Access other takes) l = if takes then taken slot other l else l
+advance slot (step.Access other takes) l = taken other takes slot l
 advance slot step.Begin l = begun l
 advance slot step.Next l = kept_back l
 advance slot step.End l = settled (kept_back l)

@@ -1,111 +1,243 @@
--- What the walks over what happens note at each incident: spends and charges, and which accesses break a
--- rule.
-use Rattle.std.specs.Prelude.{ℕ, ◌==◌, ◌&&◌, not, if◌then◌else◌, Bool, false, List, [], ◌∷◌, ◌++◌, Option, Some, None, is_some}
+-- What the walks over what happens make of it: steps that take of slots, and which accesses break a rule.
+use Rattle.std.specs.Prelude.{◌≡◌, ◌⊎◌, ℕ, ◌<◌, ◌==◌, ◌&&◌, nat_lt, map, replicate, length, Bool, false, true, if◌then◌else◌, List, [], ◌∷◌, ◌++◌, Option, Some, None, slice_get}
+use Rattle.std.specs.List.{AllByRecursion}
 use Rattle.dh_base.specs.declared.places.Place.{Place}
 use Rattle.dh_base.specs.declared.rules.Rule.TheVariants as rule
-use Rattle.dh_ledger.specs.Spending.{Spending, zeros}
 use Rattle.dh_tree.specs.declared.breaches.Breach.{Breach}
+use Rattle.dh_tree.specs.LeastBreach.{breach, least_of}
 use Rattle.dh_tree.specs.declared.tables.MemEntry.{MemEntry}
-use Rattle.dh_tree.specs.Elements.{banks_of}
-use Rattle.dh_tree.specs.LeastBreach.{breach}
-use Rattle.dh_ports.specs.Incidents.{Incident, touches, assigned, arm_begins, arm_ends, begins, next, ends}
-use Rattle.dh_ports.specs.declared.purses.Spend.{Spend}
-use Rattle.dh_ports.specs.declared.purses.Spend.TheVariants as spend
-use Rattle.dh_ports.specs.declared.reaching.Reach.{Reach}
-use Rattle.dh_ports.specs.declared.spending.Charge.{Charge}
+use Rattle.dh_tree.specs.PlainTrees.{Term, term}
+use Rattle.dh_tree.specs.Seen.{form_seen}
+use Rattle.dh_events.specs.declared.classes.Key.{Key}
+use Rattle.dh_events.specs.declared.events.Event.{Event}
+use Rattle.dh_events.specs.declared.events.Event.TheVariants as event
+use Rattle.dh_events.specs.Accesses.{entity_in}
+use Rattle.dh_ports.specs.Claims.{ports_in}
+use Rattle.dh_events.specs.Classes.{AreDistinct}
+use Rattle.dh_ports.specs.Levels.{lefts_from}
+use Rattle.dh_events.specs.Noted.{all_seen}
+use Rattle.dh_ports.specs.declared.levels.Step.{Step}
+use Rattle.dh_ports.specs.declared.levels.Step.TheVariants as step
+use Rattle.dh_ports.specs.declared.moves.Move.{Move}
+use Rattle.dh_ports.specs.declared.moves.Move.TheVariants as move
+use Rattle.dh_events.specs.Incidents.{Incident, touches, assigned, arm_begins, arm_ends, begins, next, ends}
+
+-- Sharing.
+
+-- a step takes where nothing is left
+abbrev pub shares : Step → (left : ℕ) → Bool
+shares (step.Access slot takes) left = left == 0
+shares step.Other left = false
+shares step.Begin left = false
+shares step.Next left = false
+shares step.End left = false
+shares step.Back left = false
+
+abbrev pub all_share : List Step → List ℕ → List Bool
+all_share (s ∷ ss) (l ∷ ls) = shares s l ∷ all_share ss ls
+all_share _ _ = []
 
 -- Ports.
 
--- the ledger of a memory of which nothing is spent
-abbrev pub ledger_of : MemEntry → Spending
-ledger_of e = record { ports = e.shape.ports; spent = zeros (banks_of e.shape.dims) }
+abbrev pub flag_at : Option Bool → Bool
+flag_at None = false
+flag_at (Some b) = b
 
-abbrev pub spend_of : Option Reach → (shared : Bool) → Spend
-spend_of None shared = spend.Other
-spend_of (Some r) shared = spend.Access r.memory r.bank (not shared)
+-- an access takes a port for each of its keys, and none where it shares
+abbrev pub spending_step : (shared : List Bool) → Move → Step
+spending_step shared (move.Claim event slot keys) = step.Access slot (if flag_at (slice_get shared event) then 0 else keys)
+spending_step shared move.Begin = step.Begin
+spending_step shared move.Next = step.Next
+spending_step shared move.End = step.End
 
--- what an incident does to the ledgers
-abbrev pub spend_at : Option Reach → (shared : Bool) → Incident → Spend
-spend_at reach shared (touches place entity target writes phase) = spend_of reach shared
-spend_at reach shared (assigned entity) = spend.Other
-spend_at reach shared arm_begins = spend.Other
-spend_at reach shared arm_ends = spend.Other
-spend_at reach shared begins = spend.Begin
-spend_at reach shared next = spend.Next
-spend_at reach shared ends = spend.End
-
-abbrev pub spends_of : List (Option Reach) → List Bool → List Incident → List Spend
-spends_of (r ∷ rs) (s ∷ ss) (x ∷ xs) = spend_at r s x ∷ spends_of rs ss xs
-spends_of _ _ _ = []
-
--- an access takes a port of a bank of which none is left
-abbrev pub is_spent : Spend → (left : ℕ) → Bool
-is_spent (spend.Access memory bank takes) left = takes && (left == 0)
-is_spent spend.Other left = false
-is_spent spend.Begin left = false
-is_spent spend.Next left = false
-is_spent spend.End left = false
-
-abbrev pub spent_flags : List Spend → List ℕ → List Bool
-spent_flags (s ∷ ss) (l ∷ ls) = is_spent s l ∷ spent_flags ss ls
-spent_flags _ _ = []
-
--- Order.
-
--- one key for the accesses of a bank in a phase
-abbrev pub order_key : Option Reach → Incident → List ℕ
-order_key (Some r) (touches place entity target writes phase) = phase ∷ r.memory ∷ r.bank ∷ []
-order_key r x = []
-
-abbrev pub order_keys : List (Option Reach) → List Incident → List (List ℕ)
-order_keys (r ∷ rs) (x ∷ xs) = order_key r x ∷ order_keys rs xs
-order_keys _ _ = []
-
-abbrev pub is_write : Incident → Bool
-is_write (touches place entity target writes phase) = writes
-is_write x = false
-
-abbrev pub is_read : Incident → Bool
-is_read (touches place entity target writes phase) = not writes
-is_read x = false
-
--- a write takes what is left of its slot
-abbrev pub order_charge : Option Reach → (slot : ℕ) → Incident → Charge
-order_charge r slot x = record { slot = slot; takes = is_some r && is_write x }
-
-abbrev pub order_charges : List (Option Reach) → List ℕ → List Incident → List Charge
-order_charges (r ∷ rs) (s ∷ ss) (x ∷ xs) = order_charge r s x ∷ order_charges rs ss xs
-order_charges _ _ _ = []
-
--- a read of a slot of which nothing is left
-abbrev pub is_late : Option Reach → (left : ℕ) → Incident → Bool
-is_late r left x = (is_some r && is_read x) && (left == 0)
-
-abbrev pub late_flags : List (Option Reach) → List ℕ → List Incident → List Bool
-late_flags (r ∷ rs) (l ∷ ls) (x ∷ xs) = is_late r l x ∷ late_flags rs ls xs
-late_flags _ _ _ = []
+-- a step takes more than is left
+abbrev pub is_beyond : Step → (left : ℕ) → Bool
+is_beyond (step.Access slot takes) left = nat_lt left takes
+is_beyond step.Other left = false
+is_beyond step.Begin left = false
+is_beyond step.Next left = false
+is_beyond step.End left = false
+is_beyond step.Back left = false
 
 -- Places.
 
--- the place of an access that is flagged
-abbrev pub flag_place : Incident → Bool → List Place
-flag_place (touches place entity target writes phase) flag = if flag then place ∷ [] else []
-flag_place (assigned entity) flag = []
-flag_place arm_begins flag = []
-flag_place arm_ends flag = []
-flag_place begins flag = []
-flag_place next flag = []
-flag_place ends flag = []
+abbrev pub term_place : Term → Place
+term_place (term place kind form) = place
 
--- the places of the accesses that are flagged, in order
-abbrev pub flagged : List Incident → List Bool → List Place
-flagged (x ∷ xs) (b ∷ bs) = flag_place x b ++ flagged xs bs
-flagged _ _ = []
+-- the place of an incident that is an access
+abbrev pub place_of : Incident → Option Place
+place_of (touches access writes site) = Some (term_place access)
+place_of (assigned entity) = None
+place_of arm_begins = None
+place_of arm_ends = None
+place_of begins = None
+place_of next = None
+place_of ends = None
 
--- the breach of the first place
-abbrev pub first_spent : List Place → Option Breach
-first_spent [] = None
-first_spent (place ∷ places) = Some (breach rule.PortsSpent place)
+abbrev pub place_found : Option Incident → Option Place
+place_found None = None
+place_found (Some x) = place_of x
 
-abbrev pub late_at : Place → Breach
-late_at place = breach rule.ReadAfterWrite place
+-- the place of the access of a move
+abbrev pub place_in : List Incident → Move → Option Place
+place_in xs (move.Claim event slot keys) = place_found (slice_get xs event)
+place_in xs move.Begin = None
+place_in xs move.Next = None
+place_in xs move.End = None
+
+-- the place of the first move whose step takes more than is left
+abbrev pub first_beyond : List Incident → List Move → List Step → List ℕ → Option Place
+first_beyond xs (m ∷ ms) (s ∷ ss) (l ∷ ls) = if is_beyond s l then place_in xs m else first_beyond xs ms ss ls
+first_beyond xs _ _ _ = None
+
+-- Order.
+
+-- a step reads where nothing is left
+abbrev pub is_late : Step → (left : ℕ) → Bool
+is_late (step.Access slot takes) left = (takes == 0) && (left == 0)
+is_late step.Other left = false
+is_late step.Begin left = false
+is_late step.Next left = false
+is_late step.End left = false
+is_late step.Back left = false
+
+abbrev pub late_at : Option Place → List Breach
+late_at None = []
+late_at (Some place) = breach rule.ReadAfterWrite place ∷ []
+
+abbrev pub all_late : List Incident → List Move → List Step → List ℕ → List Breach
+all_late xs (m ∷ ms) (s ∷ ss) (l ∷ ls) = if is_late s l then late_at (place_in xs m) ++ all_late xs ms ss ls else all_late xs ms ss ls
+all_late xs _ _ _ = []
+
+-- Classes.
+
+-- the key of a read in a phase, where its names stand for something
+abbrev pub key_with : (phase : ℕ) → (entity element : Option ℕ) → (newest : ℕ) → Option Key
+key_with phase None element newest = None
+key_with phase (Some e) None newest = None
+key_with phase (Some e) (Some n) newest = Some (record { phase = phase; entity = e; element = n; newest = newest })
+
+abbrev pub read_key : Event → Option Key
+read_key (event.Touch access true phase round element newest) = None
+read_key (event.Touch access false phase round element newest) = key_with phase (entity_in (form_seen access.now.form)) element newest
+read_key (event.Assigned entity) = None
+read_key event.ArmBegins = None
+read_key event.ArmEnds = None
+read_key event.Begins = None
+read_key event.Next = None
+read_key event.Ends = None
+
+-- a step that takes of the slot of a key
+abbrev pub TakesOf : List Key → (takes : ℕ) → Option Key → Step → Type 0
+TakesOf known takes None s = s ≡ step.Other
+TakesOf known takes (Some k) s = (slot : ℕ) × ((slice_get known slot ≡ Some k) × (s ≡ step.Access slot takes))
+
+-- the step that an event is for the sharing of reads: of a class one is to take
+abbrev pub IsSharing : List Key → Event → Step → Type 0
+IsSharing known (event.Touch access writes phase round element newest) s = TakesOf known 1 (read_key (event.Touch access writes phase round element newest)) s
+IsSharing known (event.Assigned entity) s = s ≡ step.Other
+IsSharing known event.ArmBegins s = s ≡ step.Begin
+IsSharing known event.ArmEnds s = s ≡ step.Back
+IsSharing known event.Begins s = s ≡ step.Other
+IsSharing known event.Next s = s ≡ step.Other
+IsSharing known event.Ends s = s ≡ step.Other
+
+abbrev pub AreSharing : List Key → List Event → List Step → Type 0
+AreSharing known [] [] = Unit {0}
+AreSharing known (e ∷ es) (s ∷ ss) = IsSharing known e s × AreSharing known es ss
+AreSharing known _ _ = ⊥
+
+-- of each event a flag: a read shares where nothing is left of its class
+pub record FindsShared (events : List Event) (flags : List Bool) : Type 0 where
+  pub known : List Key
+  pub distinct : AreDistinct known
+  pub steps : List Step
+  pub sharing : AreSharing known events steps
+  pub told : flags ≡ all_share steps (lefts_from (replicate (length known) 1) steps)
+
+abbrev pub bank_key : (phase slot : ℕ) → Key
+bank_key phase slot = record { phase = phase; entity = 0; element = slot; newest = 0 }
+
+-- a step that takes so much of the slot of a key, where the key has one
+abbrev pub StepsAt : List Key → Key → (takes : ℕ) → Step → Type 0
+StepsAt known k takes s = ((slot : ℕ) × ((slice_get known slot ≡ Some k) × (s ≡ step.Access slot takes))) ⊎ (((n : ℕ) → slice_get known n ≡ Some k → ⊥) × (s ≡ step.Other))
+
+abbrev pub take_of : (writes : Bool) → ℕ
+take_of writes = if writes then 1 else 0
+
+-- The step that the claim of a bank is for the order of writes and reads: a write takes what is left of the bank
+-- in its phase, a read only looks.
+abbrev pub ClaimOrders : List Key → Event → (bank : ℕ) → Step → Type 0
+ClaimOrders known (event.Touch access writes phase round element newest) bank s = StepsAt known (bank_key phase bank) (take_of writes) s
+ClaimOrders known (event.Assigned entity) bank s = s ≡ step.Other
+ClaimOrders known event.ArmBegins bank s = s ≡ step.Other
+ClaimOrders known event.ArmEnds bank s = s ≡ step.Other
+ClaimOrders known event.Begins bank s = s ≡ step.Other
+ClaimOrders known event.Next bank s = s ≡ step.Other
+ClaimOrders known event.Ends bank s = s ≡ step.Other
+
+-- of an event that is there
+abbrev pub ClaimOrdersAt : List Key → Option Event → (bank : ℕ) → Step → Type 0
+ClaimOrdersAt known None bank s = ⊥
+ClaimOrdersAt known (Some e) bank s = ClaimOrders known e bank s
+
+-- where an event is a write, the key of a bank in its phase has a number
+abbrev pub IsWritten : List Key → Option Event → (bank : ℕ) → Type 0
+IsWritten known None bank = ⊥
+IsWritten known (Some (event.Touch access true phase round element newest)) bank = (slot : ℕ) × (slice_get known slot ≡ Some (bank_key phase bank))
+IsWritten known (Some (event.Touch access false phase round element newest)) bank = Unit {0}
+IsWritten known (Some (event.Assigned entity)) bank = Unit {0}
+IsWritten known (Some event.ArmBegins) bank = Unit {0}
+IsWritten known (Some event.ArmEnds) bank = Unit {0}
+IsWritten known (Some event.Begins) bank = Unit {0}
+IsWritten known (Some event.Next) bank = Unit {0}
+IsWritten known (Some event.Ends) bank = Unit {0}
+
+abbrev pub IsNoted : List Key → List Event → Move → Type 0
+IsNoted known events (move.Claim event bank keys) = IsWritten known (slice_get events event) bank
+IsNoted known events move.Begin = Unit {0}
+IsNoted known events move.Next = Unit {0}
+IsNoted known events move.End = Unit {0}
+
+abbrev pub IsOrdering : List Key → List Event → Move → Step → Type 0
+IsOrdering known events (move.Claim event bank keys) s = ClaimOrdersAt known (slice_get events event) bank s
+IsOrdering known events move.Begin s = s ≡ step.Begin
+IsOrdering known events move.Next s = s ≡ step.Next
+IsOrdering known events move.End s = s ≡ step.End
+
+abbrev pub AreOrdering : List Key → List Event → List Move → List Step → Type 0
+AreOrdering known events [] [] = Unit {0}
+AreOrdering known events (m ∷ ms) (s ∷ ss) = IsOrdering known events m s × AreOrdering known events ms ss
+AreOrdering known events _ _ = ⊥
+
+-- the reads that come behind a write of a bank in their phase
+pub record FindsLate (events : List Event) (moves : List Move) (late : List Breach) : Type 0 where
+  pub known : List Key
+  pub distinct : AreDistinct known
+  pub written : AllByRecursion (IsNoted known events) moves
+  pub steps : List Step
+  pub ordering : AreOrdering known events moves steps
+  pub told : late ≡ all_late (all_seen events) moves steps (lefts_from (replicate (length known) 1) steps)
+
+-- the place of the first access that takes more ports than are left
+abbrev pub spent_place : List MemEntry → List Event → (shared : List Bool) → List Move → Option Place
+spent_place table events shared moves =
+    first_beyond (all_seen events) moves (map (spending_step shared) moves) (lefts_from (ports_in table) (map (spending_step shared) moves))
+
+-- the breach of ports that are spent at a place
+abbrev pub spent_at : Option Place → Option Breach
+spent_at None = None
+spent_at (Some place) = Some (breach rule.PortsSpent place)
+
+-- a claim is of one of so many events
+abbrev pub IsMoveOf : (events : ℕ) → Move → Type 0
+IsMoveOf events (move.Claim event slot keys) = event < events
+IsMoveOf events move.Begin = Unit {0}
+IsMoveOf events move.Next = Unit {0}
+IsMoveOf events move.End = Unit {0}
+
+-- the least of what was kept and the breaches of reads behind writes
+pub record KeepsLate (events : List Event) (moves : List Move) (old new : Option Breach) : Type 0 where
+  pub late : List Breach
+  pub found : FindsLate events moves late
+  pub kept : new ≡ least_of old late

@@ -2,7 +2,9 @@
 use Rattle.std.specs.Prelude.{ℕ, ◌<◌, ◌≤◌}
 use Rattle.dh_tree.specs.PlainTrees.{Program}
 use Rattle.dh_tree.specs.Meets.{upto}
-use Rattle.dh_tree.specs.Ports.{charge, ports_of, meets_in}
+use Rattle.dh_meets.specs.Charges.{charge}
+use Rattle.dh_meets.specs.MayMeet.{meets_in}
+use Rattle.dh_meets.specs.Ports.{ports_of}
 
 -- a charged access with which a bank has too few ports
 pub record Spends (p : Program) (k : ℕ) : Type 0 where

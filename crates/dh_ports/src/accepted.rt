@@ -2,8 +2,8 @@
 
 ghost use Rattle.std.specs.Prelude.{◌≡◌};
 ghost use Rattle.dh_tree.specs.Seen.{program_seen};
+ghost use Rattle.dh_meets.specs.Ports.{KeepsPortRules};
 ghost use Rattle.dh_tree.specs.Ready.{IsReady};
-ghost use Rattle.dh_tree.specs.Ports.{KeepsPortRules};
 
 use dh_tree::{Tree, Typed};
 use std::marker::Model;
@@ -20,8 +20,8 @@ impl Model for Accepted {
     ghost use Rattle.dh_tree.specs.contracts.trees.commands.Command as command;
     ghost use Rattle.dh_tree.specs.declared.trees.programs.Tree.{Tree};
     ghost use Rattle.dh_tree.specs.Seen.{program_seen};
+    ghost use Rattle.dh_meets.specs.Ports.{KeepsPortRules};
     ghost use Rattle.dh_tree.specs.Ready.{IsReady};
-    ghost use Rattle.dh_tree.specs.Ports.{KeepsPortRules};
 
     ghost Value = { Tree };
 

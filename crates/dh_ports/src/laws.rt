@@ -1,36 +1,41 @@
-//! What holds of all programs, stated on functions that do nothing.
+//! What holds of all programs, stated on functions that do nothing: how the walks of this crate tell what the
+//! definitions say.
 
-ghost use Rattle.std.specs.Prelude.{◌≡◌, ℕ, ◌+◌, ◌<◌, ◌≤◌, true, List, [], Option, Some, slice_get};
+ghost use Rattle.std.specs.Prelude.{◌≡◌, ℕ, ◌+◌, ◌<◌, ◌≤◌, Bool, List, Option, Some, length, map, slice_get, take};
+ghost use Rattle.std.specs.Option.{is_some};
 ghost use Rattle.dh_base.specs.declared.places.Place.{Place};
-ghost use Rattle.dh_tree.specs.Meets.{Meets, In, Distinct, upto};
-ghost use Rattle.dh_tree.specs.Accesses as accesses;
-ghost use Rattle.dh_tree.specs.Forms.{unbuilt_forms};
 ghost use Rattle.dh_tree.specs.declared.breaches.Breach.{Breach};
-ghost use Rattle.dh_tree.specs.Ports.{meets_in, place_in, KeepsPorts, PortsSpent, ReadsAfterWrite, IsFirstPortBreach, KeepsPortRules};
-ghost use Rattle.dh_tree.specs.Memories.{same_entity};
-ghost use Rattle.dh_tree.specs.Ready.{IsReady};
-ghost use Rattle.dh_tree.specs.Written.{IsWritten};
-ghost use Rattle.dh_tree.specs.Sharing.{alike_targets, target_mentions};
-ghost use Rattle.dh_ports.specs.Keys.{key_of};
-ghost use Rattle.dh_ports.specs.Touched.{touched, seen_in};
-ghost use Rattle.dh_ports.specs.WritesFound.{Meeting, FindsWrite};
-ghost use Rattle.dh_ports.specs.Spent.{Spends};
+ghost use Rattle.dh_tree.specs.Meets.{Meets, In, Distinct, upto};
+ghost use Rattle.dh_tree.specs.Memories.{table_of};
 ghost use Rattle.dh_tree.specs.Numbers.{IsNumbered};
-ghost use Rattle.dh_ports.specs.Phased.{TellsPhases};
-ghost use Rattle.dh_ports.specs.SharedTold.{TellsShared};
+ghost use Rattle.dh_tree.specs.Shapes.{IsProgramTable};
+ghost use Rattle.dh_meaning.specs.Sites.{Around};
 ghost use Rattle.dh_tree.specs.PlainTrees.{Action, Program};
-ghost use Rattle.dh_tree.specs.Happenings.{Arm, Target, happenings, meets};
-ghost use Rattle.dh_ports.specs.Incidents.{Incident, incidents};
-ghost use Rattle.dh_ports.specs.Courses.{Ties, before_at};
+ghost use Rattle.dh_meets.specs.MayMeet.{meets, meets_in};
+ghost use Rattle.dh_meets.specs.Ports.{place_in, KeepsPorts, PortsSpent, ReadsAfterWrite, IsFirstPortBreach, KeepsPortRules};
+ghost use Rattle.dh_events.specs.declared.noting.Open.{Open};
+ghost use Rattle.dh_meets.specs.SourceEvents as source;
+ghost use Rattle.dh_meets.specs.SourceEvents.{SourceAccess, accesses_in};
+ghost use Rattle.dh_events.specs.declared.events.Event.{Event};
+ghost use Rattle.dh_ports.specs.declared.levels.Step.{Step};
+ghost use Rattle.dh_ports.specs.declared.levels.Step.TheVariants as step;
+ghost use Rattle.dh_ports.specs.Claims.{moves_from};
+ghost use Rattle.dh_ports.specs.Courses.{before_at, count, Ties};
+ghost use Rattle.dh_ports.specs.Expanded.{all_taken, expand, steps_before, AreTaking};
+ghost use Rattle.dh_events.specs.Incidents.{Incident, incidents};
 ghost use Rattle.dh_ports.specs.Levels.{Level, lefts_of};
-ghost use Rattle.dh_ports.specs.declared.spending.Charge.{Charge};
-ghost use Rattle.dh_ports.specs.Spending.{spending_steps, at_touches, Matches};
+ghost use Rattle.dh_events.specs.Noted.{all_seen};
+ghost use Rattle.dh_ports.specs.Scanned.{spent_place, FindsLate, FindsShared};
+ghost use Rattle.dh_ports.specs.Spent.{Spends};
+ghost use Rattle.dh_ports.specs.Wholes.{loops_known, of_access, touched, AreEventsOf, TakesCharge, TellsLate, TellsLoops, TellsPhases, TellsShared, TellsSpent};
+ghost use Rattle.dh_ports.specs.Told.{IsToldBefore};
+ghost use Rattle.dh_ports.specs.WritesFound.{Meeting, FindsWrite};
 
-/// What happens in a command is tied to the tree of its accesses: with any charges, it takes the tree's load
-/// of a slot, and each access finds what the loads before it leave.
+/// What happens in a command is tied to the tree of its accesses: with any charges, it takes the tree's load of a
+/// slot, and each access finds what the loads before it leave.
 pub fn incidents_tie()
-    ensures { (charge : ℕ → ℕ) (arms : List Arm) (first : ℕ) (going : Option ℕ) (a : Action)
-        → Ties charge first (incidents going a) (meets arms first a) }
+    ensures { (charge stages : ℕ → ℕ) (first : ℕ) (round : Option ℕ) (behind : Open) (a : Action)
+        → Ties charge first (incidents stages round behind a) (meets (is_some round) first a) }
 {}
 
 /// A program keeps its ports where no charged access finds fewer than it needs; where one does, ports are
@@ -50,54 +55,10 @@ pub fn charges_are_met()
         → Meeting charge t k → 1 ≤ upto charge k t }
 {}
 
-/// Keys of two moments that are equal are of equal reads in one phase, and the variables that their indices
-/// mention have equal versions; and such reads have equal keys.
-pub fn keys_tell_reads()
-    ensures told { (v w : ℕ → ℕ) (i j : ℕ) → (i ≡ j → ⊥)
-        → (p q : ℕ) (a b : Option ℕ) (t u : Target) → key_of p v i a t ≡ key_of q w j b u
-        → (p ≡ q) × ((same_entity a b ≡ true) × ((alike_targets t u ≡ true) × ((e : ℕ)
-        → target_mentions (Some e) t ≡ true → v e ≡ w e))) }
-    ensures same { (v w : ℕ → ℕ) (i j p : ℕ) (a b : Option ℕ) (t u : Target)
-        → same_entity a b ≡ true → alike_targets t u ≡ true → ((e : ℕ)
-        → target_mentions (Some e) t ≡ true → v e ≡ w e) → key_of p v i a t ≡ key_of p w j b u }
-{}
-
 /// A read follows a write of its bank in its phase where it finds a charge of such writes, and only there.
 pub fn reads_find_writes()
     ensures found { (p : Program) (place : Place) → FindsWrite p place → ReadsAfterWrite p place }
     ensures finds { (p : Program) (place : Place) → ReadsAfterWrite p place → FindsWrite p place }
-{}
-
-/// What is left before the steps of incidents, at their accesses, is what the course of their charges leaves
-/// of the slot of each.
-pub fn steps_follow_courses()
-    ensures { (c : ℕ → ℕ) (slot n : ℕ) (levels : ℕ
-        → Level) (cs : List Charge) (xs : List Incident) → Matches c slot n (at_touches cs xs)
-        → (j : ℕ) (ch : Charge) → slice_get (at_touches cs xs) j ≡ Some ch → ch.slot ≡ slot
-        → slice_get (at_touches (lefts_of levels (spending_steps cs xs)) xs) j
-        ≡ Some (before_at c n (levels slot) xs (n + j)) }
-{}
-
-/// The accesses of a command's incidents are those of its happenings, in order.
-pub fn incidents_touch_all()
-    ensures { (arms : List Arm) (going : Option ℕ) (a : Action)
-        → touched (incidents going a) ≡ seen_in (happenings arms a) }
-{}
-
-/// Two accesses of a command stand in one Straight phase exactly where their incidents have one phase.
-pub fn incidents_tell_phases()
-    ensures { (first : ℕ) (a : Action) → IsNumbered first a → TellsPhases a }
-{}
-
-/// An access shares an earlier one exactly where the walk finds so.
-pub fn shared_reads_are_found()
-    ensures { (first : ℕ) (a : Action) → IsNumbered first a → TellsPhases a → TellsShared a }
-{}
-
-/// A program of the first forms that keeps its ports, bank by bank, keeps them memory by memory.
-pub fn first_forms_keep_ports()
-    ensures { (p : Program) (tokens : ℕ) → IsReady p → IsWritten tokens p
-        → unbuilt_forms p ≡ [] → KeepsPorts p → accesses.KeepsPorts p }
 {}
 
 /// The first breach of the rules on ports is one, and there is none where they are kept.
@@ -105,4 +66,56 @@ pub fn port_breaches_are_one()
     ensures one { (p : Program) (b c : Breach) → IsFirstPortBreach p b → IsFirstPortBreach p c
         → b ≡ c }
     ensures none { (p : Program) (b : Breach) → KeepsPortRules p → IsFirstPortBreach p b → ⊥ }
+{}
+
+/// The step j of an access is found among the steps of incidents, and before it is left of a slot, of which the
+/// steps of the access before it take nothing, what the course of all that is taken of the slot leaves there.
+pub fn steps_follow_courses()
+    ensures { (f : ℕ → List Step) → ((k : ℕ) → AreTaking (f k)) → (slot n : ℕ) (levels : ℕ → Level)
+        (xs : List Incident) (k j takes : ℕ) → n ≤ k → k < n + count xs
+        → slice_get (f k) j ≡ Some (step.Access slot takes) → all_taken slot (take j (f k)) ≡ 0
+        → slice_get (lefts_of levels (expand f n xs)) (steps_before f n xs k + j)
+        ≡ Some (before_at (λ k. all_taken slot (f k)) n (levels slot) xs k) }
+{}
+
+/// The accesses of a command's incidents are those of its events, in order.
+pub fn incidents_touch_all()
+    ensures { (stages : ℕ → ℕ) (round : Option ℕ) (behind : Open) (r : Around) (a : Action)
+        → touched (incidents stages round behind a) ≡ map of_access (accesses_in (source.events r a)) }
+{}
+
+/// Two accesses of a program stand in one Straight phase exactly where their incidents have one phase, and the
+/// unrolled loops round each are those that its incident names.
+pub fn incidents_tell_sites()
+    ensures phases { (first : ℕ) (p : Program) → IsNumbered first p.body → TellsPhases p }
+    ensures loops { (first : ℕ) (p : Program) → IsNumbered first p.body → TellsLoops p }
+{}
+
+/// An access shares an earlier one exactly where the walk finds so.
+pub fn shared_reads_are_found()
+    ensures { (first : ℕ) (p : Program) (events : List Event) (flags : List Bool)
+        → IsNumbered first p.body → TellsPhases p → AreEventsOf p events
+        → FindsShared events flags → TellsShared p events flags }
+{}
+
+/// What an access takes of a bank is its charge there.
+pub fn claims_are_charges()
+    ensures { (p : Program) (flags : List Bool) (event k : ℕ) (a : SourceAccess)
+        → IsProgramTable (table_of p) → TakesCharge p flags event k a }
+{}
+
+/// The first access that takes more ports than are left is where ports are spent; there is none where they are
+/// kept.
+pub fn spent_ports_are_told()
+    ensures { (p : Program) (events : List Event) (flags : List Bool) → IsToldBefore p
+        → TellsLoops p → AreEventsOf p events → length flags ≡ length events
+        → TellsShared p events flags → TellsSpent p
+        (spent_place (table_of p) events flags (moves_from p (loops_known p) 0 (all_seen events))) }
+{}
+
+/// The reads that find nothing left of their bank in their phase are those that come behind a write.
+pub fn late_reads_are_told()
+    ensures { (p : Program) (events : List Event) (late : List Breach) → IsToldBefore p
+        → TellsLoops p → TellsPhases p → AreEventsOf p events
+        → FindsLate events (moves_from p (loops_known p) 0 (all_seen events)) late → TellsLate p late }
 {}

@@ -8,16 +8,16 @@ use dh_base::NoMemory;
 use std::alloc::Global;
 
 /// A step that concerns slots.
-#[derive(Clone, Copy, Debug, PartialEq, Eq)]
+#[derive(Clone, Copy)]
 pub enum Step {
     /// It concerns none.
     Other,
-    /// An access of a slot, which takes one of what is left there, or nothing.
+    /// An access of a slot, which takes so much of what is left there.
     Access {
         /// The slot.
         slot: usize,
-        /// Whether it takes one.
-        takes: bool,
+        /// How much it takes.
+        takes: usize,
     },
     /// Here parts begin, each of which starts from what is left here.
     Begin,
@@ -30,7 +30,7 @@ pub enum Step {
 }
 
 /// What is noted of the parts round the present one.
-#[derive(Debug, Drop)]
+#[derive(Drop)]
 pub struct Frame {
     /// What was left before each change in the part.
     pub log: Vec<Mark>,
@@ -39,10 +39,10 @@ pub struct Frame {
 }
 
 /// What is left of each slot, with what is noted of the present part and of those round it.
-#[derive(Debug, Drop)]
+#[derive(Drop)]
 pub struct Levels {
     /// What is left.
-    pub left: Vec<u64>,
+    pub left: Vec<usize>,
     /// What was left before each change in the present part.
     pub log: Vec<Mark>,
     /// What the parts beside it and before it left.
@@ -52,18 +52,18 @@ pub struct Levels {
 }
 
 impl Levels {
-    /// Takes one of a slot, where there is one.
-    fn take(&mut self, slot: usize) -> Result<(), NoMemory>
+    /// Takes so much of a slot, as far as it is there.
+    fn take(&mut self, slot: usize, takes: usize) -> Result<(), NoMemory>
         requires kept { IsKept self.old }
         ensures kept { IfOk result (λ _. IsKept self.new) }
-        ensures taken { IfOk result (λ _. Turns self.old self.new (λ s l. taken s slot l)) }
+        ensures taken { IfOk result (λ _. Turns self.old self.new (λ s l. taken slot takes s l)) }
         ensures few { IfOk result (λ _. length self.new.log.items ≤ length self.old.log.items + 1) }
     {
         if slot < self.left.len() {
             let left = self.left[slot];
             if left > 0 {
                 self.log.push(Mark { slot, left })?;
-                self.left[slot] = left - 1;
+                self.left[slot] = left.saturating_sub(takes);
             }
         }
         Ok(())
@@ -184,9 +184,11 @@ impl Levels {
     {
         let mut levels = self;
         match step {
-            Step::Other | Step::Access { takes: false, .. } => Ok(levels),
-            Step::Access { slot, takes: true } => {
-                levels.take(slot)?;
+            Step::Other => Ok(levels),
+            Step::Access { slot, takes } => {
+                if takes > 0 {
+                    levels.take(slot, takes)?;
+                }
                 Ok(levels)
             }
             Step::Begin => levels.begin(alloc),
@@ -203,7 +205,7 @@ impl Levels {
     }
 
     /// What is left where a step accesses a slot; 0 where it accesses none.
-    fn left_at(&self, step: Step) -> u64
+    fn left_at(&self, step: Step) -> usize
         ensures { result ≡ left_before step (λ s. level_at self.now s) }
     {
         match step {
@@ -220,7 +222,7 @@ impl Levels {
 }
 
 /// What is left before each step, in the slot that it accesses; 0 where it accesses none.
-pub fn lefts(alloc: Global, starts: Vec<u64>, steps: &[Step]) -> Result<Vec<u64>, NoMemory>
+pub fn lefts(alloc: Global, starts: Vec<usize>, steps: &[Step]) -> Result<Vec<usize>, NoMemory>
     ensures { IfOk result (λ lefts. lefts.items ≡ lefts_from starts.items steps.now) }
 {
     let mut levels = Levels {

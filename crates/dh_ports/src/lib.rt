@@ -1,24 +1,24 @@
-//! The rules on ports: no logical step needs more ports of a bank than it has, and none reads a bank
-//! behind a write of it.
-//! Stands on `dh_ledger`, `dh_tree`, `dh_value` and `dh_base`. docs/LANGUAGE.md tells the rules.
+//! The rules on ports for programs whose loops may be copied: no logical step needs more ports of a bank
+//! than it has, and none reads a bank behind a write of it.
+//! Stands on `dh_events`, `dh_shape`, `dh_meets`, `dh_meaning`, `dh_tree`, `dh_value` and `dh_base`.
+//! docs/LANGUAGE.md tells the rules.
+//!
+//! One walk over the tree notes what happens in order of evaluation (`dh_events`), with the number of its
+//! Straight phase and of the structure of its indices at each access; all else goes over flat lists.
 #![tactic(auto)]
 
 mod accepted;
+mod banks;
 mod checking;
-mod classes;
-mod events;
-mod held;
-mod keys;
+mod copies;
 mod laws;
 mod levels;
 mod marks;
+mod moves;
 mod ordering;
-mod purses;
-mod reaching;
 mod sharing;
 mod spending;
-mod spent;
 
 pub use accepted::Accepted;
 pub use checking::check_ports;
-pub use laws::{first_forms_keep_ports, port_breaches_are_one};
+pub use laws::port_breaches_are_one;

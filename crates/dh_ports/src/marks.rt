@@ -6,16 +6,20 @@ ghost use Rattle.dh_ports.specs.Logs.{AreBegun, AreLowered, AreMarks, GoesBack, 
 use std::alloc::AllocFailed;
 
 /// How much of a slot was left.
-#[derive(Clone, Copy, Debug, PartialEq, Eq)]
+#[derive(Clone, Copy)]
 pub struct Mark {
     /// The slot's number.
     pub slot: usize,
     /// What was left.
-    pub left: u64,
+    pub left: usize,
 }
 
 /// Adds what is now left of each slot of a log.
-pub fn note_lows(left: &[u64], log: &[Mark], lows: &mut Vec<Mark>) -> Result<(), AllocFailed<Mark>>
+pub fn note_lows(
+    left: &[usize],
+    log: &[Mark],
+    lows: &mut Vec<Mark>,
+) -> Result<(), AllocFailed<Mark>>
     requires inside { AreMarks (length left.now) log.now }
     ensures { IfOk result (λ _. lows.new.items ≡ lows.old.items ++ marks_now left.now log.now) }
 {
@@ -29,7 +33,7 @@ pub fn note_lows(left: &[u64], log: &[Mark], lows: &mut Vec<Mark>) -> Result<(),
 }
 
 /// Gives each slot what a log says was left at its begin.
-fn undo_slice(left: &mut [u64], log: &[Mark])
+fn undo_slice(left: &mut [usize], log: &[Mark])
     requires inside { AreMarks (length left.old) log.now }
     ensures long { length left.new ≡ length left.old }
     ensures begun { AreBegun log.now left.old left.new }
@@ -41,7 +45,7 @@ fn undo_slice(left: &mut [u64], log: &[Mark])
 
 /// Lowers what is left to the least of the lows, and logs what was left.
 fn lower_slice(
-    left: &mut [u64],
+    left: &mut [usize],
     lows: &[Mark],
     log: &mut Vec<Mark>,
 ) -> Result<(), AllocFailed<Mark>>
@@ -66,7 +70,7 @@ fn lower_slice(
 }
 
 /// `undo_slice` of a vector.
-pub fn undo(left: &mut Vec<u64>, log: &[Mark])
+pub fn undo(left: &mut Vec<usize>, log: &[Mark])
     requires inside { AreMarks (length left.old.items) log.now }
     ensures long { length left.new.items ≡ length left.old.items }
     ensures begun { AreBegun log.now left.old.items left.new.items }
@@ -76,7 +80,7 @@ pub fn undo(left: &mut Vec<u64>, log: &[Mark])
 
 /// `lower_slice` of a vector.
 pub fn lower(
-    left: &mut Vec<u64>,
+    left: &mut Vec<usize>,
     lows: &[Mark],
     log: &mut Vec<Mark>,
 ) -> Result<(), AllocFailed<Mark>>

@@ -1,150 +1,184 @@
 //! Which reads come behind a write of their bank in their phase.
 
-ghost use Rattle.std.specs.Prelude.{◌≡◌, None, IfOk, length};
-ghost use Rattle.dh_tree.specs.Ready.{IsReady};
-ghost use Rattle.dh_tree.specs.Seen.{program_seen};
-ghost use Rattle.dh_ports.specs.Classes.{keys_seen};
-ghost use Rattle.dh_ports.specs.Flags.{TellsLate};
-ghost use Rattle.dh_ports.specs.InTrees.{all_reached_by, all_seen};
-ghost use Rattle.dh_ports.specs.Incidents.{incidents};
-ghost use Rattle.dh_ports.specs.Noted.{event_seen};
+ghost use Rattle.std.specs.Prelude.{◌≡◌, IfOk, OnOk, length};
+ghost use Rattle.std.specs.List.{AllByRecursion};
+ghost use Rattle.dh_tree.specs.LeastBreach.{least_of};
+ghost use Rattle.dh_events.specs.Classes.{Extends};
+ghost use Rattle.dh_events.specs.Noted.{all_seen};
 ghost use Rattle.dh_ports.specs.Scanned as scanned;
+ghost use Rattle.dh_ports.specs.Scanned.{IsMoveOf, KeepsLate};
 
-use crate::classes::classes;
-use crate::events::Event;
-use crate::laws::incidents_tell_phases;
-use crate::reaching::Reach;
+use crate::levels::{Step, lefts};
+use crate::moves::Move;
 use crate::sharing::ones;
-use crate::spending::{Charge, spent_lefts};
-use dh_base::NoMemory;
-use dh_tree::Typed;
+use crate::spending::place_in;
+use dh_base::{NoMemory, Place, Rule};
+use dh_events::{Classes, Event, Key};
+use dh_tree::{Breach, keep_least};
 use std::alloc::Global;
 
-/// The key of an access, one for those of a bank in a phase; empty where it is none.
-fn order_key(alloc: Global, reached: Option<Reach>, event: Event<'_>) -> Result<Vec<u64>, NoMemory>
-    ensures { IfOk result (λ key. key.items ≡ scanned.order_key reached (event_seen event.entry)) }
+/// The key of a bank in a phase.
+fn bank_key(phase: u32, bank: usize) -> Key
+    ensures { result ≡ scanned.bank_key phase bank }
 {
-    let mut key = Vec::new(alloc);
-    if let Some(reach) = reached {
-        if let Event::Touch { phase, .. } = event {
-            key.push(phase as u64)?;
-            key.push(reach.memory as u64)?;
-            key.push(reach.bank as u64)?;
+    Key {
+        phase,
+        entity: 0,
+        element: bank,
+        newest: 0,
+    }
+}
+
+/// Numbers the key of a claim of a write.
+fn note_write(classes: &mut Classes, events: &[Event<'_>], next: Move) -> Result<(), NoMemory>
+    requires within { IsMoveOf (length events.now) next }
+    ensures written { OnOk result (scanned.IsNoted classes.new events.now next) }
+    ensures extends { OnOk result (Extends classes.old classes.new) }
+{
+    if let Move::Claim { event, slot, .. } = next {
+        if let Event::Touch {
+            writes: true,
+            phase,
+            ..
+        } = events[event]
+        {
+            classes.number(bank_key(phase, slot))?;
         }
     }
-    Ok(key)
+    Ok(())
 }
 
-/// The keys of events.
-fn order_keys(
-    alloc: Global,
-    reached: &[Option<Reach>],
-    events: &[Event<'_>],
-) -> Result<Vec<Vec<u64>>, NoMemory>
-    requires long { length reached.now ≡ length events.now }
-    ensures { IfOk result (λ keys. keys_seen keys.items
-        ≡ scanned.order_keys reached.now (all_seen events.now)) }
+/// The keys of banks in phases in which they are written.
+fn written_banks(alloc: Global, events: &[Event<'_>], moves: &[Move]) -> Result<Classes, NoMemory>
+    requires within { AllByRecursion (IsMoveOf (length events.now)) moves.now }
+    ensures { IfOk result (λ classes. AllByRecursion (scanned.IsNoted classes events.now) moves.now) }
 {
-    let mut keys = Vec::new(alloc);
-    for i in 0..events.len() {
-        keys.push(order_key(alloc, reached[i], events[i])?)?;
+    let mut classes = Classes::new(alloc);
+    for next in moves {
+        note_write(&mut classes, events, *next)?;
     }
-    Ok(keys)
+    Ok(classes)
 }
 
-/// Whether an event is a write.
-fn is_write(event: Event<'_>) -> bool
-    ensures { result ≡ scanned.is_write (event_seen event.entry) }
+/// The step that looks at the slot of a key, which takes so much of it.
+fn step_at(classes: &Classes, key: Key, takes: usize) -> Step
+    ensures { scanned.StepsAt classes.now key takes result }
+{
+    match classes.find(key) {
+        Some(slot) => Step::Access { slot, takes },
+        None => Step::Other,
+    }
+}
+
+/// The step that the claim of a bank is, where an event is an access: a write takes what is left of its bank in its
+/// phase, a read only looks.
+fn claim_step(classes: &Classes, event: Event<'_>, bank: usize) -> Step
+    ensures { scanned.ClaimOrders classes.now event.entry bank result }
 {
     match event {
-        Event::Touch { writes, .. } => writes,
+        Event::Touch { writes, phase, .. } => {
+            let takes = if writes { 1 } else { 0 };
+            step_at(classes, bank_key(phase, bank), takes)
+        }
         Event::Assigned { .. }
         | Event::ArmBegins
         | Event::ArmEnds
         | Event::Begins
         | Event::Next
-        | Event::Ends => false,
+        | Event::Ends => Step::Other,
     }
 }
 
-/// Whether an event is a read.
-fn is_read(event: Event<'_>) -> bool
-    ensures { result ≡ scanned.is_read (event_seen event.entry) }
+/// The step that a move is.
+fn ordering_step(classes: &Classes, events: &[Event<'_>], next: Move) -> Step
+    requires within { IsMoveOf (length events.now) next }
+    ensures { scanned.IsOrdering classes.now events.now next result }
 {
-    match event {
-        Event::Touch { writes, .. } => !writes,
-        Event::Assigned { .. }
-        | Event::ArmBegins
-        | Event::ArmEnds
-        | Event::Begins
-        | Event::Next
-        | Event::Ends => false,
+    match next {
+        Move::Claim { event, slot, .. } => claim_step(classes, events[event], slot),
+        Move::Begin => Step::Begin,
+        Move::Next => Step::Next,
+        Move::End => Step::End,
     }
 }
 
-/// The charges of events: a write takes the one that is left of the slot of its key.
-fn order_charges(
+/// The steps that moves are.
+fn ordering_steps(
     alloc: Global,
-    reached: &[Option<Reach>],
-    slots: &[usize],
+    classes: &Classes,
     events: &[Event<'_>],
-) -> Result<Vec<Charge>, NoMemory>
-    requires reached { length reached.now ≡ length events.now }
-    requires slots { length slots.now ≡ length events.now }
-    ensures { IfOk result (λ charges. charges.items
-        ≡ scanned.order_charges reached.now slots.now (all_seen events.now)) }
+    moves: &[Move],
+) -> Result<Vec<Step>, NoMemory>
+    requires within { AllByRecursion (IsMoveOf (length events.now)) moves.now }
+    ensures { IfOk result (λ steps. scanned.AreOrdering classes.now events.now moves.now steps.items) }
 {
-    let mut charges = Vec::new(alloc);
-    for i in 0..events.len() {
-        charges.push(Charge {
-            slot: slots[i],
-            takes: reached[i].is_some() & is_write(events[i]),
-        })?;
+    let mut steps = Vec::new(alloc);
+    for next in moves {
+        steps.push(ordering_step(classes, events, *next))?;
     }
-    Ok(charges)
+    Ok(steps)
 }
 
-/// Of each event whether it is a read of a slot of which nothing is left.
-fn late_flags(
-    alloc: Global,
-    reached: &[Option<Reach>],
-    lefts: &[u64],
-    events: &[Event<'_>],
-) -> Result<Vec<bool>, NoMemory>
-    requires reached { length reached.now ≡ length events.now }
-    requires lefts { length lefts.now ≡ length events.now }
-    ensures { IfOk result (λ flags. flags.items
-        ≡ scanned.late_flags reached.now lefts.now (all_seen events.now)) }
+/// Whether a step reads where nothing is left.
+fn is_late(step: Step, left: usize) -> bool
+    ensures { result ≡ scanned.is_late step left }
 {
-    let mut flags = Vec::new(alloc);
-    for i in 0..events.len() {
-        flags.push((reached[i].is_some() & is_read(events[i])) & (lefts[i] == 0))?;
+    match step {
+        Step::Access { takes, .. } => takes == 0 && left == 0,
+        Step::Other | Step::Begin | Step::Next | Step::End | Step::Back => false,
     }
-    Ok(flags)
 }
 
-/// For each event of a program's body whether it is a read that comes behind a write of its bank in its
+/// Keeps the breach of a read at a place, if there is one.
+fn keep_at(kept: &mut Option<Breach>, place: Option<Place>)
+    ensures { kept.new ≡ least_of kept.old (scanned.late_at place) }
+{
+    if let Some(place) = place {
+        keep_least(
+            kept,
+            Breach {
+                rule: Rule::ReadAfterWrite,
+                place,
+            },
+        );
+    }
+}
+
+/// Keeps the least of the breaches of reads that find nothing left.
+fn keep_all(
+    kept: &mut Option<Breach>,
+    events: &[Event<'_>],
+    moves: &[Move],
+    steps: &[Step],
+    lefts: &[usize],
+)
+    requires within { AllByRecursion (IsMoveOf (length events.now)) moves.now }
+    requires steps { length steps.now ≡ length moves.now }
+    requires lefts { length lefts.now ≡ length moves.now }
+    ensures { kept.new ≡ least_of kept.old
+        (scanned.all_late (all_seen events.now) moves.now steps.now lefts.now) }
+{
+    for i in 0..moves.len() {
+        if is_late(steps[i], lefts[i]) {
+            keep_at(kept, place_in(events, moves[i]));
+        }
+    }
+}
+
+/// Keeps the least of the breaches of reads that come behind a write of a bank that they reach, in their
 /// phase, where the two may meet.
-pub fn find_late(
+pub fn keep_late(
     alloc: Global,
-    typed: &Typed,
+    kept: &mut Option<Breach>,
     events: &[Event<'_>],
-    reached: &[Option<Reach>],
-) -> Result<Vec<bool>, NoMemory>
-    requires ready { IsReady (program_seen typed.now) }
-    requires events { all_seen events.now ≡ incidents None (program_seen typed.now).body }
-    requires reached { reached.now ≡ all_reached_by typed.now events.now }
-    ensures { IfOk result (λ flags. TellsLate (program_seen typed.now) flags.items) }
+    moves: &[Move],
+) -> Result<(), NoMemory>
+    requires within { AllByRecursion (IsMoveOf (length events.now)) moves.now }
+    ensures { OnOk result (KeepsLate events.now moves.now kept.old kept.new) }
 {
-    let keys = order_keys(alloc, reached, events)?;
-    let slots = classes(alloc, keys.as_slice())?;
-    let charges = order_charges(alloc, reached, slots.as_slice(), events)?;
-    let lefts = spent_lefts(
-        alloc,
-        ones(alloc, events.len())?,
-        events,
-        charges.as_slice(),
-    )?;
-    incidents_tell_phases();
-    late_flags(alloc, reached, lefts.as_slice(), events)
+    let classes = written_banks(alloc, events, moves)?;
+    let steps = ordering_steps(alloc, &classes, events, moves)?;
+    let lefts = lefts(alloc, ones(alloc, classes.len())?, steps.as_slice())?;
+    keep_all(kept, events, moves, steps.as_slice(), lefts.as_slice());
+    Ok(())
 }

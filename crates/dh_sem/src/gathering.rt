@@ -1,94 +1,100 @@
 //! The phases of a command: what it does in each of its steps.
 
-ghost use Rattle.std.specs.Prelude.{◌≡◌, [], ◌∷◌, ℕ, List, IfOk, OnOk};
+ghost use Rattle.std.specs.Prelude.{◌≡◌, ◌<◌, ◌++◌, ◌∷◌, [], IfOk, length};
 ghost use Rattle.std.specs.List.{AllByRecursion};
-ghost use Rattle.dh_tree.specs.Phases as source;
-ghost use Rattle.dh_tree.specs.Phases.{phases, are_straight};
-ghost use Rattle.dh_sem.specs.Courses.{forms_seen, IsFormed, Joined};
-ghost use Rattle.dh_sem.specs.Held.{ChoosesForms, CountsForms, EndsPhase, GathersCommand, GathersParts, HoldsCommand, HoldsForms, IsCourseOf, IsOnePhase, JoinFormed, JoinsDone, JoinsOpen, RepeatsForms, StayFormed};
+ghost use Rattle.dh_tree.specs.Seen.{action_seen};
+ghost use Rattle.dh_sem.specs.Gathered.{FixesForm, GathersGroups, GathersOf, HoldsAll, HoldsList, all_kept, at_once, commands_seen, ended_all, ended_at, folded_with, joined_at, joined_with, kept_of};
+ghost use Rattle.dh_sem.specs.Gathered.{BeginsIf, Chooses, Counts, Repeats, another, done_at_once};
+ghost use Rattle.dh_sem.specs.Lanes.{LanesInside, MoreLanes};
+ghost use Rattle.dh_meaning.specs.Phases.{phases, turn_count};
 
-use crate::courses::{Choice, Form, Frame, Loop, Node, Turns};
+use crate::lanes::{Lanes, inside};
+use crate::phases::{Form, Phase, Turns};
 use dh_base::NoMemory;
-use dh_tree::{Command, CommandForm};
+use dh_code::{Code, Names, flat, flatten_commands, place_of};
+use dh_tree::{Command, CommandForm, Expr, Ref};
 use std::alloc::Global;
 use std::mem;
 
-/// The phase of a command alone.
-fn one_phase<'a>(alloc: Global, command: &'a Command) -> Result<Vec<Form<'a>>, NoMemory>
-    ensures phases { IfOk result (λ forms. IsOnePhase command.now forms.items) }
-    ensures formed { IfOk result (λ forms. (n : ℕ) → AllByRecursion (IsFormed n) forms.items) }
-{
-    let mut commands = Vec::new(alloc);
-    commands.push(command)?;
-    one_form(alloc, Form::Straight(commands))
+/// A phase that no list holds yet.
+#[derive(Drop)]
+pub enum Loose<'a> {
+    /// Commands that are done in one step.
+    Straight(Vec<&'a Command>),
+    /// Another phase.
+    Other(Form),
+}
+
+/// What is made of a program.
+#[derive(Drop)]
+pub struct Made {
+    /// The code of its commands.
+    pub code: Code,
+    /// Its phases.
+    pub phases: Vec<Phase>,
+    /// The paths at which they are done.
+    pub lanes: Vec<Lanes>,
 }
 
 /// A list of one phase.
-fn one_form<'a>(alloc: Global, form: Form<'a>) -> Result<Vec<Form<'a>>, NoMemory>
-    ensures { IfOk result (λ forms. forms.items ≡ form.entry ∷ []) }
+fn one<'a>(alloc: Global, form: Loose<'a>) -> Result<Vec<Loose<'a>>, NoMemory>
+    ensures { IfOk result (λ forms. all_kept forms.items ≡ kept_of form.entry ∷ []) }
 {
     let mut forms = Vec::new(alloc);
     forms.push(form)?;
     Ok(forms)
 }
 
+/// The phase of a command alone.
+fn one_command<'a>(alloc: Global, command: &'a Command) -> Result<Vec<Loose<'a>>, NoMemory>
+    ensures { IfOk result (λ forms. all_kept forms.items
+        ≡ done_at_once (action_seen command.now ∷ []) ∷ []) }
+{
+    let mut commands = Vec::new(alloc);
+    commands.push(command)?;
+    one(alloc, Loose::Straight(commands))
+}
+
 /// Ends the open phase, where it has a command.
 fn end_phase<'a>(
     alloc: Global,
-    done: &mut Vec<Form<'a>>,
+    done: &mut Vec<Loose<'a>>,
     current: &mut Vec<&'a Command>,
 ) -> Result<(), NoMemory>
-    ensures done { OnOk result (EndsPhase done.old done.new current.old) }
-    ensures current { OnOk result (current.new.items ≡ []) }
-    ensures formed { OnOk result (StayFormed done.old done.new) }
+    ensures { IfOk result (λ _. (all_kept done.new.items
+        ≡ all_kept done.old.items ++ ended_at (commands_seen current.old.items))
+        × (current.new.items ≡ [])) }
 {
     if !current.is_empty() {
         let commands = mem::replace(current, Vec::new(alloc));
-        done.push(Form::Straight(commands))?;
+        done.push(Loose::Straight(commands))?;
     }
     Ok(())
 }
 
-/// Adds the commands of a straight phase to the open phase. False where a phase is not straight.
-fn join_one<'a>(current: &mut Vec<&'a Command>, form: &Form<'a>) -> Result<bool, NoMemory>
-    ensures { IfOk result (λ b. Joined b (form.now ∷ []) current.old.items current.new.items) }
-{
-    match form {
-        Form::Straight(commands) => {
-            current.extend_from_slice(commands.as_slice())?;
-            Ok(true)
-        }
-        Form::Turns(_) => Ok(false),
-        Form::Loop(_) => Ok(false),
-        Form::Choice(_) => Ok(false),
-    }
-}
-
-/// Adds the commands of a straight phase that is alone to the open phase. False where the phases are others.
-fn join_open<'a>(current: &mut Vec<&'a Command>, forms: &[Form<'a>]) -> Result<bool, NoMemory>
-    ensures { IfOk result (λ b. Joined b forms.now current.old.items current.new.items) }
-{
-    match forms {
-        [] => Ok(true),
-        [form] => join_one(current, form),
-        [_, _, ..] => Ok(false),
-    }
-}
-
-/// Puts the phases of the next command of a list behind the open phase: a straight phase alone joins it,
-/// others end it.
+/// Puts the phases of the next command of a list behind the open phase: a straight phase alone
+/// joins it, others end it.
 fn join<'a>(
     alloc: Global,
-    done: &mut Vec<Form<'a>>,
+    done: &mut Vec<Loose<'a>>,
     current: &mut Vec<&'a Command>,
-    mut next: Vec<Form<'a>>,
+    mut next: Vec<Loose<'a>>,
 ) -> Result<(), NoMemory>
-    ensures done { OnOk result (JoinsDone done.old done.new current.old next.entry) }
-    ensures current { OnOk result (JoinsOpen current.old current.new next.entry) }
-    ensures formed { OnOk result (JoinFormed done.old done.new next.entry) }
+    ensures { IfOk result (λ _.
+        joined_at (all_kept done.new.items) (commands_seen current.new.items)
+        ≡ joined_with (all_kept done.old.items) (commands_seen current.old.items)
+        (all_kept next.entry.items)) }
 {
-    if join_open(current, next.as_slice())? {
-        return Ok(());
+    match next.as_slice() {
+        [] => return Ok(()),
+        [only] => match only {
+            Loose::Straight(commands) => {
+                current.extend_from_slice(commands.as_slice())?;
+                return Ok(());
+            }
+            Loose::Other(_) => {}
+        },
+        [_, _, ..] => {}
     }
     end_phase(alloc, done, current)?;
     done.append(&mut next)?;
@@ -96,50 +102,161 @@ fn join<'a>(
 }
 
 /// Whether there is no phase, or one of commands alone.
-fn is_straight(forms: &[Form<'_>]) -> bool
-    ensures { (lists : List source.Phases) → result ≡ are_straight (forms_seen lists forms.now) }
+fn is_straight(forms: &[Loose<'_>]) -> bool
+    ensures { result ≡ at_once (all_kept forms.now) }
 {
     match forms {
         [] => true,
-        [form] => matches!(form, Form::Straight(_)),
-        [_, ..] => false,
+        [Loose::Straight(_)] => true,
+        [Loose::Other(_)] => false,
+        [_, _, ..] => false,
     }
 }
 
-/// Holds a list of phases in nodes. Gives its first node, if it has one.
-fn hold<'a>(nodes: &mut Vec<Node<'a>>, mut forms: Vec<Form<'a>>) -> Result<Option<usize>, NoMemory>
-    ensures { IfOk result (λ first. HoldsForms nodes.old nodes.new forms.entry first) }
+/// Puts the commands of `combine` at the end of the last phase of a body, where both are straight;
+/// else they are a phase of their own.
+fn fold<'a>(
+    alloc: Global,
+    mut body: Vec<Loose<'a>>,
+    mut fold: Vec<Loose<'a>>,
+) -> Result<Vec<Loose<'a>>, NoMemory>
+    ensures { IfOk result (λ turn. all_kept turn.items
+        ≡ folded_with (all_kept body.entry.items) (all_kept fold.entry.items)) }
 {
-    let mut first = None;
-    while let Some(form) = forms.pop() {
-        let at = nodes.len();
-        nodes.push(Node { form, next: first })?;
-        first = Some(at);
+    match body.pop() {
+        None => Ok(fold),
+        Some(Loose::Other(form)) => {
+            body.push(Loose::Other(form))?;
+            body.append(&mut fold)?;
+            Ok(body)
+        }
+        Some(Loose::Straight(commands)) => {
+            let mut current = commands;
+            join(alloc, &mut body, &mut current, fold)?;
+            end_phase(alloc, &mut body, &mut current)?;
+            Ok(body)
+        }
     }
-    Ok(first)
+}
+
+/// The phase with its code.
+fn fixed(names: &Names<'_>, made: &mut Made, form: Loose<'_>) -> Result<Form, NoMemory>
+    ensures { IfOk result (λ f. FixesForm names.now made.old made.new (kept_of form.entry) f) }
+{
+    match form {
+        Loose::Straight(commands) => {
+            let list = flatten_commands(names, &mut made.code, commands.as_slice())?;
+            Ok(Form::Straight { list })
+        }
+        Loose::Other(form) => Ok(form),
+    }
+}
+
+/// Holds a list of phases, done at these paths. Gives its first one, if it has one.
+fn hold<'a>(
+    names: &Names<'_>,
+    made: &mut Made,
+    paths: usize,
+    mut forms: Vec<Loose<'a>>,
+) -> Result<Option<usize>, NoMemory>
+    ensures holds { IfOk result (λ first. HoldsList names.now paths made.old made.new
+        (all_kept forms.entry.items) first) }
+    ensures begins { IfOk result (λ first. BeginsIf (all_kept forms.entry.items) first) }
+{
+    let mut next = None;
+    while let Some(form) = forms.pop() {
+        let form = fixed(names, made, form)?;
+        let at = made.phases.len();
+        made.phases.push(Phase { form, next, paths })?;
+        next = Some(at);
+    }
+    Ok(next)
+}
+
+/// The number of the lanes inside a loop; where those outside are not there, it is theirs.
+fn lanes_inside(
+    alloc: Global,
+    lanes: &mut Vec<Lanes>,
+    outside: usize,
+    factor: u64,
+) -> Result<usize, NoMemory>
+    ensures more { IfOk result (λ number. MoreLanes lanes.old.items lanes.new.items) }
+    ensures lead { IfOk result (λ number. outside < length lanes.old.items
+        → LanesInside lanes.old.items lanes.new.items outside factor number) }
+{
+    if outside < lanes.len() {
+        inside(alloc, lanes, outside, factor)
+    } else {
+        Ok(outside)
+    }
+}
+
+/// How many turns a `for` has.
+fn turns_of(low: u64, high: u64, factor: u64) -> u64
+    ensures { result ≡ turn_count low high factor }
+{
+    if factor == 0 {
+        0
+    } else {
+        high.saturating_sub(low) / factor
+    }
+}
+
+/// The phases of a `for` of so many turns, from those of its turn: none where that has no phase.
+fn count<'a>(
+    names: &Names<'_>,
+    made: &mut Made,
+    iterator: &Ref,
+    low: u64,
+    factor: u64,
+    count: u64,
+    within: usize,
+    turn: Vec<Loose<'a>>,
+) -> Result<Vec<Loose<'a>>, NoMemory>
+    ensures { IfOk result (λ forms. Counts names.now within made.old made.new
+        (all_kept turn.entry.items) iterator.now low factor count (all_kept forms.items)) }
+{
+    if turn.is_empty() {
+        return Ok(turn);
+    }
+    let body = hold(names, made, within, turn)?;
+    let held = place_of(names.places, iterator);
+    let turns = Turns {
+        first: held.first,
+        depth: held.depth,
+        low,
+        factor,
+        count,
+        body,
+        inside: within,
+    };
+    one(names.alloc, Loose::Other(Form::Turns { turns }))
 }
 
 /// The phases of an `if`, from those of its arms.
 fn choose<'a>(
-    alloc: Global,
-    nodes: &mut Vec<Node<'a>>,
+    names: &Names<'_>,
+    made: &mut Made,
+    paths: usize,
     command: &'a Command,
-    chosen: Vec<Form<'a>>,
-    other: Vec<Form<'a>>,
-) -> Result<Vec<Form<'a>>, NoMemory>
-    ensures { IfOk result (λ forms. ChoosesForms nodes.old nodes.new command.now chosen.entry
-        other.entry forms) }
+    test: &Expr,
+    chosen: Vec<Loose<'a>>,
+    other: Vec<Loose<'a>>,
+) -> Result<Vec<Loose<'a>>, NoMemory>
+    ensures { IfOk result (λ forms. Chooses names.now paths made.old made.new command.now test.now
+        (all_kept chosen.entry.items) (all_kept other.entry.items) (all_kept forms.items)) }
 {
     let simple = is_straight(chosen.as_slice()) & is_straight(other.as_slice());
     if simple {
-        return one_phase(alloc, command);
+        return one_command(names.alloc, command);
     }
-    let chosen = hold(nodes, chosen)?;
-    let other = hold(nodes, other)?;
-    one_form(
-        alloc,
-        Form::Choice(Choice {
-            command,
+    let test = flat(names, &mut made.code, test)?;
+    let chosen = hold(names, made, paths, chosen)?;
+    let other = hold(names, made, paths, other)?;
+    one(
+        names.alloc,
+        Loose::Other(Form::Choice {
+            test,
             chosen,
             other,
         }),
@@ -148,132 +265,108 @@ fn choose<'a>(
 
 /// The phase of a `while`, from those of its body.
 fn repeat<'a>(
-    alloc: Global,
-    nodes: &mut Vec<Node<'a>>,
-    command: &'a Command,
-    body: Vec<Form<'a>>,
-) -> Result<Vec<Form<'a>>, NoMemory>
-    ensures { IfOk result (λ forms. RepeatsForms nodes.old nodes.new command.now body.entry forms) }
+    names: &Names<'_>,
+    made: &mut Made,
+    paths: usize,
+    test: &Expr,
+    body: Vec<Loose<'a>>,
+) -> Result<Vec<Loose<'a>>, NoMemory>
+    ensures { IfOk result (λ forms. Repeats names.now paths made.old made.new test.now
+        (all_kept body.entry.items) (all_kept forms.items)) }
 {
-    let body = hold(nodes, body)?;
-    one_form(alloc, Form::Loop(Loop { command, body }))
+    let test = flat(names, &mut made.code, test)?;
+    let body = hold(names, made, paths, body)?;
+    one(names.alloc, Loose::Other(Form::Loop { test, body }))
 }
 
-/// The phases of a `for` with these numbers, from those of its body: none where it has no turn, or its
-/// body no phase.
-fn count<'a>(
-    alloc: Global,
-    nodes: &mut Vec<Node<'a>>,
-    command: &'a Command,
-    low: u64,
-    high: u64,
-    body: Vec<Form<'a>>,
-) -> Result<Vec<Form<'a>>, NoMemory>
-    ensures { IfOk result (λ forms. CountsForms nodes.old nodes.new command.now low high
-        body.entry forms) }
-{
-    let turns = high.saturating_sub(low);
-    if body.is_empty() || turns == 0 {
-        return Ok(Vec::new(alloc));
-    }
-    let body = hold(nodes, body)?;
-    one_form(
-        alloc,
-        Form::Turns(Turns {
-            command,
-            low,
-            count: turns,
-            body,
-        }),
-    )
-}
-
-/// The phases of a command; with further nodes for those inside them.
+/// The phases of a command that is done at these paths.
 #[cycle(gathering)]
-#[tactic(auto, using(dh_tree::proofs::SeenActions::actions_are))]
 pub fn phases_in<'a>(
-    alloc: Global,
-    nodes: &mut Vec<Node<'a>>,
+    names: &Names<'_>,
+    made: &mut Made,
+    paths: usize,
     command: &'a Command,
-) -> Result<Vec<Form<'a>>, NoMemory>
-    ensures { IfOk result (λ forms. GathersCommand nodes.old nodes.new command.now forms) }
+) -> Result<Vec<Loose<'a>>, NoMemory>
+    ensures { IfOk result (λ forms. GathersOf names.now paths made.old made.new
+        (all_kept forms.items) (λ r n. phases r n (action_seen command.now))) }
 {
     match &command.form {
-        CommandForm::Let { .. } => one_phase(alloc, command),
-        CommandForm::Assign { .. } => one_phase(alloc, command),
-        CommandForm::Store { .. } => one_phase(alloc, command),
-        CommandForm::If { then, other, .. } => {
-            let chosen = phases_in(alloc, nodes, then)?;
+        CommandForm::Let { .. } => one_command(names.alloc, command),
+        CommandForm::Assign { .. } => one_command(names.alloc, command),
+        CommandForm::Store { .. } => one_command(names.alloc, command),
+        CommandForm::Reduce { .. } => one_command(names.alloc, command),
+        CommandForm::If { test, then, other } => {
+            let chosen = phases_in(names, made, paths, then)?;
             let other = match other {
-                Some(block) => phases_in(alloc, nodes, block)?,
-                None => Vec::new(alloc),
+                Some(block) => phases_in(names, made, paths, block)?,
+                None => Vec::new(names.alloc),
             };
-            choose(alloc, nodes, command, chosen, other)
+            choose(names, made, paths, command, test, chosen, other)
         }
-        CommandForm::While { body, .. } => {
-            let inner = phases_in(alloc, nodes, body)?;
-            repeat(alloc, nodes, command, inner)
+        CommandForm::While { test, body } => {
+            let body = phases_in(names, made, paths, body)?;
+            repeat(names, made, paths, test, body)
         }
         CommandForm::For {
+            iterator,
             low,
             high,
+            factor,
             body,
+            combine,
             ..
         } => {
-            let inner = phases_in(alloc, nodes, body)?;
-            count(alloc, nodes, command, *low, *high, inner)
+            let turns = turns_of(*low, *high, *factor);
+            if turns == 0 {
+                return Ok(Vec::new(names.alloc));
+            }
+            let within = lanes_inside(names.alloc, &mut made.lanes, paths, *factor)?;
+            let body = phases_in(names, made, within, body)?;
+            let folds = match combine {
+                Some(block) => phases_in(names, made, within, block)?,
+                None => Vec::new(names.alloc),
+            };
+            let turn = fold(names.alloc, body, folds)?;
+            count(names, made, iterator, *low, *factor, turns, within, turn)
         }
-        CommandForm::Block { body } => phases_in_parts(alloc, nodes, body.as_slice()),
-        CommandForm::LetMemory { .. } => Ok(Vec::new(alloc)),
-        CommandForm::View { .. } => Ok(Vec::new(alloc)),
-        CommandForm::Reduce { .. } => Ok(Vec::new(alloc)),
-        CommandForm::Call { .. } => Ok(Vec::new(alloc)),
+        CommandForm::Block { body } => phases_in_parts(names, made, paths, body.as_slice()),
+        CommandForm::LetMemory { .. } => Ok(Vec::new(names.alloc)),
+        CommandForm::View { .. } => Ok(Vec::new(names.alloc)),
+        CommandForm::Call { .. } => Ok(Vec::new(names.alloc)),
     }
 }
 
 /// The phases of the parts between `---`, one part after the other.
 #[cycle(gathering)]
 fn phases_in_parts<'a>(
-    alloc: Global,
-    nodes: &mut Vec<Node<'a>>,
+    names: &Names<'_>,
+    made: &mut Made,
+    paths: usize,
     parts: &'a [Vec<Command>],
-) -> Result<Vec<Form<'a>>, NoMemory>
-    ensures { IfOk result (λ forms. GathersParts nodes.old nodes.new parts.now forms) }
+) -> Result<Vec<Loose<'a>>, NoMemory>
+    ensures { IfOk result (λ forms. GathersGroups names.now paths made.old made.new
+        (all_kept forms.items) parts.now) }
 {
-    let mut done = Vec::new(alloc);
-    let mut current = Vec::new(alloc);
+    let mut done = Vec::new(names.alloc);
+    let mut current = Vec::new(names.alloc);
     for part in parts {
         for command in part {
-            let next = phases_in(alloc, nodes, command)?;
-            join(alloc, &mut done, &mut current, next)?;
+            let next = phases_in(names, made, paths, command)?;
+            join(names.alloc, &mut done, &mut current, next)?;
         }
-        end_phase(alloc, &mut done, &mut current)?;
+        end_phase(names.alloc, &mut done, &mut current)?;
     }
     Ok(done)
 }
 
-/// The phases of a command: their nodes, and the first of them.
-fn hold_all<'a>(
-    alloc: Global,
-    nodes: &mut Vec<Node<'a>>,
-    command: &'a Command,
+/// The phases of a program's body. Gives the first of them.
+pub fn hold_all(
+    names: &Names<'_>,
+    made: &mut Made,
+    command: &Command,
 ) -> Result<Option<usize>, NoMemory>
-    ensures { IfOk result (λ first. HoldsCommand nodes.old nodes.new command.now first) }
+    ensures { IfOk result (λ first. HoldsAll names.now made.old made.new command.now first) }
 {
-    let forms = phases_in(alloc, nodes, command)?;
-    hold(nodes, forms)
-}
-
-/// The phases of a command, and that all of them are to come.
-pub fn course<'a>(
-    alloc: Global,
-    command: &'a Command,
-) -> Result<(Vec<Node<'a>>, Vec<Frame>), NoMemory>
-    ensures { IfOk result (λ r. IsCourseOf command.now r.0.items r.1.items) }
-{
-    let mut nodes = Vec::new(alloc);
-    let first = hold_all(alloc, &mut nodes, command)?;
-    let mut frames = Vec::new(alloc);
-    frames.push(Frame::List(first))?;
-    Ok((nodes, frames))
+    let forms = phases_in(names, made, 0, command)?;
+    hold(names, made, 0, forms)
 }

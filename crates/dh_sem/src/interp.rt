@@ -3,28 +3,20 @@
 ghost use Rattle.std.specs.Prelude.{◌≡◌, ◌+◌, ◌-◌, ◌<◌, ◌≤◌, ◌^◌, [], IfOk, length, replicate};
 ghost use Rattle.std.specs.List.{AllByRecursion};
 ghost use Rattle.dh_tree.specs.Memories.{table_of};
-ghost use Rattle.dh_tree.specs.Meaning.{meaning_of};
 ghost use Rattle.dh_tree.specs.Seen.{program_seen};
 ghost use Rattle.dh_tree.specs.Shapes.{IsProgramTable, IsMemory};
-ghost use Rattle.dh_tree.specs.Suited.{IsSuitedTree};
 ghost use Rattle.dh_tree.specs.Tables.{Fits, elements_in, most_elements};
-ghost use Rattle.dh_tree.specs.UncheckedForms.{unchecked_forms};
-ghost use Rattle.dh_tree.specs.Widths.{HasWidths};
-ghost use Rattle.dh_sem.specs.Banks.{AreFirsts, all_banks};
-ghost use Rattle.dh_sem.specs.Scenes.{unset_word};
-ghost use Rattle.dh_sem.specs.Runs.{StandsAt, StepsOn};
+ghost use Rattle.dh_code.specs.Banks.{AreFirsts, all_banks};
+ghost use Rattle.dh_sem.specs.Runnable.{IsRunnable};
+ghost use Rattle.dh_sem.specs.Runs.{StandsAt, StepsOn, place_outcome};
 
-use crate::courses::{Frame, Node, outcome_at};
-use crate::evaluating::{Scene, Stop};
-use crate::gathering::course;
-use crate::operands::UNSET;
-use crate::running::State;
-use crate::spending::unused;
-use crate::spots::measure;
-use crate::stepping::{advance, make_writes};
-use dh_base::{NoMemory, Outcome};
+use crate::gathering::{Made, hold_all};
+use crate::lanes::first_lanes;
+use crate::phases::Frame;
+use crate::stepping::{Course, advance, go_on, make_writes};
+use dh_base::{Items, NoMemory, Outcome};
+use dh_code::{Code, Names, Scene, State, Stop, measure, place_all, unused};
 use dh_tree::{MemEntry, Memories, Typed};
-use dh_value::Word;
 use std::alloc::Global;
 use std::marker::Model;
 use std::mem;
@@ -33,34 +25,58 @@ use std::mem;
 #[derive(Drop)]
 pub struct Interp<'a> {
     alloc: Global,
-    program: &'a Typed,
     entries: &'a [MemEntry],
     // by memory the number of its first bank
     firsts: Vec<usize>,
-    // the phases of the program
-    nodes: Vec<Node<'a>>,
-    // those that are still to come
+    // the code, the phases of the program and the paths at which they are done
+    made: Made,
+    // what is still to come behind the next block
     frames: Vec<Frame>,
-    // where a step works out which are to come after it
+    // where a step works out what is to come after it
     spare: Vec<Frame>,
     state: State,
     memories: Memories,
     steps: u64,
+    // the phase of the next block, if there is one
+    place: Option<usize>,
     outcome: Outcome,
 }
 
 impl<'a> Model for Interp<'a> {
-    ghost use Rattle.std.specs.Coded.{codes};
-    ghost use Rattle.dh_tree.specs.contracts.trees.commands.Command as command;
     ghost use Rattle.dh_sem.specs.Runs.{Run, IsSteady};
 
     ghost Value = { Run };
 
-    ghost coded = { Prim.hlevel (codes, command.the_row.coded) };
+    ghost view = { λ i. record {
+      table = i.entries.now;
+      course = record {
+        code = i.made.code;
+        phases = i.made.phases.items;
+        lanes = i.made.lanes.items;
+      };
+      outcome = i.outcome;
+      steps = i.steps;
+      memories = i.memories;
+      slots = i.state.variables.items;
+      place = i.place;
+      frames = i.frames.items;
+    } };
 
-    ghost view = { λ i. record { program = i.program.now; table = i.entries.now; outcome = i.outcome; steps = i.steps; memories = i.memories; variables = i.state.variables.items; nodes = i.nodes.items; frames = i.frames.items } };
-
-    ghost invariant = { λ i. IsSteady (record { program = i.program.now; table = i.entries.now; outcome = i.outcome; steps = i.steps; memories = i.memories; variables = i.state.variables.items; nodes = i.nodes.items; frames = i.frames.items }) i.state.banks.items i.firsts.items };
+    ghost invariant = { λ i. IsSteady (record {
+      table = i.entries.now;
+      course = record {
+        code = i.made.code;
+        phases = i.made.phases.items;
+        lanes = i.made.lanes.items;
+      };
+      outcome = i.outcome;
+      steps = i.steps;
+      memories = i.memories;
+      slots = i.state.variables.items;
+      place = i.place;
+      frames = i.frames.items;
+    })
+        i.state.given.items i.state.banks.items i.firsts.items };
 }
 
 /// The number of the first bank of each memory.
@@ -91,15 +107,25 @@ fn count_banks(entries: &[MemEntry]) -> usize
     banks
 }
 
-/// So many variables that were not set yet.
-fn unset(alloc: Global, count: usize) -> Result<Vec<Word>, NoMemory>
-    ensures { IfOk result (λ words. words.items ≡ replicate count unset_word) }
+/// So many zeros.
+fn zeros(alloc: Global, count: usize) -> Result<Vec<u64>, NoMemory>
+    ensures { IfOk result (λ list. list.items ≡ replicate count 0) }
 {
-    let mut variables = Vec::new(alloc);
+    let mut list = Vec::new(alloc);
     for _ in 0..count {
-        variables.push(UNSET)?;
+        list.push(0)?;
     }
-    Ok(variables)
+    Ok(list)
+}
+
+/// The outcome where there is a next block, or none.
+fn outcome_at(place: Option<usize>) -> Outcome
+    ensures { result ≡ place_outcome place }
+{
+    match place {
+        Some(_) => Outcome::Going,
+        None => Outcome::Ended,
+    }
 }
 
 impl<'a> Interp<'a> {
@@ -113,40 +139,59 @@ impl<'a> Interp<'a> {
         program: &'a Typed,
         memories: Memories,
     ) -> Result<Interp<'a>, NoMemory>
-        requires built { unchecked_forms (program_seen program.now) ≡ [] }
-        requires widths { HasWidths (program_seen program.now) }
         requires table { IsProgramTable (table_of (program_seen program.now)) }
-        requires suited { IsSuitedTree (meaning_of (program_seen program.now)) }
+        requires runnable { IsRunnable (program_seen program.now) }
         requires fits { Fits (table_of (program_seen program.now)) memories }
         ensures { IfOk result (λ i. StandsAt (program_seen program.now) memories 0 i) }
     {
         let entries = program.memories().as_slice();
         let tree = program.tree();
-        let (nodes, frames) = course(alloc, &tree.body)?;
-        let outcome = outcome_at(nodes.as_slice(), frames.as_slice());
-        let state = State {
-            variables: unset(alloc, tree.entities.len())?,
+        let held = place_all(alloc, &tree.body, tree.entities.len())?;
+        let names = Names {
+            alloc,
+            program,
+            places: held.held.as_slice(),
+        };
+        let mut made = Made {
+            code: Code {
+                operations: Items::new(alloc),
+                steps: Items::new(alloc),
+            },
+            phases: Vec::new(alloc),
+            lanes: first_lanes(alloc)?,
+        };
+        let first = hold_all(&names, &mut made, &tree.body)?;
+        let mut state = State {
+            variables: zeros(alloc, held.count as usize)?,
+            given: zeros(alloc, made.code.operations.len())?,
             banks: unused(alloc, count_banks(entries))?,
             writes: Vec::new(alloc),
             changes: Vec::new(alloc),
         };
+        let mut frames = Vec::new(alloc);
+        frames.push(Frame::List { list: first })?;
+        let course = Course {
+            phases: made.phases.as_slice(),
+            lanes: made.lanes.as_slice(),
+        };
+        let place = go_on(&course, &mut state, &mut frames, false)?;
         Ok(Interp {
             alloc,
-            program,
             entries,
             firsts: first_banks(alloc, entries)?,
-            nodes,
+            made,
             frames,
             spare: Vec::new(alloc),
             state,
             memories,
             steps: 0,
-            outcome,
+            place,
+            outcome: outcome_at(place),
         })
     }
 
-    /// Does the next logical step, where there is one, and tells the outcome then. After want of memory
-    /// everything is as before.
+    /// Does the next logical step, where there is one, and tells the outcome then. After want of
+    /// memory everything is as before.
     ///
     /// # Errors
     ///
@@ -158,27 +203,30 @@ impl<'a> Interp<'a> {
         let Outcome::Going = self.outcome else {
             return Ok(self.outcome);
         };
+        let Some(at) = self.place else {
+            return Ok(self.outcome);
+        };
         let scene = Scene {
             alloc: self.alloc,
-            program: self.program,
+            code: &self.made.code,
             entries: self.entries,
             firsts: self.firsts.as_slice(),
             memories: self.memories.lists(),
             step: self.steps + 1,
         };
+        let course = Course {
+            phases: self.made.phases.as_slice(),
+            lanes: self.made.lanes.as_slice(),
+        };
         self.spare.clear();
         self.spare.extend_from_slice(self.frames.as_slice())?;
-        match advance(
-            &scene,
-            &mut self.state,
-            self.nodes.as_slice(),
-            &mut self.spare,
-        ) {
-            Ok(()) => {
+        match advance(&scene, &course, &mut self.state, &mut self.spare, at) {
+            Ok(next) => {
                 make_writes(self.alloc, &mut self.memories, self.state.writes.as_slice());
                 mem::swap(&mut self.frames, &mut self.spare);
                 self.steps += 1;
-                self.outcome = outcome_at(self.nodes.as_slice(), self.frames.as_slice());
+                self.place = next;
+                self.outcome = outcome_at(next);
                 Ok(self.outcome)
             }
             Err(Stop::At(outcome)) => {

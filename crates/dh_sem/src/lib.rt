@@ -1,15 +1,12 @@
-//! The interpreter: runs the checked semantics of a typed program, one logical step after the other.
-//! Stands on `dh_tree`, `dh_value` and `dh_base`. docs/LANGUAGE.md tells the language.
+//! The interpreter: runs the checked semantics of a typed program, one logical step after the
+//! other, with the copies of unrolled loops in lockstep. Stands on `dh_code`, `dh_meaning`,
+//! `dh_tree`, `dh_value` and `dh_base`. docs/LANGUAGE.md tells the language.
 #![tactic(auto)]
 
-mod courses;
-mod evaluating;
 mod gathering;
 mod interp;
-mod operands;
-mod running;
-mod spending;
-mod spots;
+mod lanes;
+mod phases;
 mod stepping;
 
 pub use interp::Interp;

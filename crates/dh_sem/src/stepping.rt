@@ -1,179 +1,360 @@
-//! One logical step.
+//! One logical step, and where a run then stands.
 
-ghost use Rattle.std.specs.Prelude.{◌≡◌, ◌≤◌, ◌-◌, ◌++◌, OnOk, length};
-ghost use Rattle.dh_sem.specs.Scenes.{IsSet};
-ghost use Rattle.dh_sem.specs.Spent.{AreUsedBy};
-ghost use Rattle.dh_sem.specs.States.{KeepsBack, written_by};
-ghost use Rattle.dh_sem.specs.Courses.{IsCourse, IsTaken, IsCounted, turns_frames};
-ghost use Rattle.dh_sem.specs.InScenes.{AdvancesIn, AllCanRun, AreFrames, Chooses, ComesNext, IsReadyIn, LeavesFrames, LeavesRest, LeavesTaken, NextFrames, Repeats, Runs, TakenCanRun, TestSuits, rest_in, taken_in, test_run};
+ghost use Rattle.std.specs.Prelude.{◌≡◌, ◌+◌, ◌*◌, ◌-◌, ◌^◌, ◌<◌, ◌≤◌, ◌==◌, Bool, if◌then◌else◌, IfOk, Some, length, slice_get};
+ghost use Rattle.std.specs.List.{AllByRecursion};
+ghost use Rattle.dh_code.specs.Scenes.{IsHeld, IsScene};
+ghost use Rattle.dh_code.specs.States.{IsReady, KeepsBack, written_by};
+ghost use Rattle.dh_sem.specs.declared.phases.Frame.TheVariants.{Turn};
+ghost use Rattle.dh_sem.specs.Phased.{AreLinked, IsEarlier, IsSoundCourse, IsSoundFrame, arm_of, turns_in};
+ghost use Rattle.dh_sem.specs.Steps.{Advances, BackIfStopped, BeginsTurn, Descends, Follows, GoesOn, IsRested, Lightens, NowhereIfNone, OnlyVariables, RunsBlock, RunsNext, SetsCopy, TestsAll, course_seen};
 
-use crate::courses::{Form, Frame, Node, Taken, open, take};
-use crate::evaluating::{Scene, Stop};
-use crate::running::{State, Write, begin_turn, run_phase, test, undo, write_all};
-use crate::spending::release;
-use dh_tree::{Command, Memories};
-use std::alloc::{AllocFailed, Global};
+use crate::lanes::Lanes;
+use crate::phases::{Form, Frame, Phase, Turns};
+use dh_base::NoMemory;
+use dh_code::{Flat, Scene, State, Stop, Write, decide, release, run, set, slot, undo, write_all};
+use dh_tree::Memories;
+use std::alloc::Global;
 use std::mem;
 
-/// Puts the turns behind the first in front of what is to come, where there are any.
-fn leave_turns(frames: &mut Vec<Frame>, turns: Taken) -> Result<(), AllocFailed<Frame>>
-    requires counted { IsCounted turns }
-    ensures { OnOk result (frames.new.items ≡ frames.old.items ++ turns_frames turns) }
+/// What a run goes through.
+#[derive(Clone, Copy)]
+pub struct Course<'a> {
+    /// The phases of the program.
+    pub phases: &'a [Phase],
+    /// The paths at which they are done.
+    pub lanes: &'a [Lanes],
+}
+
+/// Evaluates a test at all paths. Gives whether it holds at the first one.
+fn test(scene: &Scene<'_>, state: &mut State, lanes: &Lanes, test: &Flat) -> Result<bool, Stop>
+    requires scene { IsScene scene.now }
+    requires ready { IsReady scene.now state.old }
+    requires held { IsHeld scene.now.code.now.operations test.now }
+    ensures ready { IsReady scene.now state.new }
+    ensures back { KeepsBack state.old state.new }
+    ensures tests { TestsAll scene.now state.old result state.new lanes.now test.now }
 {
-    if turns.count > 1 {
-        frames.push(Frame::One(Taken {
-            at: turns.at,
-            low: turns.low + 1,
-            count: turns.count - 1,
-        }))?;
+    let mut first = false;
+    let rows = lanes.rows.as_slice();
+    for (i, row) in rows.iter().enumerate() {
+        let holds = decide(scene, state, row.as_slice(), test)?;
+        first = first_of(i, first, holds);
     }
-    Ok(())
+    Ok(first)
 }
 
-/// Tests a `while`; where the test holds, its body and then the loop again are to come.
-fn again(
-    scene: &Scene<'_>,
-    state: &mut State,
-    frames: &mut Vec<Frame>,
-    command: &Command,
-    taken: Taken,
-    body: Option<usize>,
-) -> Result<(), Stop>
-    requires set { IsSet scene.now }
-    requires ready { IsReadyIn scene.now state.old }
-    requires suited { TestSuits scene.now command.now }
-    ensures ready { IsReadyIn scene.now state.new }
-    ensures back { KeepsBack state.old state.new }
-    ensures ran { Runs scene.now state.old result state.new (test_run scene.now command.now) }
-    ensures left { Repeats scene.now state.old result command.now taken body frames.old frames.new }
+/// Whether the first test holds, once that of a number is done.
+fn first_of(i: usize, first: bool, holds: bool) -> bool
+    ensures { result ≡ (if i == 0 then holds else first) }
 {
-    if test(scene, state, command)? {
-        frames.push(Frame::One(taken))?;
-        frames.push(Frame::List(body))?;
-    }
-    Ok(())
+    if i == 0 { holds } else { first }
 }
 
-/// Tests an `if`; the arm by the test is to come.
-fn choose(
+/// Does the block of a phase. Gives whether its test holds, where it has one.
+fn run_block(
     scene: &Scene<'_>,
+    course: &Course<'_>,
     state: &mut State,
-    frames: &mut Vec<Frame>,
-    command: &Command,
-    chosen: Option<usize>,
-    other: Option<usize>,
-) -> Result<(), Stop>
-    requires set { IsSet scene.now }
-    requires ready { IsReadyIn scene.now state.old }
-    requires suited { TestSuits scene.now command.now }
-    ensures ready { IsReadyIn scene.now state.new }
+    at: usize,
+) -> Result<bool, Stop>
+    requires scene { IsScene scene.now }
+    requires ready { IsReady scene.now state.old }
+    requires course { IsSoundCourse (course_seen scene.now course.now) }
+    requires there { at < length course.now.phases.now }
+    ensures ready { IsReady scene.now state.new }
     ensures back { KeepsBack state.old state.new }
-    ensures ran { Runs scene.now state.old result state.new (test_run scene.now command.now) }
-    ensures left { Chooses scene.now state.old result command.now chosen other frames.old
-        frames.new }
+    ensures runs { RunsBlock scene.now course.now state.old result state.new at }
 {
-    let arm = if test(scene, state, command)? {
-        chosen
-    } else {
-        other
-    };
-    frames.push(Frame::List(arm))?;
-    Ok(())
-}
-
-/// Does the first step of a phase, if there is one.
-#[cycle(run_taken)]
-fn run_taken(
-    scene: &Scene<'_>,
-    state: &mut State,
-    nodes: &[Node<'_>],
-    frames: &mut Vec<Frame>,
-    taken: Option<Taken>,
-) -> Result<(), Stop>
-    requires course { IsCourse nodes.now }
-    requires set { IsSet scene.now }
-    requires ready { IsReadyIn scene.now state.old }
-    requires taken { IsTaken (length nodes.now) taken }
-    requires runnable { TakenCanRun scene.now state.old nodes.now taken }
-    ensures ready { IsReadyIn scene.now state.new }
-    ensures back { KeepsBack state.old state.new }
-    ensures ran { Runs scene.now state.old result state.new (taken_in scene.now nodes.now taken) }
-    ensures left { LeavesTaken scene.now state.old result nodes.now taken frames.old frames.new }
-    ensures frames { LeavesFrames scene.now state.old result nodes.now frames.old frames.new }
-{
-    let Some(taken) = taken else {
-        return Ok(());
-    };
-    match &nodes[taken.at].form {
-        Form::Straight(commands) => run_phase(scene, state, commands.as_slice()),
-        Form::Turns(turns) => {
-            begin_turn(scene, state, turns.command, taken.low)?;
-            leave_turns(frames, taken)?;
-            let inner = open(nodes, frames, turns.body)?;
-            run_taken(scene, state, nodes, frames, inner)
+    let phase = phase_at(course.phases, at);
+    let lanes = lanes_at(course.lanes, phase.paths);
+    match &phase.form {
+        Form::Straight { list } => {
+            run(
+                scene,
+                state,
+                lanes.rows.as_slice(),
+                lanes.all.as_slice(),
+                *list,
+            )?;
+            Ok(false)
         }
-        Form::Loop(repeated) => again(scene, state, frames, repeated.command, taken, repeated.body),
-        Form::Choice(choice) => choose(
-            scene,
-            state,
-            frames,
-            choice.command,
-            choice.chosen,
-            choice.other,
-        ),
+        Form::Loop {
+            test: condition,
+            ..
+        } => test(scene, state, lanes, condition),
+        Form::Choice {
+            test: condition,
+            ..
+        } => test(scene, state, lanes, condition),
+        Form::Turns { .. } => Ok(false),
     }
 }
 
-/// Does the first step of what is to come.
+/// Sets the copy of an iterator at a path of these ranks. (An iterator that is not declared by its
+/// loop has none there.)
+fn set_copy(state: &mut State, ranks: &[u32], turns: &Turns, value: u64) -> Result<(), NoMemory>
+    ensures only { OnlyVariables state.old state.new }
+    ensures sets { IfOk result (λ _. SetsCopy state.old state.new ranks.now turns.now value) }
+{
+    if ranks.len() == turns.depth as usize + 1 {
+        set(state, slot(turns.first, turns.depth, ranks), value)?;
+    }
+    Ok(())
+}
+
+/// Begins a turn of a `for`: at each path inside it the iterator has its value.
+fn begin_turn(state: &mut State, lanes: &Lanes, turns: &Turns, turn: u64) -> Result<(), NoMemory>
+    requires some_factor { 1 ≤ turns.now.factor }
+    requires counted { turns.now.low + (turn + 1) * turns.now.factor ≤ 2 ^ 64 - 1 }
+    ensures only { OnlyVariables state.old state.new }
+    ensures begins { IfOk result (λ _. BeginsTurn state.old state.new lanes.now turns.now turn) }
+{
+    let base = turns.low + turn * turns.factor;
+    let rows = lanes.rows.as_slice();
+    for (i, row) in rows.iter().enumerate() {
+        let copy = i as u64 % turns.factor;
+        set_copy(state, row.as_slice(), turns, base + copy)?;
+    }
+    Ok(())
+}
+
+/// The phase of a number.
+fn phase_at(phases: &[Phase], at: usize) -> Phase
+    requires there { at < length phases.now }
+    ensures { slice_get phases.now at ≡ Some result }
+{
+    phases[at]
+}
+
+/// The lanes of a number.
+fn lanes_at(lanes: &[Lanes], at: usize) -> &Lanes
+    requires there { at < length lanes.now }
+    ensures { slice_get lanes.now at ≡ Some result.now }
+{
+    &lanes[at]
+}
+
+/// Goes into a list of phases, to its first block. Gives the phase of that; None where the list has
+/// no phase.
+fn descend(
+    course: &Course<'_>,
+    state: &mut State,
+    frames: &mut Vec<Frame>,
+    list: Option<usize>,
+) -> Result<Option<usize>, NoMemory>
+    requires course { AreLinked course.now.phases.now course.now.lanes.now }
+    requires list { IsEarlier (length course.now.phases.now) list }
+    requires frames { AllByRecursion (IsSoundFrame (length course.now.phases.now)) frames.old.items }
+    ensures only { OnlyVariables state.old state.new }
+    ensures frames { IfOk result
+        (λ _. AllByRecursion (IsSoundFrame (length course.now.phases.now)) frames.new.items) }
+    ensures place { IfOk result (λ at. IsEarlier (length course.now.phases.now) at) }
+    ensures none { IfOk result (λ at.
+        NowhereIfNone list at state.old state.new frames.old.items frames.new.items) }
+    ensures descends { IfOk result (λ at.
+        Descends course.now list at state.old state.new frames.old.items frames.new.items) }
+{
+    let Some(at) = list else {
+        return Ok(None);
+    };
+    let phase = phase_at(course.phases, at);
+    frames.push(Frame::List { list: phase.next })?;
+    match &phase.form {
+        Form::Straight { .. } => Ok(Some(at)),
+        Form::Loop { .. } => {
+            frames.push(Frame::Test { at })?;
+            Ok(Some(at))
+        }
+        Form::Choice { .. } => {
+            frames.push(Frame::Pick { at })?;
+            Ok(Some(at))
+        }
+        Form::Turns { turns } => {
+            begin_turn(state, lanes_at(course.lanes, turns.inside), turns, 0)?;
+            frames.push(Frame::Turn { at, turn: 0 })?;
+            descend(course, state, frames, turns.body)
+        }
+    }
+}
+
+/// The body of a phase that is a `while`, or the arm of an `if` by its test.
+fn arm(phase: &Phase, holds: bool) -> Option<usize>
+    ensures { result ≡ arm_of phase.now.form holds }
+{
+    match &phase.form {
+        Form::Loop { body, .. } => *body,
+        Form::Choice { chosen, other, .. } => if holds { *chosen } else { *other },
+        Form::Straight { .. } => None,
+        Form::Turns { .. } => None,
+    }
+}
+
+/// The turns of a phase that is a `for`.
+fn turns_of(phase: &Phase) -> Option<Turns>
+    ensures { result ≡ turns_in phase.now.form }
+{
+    match &phase.form {
+        Form::Turns { turns } => Some(*turns),
+        Form::Straight { .. } => None,
+        Form::Loop { .. } => None,
+        Form::Choice { .. } => None,
+    }
+}
+
+/// The next turn of a `for`, where there is one.
+fn next_turn(
+    course: &Course<'_>,
+    state: &mut State,
+    frames: &mut Vec<Frame>,
+    at: usize,
+    turn: u64,
+) -> Result<Option<usize>, NoMemory>
+    requires course { AreLinked course.now.phases.now course.now.lanes.now }
+    requires there { at < length course.now.phases.now }
+    requires turn { turn < 2 ^ 64 - 1 }
+    requires frames { AllByRecursion (IsSoundFrame (length course.now.phases.now)) frames.old.items }
+    ensures only { OnlyVariables state.old state.new }
+    ensures frames { IfOk result
+        (λ _. AllByRecursion (IsSoundFrame (length course.now.phases.now)) frames.new.items) }
+    ensures place { IfOk result (λ at. IsEarlier (length course.now.phases.now) at) }
+    ensures light { IfOk result (λ next. Lightens next (Turn at turn) state.old state.new
+        frames.old.items frames.new.items) }
+    ensures follows { (holds : Bool) → IfOk result (λ next. Follows course.now (Turn at turn) holds
+        next state.old state.new frames.old.items frames.new.items) }
+{
+    let phase = phase_at(course.phases, at);
+    let Some(turns) = turns_of(&phase) else {
+        return Ok(None);
+    };
+    let next = turn + 1;
+    if next >= turns.count {
+        return Ok(None);
+    }
+    begin_turn(state, lanes_at(course.lanes, turns.inside), &turns, next)?;
+    frames.push(Frame::Turn { at, turn: next })?;
+    descend(course, state, frames, turns.body)
+}
+
+/// Goes on to the next block behind a frame, where that leads to one.
+fn follow(
+    course: &Course<'_>,
+    state: &mut State,
+    frames: &mut Vec<Frame>,
+    frame: Frame,
+    holds: bool,
+) -> Result<Option<usize>, NoMemory>
+    requires course { AreLinked course.now.phases.now course.now.lanes.now }
+    requires frame { IsSoundFrame (length course.now.phases.now) frame }
+    requires frames { AllByRecursion (IsSoundFrame (length course.now.phases.now)) frames.old.items }
+    ensures only { OnlyVariables state.old state.new }
+    ensures frames { IfOk result
+        (λ _. AllByRecursion (IsSoundFrame (length course.now.phases.now)) frames.new.items) }
+    ensures place { IfOk result (λ at. IsEarlier (length course.now.phases.now) at) }
+    ensures light { IfOk result (λ next. Lightens next frame state.old state.new
+        frames.old.items frames.new.items) }
+    ensures follows { IfOk result (λ next. Follows course.now frame holds
+        next state.old state.new frames.old.items frames.new.items) }
+{
+    match frame {
+        Frame::List { list } => descend(course, state, frames, list),
+        Frame::Turn { at, turn } => next_turn(course, state, frames, at, turn),
+        Frame::Test { at } => {
+            if !holds {
+                return Ok(None);
+            }
+            let phase = phase_at(course.phases, at);
+            frames.push(Frame::Again { at })?;
+            descend(course, state, frames, arm(&phase, true))
+        }
+        Frame::Again { at } => {
+            frames.push(Frame::Test { at })?;
+            Ok(Some(at))
+        }
+        Frame::Pick { at } => {
+            let phase = phase_at(course.phases, at);
+            descend(course, state, frames, arm(&phase, holds))
+        }
+    }
+}
+
+/// Goes on to the next block, where there is one.
+pub fn go_on(
+    course: &Course<'_>,
+    state: &mut State,
+    frames: &mut Vec<Frame>,
+    holds: bool,
+) -> Result<Option<usize>, NoMemory>
+    requires course { AreLinked course.now.phases.now course.now.lanes.now }
+    requires frames { AllByRecursion (IsSoundFrame (length course.now.phases.now)) frames.old.items }
+    ensures only { OnlyVariables state.old state.new }
+    ensures frames { IfOk result
+        (λ _. AllByRecursion (IsSoundFrame (length course.now.phases.now)) frames.new.items) }
+    ensures place { IfOk result (λ at. IsEarlier (length course.now.phases.now) at) }
+    ensures goes { IfOk result (λ at. GoesOn course.now at state.old state.new
+        frames.old.items frames.new.items holds) }
+{
+    let Some(frame) = frames.pop() else {
+        return Ok(None);
+    };
+    match follow(course, state, frames, frame, holds)? {
+        Some(at) => Ok(Some(at)),
+        None => go_on(course, state, frames, holds),
+    }
+}
+
+/// Does the block of a phase, and goes on to the next one.
 fn run_next(
     scene: &Scene<'_>,
+    course: &Course<'_>,
     state: &mut State,
-    nodes: &[Node<'_>],
     frames: &mut Vec<Frame>,
-) -> Result<(), Stop>
-    requires course { IsCourse nodes.now }
-    requires set { IsSet scene.now }
-    requires ready { IsReadyIn scene.now state.old }
-    requires frames { AreFrames nodes.now frames.old.items }
-    requires runnable { AllCanRun scene.now state.old nodes.now frames.old.items }
-    ensures ready { IsReadyIn scene.now state.new }
+    at: usize,
+) -> Result<Option<usize>, Stop>
+    requires scene { IsScene scene.now }
+    requires ready { IsReady scene.now state.old }
+    requires course { IsSoundCourse (course_seen scene.now course.now) }
+    requires frames { AllByRecursion (IsSoundFrame (length course.now.phases.now)) frames.old.items }
+    requires there { at < length course.now.phases.now }
+    ensures ready { IsReady scene.now state.new }
     ensures back { KeepsBack state.old state.new }
-    ensures ran { Runs scene.now state.old result state.new
-        (rest_in scene.now nodes.now frames.old.items) }
-    ensures left { LeavesRest scene.now state.old result nodes.now frames.old frames.new }
-    ensures frames { NextFrames scene.now state.old result nodes.now frames.new.items }
+    ensures frames { IfOk result
+        (λ _. AllByRecursion (IsSoundFrame (length course.now.phases.now)) frames.new.items) }
+    ensures place { IfOk result (λ at. IsEarlier (length course.now.phases.now) at) }
+    ensures runs { RunsNext scene.now course.now state.old result state.new at frames.old.items
+        frames.new.items }
 {
-    let taken = take(nodes, frames)?;
-    run_taken(scene, state, nodes, frames, taken)
+    let holds = run_block(scene, course, state, at)?;
+    Ok(go_on(course, state, frames, holds)?)
 }
 
-/// Does the first step of what is to come. After a stop the variables are as before, and only the frames
-/// are not.
+/// Does the block of a phase, and goes on to the next one. After a stop the variables are as
+/// before, and only the frames are not.
 pub fn advance(
     scene: &Scene<'_>,
+    course: &Course<'_>,
     state: &mut State,
-    nodes: &[Node<'_>],
     frames: &mut Vec<Frame>,
-) -> Result<(), Stop>
-    requires course { IsCourse nodes.now }
-    requires set { IsSet scene.now }
-    requires ready { IsReadyIn scene.now state.old }
-    requires unspent { AreUsedBy (scene.now.step - 1) state.old.banks.items }
-    requires begins { 1 ≤ scene.now.step }
-    requires frames { AreFrames nodes.now frames.old.items }
-    requires runnable { AllCanRun scene.now state.old nodes.now frames.old.items }
-    ensures ready { IsReadyIn scene.now state.new }
-    ensures long { length state.new.variables.items ≡ length state.old.variables.items }
-    ensures advances { AdvancesIn scene.now nodes.now frames.old.items result state.old state.new }
-    ensures left { OnOk result (ComesNext scene.now state.old nodes.now frames.old frames.new) }
-    ensures frames { OnOk result (AreFrames nodes.now frames.new.items) }
+    at: usize,
+) -> Result<Option<usize>, Stop>
+    requires scene { IsScene scene.now }
+    requires rested { IsRested scene.now state.old }
+    requires course { IsSoundCourse (course_seen scene.now course.now) }
+    requires frames { AllByRecursion (IsSoundFrame (length course.now.phases.now)) frames.old.items }
+    requires there { at < length course.now.phases.now }
+    ensures ready { IsReady scene.now state.new }
+    ensures back { BackIfStopped result state.old state.new }
+    ensures frames { IfOk result
+        (λ _. AllByRecursion (IsSoundFrame (length course.now.phases.now)) frames.new.items) }
+    ensures place { IfOk result (λ at. IsEarlier (length course.now.phases.now) at) }
+    ensures advances { Advances scene.now course.now state.old result state.new at frames.old.items
+        frames.new.items }
 {
     state.writes.clear();
     state.changes.clear();
-    match run_next(scene, state, nodes, frames) {
-        Ok(()) => Ok(()),
+    match run_next(scene, course, state, frames, at) {
+        Ok(next) => Ok(next),
         Err(stop) => {
-            undo(&mut state.variables, state.changes.as_slice());
+            undo(state.variables.as_mut_slice(), state.changes.as_slice());
             release(state.banks.as_mut_slice());
             Err(stop)
         }

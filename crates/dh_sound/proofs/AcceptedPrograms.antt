@@ -1,7 +1,8 @@
 -- What the passes tell of a program is all that soundness rests on: each access is of a memory; each assignment goes to a
 -- variable that is declared inside the unrolled loops round it; so each block is told.
 use Rattle.dh_tree.specs.PlainTrees.{Program}
-use Rattle.dh_sound.specs.Accepted.{IsReadyCopied, IsAccepted}
+use Rattle.dh_tree.specs.Ready.{IsReady}
+use Rattle.dh_sound.specs.Accepted.{IsAccepted}
 use Rattle.dh_sound.specs.BlocksCovered.{BlocksCovered}
 use Rattle.dh_sound.specs.BlocksOfPhases.{TellsBlocks}
 use Rattle.dh_sound.specs.BlockTold.{AccessesDeclared}
@@ -12,7 +13,7 @@ use Rattle.dh_sound.proofs.BlocksTold.{blocks_told}
 use Rattle.dh_sound.proofs.PortsKept.{typed_program, blocks_covered}
 use Rattle.dh_sound.proofs.SortsOfPrograms.{accesses_declared, assigns_inside}
 
-module _ (p : Program) (ready : IsReadyCopied p) where
+module _ (p : Program) (ready : IsReady p) where
   typed_here : IsTypedProgram p
   typed_here = typed_program p ready
 

@@ -4,7 +4,7 @@
 -- block is found by one walk along both, with what holds of the phases.
 use Rattle.std.proofs.Common.{◌≡◌, ◌⊎◌, inl, inr, ℕ, true, List, [], ◌∷◌, ◌++◌, length, refl, sym, ap, subst, ◌∙◌}
 use Rattle.dh_tree.specs.PlainTrees.{Program}
-use Rattle.dh_sound.specs.Accepted.{IsReadyCopied}
+use Rattle.dh_tree.specs.Ready.{IsReady}
 use Rattle.dh_meaning.specs.Core.{Turning}
 use Rattle.dh_meaning.specs.CoreOf.{Known, known_of, form_of, turning_of, core_commands, core_test, core_phase, core_phases, core_of}
 use Rattle.dh_meaning.specs.Effects.{Block, commands, tests}
@@ -115,7 +115,7 @@ pub record TestFound (p : Program) (loops : List Turning) (block : Block) : Type
   pub names : TestNames p loops matches.of.tested
 
 -- each block of a ready program is one of these
-pub block_found : (p : Program) → IsReadyCopied p → AssignsInside (known_of p) 0 p.body → (loops : List Turning) (block : Block)
+pub block_found : (p : Program) → IsReady p → AssignsInside (known_of p) 0 p.body → (loops : List Turning) (block : Block)
     → StandsIn [] (core_of p).phases loops block → StraightFound p loops block ⊎ TestFound p loops block
 block_found p r inside loops block s =
     by (find_listed (known_of p) (phases_of p) [] loops block (action_inside (known_of p) nothing_around [] 0 p.body (ready_named p r) tt)

@@ -6,7 +6,7 @@ use Rattle.std.proofs.Common.{◌≡◌, inl, inr, ℕ, zero, suc, ◌≤◌, Bo
 use Rattle.std.specs.Prelude.{slice_get}
 use Rattle.dh_tree.specs.declared.trees.expressions.Ref.{Ref}
 use Rattle.dh_tree.specs.PlainTrees.{Term, term, number, truth_value, named, accessed, in_bank, applied, converted, Terms, no_terms, term_then, Program}
-use Rattle.dh_sound.specs.Accepted.{IsReadyCopied}
+use Rattle.dh_tree.specs.Ready.{IsReady}
 use Rattle.dh_meaning.specs.Bindings.{binding_in, depth_bound}
 use Rattle.dh_meaning.specs.Core.{Turning, CoreCommands}
 use Rattle.dh_meaning.specs.CoreOf.{Known, known_of, entity_number, depth_of, core_commands, core_of}
@@ -125,7 +125,7 @@ around_is r before part [] f c h = elim h [ ]
 around_is r before part (d ∷ ds) f c (inl e) = ap (λ (x : Located). x.around) e ∙ f.1.1.1.0.around
 around_is r before part (d ∷ ds) (gap, (rest, (is, (stands, more)))) c (inr h) = around_is r ((before ++ gap) ++ of_located d) rest ds more c h
 
-module _ (p : Program) (ready : IsReadyCopied p) (typed : IsTypedProgram p) (loops : List Turning) (block : Block) (stands : StandsIn [] (core_of p).phases loops block) where
+module _ (p : Program) (ready : IsReady p) (typed : IsTypedProgram p) (loops : List Turning) (block : Block) (stands : StandsIn [] (core_of p).phases loops block) where
   depths : HaveDepths [] loops
   depths = (ready_deep p ready).depths loops block stands
 
@@ -184,7 +184,7 @@ module _ (p : Program) (ready : IsReadyCopied p) (typed : IsTypedProgram p) (loo
     }
 
 -- what is told of the blocks of a ready program that assigns inside
-pub blocks_told : (p : Program) → IsReadyCopied p → IsTypedProgram p → AssignsInside (known_of p) 0 p.body → TellsBlocks p
+pub blocks_told : (p : Program) → IsReady p → IsTypedProgram p → AssignsInside (known_of p) 0 p.body → TellsBlocks p
 blocks_told p ready typed inside loops block stands =
     elim (block_found p ready inside loops block stands) [
       | inl f ↦ inl (straight_told p ready typed loops block stands f)

@@ -2,19 +2,24 @@
 -- these are dimensions. By recursion over the tree: the breaches of a command are those of its accesses and of the
 -- shapes that it declares, one behind the other.
 use Rattle.std.proofs.Common.{◌≡◌, ℕ, zero, suc, ◌≤◌, ◌%◌, ◌==◌, not, Bool, true, false, if◌then◌else◌, List, [], ◌∷◌, ◌++◌, map, Option, Some, None, refl, ap, sym, ◌∙◌, subst, arith}
-use Rattle.std.specs.Prelude.{slice_get}
+use Rattle.std.specs.Prelude.{◌<◌, nat_le, slice_get}
 use Rattle.std.specs.List.{AllByRecursion}
 use Rattle.std.proofs.lemmas.Bool.{eqb-true}
 use Rattle.std.proofs.lemmas.Bool.Decides.{nat_tests}
+use Rattle.dh_base.specs.declared.places.Place.{Place}
+use Rattle.dh_tree.specs.declared.breaches.Breach.{Breach}
 use Rattle.dh_tree.specs.declared.tables.Dim.{Dim}
 use Rattle.dh_tree.specs.declared.trees.counters.Counter.{Counter}
-use Rattle.dh_tree.specs.Indices.{Known, known_of, divides, dim_keeps, dims_keep, shape_keeps, shape_breaches, kept_dims, access_breaches, physical_breaches, term_index_breaches, terms_index_breaches, maybe_index_breaches, turns_breaches, action_index_breaches, action_form_index_breaches, other_index_breaches, actions_index_breaches, groups_index_breaches, decls_shape_breaches, index_breaches_of}
+use Rattle.dh_tree.specs.Elements.{banks_of}
+use Rattle.dh_tree.specs.Indices.{Known, known_of, divides, dim_keeps, dims_keep, shape_keeps, shape_breaches, kept_dims, access_breaches, bank_breaches, physical_breaches, term_index_breaches, terms_index_breaches, maybe_index_breaches, turns_breaches, action_index_breaches, action_form_index_breaches, other_index_breaches, actions_index_breaches, groups_index_breaches, decls_shape_breaches, index_breaches_of}
+use Rattle.dh_tree.specs.Kinds.{when}
 use Rattle.dh_tree.specs.Memories.{Memory, outside_memory, locals, form_locals, other_locals, groups_locals, part_locals, memories_of, memory_in, same_entity}
 use Rattle.dh_tree.specs.PlainTrees.{Term, term, number, truth_value, named, accessed, in_bank, applied, converted, Terms, no_terms, term_then, Action, action, ActionForm, lets, lets_memory, views, assigns, stores, reduces, calls, blocks, decides, repeats, counts, MaybeAction, no_action, one_action, Actions, no_actions, action_then, Groups, no_groups, group_then, Declared, Program}
 use Rattle.dh_tree.specs.Shapes.{IsDim}
-use Rattle.dh_tree.proofs.SuitedMemories.{shape_without}
+use Rattle.dh_tree.proofs.ShapeRules.{shape_without}
 use Rattle.dh_meaning.specs.Sites.{Around, nothing_around, in_arm, in_loop, loop_of}
 use Rattle.dh_meets.specs.SourceEvents.{Element, with_indices, in_row, Site, SourceAccess, SourceEvent, accesses, assigned, one_access, term_events, terms_events, maybe_events, write_events, site_of, events, command_events, other_events, groups_events, part_events, accesses_in, trace}
+use Rattle.dh_meets.specs.FewCopies.{NamesBanks}
 use Rattle.dh_sound.specs.IndexValues.{element_breaches}
 use Rattle.dh_sound.proofs.BanksReached.{first_none, second_none}
 use Rattle.dh_sound.proofs.IteratorsKnown.{both_all}
@@ -101,9 +106,15 @@ memory_keeps p entity m e f =
 
 -- Accesses.
 
+-- the bank that is written of an element is one of its memory's
+abbrev pub BankLies : List Dim → Element → Type 0
+BankLies dims (with_indices indices) = Unit {0}
+BankLies dims (in_row bank row) = bank < banks_of dims
+
 -- an element keeps the rules in the dimensions of the memory that it is of
 abbrev ElementKeeps : Known → (entity : Option ℕ) → Element → Type 0
-ElementKeeps known entity element = (m : Memory) → memory_in known.memories entity ≡ Some m → shape_keeps m.shape ≡ true → element_breaches known.counters m.shape.dims element ≡ []
+ElementKeeps known entity element =
+    (m : Memory) → memory_in known.memories entity ≡ Some m → shape_keeps m.shape ≡ true → (element_breaches known.counters m.shape.dims element ≡ []) × BankLies m.shape.dims element
 
 abbrev EventsKeep : Known → List SourceEvent → Type 0
 EventsKeep known [] = Unit {0}
@@ -113,7 +124,20 @@ EventsKeep known (assigned entity ∷ es) = EventsKeep known es
 indices_keep : (known : Known) (entity : Option ℕ) (indices : Terms) → access_breaches known.counters (kept_dims (memory_in known.memories entity)) indices ≡ [] → ElementKeeps known entity (with_indices indices)
 indices_keep known entity indices e m f k =
     let kept : kept_dims (memory_in known.memories entity) ≡ Some m.shape.dims = ap kept_dims f ∙ ap (λ (b : Bool). if b then Some m.shape.dims else None) k in
-    sym (ap (λ ds. access_breaches known.counters ds indices) kept) ∙ e
+    (sym (ap (λ ds. access_breaches known.counters ds indices) kept) ∙ e, tt)
+
+when_none : (b : Bool) (x : Breach) → when b (x ∷ []) ≡ [] → b ≡ false
+when_none true x e = absurd cc
+when_none false x e = refl
+
+not_beyond : (banks bank : ℕ) → nat_le banks bank ≡ false → bank < banks
+not_beyond banks bank e = grind (arith, nat_tests)
+
+row_keeps : (known : Known) (entity : Option ℕ) (bank : ℕ) (place : Place) (row : Term) → physical_breaches (kept_dims (memory_in known.memories entity)) bank place row ≡ []
+    → ElementKeeps known entity (in_row bank row)
+row_keeps known entity bank place row e m f k =
+    let kept : kept_dims (memory_in known.memories entity) ≡ Some m.shape.dims = ap kept_dims f ∙ ap (λ (b : Bool). if b then Some m.shape.dims else None) k in
+    (refl, not_beyond (banks_of m.shape.dims) bank (when_none _ _ (first_none (bank_breaches m.shape.dims bank place) _ (sym (ap (λ ds. physical_breaches ds bank place row) kept) ∙ e))))
 
 module _ (known : Known) where
   both_keep : (xs ys : List SourceEvent) → EventsKeep known xs → EventsKeep known ys → EventsKeep known (xs ++ ys)
@@ -133,7 +157,7 @@ module _ (known : Known) where
     term_keeps site (term place k (in_bank r bank bank_place row)) e =
         both_keep (term_events site row) (one_access place r.entity (in_row bank row) false site)
         (term_keeps site row (second_none (physical_breaches (kept_dims (memory_in known.memories r.entity)) bank bank_place row) _ e))
-        ((λ m f s. refl), tt)
+        (row_keeps known r.entity bank bank_place row (first_none (physical_breaches (kept_dims (memory_in known.memories r.entity)) bank bank_place row) _ e), tt)
     term_keeps site (term place k (applied o left right)) e =
         both_keep (term_events site left) (term_events site right) (term_keeps site left (first_none (term_index_breaches known left) _ e)) (term_keeps site right (second_none (term_index_breaches known left) _ e))
     term_keeps site (term place k (converted inner to)) e = term_keeps site inner e
@@ -154,7 +178,7 @@ module _ (known : Known) where
   write_keeps site (term place k (in_bank r bank bank_place row)) e =
       both_keep (term_events site row) (one_access place r.entity (in_row bank row) true site)
       (term_keeps site row (second_none (physical_breaches (kept_dims (memory_in known.memories r.entity)) bank bank_place row) _ e))
-      ((λ m f s. refl), tt)
+      (row_keeps known r.entity bank bank_place row (first_none (physical_breaches (kept_dims (memory_in known.memories r.entity)) bank bank_place row) _ e), tt)
   write_keeps site (term place k (applied o left right)) e = term_keeps site (term place k (applied o left right)) e
   write_keeps site (term place k (converted inner to)) e = term_keeps site inner e
 
@@ -218,11 +242,19 @@ keeps_at known (assigned entity ∷ es) k a h e = keeps_at known es k a h e
 pub record KeepsIn (cs : List Counter) (m : Memory) (element : Element) : Type 0 where
   pub dims : AllByRecursion IsDim m.shape.dims
   pub none : element_breaches cs m.shape.dims element ≡ []
+  pub bank : BankLies m.shape.dims element
 
 pub access_keeps : (p : Program) → index_breaches_of p ≡ [] → (k : ℕ) (a : SourceAccess) → slice_get (accesses_in (trace p)) k ≡ Some a → (m : Memory) → memory_in (memories_of p) a.entity ≡ Some m → KeepsIn (known_of p).counters m a.element
 access_keeps p e k a g m h =
     let shape = memory_keeps p a.entity m e h in
+    let kept = keeps_at (known_of p) (trace p) k a (events_keep (known_of p) nothing_around p.body (second_none (decls_shape_breaches p.decls) _ e)) g m h shape in
     record {
       dims = dims_are m.shape.dims (both_true (not (m.shape.ports == 0)) (dims_keep m.shape.dims) shape).1;
-      none = keeps_at (known_of p) (trace p) k a (events_keep (known_of p) nothing_around p.body (second_none (decls_shape_breaches p.decls) _ e)) g m h shape;
+      none = kept.0;
+      bank = kept.1;
     }
+
+pub banks_named : (p : Program) → index_breaches_of p ≡ [] → NamesBanks p
+banks_named p e k bank a row m g is h =
+    let kept = access_keeps p e k a g m h in
+    subst (BankLies m.shape.dims) is kept.bank

@@ -73,6 +73,6 @@ pub mod SortsOfNames
 pub mod SortsOfCommands
 pub mod SortsOfPrograms
 pub mod AcceptedPrograms
+pub mod CopiesFew
 pub mod Folds
 pub mod JoinsKept
-pub mod ReadyCopied

@@ -10,7 +10,7 @@ use Rattle.dh_tree.specs.declared.trees.programs.Sort.TheVariants.{Iterator}
 use Rattle.dh_tree.specs.Breaches.{unknown, twice, term_breaches, term_form_breaches, terms_breaches, value_breaches, breaches, form_breaches, other_breaches, actions_breaches, groups_breaches, functions_breaches, items_breaches}
 use Rattle.dh_tree.specs.LeastBreach.{breach}
 use Rattle.dh_tree.specs.PlainTrees.{Term, term, TermForm, number, truth_value, named, accessed, in_bank, applied, converted, Terms, no_terms, term_then, Action, action, ActionForm, lets, lets_memory, views, assigns, stores, reduces, calls, blocks, decides, repeats, counts, MaybeAction, no_action, one_action, Actions, no_actions, action_then, Groups, no_groups, group_then, Program}
-use Rattle.dh_sound.specs.Accepted.{IsReadyCopied}
+use Rattle.dh_tree.specs.Ready.{IsReady}
 use Rattle.dh_tree.specs.Resolved.{resolved_term, resolved_term_form, resolved_terms, resolved_action, resolved_form, resolved_other, resolved_actions, resolved_groups}
 use Rattle.dh_tree.specs.Scopes.{Binding, entity_of, Scope, declare, leave, past, at_end, actions_at_end, first_scope, body_scope, items_of}
 use Rattle.dh_tree.proofs.UncheckedBuilt.{first_none, second_none}
@@ -140,7 +140,7 @@ mutual
       (named_action a s first (first_none (breaches s a) _ h) t.0, named_part rest after second (second_none (breaches s a) _ h) t.1)
 
 -- the names of a ready program
-pub ready_named : (p : Program) → IsReadyCopied p → IsNamedAction p.body
+pub ready_named : (p : Program) → IsReady p → IsNamedAction p.body
 ready_named p r =
     named_action p.body (body_scope p) (ap (λ (x : Program). x.body) r.entities)
     (second_none (functions_breaches (length p.decls) (first_scope p) p.functions) _ (second_none (items_breaches [] (items_of p)) _ r.names)) r.of_text.targets

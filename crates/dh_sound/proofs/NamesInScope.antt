@@ -9,7 +9,7 @@ use Rattle.std.proofs.lemmas.List.{append-nil}
 use Rattle.dh_base.specs.declared.places.Place.{Place}
 use Rattle.dh_tree.specs.LeastBreach.{is_before}
 use Rattle.dh_tree.specs.PlainTrees.{Action, action, ActionForm, lets, lets_memory, views, assigns, stores, reduces, calls, blocks, decides, repeats, counts, MaybeAction, no_action, one_action, Actions, no_actions, action_then, Groups, no_groups, group_then, Declared, Formal, Defined, Program}
-use Rattle.dh_sound.specs.Accepted.{IsReadyCopied}
+use Rattle.dh_tree.specs.Ready.{IsReady}
 use Rattle.dh_tree.specs.Resolved.{resolved_action}
 use Rattle.dh_tree.specs.Scopes.{entity, bind, Scope, declare, formal_sort, after_formals, body_start, after_function, after_functions, Item, memory_items, function_items, merged, items_of, after_items, first_scope, body_scope}
 use Rattle.dh_tree.specs.Scopes as scopes
@@ -217,7 +217,7 @@ items_visible known k bs [] out h v = v
 items_visible known k bs (i ∷ is) out h v =
     items_visible known k (bind bs i.name.name i.entity) is out h.1 (bind_in known [] bs i.name.name i.entity v (plain_in known [] i.entity None (out i.entity h.0) tt))
 
-module _ (p : Program) (r : IsReadyCopied p) where
+module _ (p : Program) (r : IsReady p) where
   same_body : resolved_action (body_scope p) p.body ≡ p.body
   same_body = ap (λ (x : Program). x.body) r.entities
 

@@ -26,7 +26,7 @@ use Rattle.dh_sound.specs.IndexRules.{KeepsIndexRules}
 use Rattle.dh_sound.specs.ToldEvents.{access_at}
 use Rattle.dh_base.specs.declared.outcomes.Outcome.TheVariants.{Stuck}
 use Rattle.dh_base.specs.declared.places.Place.{Place}
-use Rattle.dh_sound.specs.Accepted.{IsReadyCopied}
+use Rattle.dh_tree.specs.Ready.{IsReady}
 use Rattle.dh_meaning.specs.AccessNumbers.{term_accesses}
 use Rattle.dh_meaning.specs.Runs.{run_state}
 use Rattle.dh_sound.specs.Standing.{BlocksKeepPorts}
@@ -168,11 +168,11 @@ module _ (p : Program) (typed : IsTypedProgram p) (rules : KeepsIndexRules p) (d
         block_keeps p typed rules declared b table (λ k. test_makes k o.tested) (λ path. test_shares p b (known_of p) path o.tested o.has v) (λ e. false) o.tested.around
         loops test_commands test_deep v own_good own_ascends indices o.paths own_together
 
-pub typed_program : (p : Program) → IsReadyCopied p → IsTypedProgram p
+pub typed_program : (p : Program) → IsReady p → IsTypedProgram p
 typed_program p ready = record { names = ready.names; entities = ready.entities; kinds = ready.kinds; suits = ready.suits; widths = ready.of_text.widths }
 
 -- A program that is ready and keeps its rules: what its blocks spend is covered.
-module _ (p : Program) (ready : IsReadyCopied p) (rules : KeepsIndexRules p) (declared : AccessesDeclared p) (tells : TellsBlocks p) where
+module _ (p : Program) (ready : IsReady p) (rules : KeepsIndexRules p) (declared : AccessesDeclared p) (tells : TellsBlocks p) where
   abbrev begun_with : List (List ℕ) → Begun
   begun_with memories = record { table = (core_of p).table; memories = memories }
 

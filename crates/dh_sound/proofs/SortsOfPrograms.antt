@@ -12,7 +12,7 @@ use Rattle.dh_tree.specs.Kinds.{of_memory, Facts, declared_facts, function_fact,
 use Rattle.dh_tree.specs.LeastBreach.{is_before}
 use Rattle.dh_tree.specs.Memories.{outside_memory, memories_of, locals}
 use Rattle.dh_tree.specs.PlainTrees.{Declared, Defined, Program}
-use Rattle.dh_sound.specs.Accepted.{IsReadyCopied}
+use Rattle.dh_tree.specs.Ready.{IsReady}
 use Rattle.dh_tree.specs.Resolved.{resolved_decls}
 use Rattle.dh_tree.specs.Scopes.{Binding, bind, Item, memory_items, function_items, merged, items_of, after_items, first_scope, body_scope, at_end}
 use Rattle.dh_tree.proofs.UncheckedBuilt.{second_none}
@@ -128,7 +128,7 @@ each_at P (accesses x ∷ es) zero a h e = let same : x ≡ a = cc in subst P sa
 each_at P (accesses x ∷ es) (suc k) a h e = each_at P es k a h.1 e
 each_at P (assigned entity ∷ es) k a h e = each_at P es k a h e
 
-module _ (p : Program) (ready : IsReadyCopied p) (typed : IsTypedProgram p) where
+module _ (p : Program) (ready : IsReady p) (typed : IsTypedProgram p) where
   body_told : CommandTold p (facts_after (body_facts p) p.body) 0 0 (at_end (body_scope p) p.body) (trace p) (AssignsInside (known_of p) 0 p.body)
   body_told =
       told p p.body (body_facts p) (body_scope p) nothing_around 0 0 (body_in_step p) (body_sorted p typed) (resolved_body p typed)

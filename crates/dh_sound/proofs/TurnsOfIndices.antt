@@ -12,8 +12,8 @@ use Rattle.dh_tree.specs.Counters.{counters_of, counter_in}
 use Rattle.dh_tree.specs.Indices.{form_of}
 use Rattle.dh_tree.specs.Memories.{same_entity}
 use Rattle.dh_tree.specs.PlainTrees.{TermForm, number, truth_value, named, accessed, in_bank, applied, converted, Terms, no_terms, term_then, Program}
-use Rattle.dh_sound.specs.Accepted.{IsReadyCopied}
-use Rattle.dh_tree.proofs.SpentAlike.{equal_entities}
+use Rattle.dh_tree.specs.Ready.{IsReady}
+use Rattle.dh_tree.proofs.SameEntities.{equal_entities}
 use Rattle.dh_meaning.specs.Bindings.{binding_in, depth_bound}
 use Rattle.dh_meaning.specs.Core.{CoreCommands, Turning}
 use Rattle.dh_meaning.specs.CoreOf.{Known, known_of, entity_number, core_commands, core_of}
@@ -168,7 +168,7 @@ spared_test [] = tt
 spared_test (loop ∷ loops) = (refl, spared_test loops)
 
 -- the elements of straight commands in a turn of their loops, whose iterators they spare
-pub straight_in_turn : (p : Program) → IsReadyCopied p → (loops : List Turning) (block : Block) → StandsIn [] (core_of p).phases loops block → (m : StraightMatches p loops block)
+pub straight_in_turn : (p : Program) → IsReady p → (loops : List Turning) (block : Block) → StandsIn [] (core_of p).phases loops block → (m : StraightMatches p loops block)
     → AreSpared (λ e. any_assigns e (core_commands (known_of p) m.of.done)) loops
     → (v0 v : Variables) (path : Path) → AreInTurn [] loops v0 → IsNearTo v0 (λ e. any_assigns e (core_commands (known_of p) m.of.done)) v → IsPath path (paths_inside loops)
     → (e : Element) → ElementRound (counters_of p) m.of.round.loops e → ElementInTurn (known_of p) (counters_of p) m.of.round.loops path v e
@@ -180,7 +180,7 @@ straight_in_turn p r loops block s m spared v0 v path turns near here =
     depths = (ready_deep p r).depths loops block s
 
 -- and those of a test
-pub test_in_turn : (p : Program) → IsReadyCopied p → (loops : List Turning) (block : Block) → StandsIn [] (core_of p).phases loops block → (m : TestMatches p loops block)
+pub test_in_turn : (p : Program) → IsReady p → (loops : List Turning) (block : Block) → StandsIn [] (core_of p).phases loops block → (m : TestMatches p loops block)
     → (v0 v : Variables) (path : Path) → AreInTurn [] loops v0 → IsNearTo v0 (λ e. false) v → IsPath path (paths_inside loops)
     → (e : Element) → ElementRound (counters_of p) m.of.tested.around.loops e → ElementInTurn (known_of p) (counters_of p) m.of.tested.around.loops path v e
 test_in_turn p r loops block s m v0 v path turns near here =
@@ -191,7 +191,7 @@ test_in_turn p r loops block s m v0 v path turns near here =
     depths = (ready_deep p r).depths loops block s
 
 -- the same for accesses in these loops
-pub straight_access : (p : Program) → IsReadyCopied p → (loops : List Turning) (block : Block) → StandsIn [] (core_of p).phases loops block → (m : StraightMatches p loops block)
+pub straight_access : (p : Program) → IsReady p → (loops : List Turning) (block : Block) → StandsIn [] (core_of p).phases loops block → (m : StraightMatches p loops block)
     → AreSpared (λ e. any_assigns e (core_commands (known_of p) m.of.done)) loops
     → (v0 v : Variables) (path : Path) → AreInTurn [] loops v0 → IsNearTo v0 (λ e. any_assigns e (core_commands (known_of p) m.of.done)) v → IsPath path (paths_inside loops)
     → (a : SourceAccess) → a.site.loops ≡ m.of.round.loops → ElementRound (counters_of p) a.site.loops a.element → ElementInTurn (known_of p) (counters_of p) a.site.loops path v a.element
@@ -199,7 +199,7 @@ straight_access p r loops block s m spared v0 v path turns near here a same h =
     subst (λ (ls : List Counter). ElementInTurn (known_of p) (counters_of p) ls path v a.element) (sym same)
     (straight_in_turn p r loops block s m spared v0 v path turns near here a.element (subst (λ (ls : List Counter). ElementRound (counters_of p) ls a.element) same h))
 
-pub test_access : (p : Program) → IsReadyCopied p → (loops : List Turning) (block : Block) → StandsIn [] (core_of p).phases loops block → (m : TestMatches p loops block)
+pub test_access : (p : Program) → IsReady p → (loops : List Turning) (block : Block) → StandsIn [] (core_of p).phases loops block → (m : TestMatches p loops block)
     → (v0 v : Variables) (path : Path) → AreInTurn [] loops v0 → IsNearTo v0 (λ e. false) v → IsPath path (paths_inside loops)
     → (a : SourceAccess) → a.site.loops ≡ m.of.tested.around.loops → ElementRound (counters_of p) a.site.loops a.element → ElementInTurn (known_of p) (counters_of p) a.site.loops path v a.element
 test_access p r loops block s m v0 v path turns near here a same h =

@@ -6,7 +6,7 @@ use Rattle.dh_tree.specs.PlainTrees.{Program}
 use Rattle.dh_meaning.specs.CoreOf.{core_of}
 use Rattle.dh_meaning.specs.Runs.{run_state}
 use Rattle.dh_meets.specs.Ports.{KeepsPorts}
-use Rattle.dh_sound.specs.Accepted.{IsReadyCopied}
+use Rattle.dh_tree.specs.Ready.{IsReady}
 use Rattle.dh_sound.specs.BlockTold.{AccessesDeclared}
 use Rattle.dh_sound.specs.BlocksOfPhases.{TellsBlocks}
 use Rattle.dh_sound.specs.IndexRules.{KeepsIndexRules}
@@ -15,7 +15,7 @@ use Rattle.dh_sound.specs.Standing.{IsStanding}
 -- A program of which all is told that soundness rests on. That it is told of each program that the passes accept is a
 -- law (`Accepted` says what they tell).
 pub record IsTold (p : Program) : Type 0 where
-  pub ready : IsReadyCopied p
+  pub ready : IsReady p
   -- it breaks no rule on indices, in reducers either, and keeps its ports
   pub rules : KeepsIndexRules p
   pub keeps : KeepsPorts p

@@ -24,6 +24,5 @@ pub mod SimpleForms
 pub mod AssignsInside
 pub mod Accepted
 pub mod BlocksCovered
-pub mod CopyForms
 pub mod Joins
 pub mod StraightKinds

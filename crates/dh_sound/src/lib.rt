@@ -2,13 +2,17 @@
 //! together, in which banks they lie, and that a program that keeps its ports is never stuck.
 #![tactic(auto)]
 
+ghost use Rattle.std.specs.Prelude.{◌≡◌, [], None};
+ghost use Rattle.dh_tree.specs.Excesses.{first_excess};
+ghost use Rattle.dh_tree.specs.Indices.{index_breaches_of};
 ghost use Rattle.dh_tree.specs.PlainTrees.{Program, Action};
 ghost use Rattle.dh_tree.specs.Ready.{IsReady};
 ghost use Rattle.dh_meaning.specs.CoreOf.{core_of};
 ghost use Rattle.dh_meets.specs.Ports.{KeepsPorts, KeepsPortRules};
-ghost use Rattle.dh_sound.specs.Accepted.{IsReadyCopied, IsAccepted};
+ghost use Rattle.dh_sound.specs.Accepted.{IsAccepted};
 ghost use Rattle.dh_sound.specs.BlocksCovered.{BlocksCovered, BlocksKept};
 ghost use Rattle.dh_sound.specs.IndexValues.{IsTypedProgram, AccessesReachBanks};
+ghost use Rattle.dh_meets.specs.FewCopies.{HasFewCopies, NamesBanks};
 ghost use Rattle.dh_sound.specs.KeptPorts.{IsTold, IsNeverStuck, StandsAlways};
 ghost use Rattle.dh_sound.specs.IndexRules.{KeepsIndexRules};
 ghost use Rattle.dh_sound.specs.Standing.{BlocksKeepPorts};
@@ -18,8 +22,7 @@ ghost use Rattle.dh_sound.specs.Unmet.{StandOpposite, TestsMeet};
 /// A run of a ready program stands at a block of a phase, at the paths inside the loops round it, each of which is
 /// in a turn that is one for all its copies; or it is at its end.
 pub fn runs_stand_in_blocks()
-    ensures ready { (p : Program) → IsReady p → StandsAlways p }
-    ensures copied { (p : Program) → IsReadyCopied p → StandsAlways p }
+    ensures { (p : Program) → IsReady p → StandsAlways p }
 {}
 
 /// How many phases a command has, as the rule on steps of copies counts them, tells whether it is straight.
@@ -50,15 +53,20 @@ pub fn kept_ports_are_never_spent()
 /// of accesses charges of which any two may meet, from any memories and any values of the variables with which the
 /// loops round the block are in turns. So it is no more than the ports, if the program keeps its ports.
 pub fn blocks_spend_what_is_charged()
-    ensures covered { (p : Program) → IsReadyCopied p → BlocksCovered p }
+    ensures covered { (p : Program) → IsReady p → BlocksCovered p }
     ensures kept { (p : Program) → BlocksCovered p → KeepsPorts p → BlocksKept p }
 {}
 
 /// Of a program that the passes accept, each block spends of each bank at most the ports of its memory, and no run, from
-/// whatever memories, is ever stuck: so it is of a program whose loops have copies, and of one that is ready without.
+/// whatever memories, is ever stuck.
 pub fn accepted_programs_are_never_stuck()
     ensures blocks { (p : Program) → IsAccepted p → BlocksKeepPorts (core_of p) }
     ensures stuck { (p : Program) → IsAccepted p → IsNeverStuck p }
-    ensures copied { (p : Program) → IsReady p → IsReadyCopied p }
-    ensures ready { (p : Program) → IsReady p → KeepsPortRules p → IsNeverStuck p }
+{}
+
+/// Of a program that breaks no rule on indices and exceeds no limit, each access stands in few copies, and one by a row of
+/// a bank names a bank that its memory has.
+pub fn ready_accesses_are_told()
+    ensures copies { (p : Program) → index_breaches_of p ≡ [] → first_excess p ≡ None → HasFewCopies p }
+    ensures banks { (p : Program) → index_breaches_of p ≡ [] → NamesBanks p }
 {}

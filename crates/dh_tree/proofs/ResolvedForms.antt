@@ -18,6 +18,7 @@ use Rattle.dh_tree.specs.Written.{IsDeclared, IsOfText, IsWritten}
 use Rattle.dh_tree.proofs.NumbersKept.{resolved_numbered}
 use Rattle.dh_tree.proofs.LocalsKept.{resolved_named}
 use Rattle.dh_tree.proofs.TargetsKept.{resolved_targets}
+use Rattle.dh_tree.proofs.TextNumbersKept.{resolved_numbers}
 
 -- expressions
 number_kept : (bs : List Binding) (f : TermForm) → plain_number (resolved_term_form bs f) ≡ plain_number f
@@ -370,6 +371,7 @@ of_text_kept tokens p widths h =
       names = omega (arith, decls, functions, within, body, names);
       widths = widths;
       targets = resolved_targets p.body (body_scope p) h.targets;
+      numbers = resolved_numbers p.body (body_scope p) h.numbers;
     }
 
 -- the tree is written as it was

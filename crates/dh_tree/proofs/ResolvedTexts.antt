@@ -1,5 +1,5 @@
 -- Resolving a program's names changes its entities alone: the kinds that it writes keep their widths, and
--- the forms that are not built for a run without the check of ports are the same. By recursion over the
+-- the forms that are not built for a check or a run are the same. By recursion over the
 -- tree.
 use Rattle.std.proofs.Common.{◌≡◌, ℕ, ◌+◌, ◌&&◌, ◌||◌, Bool, false, if◌then◌else◌, List, [], ◌∷◌, ◌++◌, length, map, Option, Some, None, refl, ap, ◌∙◌}
 use Rattle.std.specs.Prelude.{option_map}
@@ -11,7 +11,7 @@ use Rattle.dh_tree.specs.Forms.{unbuilt, form_holds, unbuilt_functions}
 use Rattle.dh_tree.specs.PlainTrees.{Term, term, TermForm, number, truth_value, named, accessed, in_bank, applied, converted, Terms, no_terms, term_then, Suffixed, ViewPlan, shrinks, splits, suffixes, shifts, Action, action, ActionForm, lets, lets_memory, views, assigns, stores, reduces, calls, blocks, decides, repeats, counts, MaybeAction, no_action, one_action, Actions, no_actions, action_then, Groups, no_groups, group_then, Declared, Formal, Defined, Program}
 use Rattle.dh_tree.specs.Resolved.{resolved_term, resolved_term_form, resolved_terms, resolved_offset, resolved_plan, resolved_action, resolved_form, resolved_other, resolved_actions, resolved_groups, resolved_decls, resolved_formals, resolved_functions, resolved}
 use Rattle.dh_tree.specs.Scopes.{Binding, Scope, declare, leave, past, at_end, actions_at_end, formal_sort, body_start, after_function, first_scope, body_scope}
-use Rattle.dh_tree.specs.UncheckedForms.{unchecked_factor, unchecked_combine, unchecked_action, unchecked_form, unchecked_other, unchecked_groups, unchecked_part, unchecked_forms}
+use Rattle.dh_tree.specs.UncheckedForms.{unchecked_action, unchecked_form, unchecked_other, unchecked_groups, unchecked_part, unchecked_forms}
 use Rattle.dh_tree.specs.Widths.{AreSized, AreSizedIn, AreAllSized, MaybeSized, PlanSized, ActionSized, FormSized, OtherSized, ActionsSized, GroupsSized, DefinedSized, HasWidths}
 use Rattle.dh_tree.proofs.ResolvedForms.{form_steps_kept, functions_kept}
 
@@ -101,10 +101,6 @@ widths_kept p h = record {
   body = action_sized (body_scope p) p.body h.body;
 }
 
-combine_kept : (s : Scope) (word : Place) (m : MaybeAction) → unchecked_combine word (resolved_other s m) ≡ unchecked_combine word m
-combine_kept s word no_action = refl
-combine_kept s word (one_action a) = refl
-
 mutual
   action_kept : (s : Scope) (a : Action) → unchecked_action (resolved_action s a) ≡ unchecked_action a
   action_kept s (action id place form) = action_form_kept s place form
@@ -124,10 +120,8 @@ mutual
   action_form_kept s place (repeats test body) = action_kept s body
   action_form_kept s place (counts iterator declared low high factor body combine combine_place) =
       let d : Scope = declare s iterator Iterator in
-      let first = action_kept d body in
-      let second = combine_kept (at_end d body) combine_place combine in
-      ap (λ l. unchecked_factor factor ++ (l ++ unchecked_combine combine_place (resolved_other (at_end d body) combine))) first
-      ∙ ap (λ l. unchecked_factor factor ++ (unchecked_action body ++ l)) second
+      ap (λ l. l ++ unchecked_other (resolved_other (at_end d body) combine)) (action_kept d body)
+      ∙ ap (λ l. unchecked_action body ++ l) (other_kept (at_end d body) combine)
 
   other_kept : (s : Scope) (m : MaybeAction) → unchecked_other (resolved_other s m) ≡ unchecked_other m
   other_kept s no_action = refl

@@ -16,6 +16,7 @@ use Rattle.dh_tree.specs.Written.{IsOfText, IsWritten}
 use Rattle.dh_tree.proofs.NumbersKept.{typed_numbered}
 use Rattle.dh_tree.proofs.LocalsKept.{typed_named}
 use Rattle.dh_tree.proofs.TargetsKept.{typed_targets}
+use Rattle.dh_tree.proofs.TextNumbersKept.{typed_numbers}
 
 -- expressions
 number_kept : (facts : Facts) (want : Option Kind) (f : TermForm) → plain_number (typed_form facts want f) ≡ plain_number f
@@ -353,6 +354,7 @@ of_text_kept tokens p widths h =
       names = omega (arith, functions, within, body, names);
       widths = widths;
       targets = typed_targets p.body (start_of p) h.targets;
+      numbers = typed_numbers p.body (start_of p) h.numbers;
     }
 
 -- the tree is written as it was

@@ -1,5 +1,5 @@
 -- Filling in the kinds of a program changes kinds alone: the kinds that it writes keep their widths, and
--- the forms that are not built for a run without the check of ports are the same. By recursion over the
+-- the forms that are not built for a check or a run are the same. By recursion over the
 -- tree.
 use Rattle.std.proofs.Common.{◌≡◌, ◌&&◌, ◌||◌, Bool, false, if◌then◌else◌, List, [], ◌∷◌, ◌++◌, map, Option, Some, None, refl, ap, ◌∙◌}
 use Rattle.std.specs.List.{AllByRecursion}
@@ -8,7 +8,7 @@ use Rattle.dh_value.specs.declared.kinds.Kind.{Kind}
 use Rattle.dh_tree.specs.Forms.{unbuilt, form_holds, unbuilt_functions}
 use Rattle.dh_tree.specs.Kinds.{Facts, fact_of, of_iterator, for_numbers, found, iterator_kind, target_kind, parameters_of, is_bare, left_want, right_want, typed_term, typed_form, typed_terms, typed_maybe, typed_offset, typed_plan, typed_arguments, facts_after, facts_after_actions, facts_after_function, formal_facts, first_facts, typed_action, typed_action_form, typed_other, typed_actions, typed_groups, typed_function, typed_functions, typed}
 use Rattle.dh_tree.specs.PlainTrees.{Term, term, TermForm, number, truth_value, named, accessed, in_bank, applied, converted, Terms, no_terms, term_then, Suffixed, ViewPlan, shrinks, splits, suffixes, shifts, Action, action, ActionForm, lets, lets_memory, views, assigns, stores, reduces, calls, blocks, decides, repeats, counts, MaybeAction, no_action, one_action, Actions, no_actions, action_then, Groups, no_groups, group_then, Defined, Program}
-use Rattle.dh_tree.specs.UncheckedForms.{unchecked_factor, unchecked_combine, unchecked_action, unchecked_form, unchecked_other, unchecked_groups, unchecked_part, unchecked_forms}
+use Rattle.dh_tree.specs.UncheckedForms.{unchecked_action, unchecked_form, unchecked_other, unchecked_groups, unchecked_part, unchecked_forms}
 use Rattle.dh_tree.specs.Widths.{AreSized, AreSizedIn, AreAllSized, MaybeSized, PlanSized, ActionSized, FormSized, OtherSized, ActionsSized, GroupsSized, DefinedSized, HasWidths}
 use Rattle.dh_tree.proofs.TypedForms.{form_steps_kept, functions_kept, start_of}
 
@@ -101,10 +101,6 @@ widths_kept p h = record {
   body = action_sized (start_of p) p.body h.body;
 }
 
-combine_kept : (facts : Facts) (word : Place) (m : MaybeAction) → unchecked_combine word (typed_other facts m) ≡ unchecked_combine word m
-combine_kept facts word no_action = refl
-combine_kept facts word (one_action a) = refl
-
 mutual
   action_kept : (facts : Facts) (a : Action) → unchecked_action (typed_action facts a) ≡ unchecked_action a
   action_kept facts (action id place form) = action_form_kept facts place form
@@ -125,8 +121,8 @@ mutual
   action_form_kept facts place (counts iterator declared low high factor body combine combine_place) =
       let inside : Facts = facts ++ of_iterator (iterator_kind declared) ∷ [] in
       let behind : Facts = facts_after inside (typed_action inside body) in
-      ap (λ l. unchecked_factor factor ++ (l ++ unchecked_combine combine_place (typed_other behind combine))) (action_kept inside body)
-      ∙ ap (λ l. unchecked_factor factor ++ (unchecked_action body ++ l)) (combine_kept behind combine_place combine)
+      ap (λ l. l ++ unchecked_other (typed_other behind combine)) (action_kept inside body)
+      ∙ ap (λ l. unchecked_action body ++ l) (other_kept behind combine)
 
   other_kept : (facts : Facts) (m : MaybeAction) → unchecked_other (typed_other facts m) ≡ unchecked_other m
   other_kept facts no_action = refl

@@ -1,5 +1,5 @@
--- A program of which every form is built for check and compile has every form built for a run without
--- the check of ports.
+-- A program of which every form is built for check and compile has every form built for a check or a
+-- run.
 use Rattle.std.proofs.Common.{◌≡◌, ◌&&◌, ◌||◌, Bool, false, if◌then◌else◌, List, [], ◌∷◌, ◌++◌, refl, ap, ◌∙◌}
 use Rattle.dh_base.specs.declared.places.Place.{Place}
 use Rattle.dh_tree.specs.declared.breaches.Breach.{Breach}
@@ -53,7 +53,7 @@ mutual
 action_built : (a : Action) → unbuilt_action a ≡ [] → unchecked_action a ≡ []
 action_built (action id place form) e = form_built place form e
 
--- every form of it is built for a run without the check of ports
+-- every form of it is built for a check or a run
 pub forms_built : (p : Program) → unbuilt_forms p ≡ [] → unchecked_forms p ≡ []
 forms_built p e =
     let behind = second_none (unbuilt_decls p.decls) _ e in

@@ -10,7 +10,6 @@ pub mod PhaseKinds
 pub mod Placements
 pub mod Excesses
 pub mod Ready
-pub mod Spending
 pub mod Numbers
 pub mod Happenings
 pub mod Sharing
@@ -37,6 +36,6 @@ pub mod Forms
 pub mod FirstForms
 pub mod Widths
 pub mod Targets
+pub mod TextNumbers
 pub mod Written
 pub mod UncheckedForms
-pub mod Suited

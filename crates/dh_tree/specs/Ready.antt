@@ -10,7 +10,6 @@ use Rattle.dh_tree.specs.Placements.{placement_breaches}
 use Rattle.dh_tree.specs.PlainTrees.{Program}
 use Rattle.dh_tree.specs.Resolved.{HasEntities}
 use Rattle.dh_tree.specs.UncheckedForms.{unchecked_forms}
-use Rattle.dh_tree.specs.Widths.{HasWidths}
 use Rattle.dh_tree.specs.Written.{IsOfText}
 
 -- the most tokens of a text within the limit on its bytes
@@ -27,12 +26,6 @@ pub record IsReady (p : Program) : Type 0 where
   pub indices : index_breaches_of p ≡ []
   pub limits : first_excess p ≡ None
   pub placements : placement_breaches p ≡ []
-
--- so it is where a program is typed, breaks no rule on names, kinds, shapes, indices or bounds, has kinds with
--- their widths, and has no form that is not built for a run without the check of ports
-abbrev pub IfTypedAndBuilt : Program → Type 0 → Type 0
-IfTypedAndBuilt p fact =
-    KeepsNames p → HasEntities p → HasKinds p → KeepsKinds p → HasWidths p → unchecked_forms p ≡ [] → index_breaches_of p ≡ [] → fact
 
 -- so it is where the program of a text has no such form either, and keeps the rules on names, shapes, indices and
 -- places and the limits on memories

@@ -1,6 +1,6 @@
 -- What holds of the tree of a text, whatever rules it breaks: names of memories are names, what a type
--- does not write is 1, kinds have their widths, stores go to accesses, commands are numbered in text order,
--- and there are no more names than the text has tokens. Of a text of the built forms also that commands are
+-- does not write is 1, kinds have their widths, stores go to accesses, loops end at numbers of 64 bits and reducers
+-- take numbers, commands are numbered in text order, and there are no more names than the text has tokens. Of a text of the built forms also that commands are
 -- numbered in text order, and that there are no more accesses than tokens.
 use Rattle.std.specs.Prelude.{◌≡◌, ℕ, ◌≤◌, List, [], ◌∷◌, length, Option, Some, None}
 use Rattle.std.specs.List.{AllByRecursion}
@@ -15,6 +15,7 @@ use Rattle.dh_tree.specs.Numbers.{IsNumbered}
 use Rattle.dh_tree.specs.NameCounts.{names_declared}
 use Rattle.dh_tree.specs.Accesses.{accesses}
 use Rattle.dh_tree.specs.Targets.{HasTargets}
+use Rattle.dh_tree.specs.TextNumbers.{HasTextNumbers}
 use Rattle.dh_tree.specs.Widths.{HasWidths}
 
 -- a number that is not written is 1
@@ -42,6 +43,7 @@ pub record IsOfText (tokens : ℕ) (p : Program) : Type 0 where
   pub names : names_declared p ≤ tokens
   pub widths : HasWidths p
   pub targets : HasTargets p.body
+  pub numbers : HasTextNumbers p.body
 
 -- the tree of a text of the built forms, of at most so many tokens
 pub record IsWritten (tokens : ℕ) (p : Program) : Type 0 where

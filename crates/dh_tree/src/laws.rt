@@ -17,13 +17,9 @@ ghost use Rattle.dh_tree.specs.PlainTrees.{Program, StaysAfter};
 ghost use Rattle.dh_tree.specs.Resolved.{HasEntities, resolved};
 ghost use Rattle.dh_tree.specs.Breaches.{KeepsNames};
 ghost use Rattle.dh_tree.specs.Kinds.{HasKinds, typed};
-ghost use Rattle.dh_tree.specs.Meaning.{meaning_of};
-ghost use Rattle.dh_tree.specs.Suited.{IsSuitedTree};
 ghost use Rattle.dh_tree.specs.Memories.{table_of};
-ghost use Rattle.dh_tree.specs.Ports.{KeepsPorts};
-ghost use Rattle.dh_tree.specs.Ready.{IsReady, IfTypedAndBuilt, IfKeepsMemories};
+ghost use Rattle.dh_tree.specs.Ready.{IfKeepsMemories};
 ghost use Rattle.dh_tree.specs.Shapes.{IsProgramTable};
-ghost use Rattle.dh_tree.specs.Spending.{AllCovered, IsNeverStuck, OfEachRun};
 ghost use Rattle.dh_tree.specs.Written.{IsOfText, IsWritten};
 ghost use Rattle.dh_tree.specs.Seen.{SeesIndices, SeesParts};
 
@@ -64,13 +60,9 @@ pub fn typing_keeps_programs()
     ensures written { (tokens : ℕ) → StaysAfter typed (IsWritten tokens) }
 {}
 
-/// A typed program that breaks no rule on names, kinds, shapes, indices or bounds, whose kinds have their
-/// widths and whose forms are built for a run without the check of ports, means terms that suit their
-/// operators: operands have the kinds that their operators take, conditions are of kind Bool, kinds have their
-/// widths, and memories and banks are there. Where no form is one that is not built, none is for such a run.
-pub fn typed_programs_suit()
-    ensures suits { (p : Program) → IfTypedAndBuilt p (IsSuitedTree (meaning_of p)) }
-    ensures built { (p : Program) → unbuilt_forms p ≡ [] → unchecked_forms p ≡ [] }
+/// Where no form of a program is one that is not compiled, none is one that is not built for a check or a run.
+pub fn compiled_forms_are_built()
+    ensures { (p : Program) → unbuilt_forms p ≡ [] → unchecked_forms p ≡ [] }
 {}
 
 /// An element within its dimensions lies in one of the banks, in a row of it, and at a place among all
@@ -86,17 +78,10 @@ pub fn elements_lie_in_banks()
     ensures one { (dims : List Dim) → PlacesTellRows dims }
 {}
 
-/// The memories of a program of a text, whose forms are built for a run without the check of ports and that
+/// The memories of a program of a text, whose forms are built for a check or a run and that
 /// keeps the rules on names, shapes, indices and places and the limits on memories, are a table: each has a name
 /// and the shape of a memory, those from outside have names that differ, local ones stand behind them, and they
 /// have few enough elements together.
 pub fn kept_programs_have_tables()
     ensures { (p : Program) (tokens : ℕ) → IfKeepsMemories tokens p (IsProgramTable (table_of p)) }
-{}
-
-/// In every step of every run of a ready program each bank of a memory spends no more than some set of
-/// accesses charges of which any two may meet; and where the program keeps its ports, no step is stuck.
-pub fn kept_ports_are_never_spent()
-    ensures covered { (p : Program) → IsReady p → OfEachRun p (AllCovered p) }
-    ensures never_stuck { (p : Program) → IsReady p → KeepsPorts p → OfEachRun p (IsNeverStuck p) }
 {}

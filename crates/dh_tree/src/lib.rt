@@ -13,8 +13,8 @@ mod trees;
 pub use breaches::{Breach, is_before, keep_least};
 pub use dh_value::{Kind, Memories};
 pub use laws::{
-    elements_lie_in_banks, kept_is_least, kept_ports_are_never_spent, kept_programs_have_tables,
-    lists_are_seen_in_order, resolving_keeps_forms, typed_programs_suit, typing_keeps_programs,
+    compiled_forms_are_built, elements_lie_in_banks, kept_is_least, kept_programs_have_tables,
+    lists_are_seen_in_order, resolving_keeps_forms, typing_keeps_programs,
 };
 pub use loads::{loads_are_largest_sums, ports_are_spent_once};
 pub use tables::{Dim, MemEntry, MemTable, Name, Shape, copy_table, element_count, is_table};

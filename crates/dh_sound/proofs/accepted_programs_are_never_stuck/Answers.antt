@@ -5,7 +5,6 @@ use Rattle.dh_sound.specs.KeptPorts.{IsNeverStuck}
 use Rattle.dh_sound.specs.Standing.{BlocksKeepPorts}
 use Rattle.dh_sound.proofs.AcceptedPrograms.{accepted_is_told}
 use Rattle.dh_sound.proofs.PortsKept.{blocks_keep, never_stuck}
-use Rattle.dh_sound.proofs.ReadyCopied.{ready_copied}
 use Rattle.dh_sound.proofs.accepted_programs_are_never_stuck.Goals as goal
 
 accepted_blocks : (p : Program) → IsAccepted p → BlocksKeepPorts (core_of p)
@@ -19,9 +18,3 @@ returns-clause-blocks c = accepted_blocks
 
 pub returns-clause-stuck : goal.returns-clause-stuck
 returns-clause-stuck c = accepted_never_stuck
-
-pub returns-clause-copied : goal.returns-clause-copied
-returns-clause-copied c = ready_copied
-
-pub returns-clause-ready : goal.returns-clause-ready
-returns-clause-ready c = λ p ready ports. accepted_never_stuck p (record { ready = ready_copied p ready; ports = ports })

@@ -5,9 +5,6 @@ use Rattle.dh_check.proofs.laws.ready_programs_have_tables.Goals as goal
 pub returns-clause-tables : goal.returns-clause-tables
 returns-clause-tables c p ready = c.kept_programs_have_tables.ensures p most_tokens ready.of_text ready.names ready.built ready.indices ready.limits ready.placements
 
-pub returns-clause-suits : goal.returns-clause-suits
-returns-clause-suits c p ready = c.typed_programs_suit.ensures.suits p ready.names ready.entities ready.kinds ready.suits ready.of_text.widths ready.built ready.indices
-
 pub returns-clause-nets : goal.returns-clause-nets
 returns-clause-nets c p ready built =
     net_table p ready built (c.kept_programs_have_tables.ensures p most_tokens ready.of_text ready.names ready.built ready.indices ready.limits ready.placements)

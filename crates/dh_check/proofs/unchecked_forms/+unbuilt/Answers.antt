@@ -1,11 +1,11 @@
 use Rattle.std.proofs.Common.{◌+◌, ◌∙◌, ap, sym, option_map}
 use Rattle.dh_tree.specs.declared.trees.commands.Command.{Command}
 use Rattle.dh_tree.specs.LeastBreach.{least_of}
-use Rattle.dh_tree.specs.Seen.{action_seen, action_form_seen, maybe_seen, unrolled}
-use Rattle.dh_tree.specs.UncheckedForms.{unchecked_factor, unchecked_action, unchecked_combine, unchecked_form}
+use Rattle.dh_tree.specs.Seen.{action_seen, action_form_seen, maybe_seen}
+use Rattle.dh_tree.specs.UncheckedForms.{unchecked_action, unchecked_other, unchecked_form}
 use Rattle.dh_tree.proofs.SeenActions.{for_is}
 use Rattle.dh_check.proofs.KeptForms.{steps_next}
-use Rattle.dh_check.proofs.KeptUnchecked.{kept_next, three_kept}
+use Rattle.dh_check.proofs.KeptUnchecked.{kept_next, two_kept}
 use Rattle.dh_check.proofs.unchecked_forms.+unbuilt.Goals as goal
 
 pub keep_groups-loop-command-preserved : goal.keep_groups-loop-command-preserved
@@ -22,8 +22,7 @@ keep_groups-loop-command-preserved t c = record {
 
 pub keep_command-returns-in-For-clause-kept : goal.keep_command-returns-in-For-clause-kept
 keep_command-returns-in-For-clause-kept t c =
-    three_kept c.args.kept.now c.keep_factor.new.kept c.keep_command-in-For.new.kept c.keep_combine.new.kept
-    (unchecked_factor (unrolled c.in-For.factor c.in-For.factor_place c.in-For.unroll_place)) (unchecked_action (action_seen c.in-For.body.value))
-    (unchecked_combine c.in-For.combine_place (maybe_seen (option_map (λ b. action_seen b.value) c.in-For.combine))) c.keep_factor.ensures
-    (c.keep_command-in-For.ensures.kept ∙ ap (λ (b : Command). least_of c.keep_factor.new.kept (unchecked_action (action_seen b))) c.deref-in-For.ensures) c.keep_combine.ensures
+    two_kept c.args.kept.now c.keep_command-in-For.new.kept c.keep_other.new.kept (unchecked_action (action_seen c.in-For.body.value))
+    (unchecked_other (maybe_seen (option_map (λ b. action_seen b.value) c.in-For.combine)))
+    (c.keep_command-in-For.ensures.kept ∙ ap (λ (b : Command). least_of c.args.kept.now (unchecked_action (action_seen b))) c.deref-in-For.ensures) c.keep_other.ensures.kept
     ∙ ap (λ f. least_of c.args.kept.now (unchecked_form c.args.command.now.place f)) (sym (ap action_form_seen c.in-For.is ∙ for_is _ _ _ _ _ _ _ _ _ _ _ _))

@@ -7,7 +7,6 @@ use Rattle.dh_tree.specs.Elements.{banks_of}
 use Rattle.dh_value.specs.Words as words
 use Rattle.dh_code.specs.declared.codes.Target.{Target}
 use Rattle.dh_code.specs.declared.codes.Operand.{Operand}
-use Rattle.dh_code.specs.declared.spots.Spread.{Spread}
 use Rattle.dh_code.specs.Banks.{AreDims, Spreads}
 use Rattle.dh_code.specs.Operated.{IsTarget, index_values, view_seen}
 use Rattle.dh_code.proofs.Entries.{dims_is, dims_of}

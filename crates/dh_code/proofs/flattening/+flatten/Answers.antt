@@ -1,4 +1,4 @@
-use Rattle.std.proofs.Common.{ap, sym, ◌∙◌, List, drop, map, add-one}
+use Rattle.std.proofs.Common.{ap, sym, ◌∙◌, map, add-one}
 use Rattle.std.proofs.lemmas.Result.{IfOk-weaker}
 use Rattle.dh_tree.specs.PlainTrees.{accessed}
 use Rattle.dh_tree.specs.Seen.{form_seen, term_seen, terms}

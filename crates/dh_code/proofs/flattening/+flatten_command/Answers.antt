@@ -1,4 +1,4 @@
-use Rattle.std.proofs.Common.{◌≡◌, ℕ, ◌+◌, List, drop, map, ap, sym, refl, ◌∙◌, subst, None}
+use Rattle.std.proofs.Common.{◌+◌, List, map, ap, sym, ◌∙◌, subst, None}
 use Rattle.std.specs.Prelude.{Option, Box, Vec, option_map}
 use Rattle.std.specs.Global.{Global}
 use Rattle.std.proofs.lemmas.Result.{IfOk-weaker}

@@ -1,6 +1,5 @@
-use Rattle.std.proofs.Common.{◌≡◌, ap, sym, ◌∙◌, length, subst}
+use Rattle.std.proofs.Common.{◌≡◌, ap, ◌∙◌, length, subst}
 use Rattle.std.proofs.lemmas.Result.{IfOk-weaker}
-use Rattle.dh_value.specs.declared.kinds.Kind.{Kind}
 use Rattle.dh_tree.specs.Seen.{term_seen}
 use Rattle.dh_meaning.specs.Bindings.{kind_found}
 use Rattle.dh_meaning.specs.CoreOf.{core_term, entity_number}
@@ -9,7 +8,7 @@ use Rattle.dh_code.specs.declared.codes.Flat.{Flat}
 use Rattle.dh_code.specs.declared.codes.Operand.{Operand}
 use Rattle.dh_code.specs.declared.places.Held.{Held}
 use Rattle.dh_code.specs.Extended.{extension_of}
-use Rattle.dh_code.specs.Flattening.{AddsStep, ExtendsTo, known_in, table_in}
+use Rattle.dh_code.specs.Flattening.{AddsStep, ExtendsTo, known_in}
 use Rattle.dh_code.specs.Made.{variable_operand}
 use Rattle.dh_code.specs.Slots.{held_at}
 use Rattle.dh_code.proofs.CommandsFlattened.{reduce_front}

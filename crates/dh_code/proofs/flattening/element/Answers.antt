@@ -1,7 +1,5 @@
-use Rattle.std.proofs.Common.{◌≡◌, ap, sym, refl, ◌∙◌, subst, map, Some, None, List}
-use Rattle.dh_tree.specs.declared.trees.expressions.Expr.{Expr}
-use Rattle.dh_tree.specs.PlainTrees as plain
-use Rattle.dh_tree.specs.PlainTrees.{Term, TermForm, term, accessed, in_bank}
+use Rattle.std.proofs.Common.{ap, sym, refl, ◌∙◌, subst, map, None}
+use Rattle.dh_tree.specs.PlainTrees.{TermForm, term, accessed}
 use Rattle.dh_tree.specs.Seen.{form_seen, term_seen, terms}
 use Rattle.dh_tree.proofs.SeenTerms.{access_is, binary_is, cast_is, number_is, truth_is, variable_is}
 use Rattle.dh_code.specs.Flattening.{IsAimed, aimed_at, known_in}

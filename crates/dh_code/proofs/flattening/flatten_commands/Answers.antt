@@ -1,4 +1,4 @@
-use Rattle.std.proofs.Common.{◌≡◌, List, drop, ap, sym, subst, None}
+use Rattle.std.proofs.Common.{List, ap, sym, subst, None}
 use denote.Ref.{Bor}
 use Rattle.dh_tree.specs.declared.trees.commands.Command.{Command}
 use Rattle.dh_meaning.specs.Core.{no_commands}

@@ -1,8 +1,6 @@
-use Rattle.std.proofs.Common.{◌∙◌}
-use Rattle.dh_code.proofs.Declaring.{round_more}
+use Rattle.dh_code.proofs.Declaring.{round_counted}
 use Rattle.dh_code.proofs.places.inside.Goals as goal
 
-pub returns : goal.returns
-returns c = λ factors round.
-    let h = round_more factors c.args.depth c.args.copies c.args.factor c.if-factor-le1.false round in
-    record { deep = c.in-Some.ensures.1 ∙ h.deep; many = c.in-Some-checked_mul.ensures.1 ∙ h.many }
+pub returns-else-factor-le1 : goal.returns-else-factor-le1
+returns-else-factor-le1 c = λ factors round few.
+    round_counted factors c.args.depth c.args.copies c.args.factor _ _ c.if-factor-le1.false c.saturating_add.ensures c.saturating_mul.ensures round few

@@ -1,4 +1,4 @@
-use Rattle.std.proofs.Common.{◌≡◌, ℕ, suc, ◌++◌, List, [], ap, sym, refl, ◌∙◌, subst, length, map, get_or, None, add-one}
+use Rattle.std.proofs.Common.{◌≡◌, suc, ◌++◌, List, [], ap, sym, refl, ◌∙◌, subst, length, map, get_or, None, add-one, arith}
 use Rattle.std.specs.Prelude.{Option}
 use Rattle.std.proofs.lemmas.List.{with_items_is}
 use Rattle.std.proofs.lemmas.Result.{IfOk-weaker}
@@ -8,6 +8,7 @@ use Rattle.dh_code.specs.declared.places.Declared.{Declared}
 use Rattle.dh_code.specs.Declarations.{all_held, declarations, declared_of, slots_counted}
 use Rattle.dh_code.specs.Placed.{AreFound, KeepsFound}
 use Rattle.dh_code.proofs.Declaring.{FoundSoFar, found_end, found_first, found_turn}
+use Rattle.dh_code.proofs.FewDeclared.{found_few}
 use Rattle.dh_code.proofs.Ranges.{get_whatever}
 use Rattle.dh_code.proofs.places.place_all.Goals as goal
 
@@ -28,9 +29,16 @@ loop-variable-preserved c =
 pub returns : goal.returns
 returns c =
     let ds = declarations [] (action_seen c.args.body.now) in
-    let listed = c.deref-variable-items.ensures.value ∙ (c.in_ok-declare.ensures [] (record { deep = refl; many = refl }) ∙ ap (λ l. l ++ map declared_of ds) c.new-list.ensures.items) in
+    let listed = c.deref-variable-items.ensures.value ∙ (c.in_ok-declare.ensures [] (record { deep = refl; many = refl; doubled = omega arith }) c.requires.few ∙ ap (λ l. l ++ map declared_of ds) c.new-list.ensures.items) in
     let found = found_end c.args.entities c.deref-variable-items.result.now c.loop-variable.variable-index c.loop-variable.found.items c.loop-variable-test.false c.loop-variable.invariant ds listed in
     let long : length c.as_slice.result.now ≡ c.args.entities = ap (λ l. length l) c.as_slice.ensures.value ∙ c.loop-variable.invariant.long in
     IfOk-weaker c.laid.result _ _ (λ places laid.
     let h = laid ds (subst (λ (l : List (Option Declared)). AreFound ds l) (sym c.as_slice.ensures.value) found) in
     (h.0 ∙ ap (λ n. all_held ds 0 0 n) long, h.1 ∙ ap (λ n. slots_counted ds 0 0 n) long)) c.laid.ensures
+
+pub laid-requires-clause-few : goal.laid-requires-clause-few
+laid-requires-clause-few c =
+    let ds = declarations [] (action_seen c.args.body.now) in
+    let listed = c.deref-variable-items.ensures.value ∙ (c.in_ok-declare.ensures [] (record { deep = refl; many = refl; doubled = omega arith }) c.requires.few ∙ ap (λ l. l ++ map declared_of ds) c.new-list.ensures.items) in
+    let found = found_end c.args.entities c.deref-variable-items.result.now c.loop-variable.variable-index c.loop-variable.found.items c.loop-variable-test.false c.loop-variable.invariant ds listed in
+    found_few ds c.as_slice.result.now c.requires.few (subst (λ (l : List (Option Declared)). AreFound ds l) (sym c.as_slice.ensures.value) found)

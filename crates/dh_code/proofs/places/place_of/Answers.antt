@@ -1,4 +1,4 @@
-use Rattle.std.proofs.Common.{rules, ◌≡◌, ◌≤◌, ℕ, length, sym, subst, ◌∙◌}
+use Rattle.std.proofs.Common.{rules, ◌≤◌, ℕ, length, sym, subst, ◌∙◌}
 use Rattle.dh_code.proofs.SlotsHeld.{held_past}
 use Rattle.dh_code.proofs.places.place_of.Goals as goal
 

@@ -1,17 +1,14 @@
-use Rattle.std.proofs.Common.{◌≡◌, ◌<◌, ◌≤◌, ◌+◌, ◌*◌, max, ℕ, List, [], ◌∷◌, true, false, ap, sym, subst, ◌∙◌, length, get_or, Bool, Err, Ok, if◌then◌else◌, rules}
-use Rattle.std.specs.Prelude.{Result, Option, Vec, slice_get, slice_index}
+use Rattle.std.proofs.Common.{◌<◌, ◌≤◌, ◌+◌, ◌*◌, ℕ, List, true, false, ap, sym, subst, ◌∙◌, length, Bool, Err, Ok, if◌then◌else◌, rules}
+use Rattle.std.specs.Prelude.{Option, Vec, slice_index}
 use Rattle.std.specs.Global.{Global}
 use Rattle.std.proofs.lemmas.Bool.{ltb-true}
 use Rattle.std.proofs.lemmas.Result.{err_from_is_err_and}
-use Rattle.dh_code.specs.declared.codes.Action.{Action}
-use Rattle.dh_code.specs.declared.codes.Action.TheVariants.{Assign, Choose, Store}
-use Rattle.dh_code.specs.declared.evaluating.Stop.{Stop}
-use Rattle.dh_code.specs.declared.running.State.{State}
+use Rattle.dh_code.specs.declared.codes.Action.TheVariants.{Choose}
 use Rattle.dh_code.specs.Rows.{contents_of}
 use Rattle.dh_meaning.specs.Effects.{holds_at, paths_where}
 use Rattle.dh_code.specs.Scenes.{begun_in}
-use Rattle.dh_code.specs.States.{AreRows, CanBeDone, DoesAll, DoesOne}
-use Rattle.dh_code.proofs.ListsRun.{action_depth, action_lower, arm_lower, can_be_done, choose_both, choose_one, choose_stop, choose_stop_first, choose_stop_one, found_step, list_depth, lost_step, next_low, only_path, run_end, run_first, run_lost, run_stop, run_turn}
+use Rattle.dh_code.specs.States.{AreRows, DoesAll, DoesOne}
+use Rattle.dh_code.proofs.ListsRun.{action_depth, action_lower, can_be_done, choose_both, choose_one, choose_stop, choose_stop_first, choose_stop_one, found_step, lost_step, next_low, only_path, run_end, run_first, run_lost, run_stop, run_turn}
 use Rattle.dh_code.proofs.running.+run.Goals as goal
 
 pub run-loop-list-init : goal.run-loop-list-init

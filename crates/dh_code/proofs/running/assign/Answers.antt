@@ -1,4 +1,4 @@
-use Rattle.std.proofs.Common.{ap, ◌∙◌, Err, take}
+use Rattle.std.proofs.Common.{ap, ◌∙◌, Err}
 use Rattle.std.proofs.lemmas.Result.{err_from_is_err_and}
 use Rattle.dh_value.specs.declared.words.Word.{Word}
 use Rattle.dh_code.proofs.StatesKept.{assigned_keeps, stopped_of}

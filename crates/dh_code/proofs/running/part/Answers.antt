@@ -1,4 +1,4 @@
-use Rattle.std.proofs.Common.{◌≡◌, ℕ, Bool, add-one, ap, sym, subst, ◌∙◌, ◌+◌, List, [], ◌++◌, ◌∷◌, Err}
+use Rattle.std.proofs.Common.{ℕ, Bool, add-one, ap, sym, subst, ◌∙◌, List, [], Err}
 use Rattle.std.specs.Prelude.{slice_index, Result, Vec, IfOk}
 use Rattle.std.specs.Global.{Global}
 use Rattle.std.proofs.lemmas.Result.{err_from_is_err_and}

@@ -1,4 +1,3 @@
-use Rattle.std.proofs.Common.{refl}
 use Rattle.dh_tree.specs.Seen.{action_seen}
 use Rattle.dh_events.proofs.ScopeFacts.{are_scopes}
 use Rattle.dh_events.proofs.dependence.scopes_of.Goals as goal

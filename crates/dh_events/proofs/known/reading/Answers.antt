@@ -1,8 +1,7 @@
-use Rattle.std.proofs.Common.{ap, sym, ◌∙◌, subst, max}
-use Rattle.std.specs.Prelude.{Option, Some, None, option_map}
+use Rattle.std.proofs.Common.{subst}
+use Rattle.std.specs.Prelude.{Option}
 use Rattle.std.proofs.lemmas.Result.{IfOk-weaker}
 use Rattle.dh_events.specs.declared.structures.Form.{Form}
-use Rattle.dh_events.specs.declared.structures.Sort.TheVariants as sort
 use Rattle.dh_events.specs.Elements.{MakesFrom}
 use Rattle.dh_events.proofs.KnownFacts.{read_made}
 use Rattle.dh_events.proofs.known.reading.Goals as goal

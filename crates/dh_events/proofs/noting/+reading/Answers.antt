@@ -1,10 +1,9 @@
-use Rattle.std.proofs.Common.{rules, refl, ap, sym, ◌∙◌, ◌≤◌, subst, List, map, take, length}
+use Rattle.std.proofs.Common.{rules, refl, ap, sym, ◌∙◌, ◌≤◌, subst, map, take, length}
 use Rattle.std.proofs.lemmas.Result.{IfOk-weaker}
-use Rattle.dh_tree.specs.declared.trees.expressions.Expr.{Expr}
 use Rattle.dh_tree.specs.PlainTrees.{TermForm, Terms, term, applied, converted}
 use Rattle.dh_meets.specs.SourceEvents.{with_indices, in_row}
 use Rattle.dh_tree.specs.Seen.{form_seen, term_seen, terms}
-use Rattle.dh_tree.proofs.SeenTerms.{number_is, truth_is, variable_is, access_is, physical_is, binary_is, cast_is}
+use Rattle.dh_tree.proofs.SeenTerms.{number_is, truth_is, access_is, physical_is, binary_is, cast_is}
 use Rattle.dh_events.specs.Accesses.{element_in, entity_in}
 use Rattle.dh_events.specs.Elements.{AreKnown, IsAccess, IsKnown}
 use Rattle.dh_events.specs.Tables.{numbered}

@@ -1,4 +1,4 @@
-use Rattle.std.proofs.Common.{◌≡◌, ℕ, ◌≤◌, refl, ap, sym, ◌∙◌, arith}
+use Rattle.std.proofs.Common.{refl, ap, sym, ◌∙◌, arith}
 use Rattle.std.specs.Prelude.{option_map}
 use Rattle.dh_tree.specs.Seen.{action_form_seen, action_seen, maybe_seen}
 use Rattle.dh_tree.proofs.SeenActions.{if_is, for_is}

@@ -1,18 +1,29 @@
-use Rattle.std.proofs.Common.{ap, ◌∙◌, map, ◌++◌, None}
-use Rattle.dh_tree.specs.declared.trees.programs.Tree.{Tree}
-use Rattle.dh_tree.specs.Seen.{program_seen, action_seen}
-use Rattle.dh_ports.specs.Incidents.{incidents}
-use Rattle.dh_ports.specs.Noted.{event_seen}
-use Rattle.dh_ports.proofs.FirstTold.{first_done}
-use Rattle.dh_ports.proofs.RowsWithin.{ready_table}
+use Rattle.std.proofs.Common.{ap}
+use Rattle.dh_tree.specs.Seen.{program_seen}
+use Rattle.dh_ports.proofs.FirstTold.{are_events, events_seen, few_copies, first_done}
 use Rattle.dh_ports.proofs.checking.first_breach.Goals as goal
 
-pub all_reached-requires : goal.all_reached-requires
-all_reached-requires c = record { table = ready_table (program_seen c.args.typed.now) c.requires.ready }
+pub all_moves-requires-clause-copies : goal.all_moves-requires-clause-copies
+all_moves-requires-clause-copies c =
+    let p = program_seen c.args.typed.now in
+    let h = c.requires.told in
+    few_copies p c.as_slice-events.result.now c.in_ok-layout.layout h.copies (c.incidents_tell_sites.ensures.loops h.ready.of_text.first p h.ready.of_text.numbered)
+    (events_seen p (program_seen c.tree.result.now) (ap program_seen c.tree.ensures.tree) c.new-stages.result.items c.note_stages.new.stages.items c.as_slice.result.now c.new-notes.result.events.items c.note_body.new.notes.events.items c.as_slice-events.result.now
+    c.new-stages.ensures.items c.in_ok-note_stages.ensures.noted c.as_slice.ensures.value c.new-notes.ensures.empty c.in_ok-note_body.ensures.adds c.as_slice-events.ensures.value)
+    c.in_ok-layout.ensures
 
 pub returns : goal.returns
 returns c =
-    first_done (program_seen c.args.typed.now) (map event_seen c.as_slice-noted.result.now) c.in_ok-spent.spent.items c.in_ok-late.late.items c.as_slice-3.result.now c.as_slice-4.result.now c.as_slice-5.result.now c.as_slice-6.result.now c.first_spent-kept.result c.keep_late.new.kept
-    (ap (map event_seen) c.as_slice-noted.ensures.value ∙ (c.in_ok-note_command.ensures.events ∙ (ap (λ l. map event_seen l ++ incidents None (action_seen c.tree.result.now.body)) c.new-events.ensures.items ∙ ap (λ (t : Tree). incidents None (action_seen t.body)) c.tree.ensures.tree)))
-    c.in_ok-spent.ensures c.in_ok-late.ensures c.as_slice-3.ensures.value c.as_slice-4.ensures.value
-    (c.as_slice-5.ensures.value ∙ c.in_ok-spent_places.ensures) (c.as_slice-6.ensures.value ∙ c.in_ok-late_places.ensures) c.first_spent-kept.ensures c.keep_late.ensures
+    let p = program_seen c.args.typed.now in
+    let h = c.requires.told in
+    let events = c.as_slice-events.result.now in
+    let flags = c.in_ok-shared.shared.items in
+    let phases = c.incidents_tell_sites.ensures.phases h.ready.of_text.first p h.ready.of_text.numbered in
+    let loops = c.incidents_tell_sites.ensures.loops h.ready.of_text.first p h.ready.of_text.numbered in
+    let seen = events_seen p (program_seen c.tree.result.now) (ap program_seen c.tree.ensures.tree) c.new-stages.result.items c.note_stages.new.stages.items c.as_slice.result.now c.new-notes.result.events.items c.note_body.new.notes.events.items events
+    c.new-stages.ensures.items c.in_ok-note_stages.ensures.noted c.as_slice.ensures.value c.new-notes.ensures.empty c.in_ok-note_body.ensures.adds c.as_slice-events.ensures.value in
+    let are = are_events p c.note_body.new.notes events c.as_slice-events.ensures.value seen c.drop-2.inside.known.keys c.drop-2.view_is c.drop-2.invariant (c.in_ok-note_body.ensures.noted.noted c.new-notes.ensures.noted) in
+    let told = c.shared_reads_are_found.ensures h.ready.of_text.first p events flags h.ready.of_text.numbered phases are c.in_ok-shared.ensures.found in
+    first_done p events c.in_ok-layout.layout c.in_ok-layout.ensures flags c.as_slice-2.result.now c.in_ok-moves.moves.items c.as_slice-3.result.now c.as_slice-4.result.now c.in_ok-moves.ensures.moves
+    (c.spent_ports_are_told.ensures p events flags h loops are c.in_ok-shared.ensures.long told) (λ late. c.late_reads_are_told.ensures p events late h loops phases are)
+    c.as_slice-2.ensures.value c.as_slice-3.ensures.value c.as_slice-4.ensures.value c.in_ok-spent.spent c.in_ok-spent.ensures c.spent_at-kept.result c.keep_late.new.kept c.spent_at-kept.ensures c.in_ok-keep_late.ensures

@@ -1,5 +1,5 @@
-use Rattle.dh_ports.proofs.TouchedSame.{action_touched}
+use Rattle.dh_ports.proofs.TouchedSame.{action_same}
 use Rattle.dh_ports.proofs.laws.incidents_touch_all.Goals as goal
 
 pub returns : goal.returns
-returns c = action_touched
+returns c = action_same

@@ -1,7 +1,7 @@
 use Rattle.std.proofs.Common.{ap, ◌∙◌}
 use Rattle.std.proofs.lemmas.Option.{slice_get-get_or}
 use Rattle.dh_ports.proofs.LogFacts.{lowering_turn, lowering_kept}
-use Rattle.dh_ports.proofs.Turns.{at_place}
+use Rattle.dh_events.proofs.Turns.{at_place}
 use Rattle.dh_ports.proofs.marks.lower_slice.Goals.{then-low-now+in_ok-push, else-low-now}
 use Rattle.dh_ports.proofs.marks.lower_slice.Goals as goal
 

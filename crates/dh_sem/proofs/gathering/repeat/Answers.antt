@@ -1,7 +1,16 @@
+use Rattle.std.proofs.Common.{refl}
 use Rattle.std.proofs.lemmas.Result.{IfOk-weaker}
-use Rattle.dh_sem.proofs.GatheredForms.{repeat_gathers}
 use Rattle.dh_sem.proofs.gathering.repeat.Goals as goal
 
 pub returns : goal.returns
 returns c =
-    IfOk-weaker c.one_form.result _ _ (λ forms is ps course gathered. repeat_gathers c.args.nodes.now.items c.hold.new.nodes.items forms.items c.args.command c.in_ok-body.body ps is (c.in_ok-body.ensures ps course gathered)) c.one_form.ensures
+    IfOk-weaker c.one.result _ _
+    (λ forms is. record {
+      coded = record { code = c.flat.new.code; phases = c.args.made.now.phases; lanes = c.args.made.now.lanes };
+      f = c.in_ok-test.test;
+      tests = record { flat = c.in_ok-test.ensures; phases = refl; lanes = refl };
+      first = c.in_ok-body.body;
+      held = c.in_ok-body.ensures.holds;
+      are = is;
+    })
+    c.one.ensures

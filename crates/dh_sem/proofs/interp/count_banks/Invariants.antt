@@ -1,6 +1,6 @@
 -- The banks of the memories so far.
 use Rattle.std.proofs.Common.{◌≡◌}
-use Rattle.dh_sem.specs.Banks.{first_bank}
+use Rattle.dh_code.specs.Banks.{first_bank}
 use Rattle.dh_sem.proofs.interp.count_banks.Given as goal
 
 abbrev pub invariant-loop-entry : goal.invariant-loop-entry

@@ -1,5 +1,5 @@
 use Rattle.std.proofs.Common.{subst, sym, List, ℕ}
-use Rattle.dh_sem.proofs.BankLists.{FirstsTo, first_none, firsts_none, firsts_more, next_dims, next_word, next_first, fits_word}
+use Rattle.dh_code.proofs.BankLists.{FirstsTo, first_none, firsts_none, firsts_more, next_dims, next_word, next_first, fits_word}
 use Rattle.dh_sem.proofs.interp.first_banks.Goals as goal
 
 pub loop-entry-init : goal.loop-entry-init

@@ -1,7 +1,7 @@
 -- The first banks of the memories so far, and that of the next.
 use Rattle.std.proofs.Common.{◌≡◌}
-use Rattle.dh_sem.specs.Banks.{first_bank}
-use Rattle.dh_sem.proofs.BankLists.{FirstsTo}
+use Rattle.dh_code.specs.Banks.{first_bank}
+use Rattle.dh_code.proofs.BankLists.{FirstsTo}
 use Rattle.dh_sem.proofs.interp.first_banks.Given as goal
 
 abbrev pub invariant-loop-entry : goal.invariant-loop-entry

@@ -1,12 +1,12 @@
-use Rattle.std.proofs.Common.{subst}
-use Rattle.dh_tree.specs.Effects.{Effect}
-use Rattle.dh_sem.specs.Rows.{contents_of}
-use Rattle.dh_sem.specs.Scenes.{memories_in}
-use Rattle.dh_sem.specs.States.{Ends}
-use Rattle.dh_sem.proofs.NextTaken.{next_run}
+use Rattle.std.proofs.Common.{Err, ap, ◌∙◌}
+use Rattle.std.proofs.lemmas.Result.{err_from_is_err_and}
+use Rattle.dh_sem.proofs.StepsDone.{block_goes, block_stops}
 use Rattle.dh_sem.proofs.stepping.run_next.Goals as goal
 
-pub returns-clause-ran : goal.returns-clause-ran
-returns-clause-ran c e h = subst (λ (x : Effect). Ends c.args.scene.now.entries.now x c.args.scene.now.step c.run_taken.result c.run_taken.new.state)
-    (next_run c.args.scene.now.entries.now (contents_of c.args.scene.now.memories.now) (memories_in c.args.scene.now) c.args.nodes.now c.args.frames.now.items c.take.new.frames.items c.in_ok-taken.taken c.in_ok-taken.ensures.takes e)
-    (c.run_taken.ensures.ran e h)
+pub returns-in_err-holds-clause-runs : goal.returns-in_err-holds-clause-runs
+returns-in_err-holds-clause-runs c =
+    let u = err_from_is_err_and c.from_residual.result c.from_residual.ensures.1 in
+    block_stops c.args.scene.now c.args.course.now c.args.state.now c.run_block.new.state c.args.at c.args.frames.now.items c.in_err-holds.field-0.0 c.from_residual.result c.args.frames.now.items (u.1 ∙ ap (λ x. Err x) u.2) c.in_err-holds.ensures.runs
+
+pub returns-clause-runs : goal.returns-clause-runs
+returns-clause-runs c = block_goes c.args.scene.now c.args.course.now c.args.state.now c.run_block.new.state c.args.at c.args.frames.now.items c.in_ok-holds.holds c.in_ok-go_on.field-0 c.go_on.new.state c.go_on.new.frames.items c.in_ok-holds.ensures.runs c.go_on.ensures.only c.in_ok-go_on.ensures.goes

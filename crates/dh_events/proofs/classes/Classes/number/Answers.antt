@@ -1,4 +1,4 @@
-use Rattle.std.proofs.Common.{ap, sym, ◌∙◌, subst, List, ℕ}
+use Rattle.std.proofs.Common.{ap, sym, ◌∙◌, List}
 use Rattle.std.specs.Prelude.{Some, slice_get}
 use Rattle.dh_events.specs.declared.classes.Key.{Key}
 use Rattle.dh_events.proofs.KeyFacts.{one_place, own_key, same_key, stays}

@@ -1,53 +1,48 @@
 -- What a step leads to is steady, and stands as the checked semantics says.
-use Rattle.std.proofs.Common.{Vec, length, refl, ap, sym, ◌∙◌, ◌+◌, subst, rules}
-use Rattle.std.specs.Global.{Global}
-use Rattle.std.specs.List.{AllByRecursion}
-use Rattle.dh_tree.specs.Memories.{memories_of}
-use Rattle.dh_tree.specs.Seen.{program_seen}
-use Rattle.dh_sem.specs.declared.courses.Frame.{Frame}
-use Rattle.dh_sem.specs.Rows.{contents_of}
-use Rattle.dh_sem.specs.States.{written_by}
-use Rattle.dh_sem.specs.Courses.{IsFrame, to_come}
-use Rattle.dh_sem.specs.Advances.{rest_run, begun_from}
-use Rattle.dh_sem.specs.Runs.{Run, StandsAt}
-use Rattle.dh_sem.proofs.Advanced.{stopped_at, stopped_none}
-use Rattle.dh_sem.proofs.StandsOn.{next_stands, next_steady, back_steady, stands_next, frames_copied, outcome_moved}
+use Rattle.std.proofs.Common.{ap, refl, ◌∙◌}
+use Rattle.dh_code.specs.States.{written_by}
+use Rattle.dh_sem.specs.Runs.{Run}
+use Rattle.dh_sem.proofs.Stepped.{coursed_as, done_seen, frames_copied, frames_sound, stands_still, steady_back, steady_next, stop_seen}
 use Rattle.dh_sem.proofs.interp.Interp.step.Goals as goal
+
+pub returns-in_default : goal.returns-in_default
+returns-in_default c = stands_still c.args.self.now c.self.inside.outcome (ap (λ (r : Run). r.outcome) c.self.view_is) c.in_default.not-Going
+
+pub advance-requires-clause-frames : goal.advance-requires-clause-frames
+advance-requires-clause-frames c = frames_sound c.as_slice-2.result.now c.self.inside.made.phases.items c.extend_from_slice.new.self.items c.self.inside.frames.items c.as_slice-2.ensures.value
+    (frames_copied c.extend_from_slice.new.self.items c.clear.new.self.items c.as_slice-4.result.now c.self.inside.frames.items c.in_ok-extend_from_slice.ensures.items c.clear.ensures.items c.as_slice-4.ensures.value) c.self.invariant.frames
 
 pub invariant_of-self-in-Ok : goal.invariant_of-self-in-Ok
 invariant_of-self-in-Ok c =
-    next_steady c.self.inside.program.now c.self.inside.entries.now c.self.inside.nodes.items c.self.inside.steps c.self.inside.memories c.self.inside.frames.items c.self.inside.state c.self.inside.firsts.items c.self.inside.outcome (search rules) c.self.invariant
-    c.as_slice-3.result.now c.as_slice-3.ensures.value c.extend_from_slice.new.self.items (frames_copied c.extend_from_slice.new.self.items c.clear.new.self.items c.as_slice-2.result.now c.self.inside.frames.items c.in_ok-extend_from_slice.ensures.items c.clear.ensures.items c.as_slice-2.ensures.value) c.lists.result.now c.lists.ensures
-    c.advance.new.state c.make_writes.new.memories c.outcome_at-self-inside.result c.swap.new.x.items c.in-Ok.ensures.advances
-    (c.make_writes.ensures ∙ ap (λ ws. written_by ws c.self.inside.memories) c.as_slice-in-Ok.ensures.value)
-    (ap (λ (v : Vec Frame Global). to_come (memories_of (program_seen c.self.inside.program.now)) c.as_slice-3.result.now v.items) c.swap.ensures.x_after ∙ c.in-Ok.ensures.left)
-    (outcome_moved (memories_of (program_seen c.self.inside.program.now)) c.outcome_at-self-inside.result c.as_slice-in-Ok-2.result.now c.self.inside.nodes.items c.as_slice-in-Ok-3.result.now c.swap.new.x.items c.as_slice-in-Ok-2.ensures.value c.as_slice-in-Ok-3.ensures.value (c.outcome_at-self-inside.ensures (memories_of (program_seen c.self.inside.program.now))))
-    c.in-Ok.ensures.long c.in-Ok.ensures.ready
-    (subst (λ (v : Vec Frame Global). AllByRecursion (IsFrame (length c.as_slice-3.result.now)) v.items) (sym c.swap.ensures.x_after) c.in-Ok.ensures.frames)
+    let i = c.self.inside in
+    steady_next c.in-Ok.ensures.ready (record { code = i.made.code; phases = i.made.phases.items; lanes = i.made.lanes.items }) refl i.outcome c.outcome_at-self-inside.result i.steps i.memories i.state.variables.items i.place i.frames.items
+    i.state.given.items i.state.banks.items i.firsts.items c.self.invariant c.as_slice-2.result.now c.in-Ok.next c.advance.new.frames.items c.swap.new.x.items c.make_writes.new.memories c.as_slice-2.ensures.value
+    (c.make_writes.ensures ∙ ap (λ ws. written_by ws i.memories) c.as_slice-in-Ok.ensures.value) (ap (λ v. v.items) c.swap.ensures.x_after) c.in-Ok.ensures.frames c.in-Ok.ensures.place refl
 
 pub invariant_of-self-in-Err-At : goal.invariant_of-self-in-Err-At
 invariant_of-self-in-Err-At c =
-    let stop = stopped_at (Unit {0}) c.self.inside.entries.now (rest_run c.self.inside.entries.now (contents_of c.lists.result.now) (to_come (memories_of (program_seen c.self.inside.program.now)) c.as_slice-3.result.now c.extend_from_slice.new.self.items) (begun_from c.self.inside.state)) (c.self.inside.steps + 1) c.in-Err-At.field-0 c.in-Err-At.outcome c.self.inside.state c.advance.new.state c.in-Err-At.field-0-is c.in-Err-At.ensures.advances in
-    back_steady c.self.inside.program.now c.self.inside.entries.now c.self.inside.nodes.items c.self.inside.steps c.self.inside.memories c.self.inside.frames.items c.self.inside.state c.self.inside.firsts.items c.self.inside.outcome (search rules) c.self.invariant
-    c.as_slice-3.result.now c.as_slice-3.ensures.value c.extend_from_slice.new.self.items (frames_copied c.extend_from_slice.new.self.items c.clear.new.self.items c.as_slice-2.result.now c.self.inside.frames.items c.in_ok-extend_from_slice.ensures.items c.clear.ensures.items c.as_slice-2.ensures.value) c.lists.result.now c.lists.ensures
-    c.advance.new.state c.in-Err-At.outcome stop.0 c.in-Err-At.ensures.ready
+    let i = c.self.inside in
+    steady_back c.in-Err-At.ensures.ready (record { code = i.made.code; phases = i.made.phases.items; lanes = i.made.lanes.items }) refl i.outcome c.in-Err-At.outcome i.steps i.memories i.state.variables.items i.place i.frames.items
+    i.state.given.items i.state.banks.items i.firsts.items c.self.invariant i.state c.in-Err-At.ensures.back
 
 pub invariant_of-self-in-Err-NoMemory : goal.invariant_of-self-in-Err-NoMemory
 invariant_of-self-in-Err-NoMemory c =
-    let back = stopped_none (Unit {0}) c.self.inside.entries.now (rest_run c.self.inside.entries.now (contents_of c.lists.result.now) (to_come (memories_of (program_seen c.self.inside.program.now)) c.as_slice-3.result.now c.extend_from_slice.new.self.items) (begun_from c.self.inside.state)) (c.self.inside.steps + 1) c.in-Err-NoMemory.field-0 c.self.inside.state c.advance.new.state c.in-Err-NoMemory.field-0-is c.in-Err-NoMemory.ensures.advances in
-    back_steady c.self.inside.program.now c.self.inside.entries.now c.self.inside.nodes.items c.self.inside.steps c.self.inside.memories c.self.inside.frames.items c.self.inside.state c.self.inside.firsts.items c.self.inside.outcome (search rules) c.self.invariant
-    c.as_slice-3.result.now c.as_slice-3.ensures.value c.extend_from_slice.new.self.items (frames_copied c.extend_from_slice.new.self.items c.clear.new.self.items c.as_slice-2.result.now c.self.inside.frames.items c.in_ok-extend_from_slice.ensures.items c.clear.ensures.items c.as_slice-2.ensures.value) c.lists.result.now c.lists.ensures
-    c.advance.new.state c.self.inside.outcome back c.in-Err-NoMemory.ensures.ready
+    let i = c.self.inside in
+    steady_back c.in-Err-NoMemory.ensures.ready (record { code = i.made.code; phases = i.made.phases.items; lanes = i.made.lanes.items }) refl i.outcome i.outcome i.steps i.memories i.state.variables.items i.place i.frames.items
+    i.state.given.items i.state.banks.items i.firsts.items c.self.invariant i.state c.in-Err-NoMemory.ensures.back
 
 pub returns-in-Ok : goal.returns-in-Ok
-returns-in-Ok c = (
-  refl,
-  λ p memories n at. stands_next _ _ refl
-      (next_stands c.self.inside.program.now c.self.inside.entries.now c.self.inside.nodes.items c.self.inside.steps c.self.inside.memories c.self.inside.frames.items c.self.inside.state c.self.inside.firsts.items c.self.inside.outcome (search rules) c.self.invariant
-      c.as_slice-3.result.now c.as_slice-3.ensures.value c.extend_from_slice.new.self.items (frames_copied c.extend_from_slice.new.self.items c.clear.new.self.items c.as_slice-2.result.now c.self.inside.frames.items c.in_ok-extend_from_slice.ensures.items c.clear.ensures.items c.as_slice-2.ensures.value) c.lists.result.now c.lists.ensures
-      c.advance.new.state c.make_writes.new.memories c.outcome_at-self-inside.result c.swap.new.x.items c.in-Ok.ensures.advances
-      (c.make_writes.ensures ∙ ap (λ ws. written_by ws c.self.inside.memories) c.as_slice-in-Ok.ensures.value)
-      (ap (λ (v : Vec Frame Global). to_come (memories_of (program_seen c.self.inside.program.now)) c.as_slice-3.result.now v.items) c.swap.ensures.x_after ∙ c.in-Ok.ensures.left)
-      (outcome_moved (memories_of (program_seen c.self.inside.program.now)) c.outcome_at-self-inside.result c.as_slice-in-Ok-2.result.now c.self.inside.nodes.items c.as_slice-in-Ok-3.result.now c.swap.new.x.items c.as_slice-in-Ok-2.ensures.value c.as_slice-in-Ok-3.ensures.value (c.outcome_at-self-inside.ensures (memories_of (program_seen c.self.inside.program.now)))))
-      p memories n (subst (λ (r : Run). StandsAt p memories n r) (sym c.self.view_is) at),
-)
+returns-in-Ok c =
+    let i = c.self.inside in
+    done_seen c.in-Ok.ensures.ready (record { phases = c.as_slice-2.result; lanes = c.as_slice-3.result }) i.state c.in-Some.at c.extend_from_slice.new.self.items i.frames.items c.advance.new.frames.items
+    (record { code = i.made.code; phases = i.made.phases.items; lanes = i.made.lanes.items }) i.steps i.memories i.outcome i.place (coursed_as i.made.code c.as_slice-2.result.now i.made.phases.items c.as_slice-3.result.now i.made.lanes.items c.as_slice-2.ensures.value c.as_slice-3.ensures.value) c.lists.ensures
+    (frames_copied c.extend_from_slice.new.self.items c.clear.new.self.items c.as_slice-4.result.now i.frames.items c.in_ok-extend_from_slice.ensures.items c.clear.ensures.items c.as_slice-4.ensures.value) c.in-Going.is c.in-Some.is c.args.self.now c.self.view_is
+    c.in-Ok.next c.swap.new.x.items c.make_writes.new.memories c.outcome_at-self-inside.result c.in-Ok.ensures.advances (c.make_writes.ensures ∙ ap (λ ws. written_by ws i.memories) c.as_slice-in-Ok.ensures.value) c.outcome_at-self-inside.ensures (ap (λ v. v.items) c.swap.ensures.x_after)
+
+pub returns-in-Err-At : goal.returns-in-Err-At
+returns-in-Err-At c =
+    let i = c.self.inside in
+    stop_seen c.in-Err-At.ensures.ready (record { phases = c.as_slice-2.result; lanes = c.as_slice-3.result }) i.state c.in-Some.at c.extend_from_slice.new.self.items i.frames.items c.advance.new.frames.items
+    (record { code = i.made.code; phases = i.made.phases.items; lanes = i.made.lanes.items }) i.steps i.memories i.outcome i.place (coursed_as i.made.code c.as_slice-2.result.now i.made.phases.items c.as_slice-3.result.now i.made.lanes.items c.as_slice-2.ensures.value c.as_slice-3.ensures.value) c.lists.ensures
+    (frames_copied c.extend_from_slice.new.self.items c.clear.new.self.items c.as_slice-4.result.now i.frames.items c.in_ok-extend_from_slice.ensures.items c.clear.ensures.items c.as_slice-4.ensures.value) c.in-Going.is c.in-Some.is c.args.self.now c.self.view_is
+    c.in-Err-At.field-0 c.in-Err-At.outcome c.in-Err-At.field-0-is c.in-Err-At.ensures.advances c.in-Err-At.ensures.back

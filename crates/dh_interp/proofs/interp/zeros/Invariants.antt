@@ -1,6 +1,0 @@
--- So many were made.
-use Rattle.std.proofs.Common.{◌≡◌, replicate}
-use Rattle.dh_interp.proofs.interp.zeros.Given as goal
-
-abbrev pub invariant-loop : goal.invariant-loop
-invariant-loop l = l.list.items ≡ replicate l.counter 0

@@ -1,5 +1,0 @@
-use Rattle.dh_code.proofs.ListsRun.{list_depth}
-use Rattle.dh_interp.proofs.stepping.+descend.Given as goal
-
-abbrev pub decreases-descend : goal.decreases-descend
-decreases-descend l = list_depth l.list

@@ -1,7 +1,0 @@
-pub mod Lanes
-pub mod Phased
-pub mod Frames
-pub mod Steps
-pub mod Runnable
-pub mod Gathered
-pub mod Runs

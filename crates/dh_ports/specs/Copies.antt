@@ -1,0 +1,111 @@
+-- How copies of an access are told by numbers of paths.
+use Rattle.std.specs.Prelude.{◌≡◌, ℕ, ◌+◌, ◌-◌, ◌*◌, ◌/◌, ◌%◌, ◌<◌, ◌≤◌, ◌==◌, not, if◌then◌else◌, Bool, List, [], ◌∷◌, map, Option, pos, ◌+ℤ◌, unsigned_abs, ◌⊎◌, slice_index, slice_set, Vec}
+use Rattle.std.specs.Global.{Global}
+use Rattle.dh_tree.specs.declared.tables.Dim.{Dim}
+use Rattle.dh_tree.specs.declared.trees.counters.Counter.{Counter}
+use Rattle.dh_tree.specs.declared.trees.expressions.Expr.{Expr}
+use Rattle.dh_tree.specs.declared.trees.programs.Tree.{Tree}
+use Rattle.dh_tree.specs.Elements.{bank_of}
+use Rattle.dh_tree.specs.Seen.{term_seen, terms}
+use Rattle.dh_meaning.specs.Bindings.{Binding}
+use Rattle.dh_meets.specs.Charges.{factors_of, depends, indices_in}
+use Rattle.dh_ports.specs.declared.copies.Level.{Level}
+use Rattle.dh_ports.specs.declared.copies.Lane.{Lane}
+use Rattle.dh_ports.specs.declared.copies.Paths.{Paths}
+use Rattle.dh_ports.specs.declared.copies.Seen.{Seen}
+use Rattle.dh_events.specs.declared.dependence.Scope.{Scope}
+use Rattle.dh_ports.specs.Banks.{bank_at_path, counters_in, keys_in, path_at}
+use Rattle.dh_ports.specs.Claims.{source_of}
+use Rattle.dh_events.specs.Scopes.{AreScopes}
+use Rattle.dh_events.specs.Tables.{numbered, with_number}
+use Rattle.dh_meaning.specs.Paths.{copies_in}
+use Rattle.dh_meets.specs.FewCopies.{most_copies}
+
+-- the copies of what stands in these loops
+abbrev pub copies_round : List Counter → ℕ
+copies_round loops = copies_in (factors_of loops)
+
+-- a loop has copies
+pub record IsSpread (level : Level) : Type 0 where
+  pub factor : 1 ≤ level.factor
+  pub stride : 1 ≤ level.stride
+
+-- what the levels of loops are, from a level on, where a test picks those on which the access depends
+abbrev pub AreLevels : (picks : ℕ → Bool) → (level : ℕ) → (factors : List ℕ) → List Level → Type 0
+AreLevels picks level [] [] = Unit {0}
+AreLevels picks level (factor ∷ factors) (l ∷ ls) =
+    ((l.factor ≡ factor) × ((l.stride ≡ copies_in factors) × (l.share ≡ (if picks level then keys_in picks (level + 1) factors else 0)))) × AreLevels picks (level + 1) factors ls
+AreLevels picks level _ _ = ⊥
+
+-- the loops round an access as numbers of paths tell their copies
+pub record ArePaths (scopes : List (Option Scope)) (loops : List Counter) (access : Expr) (writes : Bool) (paths : Paths) : Type 0 where
+  pub count : paths.count ≡ copies_round loops
+  pub levels : (bs : List Binding) → AreScopes bs scopes → 1 ≤ copies_round loops → AreLevels (depends bs (source_of loops writes access)) 0 (factors_of loops) paths.levels.items
+
+-- the number of the key of the path of a number
+abbrev pub key_of_levels : List Level → (number : ℕ) → ℕ
+key_of_levels [] number = 0
+key_of_levels (l ∷ ls) number = ((number / l.stride) % l.factor) * l.share + key_of_levels ls number
+
+-- the most that a key can be
+abbrev pub greatest_key : List Level → ℕ
+greatest_key [] = 0
+greatest_key (l ∷ ls) = (l.factor - 1) * l.share + greatest_key ls
+
+abbrev pub HasFewKeys : List Level → Type 0
+HasFewKeys levels = greatest_key levels ≤ most_copies * most_copies
+
+abbrev pub copy_in : List Level → (level number : ℕ) → ℕ
+copy_in [] level number = 0
+copy_in (l ∷ ls) level number = if level == 0 then (number / l.stride) % l.factor else copy_in ls (level - 1) number
+
+-- the bank that lanes tell of the path of a number
+abbrev pub bank_of_lanes : List Level → List Lane → (number : ℕ) → ℕ
+bank_of_lanes levels [] number = 0
+bank_of_lanes levels (l ∷ ls) number = (unsigned_abs (pos (l.low + copy_in levels l.level number) +ℤ l.offset) % l.banks) * l.times + bank_of_lanes levels ls number
+
+-- lanes have banks, and few together
+abbrev pub all_lane_banks : List Lane → ℕ
+all_lane_banks [] = 0
+all_lane_banks (l ∷ ls) = l.banks * l.times + all_lane_banks ls
+
+abbrev pub HaveBanks : List Lane → Type 0
+HaveBanks [] = Unit {0}
+HaveBanks (l ∷ ls) = (1 ≤ l.banks) × HaveBanks ls
+
+pub record HasFewBanks (lanes : List Lane) : Type 0 where
+  pub few : all_lane_banks lanes ≤ 4096
+  pub banks : HaveBanks lanes
+
+-- the bank that lanes and an own bank tell is the one that an access reaches at each path
+pub record IsReach (tree : Tree) (loops : List Counter) (dims : List Dim) (access : Expr) (lanes : List Lane) (own : ℕ) : Type 0 where
+  pub few : HasFewBanks lanes
+  pub alone : (own ≡ 0) ⊎ (lanes ≡ [])
+  pub each : (picks : ℕ → Bool) (levels : List Level) (writes : Bool) (number : ℕ) → AreLevels picks 0 (factors_of loops) levels
+      → own + bank_of_lanes levels lanes number ≡ bank_at_path tree dims (source_of loops writes access) (path_at (factors_of loops) number)
+
+-- the same of indices
+pub record AreLanes (tree : Tree) (loops : List Counter) (dims : List Dim) (indices : List Expr) (lanes : List Lane) : Type 0 where
+  pub few : HasFewBanks lanes
+  pub each : (picks : ℕ → Bool) (levels : List Level) (number : ℕ) → AreLevels picks 0 (factors_of loops) levels
+      → bank_of_lanes levels lanes number ≡ bank_of dims (indices_in (counters_in tree) loops (path_at (factors_of loops) number) (terms (map term_seen indices)))
+
+-- no pair was seen at a moment or later
+abbrev pub IsUnseen : Seen → (moment : ℕ) → Type 0
+IsUnseen seen moment = (pair : ℕ) → numbered seen.moments.items pair < moment
+
+-- a pair is seen, and was not seen at this moment before
+pub record Sees (old new : Seen) (pair moment : ℕ) (first : Bool) : Type 0 where
+  pub told : first ≡ not (numbered old.moments.items pair == moment)
+  pub seen : numbered new.moments.items ≡ with_number (numbered old.moments.items) pair moment
+
+-- a pair is noted at a moment
+abbrev pub IsMarked : (old new : Seen) → (pair moment : ℕ) → Type 0
+IsMarked old new pair moment = numbered new.moments.items ≡ with_number (numbered old.moments.items) pair moment
+
+-- a bank's count rises where the pair was not seen at this moment
+abbrev pub counted_at : (seen : Bool) → List ℕ → (bank : ℕ) → List ℕ
+counted_at seen counts bank = if seen then counts else slice_set counts bank (slice_index counts bank + 1)
+
+abbrev pub IsCounted : Seen → (old new : Vec ℕ Global) → (bank pair moment : ℕ) → Type 0
+IsCounted seen old new bank pair moment = new.items ≡ counted_at (numbered seen.moments.items pair == moment) old.items bank

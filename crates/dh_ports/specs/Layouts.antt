@@ -1,0 +1,32 @@
+-- What is known of a program's loops and memories before its accesses claim banks.
+use Rattle.std.specs.Prelude.{◌≡◌, ℕ, ◌≤◌, Bool, List, [], Option, Some, slice_get, Vec}
+use Rattle.std.specs.Global.{Global}
+use Rattle.dh_tree.specs.declared.trees.counters.Counter.{Counter}
+use Rattle.dh_tree.specs.declared.trees.expressions.Expr.{Expr}
+use Rattle.dh_tree.specs.Memories.{table_of}
+use Rattle.dh_tree.specs.PlainTrees.{Program}
+use Rattle.dh_meaning.specs.Bindings.{bindings_of}
+use Rattle.dh_events.specs.declared.events.Event.{Event}
+use Rattle.dh_events.specs.declared.events.Event.TheVariants as event
+use Rattle.dh_ports.specs.declared.moves.Layout.{Layout}
+use Rattle.dh_events.specs.Accesses.{loops_in}
+use Rattle.dh_ports.specs.Claims.{AreBases}
+use Rattle.dh_ports.specs.Copies.{copies_round}
+use Rattle.dh_events.specs.Rounds.{rounds_in, rounds_of}
+use Rattle.dh_events.specs.Scopes.{AreScopes}
+use Rattle.dh_meets.specs.FewCopies.{most_copies}
+
+-- no loop is known
+abbrev pub no_rounds : ℕ → List Counter
+no_rounds id = []
+
+pub record IsLayout (p : Program) (layout : Layout) : Type 0 where
+  pub bases : AreBases (table_of p) layout.bases.items
+  pub rounds : rounds_of layout.rounds.items ≡ rounds_in [] p.body no_rounds
+  -- where loops are unrolled
+  pub scopes : (id : ℕ) → (rounds_of layout.rounds.items id ≡ [] → ⊥) → AreScopes (bindings_of p) layout.scopes.items
+
+-- no access stands in too many copies
+abbrev pub HaveFewCopies : List (Vec Counter Global) → List Event → Type 0
+HaveFewCopies rounds events =
+    (i : ℕ) (access : _) (writes : Bool) (phase : ℕ) (round : Option ℕ) (element : Option ℕ) (newest : ℕ) → slice_get events i ≡ Some (event.Touch access writes phase round element newest) → copies_round (loops_in rounds round) ≤ most_copies

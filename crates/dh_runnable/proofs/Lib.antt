@@ -1,0 +1,15 @@
+pub mod ElementsFound
+pub mod TypedParts
+pub mod Operands
+pub mod NamesKnown
+pub mod TermsSuited
+pub mod VariablesFew
+pub mod VariablesPlaced
+pub mod DeclarationsFound
+pub mod PhasesRun
+pub mod SidesRun
+pub mod TurnsCounted
+pub mod EntitiesCounted
+pub mod MemoriesFound
+pub mod CommandsRun
+pub mod ProgramsRun

@@ -1,0 +1,2 @@
+pub mod ActionsRun
+pub mod ReadyRuns

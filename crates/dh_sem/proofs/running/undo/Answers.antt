@@ -1,7 +1,0 @@
-use Rattle.std.proofs.Common.{ap, ◌∙◌, ◌-◌, take}
-use Rattle.dh_sem.specs.States.{undone}
-use Rattle.dh_sem.proofs.Undoing.{undo_turn}
-use Rattle.dh_sem.proofs.running.undo.Goals as goal
-
-pub loop-i-preserved : goal.loop-i-preserved
-loop-i-preserved c = ap (λ ws. undone (take (c.loop-i.i - 1) c.args.changes.now) ws) c.restore.ensures ∙ undo_turn c.args.changes.now c.loop-i.i _ c.loop-i.variables.items _ c.loop-i-test.true c.loop-i.auto.i c.loop-i.invariant

@@ -1,7 +1,0 @@
--- The banks so far are free.
-use Rattle.std.proofs.Common.{◌≡◌, length, take}
-use Rattle.dh_sem.specs.Spent.{AreUsedBy}
-use Rattle.dh_sem.proofs.spending.release.Given as goal
-
-abbrev pub invariant-loop-i : goal.invariant-loop-i
-invariant-loop-i l = (length l.banks ≡ length l.fn.banks) × AreUsedBy 0 (take l.i l.banks)
