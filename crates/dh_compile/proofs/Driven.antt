@@ -40,7 +40,7 @@ driver_adds a b c d enable wide at u v h is k = subst (λ (x : Use). AddsDriver 
   grows = grows_then a b c h.grows k.grows;
   enabled = λ rs hs ws s.
       ap (λ (w : ℕ). slice_index ws w) k.same
-      ∙ later b.cells c.cells (λ rs hs ws. slice_index ws enable ≡ (if slice_index rs 0 == at then 1 else 0)) k.grows.cells h.is rs hs ws s;
+      ∙ later b c (λ rs hs ws. slice_index ws enable ≡ (if slice_index rs 0 == at then 1 else 0)) k.grows h.is rs hs ws s;
   does = k.does;
   fits = record {
     enable = subst (λ (w : ℕ). HasWidth c.cells w 1) (sym k.same) (width_later b.cells c.cells enable 1 k.grows.cells h.wide);
@@ -56,7 +56,7 @@ pub write_adds : (a b c : Drafted) (enable wide row wire data_wire : ℕ) (sourc
 write_adds a b c enable wide row wire data_wire source number h k = record {
   grows = grows_then a b c h.grows k.grows;
   same = refl;
-  does = λ rs hs ws s. (refl, (later b.cells c.cells (λ rs hs ws. slice_index ws wire ≡ row) k.grows.cells h.is rs hs ws s, k.is rs hs ws s));
+  does = λ rs hs ws s. (refl, (later b c (λ rs hs ws. slice_index ws wire ≡ row) k.grows h.is rs hs ws s, k.is rs hs ws s));
   row = width_later b.cells c.cells wire wide k.grows.cells h.wide;
   out = λ e. k.wide;
 }
@@ -68,10 +68,10 @@ put_is begin len (Writes row source number) rest = refl
 
 -- a driver more, a use less to come
 leads_then : (a b : Drafted) (ds : List Driver) (d : Driver) (wide at : ℕ) (u : Use) (rest all : List Timed) → AddsDriver a b d wide at u
-    → Leads a.cells ds (timed at u ∷ rest) all → Leads b.cells (ds ++ d ∷ []) rest all
+    → Leads a ds (timed at u ∷ rest) all → Leads b (ds ++ d ∷ []) rest all
 leads_then a b ds d wide at u rest all h l rs hs ws s x dx =
     subst (λ (y : List Driver). Drives (slice_index rs 0) hs ws y all) (sym (append_assoc ds (d ∷ []) x))
-    (l rs hs ws (solves_fewer a.cells b.cells rs hs ws h.grows.cells s) (d ∷ x) (h.enabled rs hs ws s, (h.does rs hs ws s, dx)))
+    (l rs hs ws (solves_fewer a b rs hs ws h.grows s) (d ∷ x) (h.enabled rs hs ws s, (h.does rs hs ws s, dx)))
 
 fit_more : (cells : List Cell) (wide : ℕ) (ds : List Driver) (d : Driver) → FitDrivers cells wide ds → FitsDriver cells wide d
     → FitDrivers cells wide (ds ++ d ∷ [])
@@ -86,7 +86,7 @@ pub group_none : (a : Drafted) (ds : List Driver) (memory wide begin : ℕ) (g :
     → AddsGroup a a ds ds memory wide begin g
 group_none a ds memory wide begin g none = record {
   grows = grows_none a;
-  leads = λ rest all l. subst (λ (u : _). Leads a.cells ds (put_use begin (group_length g) u rest) all) none l;
+  leads = λ rest all l. subst (λ (u : _). Leads a ds (put_use begin (group_length g) u rest) all) none l;
   fit = λ h. h;
 }
 
@@ -98,7 +98,7 @@ group_some a b ds more d memory wide begin g u is h e =
       grows = h.grows;
       leads = λ rest all l.
           leads_then a b ds d wide (use_clock begin (group_length g) u) u rest all h
-          (subst (λ (x : List Timed). Leads a.cells ds x all) (ap (λ x. put_use begin (group_length g) x rest) is ∙ put_is begin (group_length g) u rest) l);
+          (subst (λ (x : List Timed). Leads a ds x all) (ap (λ x. put_use begin (group_length g) x rest) is ∙ put_is begin (group_length g) u rest) l);
       fit = λ f. fit_more b.cells wide ds d (fit_later a.cells b.cells wide ds h.grows.cells f) h.fits;
     })
 
@@ -123,11 +123,11 @@ total_at groups i g lt is = ap total_length (drop_at groups i g lt is)
 
 pub leads_on : (a b : Drafted) (ds more : List Driver) (memory wide begin next : ℕ) (groups : List (List Store)) (i : ℕ) (g : List Store) (all : List Timed)
     → i < length groups → g ≡ get_or groups i g → next ≡ begin + group_length g → AddsGroup a b ds more memory wide begin g
-    → Leads a.cells ds (uses_of memory begin (drop i groups)) all → Leads b.cells more (uses_of memory next (drop (i + 1) groups)) all
+    → Leads a ds (uses_of memory begin (drop i groups)) all → Leads b more (uses_of memory next (drop (i + 1) groups)) all
 leads_on a b ds more memory wide begin next groups i g all lt is step h l =
     h.leads (uses_of memory next (drop (i + 1) groups)) all
-    (subst (λ (n : ℕ). Leads a.cells ds (put_use begin (group_length g) (use_in g memory) (uses_of memory n (drop (i + 1) groups))) all) (sym step)
-    (subst (λ (x : List (List Store)). Leads a.cells ds (uses_of memory begin x) all) (drop_at groups i g lt is) l))
+    (subst (λ (n : ℕ). Leads a ds (put_use begin (group_length g) (use_in g memory) (uses_of memory n (drop (i + 1) groups))) all) (sym step)
+    (subst (λ (x : List (List Store)). Leads a ds (uses_of memory begin x) all) (drop_at groups i g lt is) l))
 
 -- a group that is there can be done where all groups can
 pub group_fits : (a b : Drafted) (memory wide : ℕ) (groups : List (List Store)) (i : ℕ) (g stores : List Store) → Grows a b → i < length groups
@@ -137,9 +137,9 @@ group_fits a b memory wide groups i g stores h lt is same all u use_ =
     (all i g (slice_get_read groups (length groups) i g refl lt is) u (ap (λ x. use_in x memory) (sym same) ∙ use_))
 
 -- once no group is left the drivers do all
-pub leads_end : (cells : List Cell) (ds : List Driver) (memory begin i : ℕ) (groups : List (List Store)) (all : List Timed) → length groups ≤ i
-    → Leads cells ds (uses_of memory begin (drop i groups)) all
-    → Always cells (λ rs hs ws. Drives (slice_index rs 0) hs ws ds all)
-leads_end cells ds memory begin i groups all past l rs hs ws s =
-    let old : Leads cells ds [] all = subst (λ (x : List (List Store)). Leads cells ds (uses_of memory begin x) all) (drop_of_length-le groups past) l in
+pub leads_end : (d : Drafted) (ds : List Driver) (memory begin i : ℕ) (groups : List (List Store)) (all : List Timed) → length groups ≤ i
+    → Leads d ds (uses_of memory begin (drop i groups)) all
+    → Always d (λ rs hs ws. Drives (slice_index rs 0) hs ws ds all)
+leads_end d ds memory begin i groups all past l rs hs ws s =
+    let old : Leads d ds [] all = subst (λ (x : List (List Store)). Leads d ds (uses_of memory begin x) all) (drop_of_length-le groups past) l in
     subst (λ (x : List Driver). Drives (slice_index rs 0) hs ws x all) (append-nil ds) (old rs hs ws s [] tt)

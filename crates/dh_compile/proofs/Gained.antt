@@ -1,5 +1,5 @@
 -- How many cells the drivers of the groups that are left take, and those of the memories so far.
-use Rattle.std.proofs.Common.{◌≡◌, ℕ, suc, ◌+◌, ◌*◌, ◌<◌, ◌≤◌, List, length, drop, get_or, sym, ap, ◌∙◌, arith, add-one}
+use Rattle.std.proofs.Common.{◌≡◌, ℕ, ◌+◌, ◌*◌, ◌<◌, ◌≤◌, List, length, drop, get_or, ap, arith, add-one}
 use Rattle.std.proofs.lemmas.List.{drop_all}
 use Rattle.dh_compile.specs.declared.stores.Program.{Program}
 use Rattle.dh_compile.specs.declared.stores.Store.{Store}

@@ -14,6 +14,8 @@ pub mod StorePhases
 pub mod Meeting
 pub mod Joining
 pub mod Quiet
+pub mod OneBank
+pub mod LineTables
 pub mod Cells
 pub mod Pushes
 pub mod Driven

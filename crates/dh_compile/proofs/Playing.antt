@@ -14,11 +14,15 @@ use Rattle.dh_base.specs.declared.outcomes.Outcome.TheVariants.{Going, Ended}
 use Rattle.dh_compile.specs.declared.stores.Operand.{Operand}
 use Rattle.dh_compile.specs.declared.stores.Store.{Store}
 use Rattle.dh_compile.specs.declared.stores.Program.{Program}
-use Rattle.dh_compile.specs.Grouped.{IsGrouped, IsGroup, IsStore, IsSource, IsElement}
+use Rattle.dh_compile.specs.Grouped.{IsLineEntry, IsGrouped, IsGroup, IsStore, IsSource, IsElement}
 use Rattle.dh_net.specs.declared.nets.Register.{Register}
 use Rattle.dh_net.specs.declared.nets.Net.{Net}
 use Rattle.dh_net.specs.Valid.{IsValid}
-use Rattle.dh_net.specs.Clock.{State, IsValuation, Settles, Clocks, start_of, has_clash, has_stray}
+use Rattle.dh_net.specs.BankPorts.{ports_of}
+use Rattle.dh_net.specs.Clock as clock
+use Rattle.dh_net.specs.Clock.{State, IsValuation, Settles, Clocks, start_of, has_clash, has_stray, memories_after}
+use Rattle.dh_net.specs.declared.ports.Port.{Port}
+use Rattle.dh_tree.specs.Tables.{elements_of}
 use Rattle.dh_net.specs.Plays.{Run, IsGoing, IsFine, Plays}
 use Rattle.dh_net.specs.Simulates.{ShowsStep, ShowsEnded, Simulates}
 use Rattle.dh_net.proofs.Valuations.{some_valuation}
@@ -29,6 +33,8 @@ use Rattle.dh_compile.specs.declared.uses.Use.TheVariants.{Reads, Writes}
 use Rattle.dh_compile.specs.Timetable.{use_in, group_length, total_length, uses_of, ends_at, stored_from, stored_of, rows_after}
 use Rattle.dh_compile.specs.Built.{IsShown, IsBuilt}
 use Rattle.dh_compile.specs.GroupRun.{AreLong, DoesGroups}
+use Rattle.dh_compile.proofs.OneBank.{held_after, banks_after}
+use Rattle.dh_compile.proofs.LineTables.{port_is, rows_are, memories_are, held_are}
 use Rattle.dh_compile.proofs.Serving.{use_now, rows_do, held_do, RowsBelow, serves_rows, serves_held, no_clash, no_stray}
 use Rattle.dh_compile.proofs.Times.{group_length_least, group_length_most, use_at, uses_rise, uses_now, uses_over, ends_now, ends_over, clocks_before, within_total, clocks_before_all, clocks_before_more}
 use Rattle.dh_compile.proofs.Endings.{is_before, is_end, never_faults, stuck_never}
@@ -83,27 +89,27 @@ module _ (p : Program) (grouped : IsGrouped p) (net : Net) (valid : IsValid net)
     pub tick : ℕ
     pub tick_is : (tick ≡ 1) ↔ ((0 < n) × (j ≡ 0))
     pub registers : s.registers ≡ (clocks_before n p.groups + j) ∷ (tick ∷ [])
-    pub banks : s.banks ≡ r.memories n
+    pub memories : s.memories ≡ r.memories n
     pub held_long : length s.held ≡ length p.table
     pub held : 0 < j → (g : List Store) (i row : ℕ) → slice_get p.groups n ≡ Some g → i < length p.table → use_in g i ≡ Some (Reads row)
-        → slice_index s.held i ≡ slice_index (slice_index_or s.banks i []) row
+        → slice_index s.held i ≡ slice_index (slice_index_or s.memories i []) row
 
   -- j clocks after the last one
   pub record Over (n j : ℕ) (s : State) : Type 0 where
     pub tick : ℕ
     pub tick_is : (tick ≡ 1) ↔ ((0 < n) × (j ≡ 0))
     pub registers : s.registers ≡ total_length p.groups ∷ (tick ∷ [])
-    pub banks : s.banks ≡ r.memories n
+    pub memories : s.memories ≡ r.memories n
 
   -- the banks have the lengths of the memories
-  banks_long : (n : ℕ) (s : State) → s.banks ≡ r.memories n → AreLong p.table s.banks
+  banks_long : (n : ℕ) (s : State) → s.memories ≡ r.memories n → AreLong p.table s.memories
   banks_long n s e = let P : List (List ℕ) → Type 0 = AreLong p.table in subst P (sym e) (does.long n)
 
   -- what is shown in a state with these registers
   shown_in : (s : State) (wires : List ℕ) (now tick : ℕ) → s.registers ≡ now ∷ (tick ∷ []) → Settles net s wires
       → IsShown net p built.next_clock built.next_tick now tick s.held wires
   shown_in s wires now tick e h =
-      let P : List ℕ → Type 0 = λ x. IsValuation net.cells x s.held wires in
+      let P : List ℕ → Type 0 = λ x. IsValuation net.table net.cells x s.held wires in
       built.shown now tick s.held wires (subst P e h)
 
   -- the registers after a clock
@@ -116,48 +122,60 @@ module _ (p : Program) (grouped : IsGrouped p) (net : Net) (valid : IsValid net)
   clear_clash wires held now tick h i l =
       no_clash now 0 held wires (slice_index_or net.drivers i []) (uses_of i 0 p.groups) (h.drives i (omega (arith, ports_table))) (uses_rise i 0 p.groups)
 
-  clear_stray : (wires held : List ℕ) (now tick : ℕ) (banks : List (List ℕ)) → AreLong p.table banks → IsShown net p built.next_clock built.next_tick now tick held wires
-      → (i : ℕ) → i < length net.drivers → has_stray wires (slice_index_or net.drivers i []) (slice_index_or banks i []) ≡ false
-  clear_stray wires held now tick banks a h i l =
+  clear_stray : (wires held : List ℕ) (now tick : ℕ) → IsShown net p built.next_clock built.next_tick now tick held wires
+      → (i : ℕ) (q : Port) → i < length net.drivers → slice_get (ports_of net.table) i ≡ Some q → has_stray wires (slice_index_or net.drivers i []) q.rows ≡ false
+  clear_stray wires held now tick h i q l at =
       let within : i < length p.table = omega (arith, ports_table) in
       let e = some_at p.table i within in
       let below = uses_below p.table i 0 p.groups e.0 grouped.groups e.1 in
+      let line = at_place IsLineEntry p.table i e.0 grouped.entries e.1 in
+      let same = port_is p.table grouped.entries i e.0 q e.1 (ap (λ t. slice_get (ports_of t) i) (sym built.table) ∙ at) in
+      let rows : elements_of e.0.shape.dims ≡ q.rows = sym (rows_are e.0 line) ∙ ap (λ (x : Port). x.rows) same in
       let P : ℕ → Type 0 = λ n. RowsBelow n (uses_of i 0 p.groups) in
-      no_stray now held wires (slice_index_or net.drivers i []) (uses_of i 0 p.groups) (slice_index_or banks i []) (h.drives i within) (subst P (sym (a.each i e.0 e.1)) below)
+      no_stray now held wires (slice_index_or net.drivers i []) (uses_of i 0 p.groups) q.rows (h.drives i within) (subst P rows below)
+
+  -- a clock does what it does memory by memory
+  memories_now : (s s' : State) (c : Clocks net s s') → AreLong p.table s.memories → s'.memories ≡ banks_after c.wires net.drivers s.memories
+  memories_now s s' c a =
+      c.memories ∙ (ap (λ t. memories_after t c.wires net.drivers (ports_of t) s.memories) built.table ∙ memories_are p.table c.wires net.drivers s.memories grouped.entries ports_table a)
+
+  held_all : (s s' : State) (c : Clocks net s s') → AreLong p.table s.memories → length s.held ≡ length p.table → s'.held ≡ held_after c.wires net.drivers s.memories s.held
+  held_all s s' c a k =
+      c.held ∙ (ap (λ t. clock.held_after t c.wires net.drivers (ports_of t) s.memories s.held) built.table ∙ held_are p.table c.wires net.drivers s.memories s.held grouped.entries ports_table k a)
 
   -- a bank after a clock, by the use at it
-  bank_now : (s s' : State) (c : Clocks net s s') (now tick : ℕ) → s.registers ≡ now ∷ (tick ∷ []) → AreLong p.table s.banks → (i : ℕ) → i < length p.table
-      → slice_index_or s'.banks i [] ≡ rows_do s.held (use_now now (uses_of i 0 p.groups)) (slice_index_or s.banks i [])
+  bank_now : (s s' : State) (c : Clocks net s s') (now tick : ℕ) → s.registers ≡ now ∷ (tick ∷ []) → AreLong p.table s.memories → (i : ℕ) → i < length p.table
+      → slice_index_or s'.memories i [] ≡ rows_do s.held (use_now now (uses_of i 0 p.groups)) (slice_index_or s.memories i [])
   bank_now s s' c now tick e a i l =
       let h = shown_in s c.wires now tick e c.settled in
-      let same : length net.drivers ≡ length s.banks = omega (arith, ports_table, a.all) in
-      let within : i < length s.banks = omega (arith, a.all) in
-      ap (λ bs. slice_index_or bs i []) c.banks
-      ∙ (bank_after c.wires net.drivers s.banks i same within
-      ∙ serves_rows now s.held c.wires (slice_index_or net.drivers i []) (uses_of i 0 p.groups) (slice_index_or s.banks i []) (h.drives i l))
+      let same : length net.drivers ≡ length s.memories = omega (arith, ports_table, a.all) in
+      let within : i < length s.memories = omega (arith, a.all) in
+      ap (λ bs. slice_index_or bs i []) (memories_now s s' c a)
+      ∙ (bank_after c.wires net.drivers s.memories i same within
+      ∙ serves_rows now s.held c.wires (slice_index_or net.drivers i []) (uses_of i 0 p.groups) (slice_index_or s.memories i []) (h.drives i l))
 
   -- the held data of a port after a clock
-  held_now : (s s' : State) (c : Clocks net s s') (now tick : ℕ) → s.registers ≡ now ∷ (tick ∷ []) → AreLong p.table s.banks → length s.held ≡ length p.table → (i : ℕ) → i < length p.table
-      → slice_index s'.held i ≡ held_do (use_now now (uses_of i 0 p.groups)) (slice_index_or s.banks i []) (slice_index s.held i)
+  held_now : (s s' : State) (c : Clocks net s s') (now tick : ℕ) → s.registers ≡ now ∷ (tick ∷ []) → AreLong p.table s.memories → length s.held ≡ length p.table → (i : ℕ) → i < length p.table
+      → slice_index s'.held i ≡ held_do (use_now now (uses_of i 0 p.groups)) (slice_index_or s.memories i []) (slice_index s.held i)
   held_now s s' c now tick e a k i l =
       let h = shown_in s c.wires now tick e c.settled in
-      let same : length net.drivers ≡ length s.banks = omega (arith, ports_table, a.all) in
-      let long : length s.held ≡ length s.banks = omega (arith, k, a.all) in
-      let within : i < length s.banks = omega (arith, a.all) in
-      ap (λ hs. slice_index hs i) c.held
-      ∙ (one_held_after c.wires net.drivers s.banks s.held i same long within
-      ∙ serves_held now s.held c.wires (slice_index_or net.drivers i []) (uses_of i 0 p.groups) (slice_index_or s.banks i []) (slice_index s.held i) (h.drives i l))
+      let same : length net.drivers ≡ length s.memories = omega (arith, ports_table, a.all) in
+      let long : length s.held ≡ length s.memories = omega (arith, k, a.all) in
+      let within : i < length s.memories = omega (arith, a.all) in
+      ap (λ hs. slice_index hs i) (held_all s s' c a k)
+      ∙ (one_held_after c.wires net.drivers s.memories s.held i same long within
+      ∙ serves_held now s.held c.wires (slice_index_or net.drivers i []) (uses_of i 0 p.groups) (slice_index_or s.memories i []) (slice_index s.held i) (h.drives i l))
 
-  banks_length : (s s' : State) (c : Clocks net s s') → AreLong p.table s.banks → length s'.banks ≡ length p.table
+  banks_length : (s s' : State) (c : Clocks net s s') → AreLong p.table s.memories → length s'.memories ≡ length p.table
   banks_length s s' c a =
-      let same : length net.drivers ≡ length s.banks = omega (arith, ports_table, a.all) in
-      ap length c.banks ∙ (length-banks_after c.wires net.drivers s.banks same ∙ a.all)
+      let same : length net.drivers ≡ length s.memories = omega (arith, ports_table, a.all) in
+      ap length (memories_now s s' c a) ∙ (length-banks_after c.wires net.drivers s.memories same ∙ a.all)
 
-  held_length : (s s' : State) (c : Clocks net s s') → AreLong p.table s.banks → length s.held ≡ length p.table → length s'.held ≡ length p.table
+  held_length : (s s' : State) (c : Clocks net s s') → AreLong p.table s.memories → length s.held ≡ length p.table → length s'.held ≡ length p.table
   held_length s s' c a k =
-      let same : length net.drivers ≡ length s.banks = omega (arith, ports_table, a.all) in
-      let long : length s.held ≡ length s.banks = omega (arith, k, a.all) in
-      ap length c.held ∙ (length-held_after c.wires net.drivers s.banks s.held same long ∙ a.all)
+      let same : length net.drivers ≡ length s.memories = omega (arith, ports_table, a.all) in
+      let long : length s.held ≡ length s.memories = omega (arith, k, a.all) in
+      ap length (held_all s s' c a k) ∙ (length-held_after c.wires net.drivers s.memories s.held same long ∙ a.all)
 
   -- the clock of a group is before the total
   early_now : (n j : ℕ) (g : List Store) → slice_get p.groups n ≡ Some g → j < group_length g → clocks_before n p.groups + j < total_length p.groups
@@ -193,53 +211,53 @@ module _ (p : Program) (grouped : IsGrouped p) (net : Net) (valid : IsValid net)
       let early : j < group_length g = omega arith in
       let most = group_length_most g in
       let zeroth : j ≡ 0 = omega arith in
-      let a = banks_long n s inside.banks in
+      let a = banks_long n s inside.memories in
       let now = clocks_before n p.groups + j in
       let no : (suc j == group_length g) ≡ false = grind (arith, nat_tests) in
       let regs = registers_next n j s s' g e early c inside.tick inside.registers in
-      let same : s'.banks ≡ s.banks =
-      ext_get_or [] s'.banks s.banks (banks_length s s' c a ∙ sym a.all)
+      let same : s'.memories ≡ s.memories =
+      ext_get_or [] s'.memories s.memories (banks_length s s' c a ∙ sym a.all)
       (λ i k. let within : i < length p.table = omega (arith, banks_length s s' c a) in
       bank_now s s' c now inside.tick inside.registers a i within
-      ∙ (ap (λ u. rows_do s.held u (slice_index_or s.banks i [])) (use_is n j i g e early)
-      ∙ waiting_rows s.held j (group_length g) (use_in g i) (slice_index_or s.banks i []) l)) in
+      ∙ (ap (λ u. rows_do s.held u (slice_index_or s.memories i [])) (use_is n j i g e early)
+      ∙ waiting_rows s.held j (group_length g) (use_in g i) (slice_index_or s.memories i []) l)) in
       record {
         tick = 0;
         tick_is = ((λ z. cc), (λ z. absurd (let y : suc j ≡ 0 = z.1 in omega arith)));
         registers = regs ∙ (ap (λ b. (clocks_before n p.groups + j + 1) ∷ ((if b then 1 else 0) ∷ [])) no
             ∙ ap (λ x. x ∷ (0 ∷ [])) (let at : clocks_before n p.groups + j + 1 ≡ clocks_before n p.groups + suc j = omega arith in at));
-        banks = same ∙ inside.banks;
+        memories = same ∙ inside.memories;
         held_long = held_length s s' c a inside.held_long;
         held = λ _ g' i row e' k u.
             let one : g ≡ g' = (let both : Some g ≡ Some g' = sym e ∙ e' in cc) in
             let u' : use_in g i ≡ Some (Reads row) = ap (λ x. use_in x i) one ∙ u in
             held_now s s' c now inside.tick inside.registers a inside.held_long i k
-            ∙ (ap (λ v. held_do v (slice_index_or s.banks i []) (slice_index s.held i)) (use_is n j i g e early)
-            ∙ (first_held j (group_length g) row (use_in g i) (slice_index_or s.banks i []) (slice_index s.held i) zeroth u'
+            ∙ (ap (λ v. held_do v (slice_index_or s.memories i []) (slice_index s.held i)) (use_is n j i g e early)
+            ∙ (first_held j (group_length g) row (use_in g i) (slice_index_or s.memories i []) (slice_index s.held i) zeroth u'
             ∙ ap (λ bs. slice_index (slice_index_or bs i []) row) (sym same)));
       }
 
   -- with its last clock the group is done
-  last_banks : (n j : ℕ) (s s' : State) (g : List Store) → slice_get p.groups n ≡ Some g → suc j ≡ group_length g → Inside n j s → Clocks net s s' → s'.banks ≡ r.memories (suc n)
+  last_banks : (n j : ℕ) (s s' : State) (g : List Store) → slice_get p.groups n ≡ Some g → suc j ≡ group_length g → Inside n j s → Clocks net s s' → s'.memories ≡ r.memories (suc n)
   last_banks n j s s' g e l inside c =
       let early : j < group_length g = omega arith in
-      let a = banks_long n s inside.banks in
+      let a = banks_long n s inside.memories in
       let now = clocks_before n p.groups + j in
       let done = does.steps n g e in
       let good : IsGroup p.table g = at_place (IsGroup p.table) p.groups n g grouped.groups e in
-      let next : length s'.banks ≡ length (r.memories (suc n)) = banks_length s s' c a ∙ sym (does.long (suc n)).all in
-      ext_get_or [] s'.banks (r.memories (suc n)) next
+      let next : length s'.memories ≡ length (r.memories (suc n)) = banks_length s s' c a ∙ sym (does.long (suc n)).all in
+      ext_get_or [] s'.memories (r.memories (suc n)) next
       (λ i k. let within : i < length p.table = omega (arith, banks_length s s' c a) in
       bank_now s s' c now inside.tick inside.registers a i within
-      ∙ (ap (λ u. rows_do s.held u (slice_index_or s.banks i [])) (use_is n j i g e early)
-      ∙ (last_rows s.held s.banks j (group_length g) (use_in g i) (slice_index_or s.banks i []) l
-      (λ row number source u. stored_same s.held s.banks source number
+      ∙ (ap (λ u. rows_do s.held u (slice_index_or s.memories i [])) (use_is n j i g e early)
+      ∙ (last_rows s.held s.memories j (group_length g) (use_in g i) (slice_index_or s.memories i []) l
+      (λ row number source u. stored_same s.held s.memories source number
       (λ o d. let w = writer_of g i row number source u in
       let from = w.with ∙ d in
       let two = sum_length g w.place w.writer o w.there from in
       let reads = reads_source g w.place w.writer o good.ports w.there from in
       inside.held (omega arith) g o.memory o.index e (source_within g w.place w.writer o good w.there from) reads))
-      ∙ (ap (λ bs. rows_after bs (use_in g i) (slice_index_or bs i [])) inside.banks ∙ sym (done.each i)))))
+      ∙ (ap (λ bs. rows_after bs (use_in g i) (slice_index_or bs i [])) inside.memories ∙ sym (done.each i)))))
     where
       source_within : (g : List Store) (k : ℕ) (w : Store) (o : Operand) → IsGroup p.table g → slice_get g k ≡ Some w → w.source ≡ Some o → o.memory < length p.table
       source_within g k w o good e d =
@@ -259,8 +277,8 @@ module _ (p : Program) (grouped : IsGrouped p) (net : Net) (valid : IsValid net)
         tick_is = ((λ z. (omega arith, refl)), (λ z. refl));
         registers = regs ∙ (ap (λ b. (clocks_before n p.groups + j + 1) ∷ ((if b then 1 else 0) ∷ [])) yes
             ∙ ap (λ x. x ∷ (1 ∷ [])) (let at : clocks_before n p.groups + j + 1 ≡ clocks_before (suc n) p.groups + 0 = omega arith in at));
-        banks = last_banks n j s s' g e l inside c;
-        held_long = held_length s s' c (banks_long n s inside.banks) inside.held_long;
+        memories = last_banks n j s s' g e l inside c;
+        held_long = held_length s s' c (banks_long n s inside.memories) inside.held_long;
         held = λ z. absurd (let y : 0 < 0 = z in omega arith);
       }
 
@@ -272,28 +290,28 @@ module _ (p : Program) (grouped : IsGrouped p) (net : Net) (valid : IsValid net)
         tick = next.tick;
         tick_is = next.tick_is;
         registers = next.registers ∙ ap (λ x. x ∷ (next.tick ∷ [])) (let at : clocks_before (suc n) p.groups + 0 ≡ total_length p.groups = omega arith in at);
-        banks = next.banks;
+        memories = next.memories;
       }
 
   -- behind the total nothing is done
   stays : (n j : ℕ) (s s' : State) → Over n j s → Clocks net s s' → Over n (suc j) s'
   stays n j s s' over c =
-      let a = banks_long n s over.banks in
+      let a = banks_long n s over.memories in
       let now = total_length p.groups in
       let h = shown_in s c.wires now over.tick over.registers c.settled in
       let at : (now == now) ≡ true = grind (arith, nat_tests) in
       let first : slice_index c.wires built.next_clock ≡ now = h.counts ∙ ap (λ b. if b then now else (now + 1) % 2 ^ 32) at in
       let second : slice_index c.wires built.next_tick ≡ 0 = h.ends ∙ ap (λ b. if b then 1 else 0) (ends_over 0 now p.groups (omega arith)) in
-      let same : s'.banks ≡ s.banks =
-      ext_get_or [] s'.banks s.banks (banks_length s s' c a ∙ sym a.all)
+      let same : s'.memories ≡ s.memories =
+      ext_get_or [] s'.memories s.memories (banks_length s s' c a ∙ sym a.all)
       (λ i k. let within : i < length p.table = omega (arith, banks_length s s' c a) in
       bank_now s s' c now over.tick over.registers a i within
-      ∙ ap (λ u. rows_do s.held u (slice_index_or s.banks i [])) (uses_over i 0 now p.groups (omega arith))) in
+      ∙ ap (λ u. rows_do s.held u (slice_index_or s.memories i [])) (uses_over i 0 now p.groups (omega arith))) in
       record {
         tick = 0;
         tick_is = ((λ z. cc), (λ z. absurd (let y : suc j ≡ 0 = z.1 in omega arith)));
         registers = registers_after s s' c ∙ (ap (λ x. x ∷ (slice_index c.wires built.next_tick ∷ [])) first ∙ ap (λ x. now ∷ (x ∷ [])) second);
-        banks = same ∙ over.banks;
+        memories = same ∙ over.memories;
       }
 
   -- what the net shows at clock j of the step of group n
@@ -302,13 +320,13 @@ module _ (p : Program) (grouped : IsGrouped p) (net : Net) (valid : IsValid net)
   shows_step n j s wires g e l inside v =
       let now = clocks_before n p.groups + j in
       let h = shown_in s wires now inside.tick inside.registers v in
-      let a = banks_long n s inside.banks in
+      let a = banks_long n s inside.memories in
       let early = early_now n j g e l in
       let no : (now == total_length p.groups) ≡ false = grind (arith, nat_tests) in
       record {
         no_clash = no_clashes wires net.drivers (clear_clash wires s.held now inside.tick h);
-        no_stray = no_strays wires net.drivers s.banks (clear_stray wires s.held now inside.tick s.banks a h);
-        memories = inside.banks;
+        no_stray = no_strays wires net.drivers (ports_of net.table) (clear_stray wires s.held now inside.tick h);
+        memories = inside.memories;
         tick = ((λ t. inside.tick_is.0 (sym h.ticks ∙ t)), (λ t. h.ticks ∙ inside.tick_is.1 t));
         not_done = λ t. (let z : 0 ≡ 1 = sym (h.done ∙ ap (λ b. if b then 1 else 0) no) ∙ t in omega arith);
         no_fault = h.fault;
@@ -318,12 +336,12 @@ module _ (p : Program) (grouped : IsGrouped p) (net : Net) (valid : IsValid net)
   shows_over n j s wires over v =
       let now = total_length p.groups in
       let h = shown_in s wires now over.tick over.registers v in
-      let a = banks_long n s over.banks in
+      let a = banks_long n s over.memories in
       let yes : (now == now) ≡ true = grind (arith, nat_tests) in
       record {
         no_clash = no_clashes wires net.drivers (clear_clash wires s.held now over.tick h);
-        no_stray = no_strays wires net.drivers s.banks (clear_stray wires s.held now over.tick s.banks a h);
-        memories = over.banks;
+        no_stray = no_strays wires net.drivers (ports_of net.table) (clear_stray wires s.held now over.tick h);
+        memories = over.memories;
         tick = ((λ t. over.tick_is.0 (sym h.ticks ∙ t)), (λ t. h.ticks ∙ over.tick_is.1 t));
         done = h.done ∙ ap (λ b. if b then 1 else 0) yes;
         no_fault = h.fault;
@@ -340,7 +358,7 @@ module _ (p : Program) (grouped : IsGrouped p) (net : Net) (valid : IsValid net)
     tick = 0;
     tick_is = ((λ z. cc), (λ z. absurd (let y : 0 < 0 = z.0 in omega arith)));
     registers = ap (λ rs. map (λ (x : Register). x.initial) rs) built.registers;
-    banks = sym e;
+    memories = sym e;
     held_long = length-replicate (length net.drivers) 0 ∙ ports_table;
     held = λ z. absurd (let y : 0 < 0 = z in omega arith);
   }
@@ -351,7 +369,7 @@ module _ (p : Program) (grouped : IsGrouped p) (net : Net) (valid : IsValid net)
     tick = 0;
     tick_is = ((λ z. cc), (λ z. absurd (let y : 0 < 0 = z.0 in omega arith)));
     registers = ap (λ rs. map (λ (x : Register). x.initial) rs) built.registers ∙ ap (λ gs. total_length gs ∷ (0 ∷ [])) same;
-    banks = sym e;
+    memories = sym e;
   }
   over_at_once m e (g ∷ gs) same none = absurd (let z : suc (length gs) ≡ 0 = none in omega arith)
 

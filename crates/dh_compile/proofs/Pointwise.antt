@@ -1,9 +1,11 @@
 -- The lists of banks and of held data after a clock, place by place; and that drivers that clash or
 -- stray nowhere do so on no port. By induction on the ports.
 use Rattle.std.proofs.Common.{◌≡◌, ℕ, ◌<◌, ◌||◌, false, List, [], ◌∷◌, length, refl, ap, ◌∙◌, zero, suc, arith}
-use Rattle.std.specs.Prelude.{slice_index, slice_index_or}
+use Rattle.std.specs.Prelude.{slice_get, slice_index, slice_index_or, Some}
 use Rattle.dh_net.specs.declared.nets.Driver.{Driver}
-use Rattle.dh_net.specs.Clock.{has_clash, has_clashes, has_stray, has_strays, served, rows_by, held_by, held_after, banks_after}
+use Rattle.dh_net.specs.Clock.{has_clash, has_clashes, has_stray, has_strays, served}
+use Rattle.dh_net.specs.declared.ports.Port.{Port}
+use Rattle.dh_compile.proofs.OneBank.{rows_by, held_by, held_after, banks_after}
 
 pub length-banks_after : (wires : List ℕ) (dss : List (List Driver)) (banks : List (List ℕ)) → length dss ≡ length banks
     → length (banks_after wires dss banks) ≡ length banks
@@ -55,10 +57,10 @@ no_clashes wires (ds ∷ dss) h =
     let first : has_clash wires ds ≡ false = h 0 (omega arith) in
     ap (λ b. b || has_clashes wires dss) first ∙ no_clashes wires dss (λ i l. h (suc i) (omega arith))
 
-pub no_strays : (wires : List ℕ) (dss : List (List Driver)) (banks : List (List ℕ))
-    → ((i : ℕ) → i < length dss → has_stray wires (slice_index_or dss i []) (slice_index_or banks i []) ≡ false) → has_strays wires dss banks ≡ false
-no_strays wires [] banks h = refl
+pub no_strays : (wires : List ℕ) (dss : List (List Driver)) (ports : List Port)
+    → ((i : ℕ) (p : Port) → i < length dss → slice_get ports i ≡ Some p → has_stray wires (slice_index_or dss i []) p.rows ≡ false) → has_strays wires dss ports ≡ false
+no_strays wires [] ports h = refl
 no_strays wires (ds ∷ dss) [] h = refl
-no_strays wires (ds ∷ dss) (b ∷ bs) h =
-    let first : has_stray wires ds b ≡ false = h 0 (omega arith) in
-    ap (λ x. x || has_strays wires dss bs) first ∙ no_strays wires dss bs (λ i l. h (suc i) (omega arith))
+no_strays wires (ds ∷ dss) (p ∷ ps) h =
+    let first : has_stray wires ds p.rows ≡ false = h 0 p (omega arith) refl in
+    ap (λ x. x || has_strays wires dss ps) first ∙ no_strays wires dss ps (λ i q l at. h (suc i) q (omega arith) at)

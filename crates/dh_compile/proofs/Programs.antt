@@ -5,19 +5,22 @@ use Rattle.std.proofs.Common.{◌≡◌, ℕ, ◌*◌, ◌^◌, ◌<◌, ◌≤�
 use Rattle.std.specs.Prelude.{Bool, true, false, slice_get, if◌then◌else◌, ◌==◌}
 use Rattle.std.specs.List.{AllByRecursion}
 use Rattle.std.proofs.lemmas.Bool.Decides.{nat_tests}
+use Rattle.std.proofs.lemmas.Option.{slice_get_within}
 use Rattle.dh_tree.specs.declared.tables.MemEntry.{MemEntry}
 use Rattle.dh_compile.specs.declared.stores.Operand.{Operand}
 use Rattle.dh_compile.specs.declared.stores.Store.{Store}
 use Rattle.dh_compile.specs.declared.stores.Program.{Program}
+use Rattle.dh_tree.specs.Elements.{banks_of}
 use Rattle.dh_tree.specs.Tables.{elements_of, elements_in}
 use Rattle.dh_value.specs.Words.{width_of}
 use Rattle.dh_compile.specs.Grouped.{IsLineEntry, IsElement, IsSource, IsStore, IsGroup, IsGrouped}
-use Rattle.dh_net.specs.Valid.{IsRowWidth}
+use Rattle.dh_net.specs.RowWidths.{IsRowWidth}
 use Rattle.dh_compile.specs.declared.uses.Use.{Use}
 use Rattle.dh_compile.specs.declared.uses.Use.TheVariants.{Reads, Writes}
 use Rattle.dh_compile.specs.Timetable.{use_of_source, use_in, total_length}
 use Rattle.dh_compile.specs.Drafts.{IsHeld}
 use Rattle.dh_compile.specs.Drivers.{FitsUse, FitsGroup, FitsGroups}
+use Rattle.dh_compile.proofs.LineTables.{number_is}
 use Rattle.dh_compile.proofs.Groups.{at_place}
 
 -- a grouped program's memory has as many elements as it says, of 32 bits
@@ -39,13 +42,20 @@ index_fits table memory index wide e h at room =
 
 source_held : (table : List MemEntry) → AllByRecursion IsLineEntry table → (source : Option Operand) → IsSource table source → IsHeld table source
 source_held table grouped None h = tt
-source_held table grouped (Some o) h = record {
-  entry = h.entry;
-  there = h.declared;
-  first_bank = refl;
-  first_port = refl;
-  wide = grouped_width h.entry (at_place IsLineEntry table o.memory h.entry grouped h.declared);
-}
+source_held table grouped (Some o) h =
+    let line = at_place IsLineEntry table o.memory h.entry grouped h.declared in
+    let banks : 1 ≡ banks_of h.entry.shape.dims = sym (ap (λ (e : MemEntry). banks_of e.shape.dims) line.is) in
+    let ports : 1 ≡ h.entry.shape.ports = sym (ap (λ (e : MemEntry). e.shape.ports) line.is) in
+    record {
+      port = record {
+        entry = h.entry;
+        there = h.declared;
+        bank_there = subst (λ (n : ℕ). 0 < n) banks (omega arith);
+        port_there = subst (λ (n : ℕ). 0 < n) ports (omega arith);
+        wide = grouped_width h.entry line;
+      };
+      number = number_is table grouped o.memory (slice_get_within table o.memory h.entry h.declared);
+    }
 
 -- numbers that are tested to be equal are equal
 tested : (a b : ℕ) → (a == b) ≡ true → a ≡ b

@@ -1,13 +1,21 @@
 -- What a few cells in a row say.
 -- Each cell's wire has the value of its form, and the facts of the wires that the form names are still
 -- true of the longer list. So the value of the last wire follows by putting theirs in their places.
-use Rattle.std.proofs.Common.{◌≡◌, ℕ, ◌+◌, ◌%◌, ◌^◌, inl, inr, List, length, refl, ◌∙◌, arith}
+use Rattle.std.proofs.Common.{◌≡◌, ℕ, ◌+◌, ◌%◌, ◌^◌, inl, inr, List, length, refl, ap, ◌∙◌, arith}
 use Rattle.std.specs.Prelude.{slice_index, if◌then◌else◌, ◌==◌}
+use Rattle.std.proofs.Common.{pos, ◌+ℤ◌}
+use Rattle.std.proofs.lemmas.Nat.{pow_pos}
 use Rattle.std.proofs.lemmas.Option.{slice_get_cases}
+use Rattle.dh_value.proofs.Residues.{residue_is, above_sum}
+use Rattle.dh_value.proofs.Values.{above_value}
+use Rattle.dh_value.specs.declared.kinds.Kind.TheVariants.{Unsigned}
+use Rattle.dh_value.specs.declared.operators.Op.TheVariants as op
 use Rattle.dh_net.specs.declared.nets.Cell.{Cell}
 use Rattle.dh_net.specs.declared.nets.CellForm.TheVariants.{Data, Add, Or, Eq, Mux}
-use Rattle.dh_net.specs.Valid.{HasWidth, IsOperand, AreOperands, IsPort}
-use Rattle.dh_compile.specs.Drafts.{Drafted, IsNext, Always, Grows, Adds, IsClock}
+use Rattle.dh_net.specs.Valid.{HasWidth, IsOperand, AreOperands}
+use Rattle.dh_net.specs.BankPorts.{port_number}
+use Rattle.dh_net.specs.Clock.{unsigned_result}
+use Rattle.dh_compile.specs.Drafts.{Drafted, IsNext, Always, Grows, Adds, IsClock, IsOnePort}
 use Rattle.dh_compile.proofs.Cells.{width_later, later, grows_then}
 
 -- a wire that is there is one before the next cell
@@ -38,7 +46,7 @@ choice_next d c a b g h k =
 
 -- a cell after others adds what it does, under another name of its value
 pub adds_after : (a b c : Drafted) (wire width : ℕ) (value other : List ℕ → List ℕ → List ℕ → ℕ) → Grows a b → Adds b c wire width value
-    → Always c.cells (λ rs hs ws. value rs hs ws ≡ other rs hs ws) → Adds a c wire width other
+    → Always c (λ rs hs ws. value rs hs ws ≡ other rs hs ws) → Adds a c wire width other
 adds_after a b c wire width value other g h same = record {
   grows = grows_then a b c g h.grows;
   wide = h.wide;
@@ -58,26 +66,33 @@ pub at_adds : (a b c : Drafted) (clock right wire number : ℕ) → IsClock a cl
     → Adds a c wire 1 (λ rs hs ws. if slice_index rs 0 == number then 1 else 0)
 at_adds a b c clock right wire number k h g =
     adds_after a b c wire 1 _ (λ rs hs ws. if slice_index rs 0 == number then 1 else 0) h.grows g λ rs hs ws s.
-    let x = later b.cells c.cells (λ rs hs ws. slice_index ws right ≡ number) g.grows.cells h.is rs hs ws s in
-    let y = later a.cells c.cells (λ rs hs ws. slice_index ws clock ≡ slice_index rs 0) (grows_then a b c h.grows g.grows).cells k.is rs hs ws s in
+    let x = later b c (λ rs hs ws. slice_index ws right ≡ number) g.grows h.is rs hs ws s in
+    let y = later a c (λ rs hs ws. slice_index ws clock ≡ slice_index rs 0) (grows_then a b c h.grows g.grows) k.is rs hs ws s in
     cc
 
+-- the sum of unsigned words
+pub sum_is : (w a b : ℕ) → unsigned_result op.Add w a b ≡ (a + b) % 2 ^ w
+sum_is w a b =
+    residue_is (2 ^ w) (pos a +ℤ pos b) (a + b) (pow_pos w)
+    (above_sum (2 ^ w) (pos a) (pos b) a b (above_value (Unsigned w) a) (above_value (Unsigned w) b))
+
 -- the sum of held data and a number: the data, the number, and their sum
-pub data_next : (a b : Drafted) (memory right number : ℕ) → IsPort a.table memory 0 0 32 → Adds a b right 32 (λ rs hs ws. number)
+pub data_next : (a b : Drafted) (memory right number : ℕ) → IsOnePort a.table memory → Adds a b right 32 (λ rs hs ws. number)
     → IsNext b 32 (Data memory 0 0)
 data_next a b memory right number p h =
-    record { least = omega arith; greatest = omega arith; fits = rw h.grows.table p }
+    record { least = omega arith; greatest = omega arith; fits = rw h.grows.table p.port }
 
 pub sum_after : (a b c : Drafted) (right left : ℕ) (x y : List ℕ → List ℕ → List ℕ → ℕ) → Adds a b right 32 x → Adds b c left 32 y
     → IsNext c 32 (Add left right)
 sum_after a b c right left x y h k = sum_next c left right k.wide (wide_then b c right 32 k.grows h.wide)
 
-pub sum_adds : (a b c d : Drafted) (right left wire memory number : ℕ) → Adds a b right 32 (λ rs hs ws. number)
-    → Adds b c left 32 (λ rs hs ws. slice_index hs memory)
-    → Adds c d wire 32 (λ rs hs ws. (slice_index ws left + slice_index ws right) % 2 ^ 32)
+pub sum_adds : (a b c d : Drafted) (right left wire memory number : ℕ) → IsOnePort a.table memory → Adds a b right 32 (λ rs hs ws. number)
+    → Adds b c left 32 (λ rs hs ws. slice_index hs (port_number b.table memory 0 0))
+    → Adds c d wire 32 (λ rs hs ws. unsigned_result op.Add 32 (slice_index ws left) (slice_index ws right))
     → Adds a d wire 32 (λ rs hs ws. (slice_index hs memory + number) % 2 ^ 32)
-sum_adds a b c d right left wire memory number h k g =
+sum_adds a b c d right left wire memory number one h k g =
+    let place : port_number b.table memory 0 0 ≡ memory = ap (λ t. port_number t memory 0 0) h.grows.table ∙ one.number in
     adds_after a c d wire 32 _ (λ rs hs ws. (slice_index hs memory + number) % 2 ^ 32) (grows_then a b c h.grows k.grows) g λ rs hs ws s.
-    let x = later c.cells d.cells (λ rs hs ws. slice_index ws left ≡ slice_index hs memory) g.grows.cells k.is rs hs ws s in
-    let y = later b.cells d.cells (λ rs hs ws. slice_index ws right ≡ number) (grows_then b c d k.grows g.grows).cells h.is rs hs ws s in
-    cc
+    let x = later c d (λ rs hs ws. slice_index ws left ≡ slice_index hs (port_number b.table memory 0 0)) g.grows k.is rs hs ws s ∙ ap (λ n. slice_index hs n) place in
+    let y = later b d (λ rs hs ws. slice_index ws right ≡ number) (grows_then b c d k.grows g.grows) h.is rs hs ws s in
+    sum_is 32 (slice_index ws left) (slice_index ws right) ∙ (ap (λ n. (n + slice_index ws right) % 2 ^ 32) x ∙ ap (λ n. (slice_index hs memory + n) % 2 ^ 32) y)

@@ -1,15 +1,16 @@
 -- What a port does at a clock, by the uses that its drivers stand for. The uses of a port have
 -- rising clocks, so at one clock at most one of its drivers is active: that of the use at this clock,
 -- where there is one. By induction on the drivers beside their uses.
-use Rattle.std.proofs.Common.{◌≡◌, ℕ, ◌<◌, ◌≤◌, ◌==◌, ◌&&◌, ◌||◌, not, nat_lt, Bool, true, false, if◌then◌else◌, List, [], ◌∷◌, length, Option, Some, None, refl, sym, ap, ◌∙◌, suc, arith}
+use Rattle.std.proofs.Common.{◌≡◌, ℕ, ◌<◌, ◌≤◌, ◌==◌, ◌&&◌, ◌||◌, not, nat_lt, Bool, true, false, if◌then◌else◌, List, [], ◌∷◌, Option, Some, None, refl, sym, ap, ◌∙◌, suc, arith}
 use Rattle.std.specs.Prelude.{slice_index, slice_set}
 use Rattle.std.proofs.lemmas.Bool.Decides.{nat_tests}
 use Rattle.dh_net.specs.declared.nets.Driver.{Driver}
-use Rattle.dh_net.specs.Clock.{is_active, any_active, has_clash, has_stray, served, rows_by, held_by}
+use Rattle.dh_net.specs.Clock.{is_active, any_active, has_clash, has_stray, served}
 use Rattle.dh_compile.specs.declared.uses.Use.{Use}
 use Rattle.dh_compile.specs.declared.uses.Use.TheVariants.{Reads, Writes}
 use Rattle.dh_compile.specs.Timetable.{Timed, stored_from}
 use Rattle.dh_compile.specs.Built.{EnabledAt, Does, Drives}
+use Rattle.dh_compile.proofs.OneBank.{rows_by, held_by}
 
 -- the use at a clock, where there is one
 abbrev pub use_now : (now : ℕ) → List Timed → Option Use
@@ -133,12 +134,12 @@ stray_by : (b below rest : Bool) → below ≡ true → rest ≡ false → ((b &
 stray_by true below rest h k = ap (λ x. not x || rest) h ∙ k
 stray_by false below rest h k = k
 
-pub no_stray : (now : ℕ) (held wires : List ℕ) (ds : List Driver) (us : List Timed) (rows : List ℕ) → Drives now held wires ds us → RowsBelow (length rows) us
+pub no_stray : (now : ℕ) (held wires : List ℕ) (ds : List Driver) (us : List Timed) (rows : ℕ) → Drives now held wires ds us → RowsBelow rows us
     → has_stray wires ds rows ≡ false
 no_stray now held wires [] [] rows h r = refl
 no_stray now held wires [] (u ∷ us) rows h r = absurd h
 no_stray now held wires (d ∷ ds) [] rows h r = absurd h
 no_stray now held wires (d ∷ ds) (u ∷ us) rows h r =
     let at : slice_index wires d.row ≡ row_in u.use_ = does_row held wires d u.use_ h.1.0 in
-    let below : nat_lt (slice_index wires d.row) (length rows) ≡ true = grind (arith, nat_tests) in
-    stray_by (is_active wires d) (nat_lt (slice_index wires d.row) (length rows)) (has_stray wires ds rows) below (no_stray now held wires ds us rows h.1.1 r.1)
+    let below : nat_lt (slice_index wires d.row) rows ≡ true = grind (arith, nat_tests) in
+    stray_by (is_active wires d) (nat_lt (slice_index wires d.row) rows) (has_stray wires ds rows) below (no_stray now held wires ds us rows h.1.1 r.1)

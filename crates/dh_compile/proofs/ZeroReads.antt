@@ -29,7 +29,7 @@ each_list P (x ∷ xs) h = (h 0 (omega arith), each_list P xs (λ i l. h (suc i)
 
 pub reads_zero : (p : Program) (net : Net) → IsValid net → IsBuilt net p → HasReadsZero net
 reads_zero p net valid built =
-    let s : State = record { registers = 0 ∷ (0 ∷ []); held = []; banks = [] } in
+    let s : State = record { registers = 0 ∷ (0 ∷ []); held = []; memories = [] } in
     let v = some_valuation net valid s in
     let shown = built.shown 0 0 [] v.0 v.1 in
     let long = built.ports in

@@ -54,4 +54,4 @@ pub record IsBuilt (net : Net) (p : Program) : Type 0 where
   pub next_tick : ℕ
   pub registers : net.registers ≡ clock_and_tick next_clock next_tick
   pub ports : length net.drivers ≡ length p.table
-  pub shown : (now tick : ℕ) (held wires : List ℕ) → IsValuation net.cells (now ∷ (tick ∷ [])) held wires → IsShown net p next_clock next_tick now tick held wires
+  pub shown : (now tick : ℕ) (held wires : List ℕ) → IsValuation net.table net.cells (now ∷ (tick ∷ [])) held wires → IsShown net p next_clock next_tick now tick held wires

@@ -1,13 +1,15 @@
 -- What the cells of a net that is being built say of its wires. Cells are only appended, so each
 -- fact is stated for every solution of the cells' equations: what solves more cells solves fewer.
-use Rattle.std.specs.Prelude.{◌≡◌, ℕ, ◌+◌, ◌≤◌, List, [], ◌∷◌, ◌++◌, length, slice_get, slice_index, Option, Some, None, Result, IfOk}
+use Rattle.std.specs.Prelude.{◌≡◌, ℕ, ◌+◌, ◌<◌, ◌≤◌, List, [], ◌∷◌, ◌++◌, length, slice_get, slice_index, Option, Some, None, Result, IfOk}
 use Rattle.dh_base.specs.declared.lists.NoMemory.{NoMemory}
 use Rattle.dh_tree.specs.declared.tables.MemEntry.{MemEntry}
 use Rattle.dh_compile.specs.declared.stores.Operand.{Operand}
 use Rattle.dh_net.specs.Valid.{HasWidth, FormFits, IsCell, IsPort}
+use Rattle.dh_net.specs.BankPorts.{port_number}
 use Rattle.dh_net.specs.Clock.{form_value}
 use Rattle.dh_net.specs.declared.nets.Cell.{Cell}
 use Rattle.dh_net.specs.declared.nets.CellForm.{CellForm}
+use Rattle.dh_net.specs.declared.nets.CellForm.TheVariants.{LtS, Sign}
 use Rattle.dh_net.specs.declared.nets.Register.{Register}
 use Rattle.dh_compile.specs.Built.{clock_register, tick_register}
 
@@ -36,13 +38,20 @@ pub record IsNext (d : Drafted) (width : ℕ) (form : CellForm) : Type 0 where
   pub greatest : width ≤ 64
   pub fits : FormFits d.table plain_registers d.cells (length d.cells) width form
 
+-- the wires whose widths the value of a form depends on are there
+abbrev pub HasMeasured : List Cell → CellForm → Type 0
+HasMeasured cells (LtS a b) = a < length cells
+HasMeasured cells (Sign a) = a < length cells
+HasMeasured cells form = Unit {0}
+
 -- the wires solve the equations of the cells
-pub record Solves (cells : List Cell) (registers held wires : List ℕ) : Type 0 where
-  pub each : (i : ℕ) (c : Cell) → slice_get cells i ≡ Some c → slice_index wires i ≡ form_value registers held wires c.width c.form
+pub record Solves (d : Drafted) (registers held wires : List ℕ) : Type 0 where
+  pub each : (i : ℕ) (c : Cell) → slice_get d.cells i ≡ Some c → HasMeasured d.cells c.form
+      → slice_index wires i ≡ form_value d.table d.cells registers held wires c.width c.form
 
 -- every solution is so
-abbrev pub Always : List Cell → (List ℕ → List ℕ → List ℕ → Type 0) → Type 0
-Always cells P = (registers held wires : List ℕ) → Solves cells registers held wires → P registers held wires
+abbrev pub Always : Drafted → (List ℕ → List ℕ → List ℕ → Type 0) → Type 0
+Always d P = (registers held wires : List ℕ) → Solves d registers held wires → P registers held wires
 
 -- the cells begin with those
 abbrev pub Extends : (old new : List Cell) → Type 0
@@ -57,7 +66,7 @@ pub record Grows (old new : Drafted) : Type 0 where
 pub record Adds (old new : Drafted) (wire width : ℕ) (value : List ℕ → List ℕ → List ℕ → ℕ) : Type 0 where
   pub grows : Grows old new
   pub wide : HasWidth new.cells wire width
-  pub is : Always new.cells (λ registers held wires. slice_index wires wire ≡ value registers held wires)
+  pub is : Always new (λ registers held wires. slice_index wires wire ≡ value registers held wires)
 
 -- where memory was had, the wire of this width and value was added
 abbrev pub WireAdded : Result ℕ NoMemory → (old new : Drafted) → (width : ℕ) → (value : List ℕ → List ℕ → List ℕ → ℕ) → Type 0
@@ -79,14 +88,19 @@ CellsGained result old new count = IfOk result (λ _. Gains old new count)
 -- the wire shows the register that counts the clocks
 pub record IsClock (d : Drafted) (wire : ℕ) : Type 0 where
   pub wide : HasWidth d.cells wire 32
-  pub is : Always d.cells (λ registers held wires. slice_index wires wire ≡ slice_index registers 0)
+  pub is : Always d (λ registers held wires. slice_index wires wire ≡ slice_index registers 0)
+
+-- the memory has one port, of 32 bits, and the port has the memory's number
+pub record IsOnePort (table : List MemEntry) (memory : ℕ) : Type 0 where
+  pub port : IsPort table memory 0 0 32
+  pub number : port_number table memory 0 0 ≡ memory
 
 -- there is such an element, and its memory has the port that it is read by
 abbrev pub IsHeld : List MemEntry → Option Operand → Type 0
 IsHeld table None = Unit {0}
-IsHeld table (Some o) = IsPort table o.memory 0 0 32
+IsHeld table (Some o) = IsOnePort table o.memory
 
 -- the wire has this width and this value
-pub record Shows (cells : List Cell) (wire width : ℕ) (value : List ℕ → List ℕ → List ℕ → ℕ) : Type 0 where
-  pub wide : HasWidth cells wire width
-  pub is : Always cells (λ registers held wires. slice_index wires wire ≡ value registers held wires)
+pub record Shows (d : Drafted) (wire width : ℕ) (value : List ℕ → List ℕ → List ℕ → ℕ) : Type 0 where
+  pub wide : HasWidth d.cells wire width
+  pub is : Always d (λ registers held wires. slice_index wires wire ≡ value registers held wires)

@@ -6,7 +6,9 @@ use Rattle.dh_compile.specs.declared.stores.Store.{Store}
 use Rattle.dh_compile.specs.declared.stores.Program.{Program}
 use Rattle.dh_net.specs.Valid.{HasWidth, IsDriver}
 use Rattle.dh_net.specs.declared.nets.Cell.{Cell}
+use Rattle.dh_net.specs.BankPorts.{ports_of}
 use Rattle.dh_net.specs.declared.nets.Driver.{Driver}
+use Rattle.dh_net.specs.declared.ports.Port.{Port}
 use Rattle.dh_compile.specs.declared.uses.Use.{Use}
 use Rattle.dh_compile.specs.declared.uses.Use.TheVariants.{Reads, Writes}
 use Rattle.dh_compile.specs.Timetable.{Timed, use_in, group_length, put_use, uses_of}
@@ -40,7 +42,7 @@ FitDrivers cells wide ds = (k : ℕ) (d : Driver) → slice_get ds k ≡ Some d 
 pub record AddsUse (old new : Drafted) (d : Driver) (enable wide : ℕ) (u : Use) : Type 0 where
   pub grows : Grows old new
   pub same : d.enable ≡ enable
-  pub does : Always new.cells (λ registers held wires. Does held wires d u)
+  pub does : Always new (λ registers held wires. Does held wires d u)
   pub row : HasWidth new.cells d.row wide
   pub out : d.write ≡ true → HasWidth new.cells d.data_ 32
 
@@ -51,8 +53,8 @@ UseAdded result old new enable wide u = IfOk result (λ d. AddsUse old new d ena
 -- cells were added for a driver that does this at this clock alone
 pub record AddsDriver (old new : Drafted) (d : Driver) (wide at : ℕ) (u : Use) : Type 0 where
   pub grows : Grows old new
-  pub enabled : Always new.cells (λ registers held wires. EnabledAt (slice_index registers 0) wires d at)
-  pub does : Always new.cells (λ registers held wires. Does held wires d u)
+  pub enabled : Always new (λ registers held wires. EnabledAt (slice_index registers 0) wires d at)
+  pub does : Always new (λ registers held wires. Does held wires d u)
   pub fits : FitsDriver new.cells wide d
 
 -- where memory was had, the driver that is answered is so
@@ -60,14 +62,14 @@ abbrev pub DriverAdded : Result Driver NoMemory → (old new : Drafted) → (wid
 DriverAdded result old new wide at u = IfOk result (λ d. AddsDriver old new d wide at u)
 
 -- with drivers for what is still to come, these drivers do all
-abbrev pub Leads : List Cell → List Driver → (rest all : List Timed) → Type 0
-Leads cells ds rest all =
-    Always cells (λ registers held wires. (x : List Driver) → Drives (slice_index registers 0) held wires x rest → Drives (slice_index registers 0) held wires (ds ++ x) all)
+abbrev pub Leads : Drafted → List Driver → (rest all : List Timed) → Type 0
+Leads d ds rest all =
+    Always d (λ registers held wires. (x : List Driver) → Drives (slice_index registers 0) held wires x rest → Drives (slice_index registers 0) held wires (ds ++ x) all)
 
 -- the drivers have come to do what a group does
 pub record AddsGroup (old new : Drafted) (ds more : List Driver) (memory wide begin : ℕ) (g : List Store) : Type 0 where
   pub grows : Grows old new
-  pub leads : (rest all : List Timed) → Leads old.cells ds (put_use begin (group_length g) (use_in g memory) rest) all → Leads new.cells more rest all
+  pub leads : (rest all : List Timed) → Leads old ds (put_use begin (group_length g) (use_in g memory) rest) all → Leads new more rest all
   pub fit : FitDrivers old.cells wide ds → FitDrivers new.cells wide more
 
 -- where memory was had, they have
@@ -77,7 +79,7 @@ GroupAdded result old new ds more memory wide begin g = IfOk result (λ _. AddsG
 -- cells were added for drivers that do what all groups do
 pub record AddsPort (old new : Drafted) (ds : List Driver) (memory wide : ℕ) (groups : List (List Store)) : Type 0 where
   pub grows : Grows old new
-  pub drives : Always new.cells (λ registers held wires. Drives (slice_index registers 0) held wires ds (uses_of memory 0 groups))
+  pub drives : Always new (λ registers held wires. Drives (slice_index registers 0) held wires ds (uses_of memory 0 groups))
   pub fit : FitDrivers new.cells wide ds
 
 -- where memory was had, the drivers that are answered are so
@@ -89,13 +91,13 @@ abbrev pub FitsGroups : List MemEntry → (memory wide : ℕ) → List (List Sto
 FitsGroups table memory wide groups = (k : ℕ) (g : List Store) → slice_get groups k ≡ Some g → FitsGroup table memory wide g
 
 -- the ports of the first memories have their drivers
-pub record HasPorts (cells : List Cell) (ports : List (List Driver)) (p : Program) (memories : ℕ) : Type 0 where
+pub record HasPorts (d : Drafted) (ports : List (List Driver)) (p : Program) (memories : ℕ) : Type 0 where
   pub all : length ports ≡ memories
-  pub drives : (m : ℕ) → m < memories → Always cells (λ registers held wires. Drives (slice_index registers 0) held wires (slice_index_or ports m []) (uses_of m 0 p.groups))
-  pub fit : (m : ℕ) (ds : List Driver) (e : MemEntry) → slice_get ports m ≡ Some ds → slice_get p.table m ≡ Some e
-      → (k : ℕ) (d : Driver) → slice_get ds k ≡ Some d → IsDriver cells e d
+  pub drives : (m : ℕ) → m < memories → Always d (λ registers held wires. Drives (slice_index registers 0) held wires (slice_index_or ports m []) (uses_of m 0 p.groups))
+  pub fit : (m : ℕ) (ds : List Driver) (q : Port) → slice_get ports m ≡ Some ds → slice_get (ports_of p.table) m ≡ Some q
+      → (k : ℕ) (driver : Driver) → slice_get ds k ≡ Some driver → IsDriver d.cells q driver
 
 -- cells were added for the drivers of all ports
 pub record AddsPorts (old new : Drafted) (ports : List (List Driver)) (p : Program) : Type 0 where
   pub grows : Grows old new
-  pub has : HasPorts new.cells ports p (length p.table)
+  pub has : HasPorts new ports p (length p.table)

@@ -6,10 +6,11 @@ use Rattle.dh_net.specs.declared.nets.CellForm.{CellForm}
 use Rattle.dh_compile.specs.declared.stores.Operand.{Operand}
 use Rattle.dh_compile.specs.declared.stores.Store.{Store}
 use Rattle.dh_compile.specs.Timetable.{ends_at, stored_from}
+use Rattle.dh_compile.specs.Drafts.{Drafted}
 
--- what a cell of this form shows
-abbrev pub form_shown : (width : ℕ) → CellForm → List ℕ → List ℕ → List ℕ → ℕ
-form_shown width form = λ registers held wires. form_value registers held wires width form
+-- what a cell of this form behind those of a draft shows
+abbrev pub form_shown : Drafted → (width : ℕ) → CellForm → List ℕ → List ℕ → List ℕ → ℕ
+form_shown d width form = λ registers held wires. form_value d.table d.cells registers held wires width form
 
 -- in every clock the same number
 abbrev pub number_shown : (bits : ℕ) → List ℕ → List ℕ → List ℕ → ℕ

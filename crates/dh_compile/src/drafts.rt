@@ -42,7 +42,7 @@ impl Draft {
     /// Adds a cell, and answers the wire that it drives.
     pub(crate) fn push(&mut self, width: u8, form: CellForm) -> Result<u64, NoMemory>
         requires { IsNext self.old width form }
-        ensures adds { WireAdded result self.old self.new width (form_shown width form) }
+        ensures adds { WireAdded result self.old self.new width (form_shown self.old width form) }
         ensures appended { IfOk result (λ wire. Appends self.old self.new wire width form) }
         ensures gains { CellsGained result self.old self.new 1 }
     {

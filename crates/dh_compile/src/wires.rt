@@ -1,9 +1,8 @@
 //! Wires that a draft gains by a few cells in a row.
 
 ghost use Rattle.std.specs.Prelude.{◌^◌, ◌<◌, ◌≤◌};
-ghost use Rattle.dh_net.specs.Valid.{IsPort};
 ghost use Rattle.dh_compile.specs.Counts.{stored_cells};
-ghost use Rattle.dh_compile.specs.Drafts.{WireAdded, CellsGained, IsClock, IsHeld};
+ghost use Rattle.dh_compile.specs.Drafts.{WireAdded, CellsGained, IsClock, IsHeld, IsOnePort};
 ghost use Rattle.dh_compile.specs.WireValues.{number_shown, one_at_clock, sum_shown, stored_shown};
 
 use crate::drafts::Draft;
@@ -35,7 +34,7 @@ pub(crate) fn push_at(draft: &mut Draft, clock: u64, number: u64) -> Result<u64,
 
 /// Adds a wire that shows the sum of the held data of a memory's port and the number.
 fn push_sum(draft: &mut Draft, memory: u32, number: u64) -> Result<u64, NoMemory>
-    requires port { IsPort draft.old.table memory 0 0 32 }
+    requires port { IsOnePort draft.old.table memory }
     requires fits { number < 2 ^ 32 }
     ensures adds { WireAdded result draft.old draft.new 32 (sum_shown memory number) }
     ensures gains { CellsGained result draft.old draft.new 3 }

@@ -1,3 +1,9 @@
+pub mod RowWidths
+pub mod DimSizes
+pub mod TableCounts
+pub mod TableWalks
+pub mod PortLists
+pub mod PortWalks
 pub mod Valuations
 pub mod Fits
 pub mod Simulation

@@ -9,8 +9,9 @@ use Rattle.dh_base.specs.declared.outcomes.FaultKind.{FaultKind}
 use Rattle.dh_base.specs.declared.outcomes.Outcome.{Outcome}
 use Rattle.dh_base.specs.declared.outcomes.Outcome.TheVariants.{Going, Ended, Faulted, Stuck}
 use Rattle.dh_base.specs.declared.places.Place.{Place}
+use Rattle.dh_net.specs.BankPorts.{ports_of}
 use Rattle.dh_net.specs.declared.nets.Net.{Net}
-use Rattle.dh_net.specs.Clock.{State, Settles, Clocks, ClocksTo, start_of, held_after, banks_after}
+use Rattle.dh_net.specs.Clock.{State, Settles, Clocks, ClocksTo, start_of, held_after, memories_after}
 use Rattle.dh_net.specs.Ends.{entry_at, fault_shown}
 use Rattle.dh_net.specs.Plays.{Run, clocks_of, IsGoing, IsStuck, IsFine, HasSteps, EndsAfter, FaultsAfter, Fit, ShowsRun, Plays}
 use Rattle.dh_net.specs.Simulates.{Simulates, ShowsStep, ShowsEnded, ShowsFaulted}
@@ -33,8 +34,8 @@ module _ (net : Net) (r : Run) (start : List (List ℕ)) (Inside Over : ℕ → 
   next_state : (s : State) → (t : State) × Clocks net s t
   next_state s =
       let settled = sim.settles s in (
-        record { registers = map (λ x. slice_index settled.0 x.next) net.registers; held = held_after settled.0 net.drivers s.banks s.held; banks = banks_after settled.0 net.drivers s.banks },
-        record { wires = settled.0; settled = settled.1; registers = refl; held = refl; banks = refl },
+        record { registers = map (λ x. slice_index settled.0 x.next) net.registers; held = held_after net.table settled.0 net.drivers (ports_of net.table) s.memories s.held; memories = memories_after net.table settled.0 net.drivers (ports_of net.table) s.memories },
+        record { wires = settled.0; settled = settled.1; registers = refl; held = refl; memories = refl },
       )
 
   reached : (c : ℕ) → (s : State) × ClocksTo net c (start_of net start) s

@@ -4,21 +4,27 @@
 -- value of cell n makes equation n hold and spoils none before it, since no earlier form reads wire n.
 -- The same induction bounds each wire by the width of its cell. A clock writes what the one valuation
 -- gives, so it leads to one state, and so do many clocks, one after the other.
-use Rattle.std.proofs.Common.{◌≡◌, ℕ, zero, suc, ◌+◌, ◌^◌, ◌<◌, ◌≤◌, ◌⊎◌, inl, inr, Some, None, List, length, get_or, map, replicate, refl, sym, ap, subst, ◌∙◌, arith}
+use Rattle.std.proofs.Common.{◌≡◌, ℕ, zero, suc, ◌^◌, ◌<◌, ◌≤◌, ◌⊎◌, inl, inr, Some, None, List, length, get_or, map, replicate, pos, ◌+ℤ◌, ◌-ℤ◌, ◌*ℤ◌, refl, sym, ap, subst, ◌∙◌, arith}
 use Rattle.std.specs.Prelude.{slice_get, option_map, if◌then◌else◌, ◌==◌, Bool, true, false}
 use Rattle.std.proofs.Math.ListN.{set}
-use Rattle.std.proofs.Math.Nat.{mod-lt}
 use Rattle.std.proofs.lemmas.List.{ext_get_or, get_or_past, get_or-set_same, get_or-set_other, length-set, length-replicate}
 use Rattle.std.proofs.lemmas.Option.{slice_get_cases, slice_get_within}
-use Rattle.std.proofs.lemmas.Nat.{or_lt, xor_lt, pow_pos}
+use Rattle.std.proofs.lemmas.Nat.{and_le_l, or_lt, xor_lt, pow_pos}
+use Rattle.std.proofs.Math.Pow.{pow_mono}
+use Rattle.std.proofs.Math.Nat.{mod-lt}
 use Rattle.dh_tree.specs.declared.tables.MemEntry.{MemEntry}
 use Rattle.dh_net.specs.declared.nets.Register.{Register}
 use Rattle.dh_net.specs.declared.nets.Cell.{Cell}
 use Rattle.dh_net.specs.declared.nets.CellForm.{CellForm}
-use Rattle.dh_net.specs.declared.nets.CellForm.TheVariants.{Const, Reg, Data, Add, Or, Xor, Eq, Mux}
+use Rattle.dh_net.specs.declared.nets.CellForm.TheVariants.{Const, Reg, Data, Add, Sub, Mul, And, Or, Xor, Shl, ShrU, ShrS, LtU, LtS, Eq, Mux, Zero, Sign, Low}
 use Rattle.dh_net.specs.declared.nets.Net.{Net}
+use Rattle.std.specs.Int.{int_div_euclid}
+use Rattle.dh_value.specs.Words.{signed}
+use Rattle.dh_value.proofs.Residues.{residue-lt}
+use Rattle.dh_net.specs.BankPorts.{ports_of, port_number}
 use Rattle.dh_net.specs.Valid.{HasWidth, FormFits, IsValid}
-use Rattle.dh_net.specs.Clock.{State, form_value, Settles, held_after, banks_after, Clocks, ClocksTo}
+use Rattle.dh_net.proofs.PortLists.{port_there}
+use Rattle.dh_net.specs.Clock.{State, form_value, wire_width, Settles, held_after, memories_after, Clocks, ClocksTo}
 use Rattle.dh_net.specs.Laws.{FitsNet, WiresFit, HasOneValuation, HasOneRun}
 
 -- both lists are the same below n
@@ -27,11 +33,23 @@ AgreeBelow n ws vs = (k : ℕ) → k < n → get_or ws k 0 ≡ get_or vs k 0
 
 -- a form reads only wires before its own
 pub reads_before : (table : List MemEntry) (registers : List Register) (cells : List Cell) (i width : ℕ) (f : CellForm) (rs hs ws vs : List ℕ)
-    → FormFits table registers cells i width f → AgreeBelow i ws vs → form_value rs hs ws width f ≡ form_value rs hs vs width f
+    → FormFits table registers cells i width f → AgreeBelow i ws vs → form_value table cells rs hs ws width f ≡ form_value table cells rs hs vs width f
 reads_before table registers cells i width (Const bits) rs hs ws vs h e = refl
 reads_before table registers cells i width (Reg register) rs hs ws vs h e = refl
 reads_before table registers cells i width (Data memory bank port) rs hs ws vs h e = refl
 reads_before table registers cells i width (Add a b) rs hs ws vs h e =
+    let x = e a h.left.earlier in
+    let y = e b h.right.earlier in
+    cc
+reads_before table registers cells i width (Sub a b) rs hs ws vs h e =
+    let x = e a h.left.earlier in
+    let y = e b h.right.earlier in
+    cc
+reads_before table registers cells i width (Mul a b) rs hs ws vs h e =
+    let x = e a h.left.earlier in
+    let y = e b h.right.earlier in
+    cc
+reads_before table registers cells i width (And a b) rs hs ws vs h e =
     let x = e a h.left.earlier in
     let y = e b h.right.earlier in
     cc
@@ -43,6 +61,26 @@ reads_before table registers cells i width (Xor a b) rs hs ws vs h e =
     let x = e a h.left.earlier in
     let y = e b h.right.earlier in
     cc
+reads_before table registers cells i width (Shl a b) rs hs ws vs h e =
+    let x = e a h.0.earlier in
+    let y = e b h.1.1.earlier in
+    cc
+reads_before table registers cells i width (ShrU a b) rs hs ws vs h e =
+    let x = e a h.0.earlier in
+    let y = e b h.1.1.earlier in
+    cc
+reads_before table registers cells i width (ShrS a b) rs hs ws vs h e =
+    let x = e a h.0.earlier in
+    let y = e b h.1.1.earlier in
+    cc
+reads_before table registers cells i width (LtU a b) rs hs ws vs h e =
+    let x = e a h.1.1.left.earlier in
+    let y = e b h.1.1.right.earlier in
+    cc
+reads_before table registers cells i width (LtS a b) rs hs ws vs h e =
+    let x = e a h.1.1.left.earlier in
+    let y = e b h.1.1.right.earlier in
+    cc
 reads_before table registers cells i width (Eq a b) rs hs ws vs h e =
     let x = e a h.1.1.left.earlier in
     let y = e b h.1.1.right.earlier in
@@ -51,6 +89,15 @@ reads_before table registers cells i width (Mux c a b) rs hs ws vs h e =
     let x = e a h.1.left.earlier in
     let y = e b h.1.right.earlier in
     let z = e c h.0.earlier in
+    cc
+reads_before table registers cells i width (Zero a) rs hs ws vs h e =
+    let x = e a h.1.0.earlier in
+    cc
+reads_before table registers cells i width (Sign a) rs hs ws vs h e =
+    let x = e a h.1.0.earlier in
+    cc
+reads_before table registers cells i width (Low a) rs hs ws vs h e =
+    let x = e a h.1.0.earlier in
     cc
 
 -- below n + 1 is below n, or at n
@@ -79,10 +126,10 @@ pub one_valuation : (net : Net) → IsValid net → (s : State) (ws vs : List �
 one_valuation net valid s ws vs w v = ext_get_or 0 ws vs (w.long ∙ sym v.long) (λ i h. agree_below net valid s ws vs w v (length ws) i h)
 
 -- as many wires as cells, of which the equations below n hold
-record HoldsBelow (cells : List Cell) (rs hs : List ℕ) (n : ℕ) : Type 0 where
+record HoldsBelow (table : List MemEntry) (cells : List Cell) (rs hs : List ℕ) (n : ℕ) : Type 0 where
   wires : List ℕ
   long : length wires ≡ length cells
-  each : (i : ℕ) (c : Cell) → i < n → slice_get cells i ≡ Some c → get_or wires i 0 ≡ form_value rs hs wires c.width c.form
+  each : (i : ℕ) (c : Cell) → i < n → slice_get cells i ≡ Some c → get_or wires i 0 ≡ form_value table cells rs hs wires c.width c.form
 
 -- setting a wire changes none before it
 set_agrees : (ws : List ℕ) (n v i : ℕ) → i ≤ n → AgreeBelow i ws (set ws n v)
@@ -90,9 +137,9 @@ set_agrees ws n v i h k below = sym (get_or-set_other ws n k v 0 (λ same. omega
 
 -- equation n can be made to hold without spoiling those before it
 next_holds : (net : Net) → IsValid net → (rs hs : List ℕ) (n : ℕ) (c : Cell) → slice_get net.cells n ≡ Some c
-    → HoldsBelow net.cells rs hs n → HoldsBelow net.cells rs hs (suc n)
+    → HoldsBelow net.table net.cells rs hs n → HoldsBelow net.table net.cells rs hs (suc n)
 next_holds net valid rs hs n c at so =
-    let value = form_value rs hs so.wires c.width c.form in
+    let value = form_value net.table net.cells rs hs so.wires c.width c.form in
     let inside : n < length so.wires = subst (λ (x : ℕ). n < x) (sym so.long) (slice_get_within net.cells n c at) in
     record {
       wires = set so.wires n value;
@@ -106,14 +153,14 @@ next_holds net valid rs hs n c at so =
             | inr here ↦
                 let same : Some c ≡ Some d = sym at ∙ (ap (λ x. slice_get net.cells x) (sym here) ∙ there) in
                 let is_c : c ≡ d = cc in
-                subst (λ (x : ℕ). get_or (set so.wires n value) x 0 ≡ form_value rs hs (set so.wires n value) d.width d.form) (sym here)
-                (subst (λ (x : Cell). get_or (set so.wires n value) n 0 ≡ form_value rs hs (set so.wires n value) x.width x.form) is_c
+                subst (λ (x : ℕ). get_or (set so.wires n value) x 0 ≡ form_value net.table net.cells rs hs (set so.wires n value) d.width d.form) (sym here)
+                (subst (λ (x : Cell). get_or (set so.wires n value) n 0 ≡ form_value net.table net.cells rs hs (set so.wires n value) x.width x.form) is_c
                 (get_or-set_same so.wires n value 0 inside
                 ∙ reads_before net.table net.registers net.cells n c.width c.form rs hs so.wires (set so.wires n value) (valid.cells n c at).form (set_agrees so.wires n value n (omega arith))))
           ];
     }
 
-holds_below : (net : Net) → IsValid net → (rs hs : List ℕ) (n : ℕ) → HoldsBelow net.cells rs hs n
+holds_below : (net : Net) → IsValid net → (rs hs : List ℕ) (n : ℕ) → HoldsBelow net.table net.cells rs hs n
 holds_below net valid rs hs zero =
     record { wires = replicate (length net.cells) 0; long = length-replicate (length net.cells) 0; each = λ i c small there. absurd (omega arith) }
 holds_below net valid rs hs (suc n) =
@@ -144,19 +191,19 @@ has_one_valuation net valid s =
 -- the state after a clock, by the wires before it
 abbrev pub clocked : Net → State → List ℕ → State
 clocked net s ws =
-    record { registers = map (λ r. get_or ws r.next 0) net.registers; held = held_after ws net.drivers s.banks s.held; banks = banks_after ws net.drivers s.banks }
+    record { registers = map (λ r. get_or ws r.next 0) net.registers; held = held_after net.table ws net.drivers (ports_of net.table) s.memories s.held; memories = memories_after net.table ws net.drivers (ports_of net.table) s.memories }
 
 abbrev state_of : List ℕ → List ℕ → List (List ℕ) → State
-state_of rs hs bs = record { registers = rs; held = hs; banks = bs }
+state_of rs hs ms = record { registers = rs; held = hs; memories = ms }
 
 -- states are equal where their parts are
-pub same_state : (s t : State) → s.registers ≡ t.registers → s.held ≡ t.held → s.banks ≡ t.banks → s ≡ t
+pub same_state : (s t : State) → s.registers ≡ t.registers → s.held ≡ t.held → s.memories ≡ t.memories → s ≡ t
 same_state s t r h b =
-    ap (λ x. state_of x s.held s.banks) r ∙ (ap (λ x. state_of t.registers x s.banks) h ∙ ap (λ x. state_of t.registers t.held x) b)
+    ap (λ x. state_of x s.held s.memories) r ∙ (ap (λ x. state_of t.registers x s.memories) h ∙ ap (λ x. state_of t.registers t.held x) b)
 
 -- a clock leads to the state that its wires give
 pub is_clocked : (net : Net) (a b : State) → (one : Clocks net a b) → b ≡ clocked net a one.wires
-is_clocked net a b one = same_state b (clocked net a one.wires) one.registers one.held one.banks
+is_clocked net a b one = same_state b (clocked net a one.wires) one.registers one.held one.memories
 
 -- a clock leads to at most one state
 pub one_clock : (net : Net) → IsValid net → (a b b' : State) → Clocks net a b → Clocks net a b' → b ≡ b'
@@ -176,7 +223,7 @@ one_run net valid (suc c) a b b' one other =
 pub some_clock : (net : Net) → IsValid net → (s : State) → (t : State) × Clocks net s t
 some_clock net valid s =
     let some = some_valuation net valid s in
-    (clocked net s some.0, record { wires = some.0; settled = some.1; registers = refl; held = refl; banks = refl })
+    (clocked net s some.0, record { wires = some.0; settled = some.1; registers = refl; held = refl; memories = refl })
 
 -- so do any number of them
 pub some_run : (net : Net) → IsValid net → (c : ℕ) (s : State) → (t : State) × ClocksTo net c s t
@@ -212,7 +259,7 @@ cell_of cells a width is = item_of (λ c. c.width) cells a width is
 abbrev pub FitBelow : List Cell → ℕ → List ℕ → Type 0
 FitBelow cells n ws = (k : ℕ) (c : Cell) → k < n → slice_get cells k ≡ Some c → get_or ws k 0 < 2 ^ c.width
 
-operand_fits : (cells : List Cell) (i a width : ℕ) (ws : List ℕ) → FitBelow cells i ws → a < i → HasWidth cells a width → get_or ws a 0 < 2 ^ width
+pub operand_fits : (cells : List Cell) (i a width : ℕ) (ws : List ℕ) → FitBelow cells i ws → a < i → HasWidth cells a width → get_or ws a 0 < 2 ^ width
 operand_fits cells i a width ws below earlier wide =
     let found = cell_of cells a width wide in
     subst (λ (x : ℕ). get_or ws a 0 < 2 ^ x) found.1.1 (below a found.0 earlier found.1.0)
@@ -221,23 +268,49 @@ chosen_lt : (t : Bool) (x y m : ℕ) → x < m → y < m → (if t then x else y
 chosen_lt true x y m p q = p
 chosen_lt false x y m p q = q
 
+less_than : {a b c : ℕ} → a ≤ b → b < c → a < c
+less_than p q = omega (arith, p, q)
+
+below_le : {a b : ℕ} → a < b → a ≤ b
+below_le p = omega (arith, p)
+
+-- a truth fits one bit
+bit_fits : (width : ℕ) (t : Bool) → width ≡ 1 → (if t then 1 else 0) < 2 ^ width
+bit_fits width t one = subst (λ (x : ℕ). (if t then 1 else 0) < 2 ^ x) (sym one) (chosen_lt t 1 0 2 (omega arith) (omega arith))
+
 -- the value of a form fits, where the wires before it do
 pub form_fits : (net : Net) (s : State) (ws : List ℕ) → FitsNet net s → (i width : ℕ) (f : CellForm) → FormFits net.table net.registers net.cells i width f
-    → FitBelow net.cells i ws → form_value s.registers s.held ws width f < 2 ^ width
+    → FitBelow net.cells i ws → form_value net.table net.cells s.registers s.held ws width f < 2 ^ width
 form_fits net s ws fits i width (Const bits) h below = h
 form_fits net s ws fits i width (Reg register) h below =
     let found = item_of (λ r. r.width) net.registers register width h in
     subst (λ (x : ℕ). get_or s.registers register 0 < 2 ^ x) found.1.1 (fits.registers register found.0 found.1.0)
-form_fits net s ws fits i width (Data memory bank port) h below = subst (λ (x : ℕ). get_or s.held memory 0 < 2 ^ x) h.wide (fits.held memory h.entry h.there)
-form_fits net s ws fits i width (Add a b) h below = mod-lt (get_or ws a 0 + get_or ws b 0) (pow_pos width)
+form_fits net s ws fits i width (Data memory bank port) h below =
+    let found = port_there net.table memory bank port width h in
+    subst (λ (x : ℕ). get_or s.held (port_number net.table memory bank port) 0 < 2 ^ x) found.1.1 (fits.held (port_number net.table memory bank port) found.0 found.1.0)
+form_fits net s ws fits i width (Add a b) h below = residue-lt (2 ^ width) (pos (get_or ws a 0) +ℤ pos (get_or ws b 0)) (pow_pos width)
+form_fits net s ws fits i width (Sub a b) h below = residue-lt (2 ^ width) (pos (get_or ws a 0) -ℤ pos (get_or ws b 0)) (pow_pos width)
+form_fits net s ws fits i width (Mul a b) h below = residue-lt (2 ^ width) (pos (get_or ws a 0) *ℤ pos (get_or ws b 0)) (pow_pos width)
+form_fits net s ws fits i width (And a b) h below =
+    less_than (and_le_l (get_or ws a 0) (get_or ws b 0)) (operand_fits net.cells i a width ws below h.left.earlier h.left.wide)
 form_fits net s ws fits i width (Or a b) h below =
     or_lt width _ _ (operand_fits net.cells i a width ws below h.left.earlier h.left.wide) (operand_fits net.cells i b width ws below h.right.earlier h.right.wide)
 form_fits net s ws fits i width (Xor a b) h below =
     xor_lt width _ _ (operand_fits net.cells i a width ws below h.left.earlier h.left.wide) (operand_fits net.cells i b width ws below h.right.earlier h.right.wide)
-form_fits net s ws fits i width (Eq a b) h below =
-    subst (λ (x : ℕ). form_value s.registers s.held ws width (Eq a b) < 2 ^ x) (sym h.0) (chosen_lt (get_or ws a 0 == get_or ws b 0) 1 0 2 (omega arith) (omega arith))
+form_fits net s ws fits i width (Shl a b) h below = residue-lt (2 ^ width) (pos (get_or ws a 0) *ℤ pos (2 ^ get_or ws b 0)) (pow_pos width)
+form_fits net s ws fits i width (ShrU a b) h below = residue-lt (2 ^ width) (int_div_euclid (pos (get_or ws a 0)) (pos (2 ^ get_or ws b 0))) (pow_pos width)
+form_fits net s ws fits i width (ShrS a b) h below = residue-lt (2 ^ width) (int_div_euclid (signed width (get_or ws a 0)) (pos (2 ^ get_or ws b 0))) (pow_pos width)
+form_fits net s ws fits i width (LtU a b) h below = bit_fits width _ h.0
+form_fits net s ws fits i width (LtS a b) h below = bit_fits width _ h.0
+form_fits net s ws fits i width (Eq a b) h below = bit_fits width _ h.0
 form_fits net s ws fits i width (Mux c a b) h below =
     chosen_lt (get_or ws c 0 == 1) _ _ _ (operand_fits net.cells i a width ws below h.1.left.earlier h.1.left.wide) (operand_fits net.cells i b width ws below h.1.right.earlier h.1.right.wide)
+form_fits net s ws fits i width (Zero a) h below =
+    let small = operand_fits net.cells i a h.0 ws below h.1.0.earlier h.1.0.wide in
+    let more : 2 ^ h.0 ≤ 2 ^ width = pow_mono (below_le h.1.1) in
+    omega (arith, small, more)
+form_fits net s ws fits i width (Sign a) h below = residue-lt (2 ^ width) (signed (wire_width net.cells a) (get_or ws a 0)) (pow_pos width)
+form_fits net s ws fits i width (Low a) h below = mod-lt (get_or ws a 0) (pow_pos width)
 
 fit_below : (net : Net) → IsValid net → (s : State) (ws : List ℕ) → Settles net s ws → FitsNet net s → (n : ℕ) → FitBelow net.cells n ws
 fit_below net valid s ws w fits zero k c small there = absurd (omega arith)

@@ -46,4 +46,4 @@ pub record IsRunOf (net : Net) (start : List (List ℕ)) (limit : ℕ) (outcome 
   pub settled : Settles net last wires
   pub least : (c : ℕ) (s : State) (ws : List ℕ) → c < clocks → ClocksTo net c (start_of net start) s → Settles net s ws → ShowsEnd net ws → ⊥
   pub stops : StopsAs net wires clocks limit outcome
-  pub contents : memories ≡ last.banks
+  pub contents : memories ≡ last.memories

@@ -1,16 +1,16 @@
 -- What a valid net has exactly one of, and which states fit it.
 use Rattle.std.specs.Prelude.{◌≡◌, ℕ, ◌<◌, ◌^◌, List, slice_get, slice_index, Some}
-use Rattle.dh_value.specs.Words.{width_of}
-use Rattle.dh_tree.specs.declared.tables.MemEntry.{MemEntry}
+use Rattle.dh_net.specs.BankPorts.{ports_of}
 use Rattle.dh_net.specs.declared.nets.Register.{Register}
 use Rattle.dh_net.specs.declared.nets.Cell.{Cell}
 use Rattle.dh_net.specs.declared.nets.Net.{Net}
+use Rattle.dh_net.specs.declared.ports.Port.{Port}
 use Rattle.dh_net.specs.Clock.{State, Settles, ClocksTo}
 
 -- each register and each held datum is below 2 to the power of its width
 pub record FitsNet (net : Net) (s : State) : Type 0 where
   pub registers : (i : ℕ) (r : Register) → slice_get net.registers i ≡ Some r → slice_index s.registers i < 2 ^ r.width
-  pub held : (p : ℕ) (e : MemEntry) → slice_get net.table p ≡ Some e → slice_index s.held p < 2 ^ width_of e.shape.kind
+  pub held : (i : ℕ) (p : Port) → slice_get (ports_of net.table) i ≡ Some p → slice_index s.held i < 2 ^ p.width
 
 -- each wire is below 2 to the power of its cell's width
 abbrev pub WiresFit : List Cell → List ℕ → Type 0

@@ -1,8 +1,11 @@
+pub mod Extents
+pub mod RowWidths
+pub mod BankPorts
 pub mod Valid
 pub mod Clock
 pub mod Ends
 pub mod Plays
 pub mod Reports
-pub mod Laws
 pub mod Simulates
 pub mod Parts
+pub mod Laws

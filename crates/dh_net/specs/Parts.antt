@@ -1,11 +1,12 @@
 -- What the functions of this crate promise one another; no public contract names it.
-use Rattle.std.specs.Prelude.{◌≡◌, ℕ, List, length, slice_get, Some, option_map}
-use Rattle.dh_tree.specs.declared.tables.MemEntry.{MemEntry}
+use Rattle.std.specs.Prelude.{◌≡◌, ℕ, List, [], ◌∷◌, slice_get, Some, option_map}
+use Rattle.dh_net.specs.BankPorts.{ports_of}
 use Rattle.dh_net.specs.declared.nets.Cell.{Cell}
 use Rattle.dh_net.specs.declared.nets.CellForm.{CellForm}
 use Rattle.dh_net.specs.declared.nets.Driver.{Driver}
 use Rattle.dh_net.specs.declared.nets.Net.{Net}
 use Rattle.dh_net.specs.declared.nets.Register.{Register}
+use Rattle.dh_net.specs.declared.ports.Port.{Port}
 use Rattle.dh_net.specs.Valid.{HasWidth, FormFits, IsCell, IsDriver, IsRegister}
 
 -- there is such a register, of this width
@@ -28,18 +29,20 @@ HasCells net = (i : ℕ) (c : Cell) → slice_get net.cells i ≡ Some c → IsC
 abbrev pub HasRegisters : Net → Type 0
 HasRegisters net = (i : ℕ) (r : Register) → slice_get net.registers i ≡ Some r → IsRegister net.cells r
 
--- all of these are drivers of a port of the memory
-abbrev pub DriveMemory : List Cell → MemEntry → List Driver → Type 0
-DriveMemory cells e ds = (k : ℕ) (d : Driver) → slice_get ds k ≡ Some d → IsDriver cells e d
+-- all of these are drivers of the port
+abbrev pub DrivePort : List Cell → Port → List Driver → Type 0
+DrivePort cells p ds = (k : ℕ) (d : Driver) → slice_get ds k ≡ Some d → IsDriver cells p d
 
--- each driver in the list at a memory's number is a driver of a port of that memory
-abbrev pub AreDrivers : List Cell → List MemEntry → List (List Driver) → Type 0
-AreDrivers cells table drivers =
-    (p : ℕ) (ds : List Driver) (e : MemEntry) → slice_get drivers p ≡ Some ds → slice_get table p ≡ Some e → (k : ℕ) (d : Driver) → slice_get ds k ≡ Some d → IsDriver cells e d
+-- there is a list of drivers for each port
+abbrev pub DrivePorts : List Cell → List Port → List (List Driver) → Type 0
+DrivePorts cells [] [] = Unit {0}
+DrivePorts cells [] (ds ∷ dss) = ⊥
+DrivePorts cells (p ∷ ps) [] = ⊥
+DrivePorts cells (p ∷ ps) (ds ∷ dss) = DrivePort cells p ds × DrivePorts cells ps dss
 
--- each memory has its port, with drivers of it
+-- each port of the net has its drivers
 abbrev pub HasPorts : Net → Type 0
-HasPorts net = (length net.drivers ≡ length net.table) × AreDrivers net.cells net.table net.drivers
+HasPorts net = DrivePorts net.cells (ports_of net.table) net.drivers
 
 -- the outputs are wires of their widths
 abbrev pub HasOutputs : Net → Type 0

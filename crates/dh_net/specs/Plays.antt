@@ -10,7 +10,7 @@ use Rattle.dh_base.specs.declared.outcomes.Outcome.{Outcome}
 use Rattle.dh_base.specs.declared.outcomes.Outcome.TheVariants.{Going, Ended, Faulted, Stuck}
 use Rattle.dh_base.specs.declared.places.Place.{Place}
 use Rattle.dh_net.specs.declared.nets.Net.{Net}
-use Rattle.dh_net.specs.Clock.{State, Settles, ClocksTo, start_of, has_clashes, has_strays}
+use Rattle.dh_net.specs.Clock.{State, Settles, ClocksTo, start_of, has_clashes, strays}
 use Rattle.dh_net.specs.Ends.{fault_shown}
 
 -- the checked run of a program, from given memories
@@ -82,8 +82,8 @@ TakesClocks r = (n : ℕ) → HasSteps r n → IsGoing (r.outcome n) → 1 ≤ r
 -- what the net shows by these wires, in a state after so many clocks in which n steps fit
 pub record ShowsRun (net : Net) (r : Run) (clocks n : ℕ) (s : State) (wires : List ℕ) : Type 0 where
   pub no_clash : has_clashes wires net.drivers ≡ false
-  pub no_stray : has_strays wires net.drivers s.banks ≡ false
-  pub memories : s.banks ≡ r.memories n
+  pub no_stray : strays net wires ≡ false
+  pub memories : s.memories ≡ r.memories n
   pub tick : (slice_index wires net.tick ≡ 1) ↔ ((0 < clocks) × (clocks ≡ clocks_of r n))
   pub done : (slice_index wires net.done ≡ 1) ↔ ((m : ℕ) × (EndsAfter r m × (clocks_of r m ≤ clocks)))
   pub fault : (slice_index wires net.fault ≢ 0) ↔ FaultsWithin r clocks

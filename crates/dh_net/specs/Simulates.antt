@@ -7,15 +7,15 @@ use Rattle.dh_base.specs.declared.outcomes.FaultKind.{FaultKind}
 use Rattle.dh_base.specs.declared.outcomes.Outcome.TheVariants.{Ended}
 use Rattle.dh_base.specs.declared.places.Place.{Place}
 use Rattle.dh_net.specs.declared.nets.Net.{Net}
-use Rattle.dh_net.specs.Clock.{State, Settles, Clocks, start_of, has_clashes, has_strays}
+use Rattle.dh_net.specs.Clock.{State, Settles, Clocks, start_of, has_clashes, strays}
 use Rattle.dh_net.specs.Ends.{fault_shown}
 use Rattle.dh_net.specs.Plays.{Run, IsGoing, IsStuck, IsFine, HasSteps, EndsAfter, FaultsAfter, TakesClocks}
 
 -- what the net shows at clock j of the step that follows n steps
 pub record ShowsStep (net : Net) (r : Run) (n j : ℕ) (s : State) (wires : List ℕ) : Type 0 where
   pub no_clash : has_clashes wires net.drivers ≡ false
-  pub no_stray : has_strays wires net.drivers s.banks ≡ false
-  pub memories : s.banks ≡ r.memories n
+  pub no_stray : strays net wires ≡ false
+  pub memories : s.memories ≡ r.memories n
   pub tick : (slice_index wires net.tick ≡ 1) ↔ ((0 < n) × (j ≡ 0))
   pub not_done : slice_index wires net.done ≢ 1
   pub no_fault : slice_index wires net.fault ≡ 0
@@ -23,8 +23,8 @@ pub record ShowsStep (net : Net) (r : Run) (n j : ℕ) (s : State) (wires : List
 -- what it shows j clocks after the run ended, after n steps
 pub record ShowsEnded (net : Net) (r : Run) (n j : ℕ) (s : State) (wires : List ℕ) : Type 0 where
   pub no_clash : has_clashes wires net.drivers ≡ false
-  pub no_stray : has_strays wires net.drivers s.banks ≡ false
-  pub memories : s.banks ≡ r.memories n
+  pub no_stray : strays net wires ≡ false
+  pub memories : s.memories ≡ r.memories n
   pub tick : (slice_index wires net.tick ≡ 1) ↔ ((0 < n) × (j ≡ 0))
   pub done : slice_index wires net.done ≡ 1
   pub no_fault : slice_index wires net.fault ≡ 0
@@ -32,8 +32,8 @@ pub record ShowsEnded (net : Net) (r : Run) (n j : ℕ) (s : State) (wires : Lis
 -- what it shows once the run has met this fault, after n steps
 pub record ShowsFaulted (net : Net) (r : Run) (n : ℕ) (kind : FaultKind) (place : Place) (s : State) (wires : List ℕ) : Type 0 where
   pub no_clash : has_clashes wires net.drivers ≡ false
-  pub no_stray : has_strays wires net.drivers s.banks ≡ false
-  pub memories : s.banks ≡ r.memories n
+  pub no_stray : strays net wires ≡ false
+  pub memories : s.memories ≡ r.memories n
   pub no_tick : slice_index wires net.tick ≢ 1
   pub not_done : slice_index wires net.done ≢ 1
   pub names : fault_shown net wires ≡ Some (kind, place)

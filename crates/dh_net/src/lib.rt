@@ -3,12 +3,18 @@
 //! Stands on `dh_tree`. docs/NETLIST.md tells the netlist.
 #![tactic(auto)]
 
+mod extents;
 mod laws;
 mod nets;
 mod playing;
+mod ports;
+mod tables;
 mod validity;
 
+pub use extents::{Extent, measure, place_in_bank};
 pub use laws::valuation_is_unique;
 pub use nets::{Cell, CellForm, Driver, Net, Register};
 pub use playing::playing_tells_the_report;
-pub use validity::{kind_width, row_width, valid};
+pub use ports::{Port, count_ports, list_ports, memory_port};
+pub use tables::is_program_table;
+pub use validity::{kind_width, row_width, valid, wire_width};

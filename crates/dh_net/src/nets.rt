@@ -15,7 +15,8 @@ pub struct Register {
     pub next: u64,
 }
 
-/// What a cell computes. `a`, `b` and `c` are wires of earlier cells.
+/// What a cell computes. `a`, `b` and `c` are wires of earlier cells, of the cell's width where nothing
+/// else is said.
 #[derive(Clone, Copy, Debug, PartialEq, Eq)]
 pub enum CellForm {
     /// These bits.
@@ -26,14 +27,36 @@ pub enum CellForm {
     Data { memory: u32, bank: u32, port: u32 },
     /// The sum, modulo 2^width.
     Add { a: u64, b: u64 },
+    /// The difference, modulo 2^width.
+    Sub { a: u64, b: u64 },
+    /// The product, modulo 2^width.
+    Mul { a: u64, b: u64 },
+    /// The bitwise and.
+    And { a: u64, b: u64 },
     /// The bitwise or.
     Or { a: u64, b: u64 },
     /// The bitwise exclusive or.
     Xor { a: u64, b: u64 },
-    /// 1 where both operands are equal, else 0. The cell has width 1.
+    /// `a` times 2^b, modulo 2^width. `b` is of any width.
+    Shl { a: u64, b: u64 },
+    /// `a` divided by 2^b, rounded down. `b` is of any width.
+    ShrU { a: u64, b: u64 },
+    /// `a` in two's complement divided by 2^b, rounded down. `b` is of any width, and unsigned.
+    ShrS { a: u64, b: u64 },
+    /// 1 where `a` is below `b`, else 0. Both have one width, and the cell has width 1.
+    LtU { a: u64, b: u64 },
+    /// 1 where `a` is below `b` in two's complement, else 0. Both have one width, and the cell has width 1.
+    LtS { a: u64, b: u64 },
+    /// 1 where both are equal, else 0. Both have one width, and the cell has width 1.
     Eq { a: u64, b: u64 },
     /// `a` where `c` is 1, else `b`. `c` has width 1.
     Mux { c: u64, a: u64, b: u64 },
+    /// `a`, which is less wide, with zeros above it.
+    Zero { a: u64 },
+    /// `a`, which is less wide, with copies of its highest bit above it.
+    Sign { a: u64 },
+    /// The low bits of `a`, which is wider.
+    Low { a: u64 },
 }
 
 /// A cell. It drives the wire of its own number.

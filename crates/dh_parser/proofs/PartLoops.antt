@@ -107,8 +107,9 @@ part_more {start = start} {ps = ps} {new = new} {n = n} {m = m} {put = put} p t 
 numbers_end : (a n : ℕ) → a ≡ n + 0 → n ≡ a
 numbers_end a n e = omega arith
 
-pub part_ends : {start : ℕ} {n : ℕ} {put : PartText → PartText} (cs : Vec Command Global) → PartSoFar start cs.items n put → SamePart cs (put end_of_part) start n
-part_ends cs so = record { is = actions_all (map action_seen cs.items) ∙ sym (so.is end_of_part); counted = numbers_end _ _ (so.counted end_of_part) }
+pub part_ends : {start : ℕ} {cs : List Command} {n : ℕ} {put : PartText → PartText} (new : Vec Command Global) → new.items ≡ cs → PartSoFar start cs n put → SamePart new (put end_of_part) start n
+part_ends {cs = cs} new e so =
+    record { is = ap (λ l. actions (map action_seen l)) e ∙ (actions_all (map action_seen cs) ∙ sym (so.is end_of_part)); counted = numbers_end _ _ (so.counted end_of_part) }
 
 -- a simple command that no `;` follows
 pub part_last : {start : ℕ} {cs : List Command} {n m : ℕ} {put : PartText → PartText} (new : Vec Command Global) (c : Command) (s : SimpleText)

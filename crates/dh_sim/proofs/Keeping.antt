@@ -1,8 +1,8 @@
 -- A clock leads from a state that fits its net to one that does. A register takes a wire of its own
--- width. Held data come from a bank, whose rows fit, or were held before; past the end a row is 0. A
--- row that is written takes a wire of its memory's width, and a bank keeps its length.
-use Rattle.std.proofs.Common.{◌≡◌, ℕ, zero, suc, ◌^◌, ◌<◌, Bool, true, false, Option, Some, None, List, [], ◌∷◌, length, map, get_or, replicate, refl, sym, ap, subst, ◌∙◌, arith}
-use Rattle.std.specs.Prelude.{slice_get, slice_set, if◌then◌else◌, Vec}
+-- width. Held data come from a memory, whose elements fit, or were held before; what is no row is 0. An
+-- element that is written takes a wire of its memory's width, and a memory keeps its length.
+use Rattle.std.proofs.Common.{◌≡◌, ℕ, zero, suc, ◌+◌, ◌++◌, set, ◌^◌, ◌<◌, Bool, true, false, Option, Some, None, List, [], ◌∷◌, length, map, get_or, replicate, refl, sym, ap, subst, ◌∙◌, arith}
+use Rattle.std.specs.Prelude.{slice_get, slice_set, nat_lt, if◌then◌else◌, Vec}
 use Rattle.std.specs.Global.{Global}
 use Rattle.std.specs.List.{AllByRecursion}
 use Rattle.std.proofs.lemmas.List.{length-set, length-map, length-replicate, get_or-map}
@@ -16,8 +16,11 @@ use Rattle.dh_net.specs.declared.nets.Cell.{Cell}
 use Rattle.dh_net.specs.declared.nets.Driver.{Driver}
 use Rattle.dh_net.specs.declared.nets.Net.{Net}
 use Rattle.dh_net.specs.Valid.{HasWidth, IsValid}
-use Rattle.dh_net.specs.Clock.{State, IsValuation, Settles, has_clashes, is_active, served, held_by, rows_by, held_after, banks_after, start_of}
-use Rattle.dh_net.specs.Laws.{WiresFit}
+use Rattle.dh_net.specs.BankPorts.{port_count, port_of, memory_ports, ports_from, ports_of}
+use Rattle.dh_net.specs.Clock.{State, IsValuation, Settles, has_clashes, is_active, served, memory_at, place_of, row_value, with_row, held_by, written_by, held_after, memories_after, start_of}
+use Rattle.dh_net.specs.Laws.{FitsNet, WiresFit}
+use Rattle.dh_net.specs.declared.ports.Port.{Port}
+use Rattle.dh_sim.specs.Layouts.{ArraysFit}
 use Rattle.dh_net.proofs.Valuations.{cell_of, wires_fit, one_valuation}
 use Rattle.dh_sim.specs.declared.arrays.Shown.{Shown}
 use Rattle.dh_sim.specs.Points.{Point, IsSound, state_of}
@@ -58,68 +61,148 @@ served_out cells width ws [] out = tt
 served_out cells width ws (d ∷ ds) out =
     pick (IsOut cells width) (is_active ws d) (Some d) (served ws ds) (out 0 d refl) (served_out cells width ws ds (λ k e there. out (suc k) e there))
 
-datum_fits : (ws : List ℕ) (o : Option Driver) (rows : List ℕ) (had m : ℕ) → 0 < m → AllByRecursion (λ v. v < m) rows → had < m → held_by ws o rows had < m
-datum_fits ws None rows had m pos all small = small
-datum_fits ws (Some d) rows had m pos all small =
-    pick (λ x. x < m) d.write had (get_or rows (get_or ws d.row 0) 0) small (below_there m pos rows all (get_or ws d.row 0))
+-- the elements of a memory of a width are below 2 to that power
+abbrev IsBelow : (width : ℕ) → List ℕ → Type 0
+IsBelow width values = AllByRecursion (λ v. v < 2 ^ width) values
 
-written_fits : (cells : List Cell) (ws : List ℕ) → WiresFit cells ws → (d : Driver) (e : MemEntry) (rows : List ℕ) (write : Bool)
-    → (write ≡ true → HasWidth cells d.data_ (width_of e.shape.kind)) → FitsEntry e rows
-    → FitsEntry e (if write then slice_set rows (get_or ws d.row 0) (get_or ws d.data_ 0) else rows)
-written_fits cells ws fit d e rows false out ok = ok
-written_fits cells ws fit d e rows true out ok =
-    record {
-      long = length-set rows (get_or ws d.row 0) (get_or ws d.data_ 0) ∙ ok.long;
-      small = below_set (2 ^ width_of e.shape.kind) rows ok.small (get_or ws d.row 0) (get_or ws d.data_ 0) (wide_fits cells ws fit d.data_ _ (out refl));
-    }
+-- every memory that a port names holds data of its width
+abbrev MemoriesBelow : List Port → List (List ℕ) → Type 0
+MemoriesBelow ps ms = AllByRecursion (λ p. IsBelow p.width (memory_at ms p.memory)) ps
 
-rows_fit : (cells : List Cell) (ws : List ℕ) → WiresFit cells ws → (o : Option Driver) (e : MemEntry) (rows : List ℕ) → IsOut cells (width_of e.shape.kind) o → FitsEntry e rows
-    → FitsEntry e (rows_by ws o rows)
-rows_fit cells ws fit None e rows out ok = ok
-rows_fit cells ws fit (Some d) e rows out ok = written_fits cells ws fit d e rows d.write out ok
+row_fits : (table : List MemEntry) (p : Port) (ms : List (List ℕ)) (row : ℕ) → IsBelow p.width (memory_at ms p.memory) → row_value table p ms row < 2 ^ p.width
+row_fits table p ms row below =
+    pick (λ x. x < 2 ^ p.width) (nat_lt row p.rows) (get_or (memory_at ms p.memory) (place_of table p row) 0) 0
+    (below_there (2 ^ p.width) (pow_pos p.width) (memory_at ms p.memory) below (place_of table p row)) (pow_pos p.width)
 
--- each memory's held datum fits it
-abbrev HeldFit : List MemEntry → List ℕ → Type 0
-HeldFit table hs = (p : ℕ) (e : MemEntry) → slice_get table p ≡ Some e → get_or hs p 0 < 2 ^ width_of e.shape.kind
+datum_fits : (table : List MemEntry) (ws : List ℕ) (p : Port) (o : Option Driver) (ms : List (List ℕ)) (had : ℕ) → IsBelow p.width (memory_at ms p.memory) → had < 2 ^ p.width
+    → held_by table ws p o ms had < 2 ^ p.width
+datum_fits table ws p None ms had below small = small
+datum_fits table ws p (Some d) ms had below small =
+    pick (λ x. x < 2 ^ p.width) d.write had (row_value table p ms (get_or ws d.row 0)) small (row_fits table p ms (get_or ws d.row 0) below)
 
--- the drivers of each port write data of their memory's width
-abbrev PortsOut : List Cell → List MemEntry → List (List Driver) → Type 0
-PortsOut cells table dss = (p : ℕ) (ds : List Driver) (e : MemEntry) → slice_get dss p ≡ Some ds → slice_get table p ≡ Some e → AreOut cells (width_of e.shape.kind) ds
+-- each port's held datum fits it
+abbrev HeldFit : List Port → List ℕ → Type 0
+HeldFit ps hs = (i : ℕ) (p : Port) → slice_get ps i ≡ Some p → get_or hs i 0 < 2 ^ p.width
 
--- the first entry of a table, found at 0
-first_is : (e f : MemEntry) (ws : List ℕ) (m : ℕ) → Some e ≡ Some f → m < 2 ^ width_of e.shape.kind → m < 2 ^ width_of f.shape.kind
-first_is e f ws m same small = let is : e ≡ f = cc in subst (λ (x : MemEntry). m < 2 ^ width_of x.shape.kind) is small
+-- the first port, found at 0
+first_is : (p q : Port) (m : ℕ) → Some p ≡ Some q → m < 2 ^ p.width → m < 2 ^ q.width
+first_is p q m same small = let is : p ≡ q = cc in subst (λ (x : Port). m < 2 ^ x.width) is small
 
-data_fit : (ws : List ℕ) (table : List MemEntry) (dss : List (List Driver)) (bs : List (List ℕ)) (hs : List ℕ)
-    → length dss ≡ length table → length hs ≡ length dss → Fits table bs → HeldFit table hs → HeldFit table (held_after ws dss bs hs)
-data_fit ws [] dss bs hs long held fits small p e there = absurd (cc)
-data_fit ws (e ∷ es) [] bs hs long held fits small p f there = absurd (omega arith)
-data_fit ws (e ∷ es) (ds ∷ dss) [] hs long held fits small p f there = absurd fits
-data_fit ws (e ∷ es) (ds ∷ dss) (b ∷ bs) [] long held fits small p f there = absurd (omega arith)
-data_fit ws (e ∷ es) (ds ∷ dss) (b ∷ bs) (h ∷ hs) long held fits small zero f there =
-    first_is e f ws _ there (datum_fits ws (served ws ds) b h (2 ^ width_of e.shape.kind) (pow_pos (width_of e.shape.kind)) fits.0.small (small 0 e refl))
-data_fit ws (e ∷ es) (ds ∷ dss) (b ∷ bs) (h ∷ hs) long held fits small (suc p) f there =
-    data_fit ws es dss bs hs (omega arith) (omega arith) fits.1 (λ q g at. small (suc q) g at) p f there
+data_fit : (table : List MemEntry) (ws : List ℕ) (ps : List Port) (dss : List (List Driver)) (ms : List (List ℕ)) (hs : List ℕ)
+    → length dss ≡ length ps → length hs ≡ length dss → MemoriesBelow ps ms → HeldFit ps hs → HeldFit ps (held_after table ws dss ps ms hs)
+data_fit table ws [] dss ms hs long held below small i p there = absurd (cc)
+data_fit table ws (p ∷ ps) [] ms hs long held below small i q there = absurd (omega arith)
+data_fit table ws (p ∷ ps) (ds ∷ dss) ms [] long held below small i q there = absurd (omega arith)
+data_fit table ws (p ∷ ps) (ds ∷ dss) ms (h ∷ hs) long held below small zero q there =
+    first_is p q _ there (datum_fits table ws p (served ws ds) ms h below.0 (small 0 p refl))
+data_fit table ws (p ∷ ps) (ds ∷ dss) ms (h ∷ hs) long held below small (suc i) q there =
+    data_fit table ws ps dss ms hs (omega arith) (omega arith) below.1 (λ j r at. small (suc j) r at) i q there
 
-banks_fit : (cells : List Cell) (ws : List ℕ) → WiresFit cells ws → (table : List MemEntry) (dss : List (List Driver)) (bs : List (List ℕ))
-    → length dss ≡ length table → PortsOut cells table dss → Fits table bs → Fits table (banks_after ws dss bs)
-banks_fit cells ws fit [] [] [] long out fits = tt
-banks_fit cells ws fit [] [] (b ∷ bs) long out fits = absurd fits
-banks_fit cells ws fit [] (ds ∷ dss) bs long out fits = absurd (omega arith)
-banks_fit cells ws fit (e ∷ es) [] bs long out fits = absurd (omega arith)
-banks_fit cells ws fit (e ∷ es) (ds ∷ dss) [] long out fits = absurd fits
-banks_fit cells ws fit (e ∷ es) (ds ∷ dss) (b ∷ bs) long out fits = (
-  rows_fit cells ws fit (served ws ds) e b (served_out cells (width_of e.shape.kind) ws ds (out 0 ds e refl refl)) fits.0,
-  banks_fit cells ws fit es dss bs (omega arith) (λ p qs f at there. out (suc p) qs f at there) fits.1,
-)
+held_long : (table : List MemEntry) (ws : List ℕ) (ps : List Port) (dss : List (List Driver)) (ms : List (List ℕ)) (hs : List ℕ)
+    → length dss ≡ length ps → length hs ≡ length dss → length (held_after table ws dss ps ms hs) ≡ length dss
+held_long table ws ps [] ms hs long held = refl
+held_long table ws [] (ds ∷ dss) ms hs long held = absurd (omega arith)
+held_long table ws (p ∷ ps) (ds ∷ dss) ms [] long held = absurd (omega arith)
+held_long table ws (p ∷ ps) (ds ∷ dss) ms (h ∷ hs) long held = ap suc (held_long table ws ps dss ms hs (omega arith) (omega arith))
 
-held_long : (ws : List ℕ) (table : List MemEntry) (dss : List (List Driver)) (bs : List (List ℕ)) (hs : List ℕ)
-    → length dss ≡ length table → length hs ≡ length dss → Fits table bs → length (held_after ws dss bs hs) ≡ length dss
-held_long ws table [] bs hs long held fits = refl
-held_long ws [] (ds ∷ dss) bs hs long held fits = absurd (omega arith)
-held_long ws (e ∷ es) (ds ∷ dss) [] hs long held fits = absurd fits
-held_long ws (e ∷ es) (ds ∷ dss) (b ∷ bs) [] long held fits = absurd (omega arith)
-held_long ws (e ∷ es) (ds ∷ dss) (b ∷ bs) (h ∷ hs) long held fits = ap suc (held_long ws es dss bs hs (omega arith) (omega arith) fits.1)
+-- one memory changed at one place by a value of its width
+
+entry_set : (e : MemEntry) (values : List ℕ) (place v : ℕ) → v < 2 ^ width_of e.shape.kind → FitsEntry e values → FitsEntry e (slice_set values place v)
+entry_set e values place v small ok =
+    record { long = length-set values place v ∙ ok.long; small = below_set (2 ^ width_of e.shape.kind) values ok.small place v small }
+
+memory_set : (table : List MemEntry) (ms : List (List ℕ)) (m place v : ℕ) → ((e : MemEntry) → slice_get table m ≡ Some e → v < 2 ^ width_of e.shape.kind)
+    → Fits table ms → Fits table (set ms m (slice_set (memory_at ms m) place v))
+memory_set [] [] m place v small fits = tt
+memory_set [] (x ∷ ms) m place v small fits = absurd fits
+memory_set (e ∷ es) [] m place v small fits = absurd fits
+memory_set (e ∷ es) (x ∷ ms) zero place v small fits = (entry_set e x place v (small e refl) fits.0, fits.1)
+memory_set (e ∷ es) (x ∷ ms) (suc m) place v small fits = (fits.0, memory_set es ms m place v (λ f at. small f at) fits.1)
+
+-- a port tells the width of its memory
+abbrev TellsWidth : List MemEntry → Port → Type 0
+TellsWidth table p = (e : MemEntry) → slice_get table p.memory ≡ Some e → p.width ≡ width_of e.shape.kind
+
+row_set : (table : List MemEntry) (p : Port) (ms : List (List ℕ)) (row v : ℕ) → TellsWidth table p → v < 2 ^ p.width → Fits table ms → Fits table (with_row table p ms row v)
+row_set table p ms row v told small fits =
+    pick (λ x. Fits table x) (nat_lt row p.rows) (set ms p.memory (slice_set (memory_at ms p.memory) (place_of table p row) v)) ms
+    (memory_set table ms p.memory (place_of table p row) v (λ e at. subst (λ (w : ℕ). v < 2 ^ w) (told e at) small) fits) fits
+
+written_fits : (cells : List Cell) (ws : List ℕ) → WiresFit cells ws → (table : List MemEntry) (p : Port) (d : Driver) (ms : List (List ℕ)) (write : Bool)
+    → (write ≡ true → HasWidth cells d.data_ p.width) → TellsWidth table p → Fits table ms
+    → Fits table (if write then with_row table p ms (get_or ws d.row 0) (get_or ws d.data_ 0) else ms)
+written_fits cells ws fit table p d ms false out told ok = ok
+written_fits cells ws fit table p d ms true out told ok = row_set table p ms (get_or ws d.row 0) (get_or ws d.data_ 0) told (wide_fits cells ws fit d.data_ p.width (out refl)) ok
+
+port_fits : (cells : List Cell) (ws : List ℕ) → WiresFit cells ws → (table : List MemEntry) (p : Port) (o : Option Driver) (ms : List (List ℕ)) → IsOut cells p.width o → TellsWidth table p
+    → Fits table ms → Fits table (written_by table ws p o ms)
+port_fits cells ws fit table p None ms out told ok = ok
+port_fits cells ws fit table p (Some d) ms out told ok = written_fits cells ws fit table p d ms d.write out told ok
+
+-- the drivers of each port write data of its width
+abbrev PortsOut : List Cell → List Port → List (List Driver) → Type 0
+PortsOut cells ps dss = (i : ℕ) (ds : List Driver) (p : Port) → slice_get dss i ≡ Some ds → slice_get ps i ≡ Some p → AreOut cells p.width ds
+
+memories_fit : (cells : List Cell) (ws : List ℕ) → WiresFit cells ws → (table : List MemEntry) (ps : List Port) (dss : List (List Driver)) (ms : List (List ℕ))
+    → PortsOut cells ps dss → AllByRecursion (TellsWidth table) ps → Fits table ms → Fits table (memories_after table ws dss ps ms)
+memories_fit cells ws fit table ps [] ms out told fits = fits
+memories_fit cells ws fit table [] (ds ∷ dss) ms out told fits = fits
+memories_fit cells ws fit table (p ∷ ps) (ds ∷ dss) ms out told fits =
+    memories_fit cells ws fit table ps dss (written_by table ws p (served ws ds) ms) (λ i es q at there. out (suc i) es q at there) told.1
+    (port_fits cells ws fit table p (served ws ds) ms (served_out cells p.width ws ds (out 0 ds p refl refl)) told.0 fits)
+
+-- each port of a table tells the width of its memory, so what is there is below it
+
+fits_at : (table : List MemEntry) (ms : List (List ℕ)) (m : ℕ) (e : MemEntry) → Fits table ms → slice_get table m ≡ Some e → IsBelow (width_of e.shape.kind) (memory_at ms m)
+fits_at [] ms m e fits at = absurd (cc)
+fits_at (x ∷ es) [] m e fits at = absurd fits
+fits_at (x ∷ es) (v ∷ ms) zero e fits at = let same : x ≡ e = cc in subst (λ (y : MemEntry). IsBelow (width_of y.shape.kind) v) same fits.0.small
+fits_at (x ∷ es) (v ∷ ms) (suc m) e fits at = fits_at es ms m e fits.1 at
+
+record Tells (table : List MemEntry) (p : Port) : Type 0 where
+  entry : MemEntry
+  there : slice_get table p.memory ≡ Some entry
+  width : p.width ≡ width_of entry.shape.kind
+
+tells_run : (whole : List MemEntry) (memory : ℕ) (e : MemEntry) (k n : ℕ) → slice_get whole memory ≡ Some e → AllByRecursion (Tells whole) (memory_ports memory e k n)
+tells_run whole memory e k zero at = tt
+tells_run whole memory e k (suc n) at = (record { entry = e; there = at; width = refl }, tells_run whole memory e (k + 1) n at)
+
+tells_both : (whole : List MemEntry) (ps qs : List Port) → AllByRecursion (Tells whole) ps → AllByRecursion (Tells whole) qs → AllByRecursion (Tells whole) (ps ++ qs)
+tells_both whole [] qs h k = k
+tells_both whole (p ∷ ps) qs h k = (h.0, tells_both whole ps qs h.1 k)
+
+tells_from : (whole : List MemEntry) (first : ℕ) (es : List MemEntry) → ((k : ℕ) (e : MemEntry) → slice_get es k ≡ Some e → slice_get whole (first + k) ≡ Some e)
+    → AllByRecursion (Tells whole) (ports_from first es)
+tells_from whole first [] at = tt
+tells_from whole first (e ∷ es) at =
+    let none : first + 0 ≡ first = omega arith in
+    tells_both whole (memory_ports first e 0 (port_count e)) (ports_from (first + 1) es) (tells_run whole first e 0 (port_count e) (ap (λ i. slice_get whole i) (sym none) ∙ at 0 e refl))
+    (tells_from whole (first + 1) es (λ k f there. ap (λ i. slice_get whole i) (moved first k) ∙ at (suc k) f there))
+  where
+    moved : (a b : ℕ) → a + 1 + b ≡ a + suc b
+    moved a b = omega arith
+
+all_tell : (table : List MemEntry) → AllByRecursion (Tells table) (ports_of table)
+all_tell table = tells_from table 0 table same
+  where
+    same : (k : ℕ) (e : MemEntry) → slice_get table k ≡ Some e → slice_get table (0 + k) ≡ Some e
+    same k e there = let none : 0 + k ≡ k = omega arith in ap (λ i. slice_get table i) none ∙ there
+
+tells_width : (table : List MemEntry) (p : Port) → Tells table p → TellsWidth table p
+tells_width table p t e at =
+    let both : Some t.entry ≡ Some e = sym t.there ∙ at in
+    let same : t.entry ≡ e = cc in
+    t.width ∙ ap (λ (x : MemEntry). width_of x.shape.kind) same
+
+all_widths : (table : List MemEntry) (ps : List Port) → AllByRecursion (Tells table) ps → AllByRecursion (TellsWidth table) ps
+all_widths table [] h = tt
+all_widths table (p ∷ ps) h = (tells_width table p h.0, all_widths table ps h.1)
+
+all_below : (table : List MemEntry) (ms : List (List ℕ)) → Fits table ms → (ps : List Port) → AllByRecursion (Tells table) ps → MemoriesBelow ps ms
+all_below table ms fits [] h = tt
+all_below table ms fits (p ∷ ps) h =
+    (subst (λ (w : ℕ). IsBelow w (memory_at ms p.memory)) (sym h.0.width) (fits_at table ms p.memory h.0.entry fits h.0.there), all_below table ms fits ps h.1)
 
 -- there is one list of contents for each memory
 pub fits_long : (table : List MemEntry) (bs : List (List ℕ)) → Fits table bs → length bs ≡ length table
@@ -136,23 +219,34 @@ mapped_at f rs i r there = get_or-map f rs i r 0 (slice_get_within rs i r there)
 pub sound_fits : (net : Net) (s : State) (ws : List ℕ) → IsSound net s ws → WiresFit net.cells ws
 sound_fits net s ws ok = wires_fit net ok.valid s ws ok.settled ok.small
 
--- a clock keeps all but the wires
+-- a clock keeps all but the wires: the registers, the held data and the memories
+pub clock_fits : (net : Net) (s t : State) (ws : List ℕ) → IsSound net s ws
+    → t.registers ≡ map (λ r. get_or ws r.next 0) net.registers → t.held ≡ held_after net.table ws net.drivers (ports_of net.table) s.memories s.held → FitsNet net t
+clock_fits net s t ws ok registers held =
+    let fit = sound_fits net s ws ok in
+    record {
+      registers = λ i r there. subst (λ (x : ℕ). x < 2 ^ r.width) (sym (ap (λ xs. get_or xs i 0) registers ∙ mapped_at (λ r. get_or ws r.next 0) net.registers i r there))
+          (wide_fits net.cells ws fit r.next r.width (ok.valid.registers i r there).next);
+      held = subst (λ (x : List ℕ). HeldFit (ports_of net.table) x) (sym held)
+          (data_fit net.table ws (ports_of net.table) net.drivers s.memories s.held ok.valid.ports ok.held (all_below net.table s.memories ok.memories (ports_of net.table) (all_tell net.table)) ok.small.held);
+    }
+
+pub held_stays : (net : Net) (s : State) (ws hs : List ℕ) → IsSound net s ws → hs ≡ held_after net.table ws net.drivers (ports_of net.table) s.memories s.held → length hs ≡ length net.drivers
+held_stays net s ws hs ok held = ap length held ∙ held_long net.table ws (ports_of net.table) net.drivers s.memories s.held ok.valid.ports ok.held
+
 pub stays_sound : (net : Net) (s t : State) (ws vs : List ℕ) → IsSound net s ws
-    → t.registers ≡ map (λ r. get_or ws r.next 0) net.registers → t.held ≡ held_after ws net.drivers s.banks s.held → t.banks ≡ banks_after ws net.drivers s.banks
-    → Settles net t vs → IsSound net t vs
-stays_sound net s t ws vs ok registers held banks settled =
+    → t.registers ≡ map (λ r. get_or ws r.next 0) net.registers → t.held ≡ held_after net.table ws net.drivers (ports_of net.table) s.memories s.held
+    → t.memories ≡ memories_after net.table ws net.drivers (ports_of net.table) s.memories → Settles net t vs → IsSound net t vs
+stays_sound net s t ws vs ok registers held memories settled =
     let fit = sound_fits net s ws ok in
     record {
       valid = ok.valid;
       registers = ap length registers ∙ length-map net.registers (λ r. get_or ws r.next 0);
-      held = ap length held ∙ held_long ws net.table net.drivers s.banks s.held ok.valid.ports ok.held ok.banks;
-      banks = subst (λ (x : List (List ℕ)). Fits net.table x) (sym banks)
-          (banks_fit net.cells ws fit net.table net.drivers s.banks ok.valid.ports (λ p ds e at there k d of. (ok.valid.drivers p ds e at there k d of).out) ok.banks);
-      small = record {
-        registers = λ i r there. subst (λ (x : ℕ). x < 2 ^ r.width) (sym (ap (λ xs. get_or xs i 0) registers ∙ mapped_at (λ r. get_or ws r.next 0) net.registers i r there))
-            (wide_fits net.cells ws fit r.next r.width (ok.valid.registers i r there).next);
-        held = subst (λ (x : List ℕ). HeldFit net.table x) (sym held) (data_fit ws net.table net.drivers s.banks s.held ok.valid.ports ok.held ok.banks ok.small.held);
-      };
+      held = held_stays net s ws t.held ok held;
+      memories = subst (λ (x : List (List ℕ)). Fits net.table x) (sym memories)
+          (memories_fit net.cells ws fit net.table (ports_of net.table) net.drivers s.memories (λ i ds p at there k d of. (ok.valid.drivers i ds p at there k d of).out)
+          (all_widths net.table (ports_of net.table) (all_tell net.table)) ok.memories);
+      small = clock_fits net s t ws ok registers held;
       settled = settled;
     }
 
@@ -162,29 +256,35 @@ zero_there zero i = refl
 zero_there (suc n) zero = refl
 zero_there (suc n) (suc i) = zero_there n i
 
+-- what a net begins with fits it
+pub starts_fit : (net : Net) → IsValid net → (rs hs : List ℕ) → rs ≡ map (λ r. r.initial) net.registers → hs ≡ replicate (length net.drivers) 0 → ArraysFit net rs hs
+starts_fit net valid rs hs registers held =
+    record {
+      registers = λ i r there. subst (λ (x : ℕ). x < 2 ^ r.width) (sym (ap (λ xs. get_or xs i 0) registers ∙ mapped_at (λ r. r.initial) net.registers i r there)) (valid.registers i r there).initial;
+      held = λ i p there. subst (λ (x : ℕ). x < 2 ^ p.width) (sym (ap (λ xs. get_or xs i 0) held ∙ zero_there (length net.drivers) i)) (pow_pos p.width);
+    }
+
 -- the state before the first clock
 pub starts_sound : (net : Net) → IsValid net → (m : List (List ℕ)) → Fits net.table m → (ws : List ℕ) → Settles net (start_of net m) ws → IsSound net (start_of net m) ws
 starts_sound net valid m fits ws settled =
+    let arrays = starts_fit net valid (map (λ r. r.initial) net.registers) (replicate (length net.drivers) 0) refl refl in
     record {
       valid = valid;
       registers = length-map net.registers (λ r. r.initial);
       held = length-replicate (length net.drivers) 0;
-      banks = fits;
-      small = record {
-        registers = λ i r there. subst (λ (x : ℕ). x < 2 ^ r.width) (sym (mapped_at (λ r. r.initial) net.registers i r there)) (valid.registers i r there).initial;
-        held = λ p e there. subst (λ (x : ℕ). x < 2 ^ width_of e.shape.kind) (sym (zero_there (length net.drivers) p)) (pow_pos (width_of e.shape.kind));
-      };
+      memories = fits;
+      small = record { registers = arrays.registers; held = arrays.held };
       settled = settled;
     }
 
 -- the arrays that a simulator is made of
 pub made_sound : (net : Net) → IsValid net → (m : List (List ℕ)) → Fits net.table m → (rs hs ws : List ℕ) (bs : List (Vec ℕ Global))
-    → rs ≡ map (λ r. r.initial) net.registers → hs ≡ replicate (length net.drivers) 0 → map (λ b. b.items) bs ≡ m → IsValuation net.cells rs hs ws
+    → rs ≡ map (λ r. r.initial) net.registers → hs ≡ replicate (length net.drivers) 0 → map (λ b. b.items) bs ≡ m → IsValuation net.table net.cells rs hs ws
     → IsSound net (state_of rs hs bs) ws
-made_sound net valid m fits rs hs ws bs registers held banks wires =
-    let state : List ℕ → List ℕ → List (List ℕ) → State = λ r h b. record { registers = r; held = h; banks = b } in
+made_sound net valid m fits rs hs ws bs registers held memories wires =
+    let state : List ℕ → List ℕ → List (List ℕ) → State = λ r h b. record { registers = r; held = h; memories = b } in
     let same : start_of net m ≡ state_of rs hs bs =
-    ap (λ x. state x (replicate (length net.drivers) 0) m) (sym registers) ∙ (ap (λ x. state rs x m) (sym held) ∙ ap (λ x. state rs hs x) (sym banks)) in
+    ap (λ x. state x (replicate (length net.drivers) 0) m) (sym registers) ∙ (ap (λ x. state rs x m) (sym held) ∙ ap (λ x. state rs hs x) (sym memories)) in
     subst (λ (s : State). IsSound net s ws) same (starts_sound net valid m fits ws (subst (λ (s : State). Settles net s ws) (sym same) wires))
 
 -- the fault output is a number of 32 bits
@@ -207,3 +307,19 @@ clashes_all net s ws xs clash p ok same clashes b is vs settled =
     let settled_here : Settles net s vs = subst (λ (q : Point). Settles q.net q.state vs) is settled in
     let one : xs ≡ vs = same ∙ one_valuation net ok.valid s ws vs ok.settled settled_here in
     subst (λ (q : Point). clash ≡ has_clashes vs q.net.drivers) (sym is) (subst (λ (x : List ℕ). clash ≡ has_clashes x net.drivers) one clashes)
+
+-- the same where the ports are at hand in a list of their own
+module _ (net : Net) (rs hs ws : List ℕ) (bs : List (Vec ℕ Global)) (ports : List Port) (ok : IsSound net (state_of rs hs bs) ws) (ports_are : ports ≡ ports_of net.table)
+    (registers held : List ℕ) (loaded : registers ≡ map (λ r. get_or ws r.next 0) net.registers)
+    (read : held ≡ held_after net.table ws net.drivers ports (map (λ b. b.items) bs) hs) where
+  read_here : held ≡ held_after net.table ws net.drivers (ports_of net.table) (map (λ b. b.items) bs) hs
+  read_here = read ∙ ap (λ ps. held_after net.table ws net.drivers ps (map (λ b. b.items) bs) hs) ports_are
+
+  pub arrays_stay : ArraysFit net registers held
+  arrays_stay = clock_fits net (state_of rs hs bs) (record { registers = registers; held = held; memories = [] }) ws ok loaded read_here
+
+  pub sound_stays : (after : List (Vec ℕ Global)) (vs : List ℕ) → map (λ b. b.items) after ≡ memories_after net.table ws net.drivers ports (map (λ b. b.items) bs)
+      → IsValuation net.table net.cells registers held vs → IsSound net (state_of registers held after) vs
+  sound_stays after vs written settled =
+      let here = written ∙ ap (λ ps. memories_after net.table ws net.drivers ps (map (λ b. b.items) bs)) ports_are in
+      stays_sound net (state_of rs hs bs) (state_of registers held after) ws vs ok loaded read_here here settled

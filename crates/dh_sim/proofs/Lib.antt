@@ -1,6 +1,8 @@
 pub mod Words
+pub mod Firsts
 pub mod Places
 pub mod Settling
+pub mod Operands
 pub mod Loading
 pub mod Serving
 pub mod Keeping

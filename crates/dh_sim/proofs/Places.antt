@@ -7,6 +7,7 @@ use Rattle.dh_net.specs.declared.nets.Cell.{Cell}
 use Rattle.dh_net.specs.declared.nets.Register.{Register}
 use Rattle.dh_net.specs.declared.nets.Driver.{Driver}
 use Rattle.dh_net.specs.declared.nets.Net.{Net}
+use Rattle.dh_net.specs.BankPorts.{ports_of}
 use Rattle.dh_net.specs.Valid.{HasWidth, IsValid}
 use Rattle.dh_net.proofs.Valuations.{cell_of}
 use Rattle.dh_sim.specs.Rooms.{AreDriversInRooms}
@@ -21,12 +22,12 @@ next_within net valid items i wires d same h long =
     let within = wide_within net.cells _ _ (valid.registers i _ there).next in
     omega arith
 
-pub drivers_within : (net : Net) → IsValid net → (p wires : ℕ) (ds : List Driver) → slice_get net.drivers p ≡ Some ds → wires ≡ length net.cells → AreDriversInRooms wires ds
-drivers_within net valid p wires ds there long k d at =
-    let inside : p < length net.table = (let w = slice_get_within net.drivers p ds there in omega (arith, valid.ports)) in
-    elim (slice_get_cases net.table p).1 [
-      | inl entry ↦
-          let ok = valid.drivers p ds entry.0 there entry.2 k d at in
+pub drivers_within : (net : Net) → IsValid net → (i wires : ℕ) (ds : List Driver) → slice_get net.drivers i ≡ Some ds → wires ≡ length net.cells → AreDriversInRooms wires ds
+drivers_within net valid i wires ds there long k d at =
+    let inside : i < length (ports_of net.table) = (let w = slice_get_within net.drivers i ds there in omega (arith, valid.ports)) in
+    elim (slice_get_cases (ports_of net.table) i).1 [
+      | inl port ↦
+          let ok = valid.drivers i ds port.0 there port.2 k d at in
           record {
             enable = subst (λ (n : ℕ). d.enable < n) (sym long) (wide_within net.cells _ _ ok.enable);
             row = subst (λ (n : ℕ). d.row < n) (sym long) (wide_within net.cells _ _ ok.row);

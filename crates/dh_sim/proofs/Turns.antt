@@ -112,7 +112,7 @@ stops_last net first clocks p steps shown limit o outcome so ends is ws settled 
 
 -- the whole run
 pub is_run : (net : Net) → IsValid net → (m out : List (List ℕ)) (p q : Point) (limit clocks steps : ℕ) (outcome : Outcome) → p ≡ record { net = net; state = start_of net m; clash = false }
-    → clocks ≤ limit → IsUnderway net p.state clocks q.state steps → ((ws : List ℕ) → Settles net q.state ws → StopsAs net ws clocks limit outcome) → out ≡ q.state.banks
+    → clocks ≤ limit → IsUnderway net p.state clocks q.state steps → ((ws : List ℕ) → Settles net q.state ws → StopsAs net ws clocks limit outcome) → out ≡ q.state.memories
     → IsRunOf net m limit outcome steps clocks out
 is_run net valid m out p q limit clocks steps outcome begins within so stops contents =
     let here = some_valuation net valid q.state in

@@ -1,3 +1,4 @@
+pub mod Layouts
 pub mod Rooms
 pub mod Points
 pub mod Shows

@@ -13,13 +13,13 @@ pub record Point : Type 0 where
   pub state : State
   pub clash : Bool
 
--- the rows of banks
-abbrev pub rows_of : List (Vec ℕ Global) → List (List ℕ)
-rows_of banks = map (λ b. b.items) banks
+-- the items of lists
+abbrev pub lists_of : List (Vec ℕ Global) → List (List ℕ)
+lists_of memories = map (λ m. m.items) memories
 
 -- the state that flat arrays hold
-abbrev pub state_of : (registers held : List ℕ) (banks : List (Vec ℕ Global)) → State
-state_of registers held banks = record { registers = registers; held = held; banks = rows_of banks }
+abbrev pub state_of : (registers held : List ℕ) (memories : List (Vec ℕ Global)) → State
+state_of registers held memories = record { registers = registers; held = held; memories = lists_of memories }
 
 -- a simulator before its net's first clock, with these memories
 abbrev pub started : Net → List (List ℕ) → Point
@@ -34,6 +34,6 @@ pub record IsSound (net : Net) (s : State) (wires : List ℕ) : Type 0 where
   pub valid : IsValid net
   pub registers : length s.registers ≡ length net.registers
   pub held : length s.held ≡ length net.drivers
-  pub banks : Fits net.table s.banks
+  pub memories : Fits net.table s.memories
   pub small : FitsNet net s
   pub settled : Settles net s wires

@@ -3,11 +3,13 @@
 ghost use Rattle.std.specs.Prelude.{◌≡◌, ◌<◌, ◌^◌, length, map, replicate, slice_index, IfOk};
 ghost use Rattle.dh_net.specs.Valid.{IsValid};
 ghost use Rattle.dh_net.specs.Clock.{IsValuation, Clocks, has_clashes};
-ghost use Rattle.dh_sim.specs.Points.{IsSound, rows_of, state_of};
+ghost use Rattle.dh_sim.specs.Layouts.{IsLayout, ArraysFit};
+ghost use Rattle.dh_sim.specs.Points.{IsSound, lists_of, state_of};
 ghost use Rattle.dh_sim.specs.Shows.{ShowsAs};
 
 use crate::cells::settle;
-use crate::ports::{is_any_clash, load_registers, serve_ports};
+use crate::layouts::Layout;
+use crate::ports::{is_any_clash, load_registers, read_ports, write_ports};
 use dh_base::NoMemory;
 use dh_net::Net;
 use std::alloc::Global;
@@ -49,22 +51,25 @@ pub fn zeros(alloc: Global, count: usize) -> Result<Vec<u64>, NoMemory>
 pub fn settled_wires(
     alloc: Global,
     net: &Net,
+    layout: &Layout,
     registers: &[u64],
     held: &[u64],
 ) -> Result<Vec<u64>, NoMemory>
     requires valid { IsValid net.now }
+    requires layout { IsLayout net.now.table layout.now }
+    requires fit { ArraysFit net.now registers.now held.now }
     requires registers { length registers.now ≡ length net.now.registers }
     requires held { length held.now ≡ length net.now.drivers }
-    ensures { IfOk result (λ v. IsValuation net.now.cells registers.now held.now v.items) }
+    ensures { IfOk result (λ v. IsValuation net.now.table net.now.cells registers.now held.now v.items) }
 {
     let mut wires = zeros(alloc, net.cells.len())?;
-    settle(net, registers, held, &mut wires);
+    settle(net, layout, registers, held, &mut wires);
     Ok(wires)
 }
 
 /// A copy of lists.
 pub fn copied(alloc: Global, lists: &[Vec<u64>]) -> Result<Vec<Vec<u64>>, NoMemory>
-    ensures { IfOk result (λ v. rows_of v.items ≡ rows_of lists.now) }
+    ensures { IfOk result (λ v. lists_of v.items ≡ lists_of lists.now) }
 {
     let mut copies = Vec::with_capacity(alloc, lists.len())?;
     for list in lists {
@@ -92,20 +97,24 @@ pub fn shown_by(net: &Net, wires: &[u64], clash: bool) -> Shown
 /// Clocks the net once, and tells whether two active drivers met on some port. Takes no memory.
 pub fn clock_arrays(
     net: &Net,
+    layout: &Layout,
     registers: &mut [u64],
     held: &mut [u64],
-    banks: &mut [Vec<u64>],
+    memories: &mut [Vec<u64>],
     wires: &mut [u64],
 ) -> bool
-    requires { IsSound net.now (state_of registers.old held.old banks.old) wires.old }
-    ensures clocked { Clocks net.now (state_of registers.old held.old banks.old)
-        (state_of registers.new held.new banks.new) }
-    ensures sound { IsSound net.now (state_of registers.new held.new banks.new) wires.new }
+    requires layout { IsLayout net.now.table layout.now }
+    requires sound { IsSound net.now (state_of registers.old held.old memories.old) wires.old }
+    ensures clocked { Clocks net.now (state_of registers.old held.old memories.old)
+        (state_of registers.new held.new memories.new) }
+    ensures sound { IsSound net.now (state_of registers.new held.new memories.new) wires.new }
     ensures clash { result ≡ has_clashes wires.old net.now.drivers }
 {
+    let ports = layout.ports.as_slice();
     let clash = is_any_clash(net, wires);
-    serve_ports(net, wires, held, banks);
+    read_ports(net, ports, wires, memories, held);
+    write_ports(net, ports, wires, memories);
     load_registers(net, wires, registers);
-    settle(net, registers, held, wires);
+    settle(net, layout, registers, held, wires);
     clash
 }

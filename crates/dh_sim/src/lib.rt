@@ -4,6 +4,7 @@
 
 mod arrays;
 mod cells;
+mod layouts;
 mod ports;
 mod runs;
 mod simulator;

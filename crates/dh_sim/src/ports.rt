@@ -1,13 +1,15 @@
-//! The ports of memories: which driver each serves, what that does to the held data and the banks,
+//! The ports of memories: which driver each serves, what that does to the held data and the memories,
 //! and whether two drivers clash.
 
-ghost use Rattle.std.specs.Prelude.{◌≡◌, length, map, slice_index, slice_set};
-ghost use Rattle.dh_net.specs.Clock.{has_clash, has_clashes, served, held_by, rows_by, held_after, banks_after};
+ghost use Rattle.std.specs.Prelude.{◌≡◌, ◌<◌, length, map, set, slice_index, slice_set};
+ghost use Rattle.dh_net.specs.BankPorts.{ports_of};
+ghost use Rattle.dh_net.specs.Clock.{has_clash, has_clashes, served, memory_at, place_of, row_value, with_row, held_by, written_by, held_after, memories_after};
 ghost use Rattle.dh_net.specs.Valid.{IsValid};
-ghost use Rattle.dh_sim.specs.Points.{rows_of};
-ghost use Rattle.dh_sim.specs.Rooms.{AreDriversInRooms, IsServedInRooms};
+ghost use Rattle.dh_sim.specs.Points.{lists_of};
+ghost use Rattle.dh_sim.specs.Rooms.{AreDriversInRooms, IsServedInRooms, IsPlaced};
 
-use dh_net::{Driver, Net};
+use dh_net::{Driver, Net, Port, place_in_bank};
+use dh_tree::MemEntry;
 
 // The first active driver: the one that the port serves.
 fn first_active(drivers: &[Driver], wires: &[u64]) -> Option<Driver>
@@ -54,64 +56,144 @@ pub fn is_any_clash(net: &Net, wires: &[u64]) -> bool
     false
 }
 
-// A row's value, or 0 where there is no such row.
-fn row_at(rows: &[u64], row: u64) -> u64
-    ensures { result ≡ slice_index rows.now row }
+// An element of a memory.
+fn element_at(memories: &[Vec<u64>], memory: usize, place: u64) -> u64
+    requires { memory < length memories.now }
+    ensures { result ≡ slice_index (memory_at (lists_of memories.now) memory) place }
 {
-    match rows.get(row as usize) {
+    match memories[memory].get(place as usize) {
         Some(value) => *value,
         None => 0,
     }
 }
 
-// Writes a row, where it is there.
-fn set_row(rows: &mut Vec<u64>, row: u64, value: u64)
-    ensures { rows.new.items ≡ slice_set rows.old.items row value }
+// Sets an element of a list, where it is there.
+fn set_element(list: &mut Vec<u64>, place: u64, value: u64)
+    ensures { list.new.items ≡ slice_set list.old.items place value }
 {
-    let at = row as usize;
-    if at < rows.len() {
-        rows[at] = value;
+    let at = place as usize;
+    if at < list.len() {
+        list[at] = value;
+    }
+}
+
+// The place of a row of the port's bank among the elements of its memory.
+fn place_of_row(table: &[MemEntry], port: Port, row: u64) -> u64
+    requires placed { IsPlaced table.now port }
+    requires row { row < port.rows }
+    ensures { result ≡ place_of table.now port row }
+{
+    place_in_bank(
+        table[port.memory as usize].shape.dims.as_slice(),
+        port.bank,
+        row,
+    )
+}
+
+// The element in a row of the port's bank, 0 where that is no row of it.
+fn row_at(table: &[MemEntry], port: Port, memories: &[Vec<u64>], row: u64) -> u64
+    requires placed { IsPlaced table.now port }
+    requires memories { length memories.now ≡ length table.now }
+    ensures { result ≡ row_value table.now port (lists_of memories.now) row }
+{
+    if row < port.rows {
+        element_at(
+            memories,
+            port.memory as usize,
+            place_of_row(table, port, row),
+        )
+    } else {
+        0
+    }
+}
+
+// Writes a row of the port's bank, where it is one.
+fn set_row(table: &[MemEntry], port: Port, memories: &mut [Vec<u64>], row: u64, value: u64)
+    requires placed { IsPlaced table.now port }
+    requires memories { length memories.old ≡ length table.now }
+    ensures { lists_of memories.new ≡ with_row table.now port (lists_of memories.old) row value }
+{
+    if row < port.rows {
+        let place = place_of_row(table, port, row);
+        set_element(&mut memories[port.memory as usize], place, value);
     }
 }
 
 // What a port holds after a clock in which it serves this driver: the row as it was, where it reads.
-fn held_datum(driver: Option<Driver>, wires: &[u64], rows: &[u64], had: u64) -> u64
-    requires { IsServedInRooms (length wires.now) driver }
-    ensures { result ≡ held_by wires.now driver rows.now had }
+fn held_datum(
+    table: &[MemEntry],
+    port: Port,
+    driver: Option<Driver>,
+    wires: &[u64],
+    memories: &[Vec<u64>],
+    had: u64,
+) -> u64
+    requires placed { IsPlaced table.now port }
+    requires driver { IsServedInRooms (length wires.now) driver }
+    requires memories { length memories.now ≡ length table.now }
+    ensures { result ≡ held_by table.now wires.now port driver (lists_of memories.now) had }
 {
     match driver {
-        Some(d) if !d.write => row_at(rows, wires[d.row as usize]),
+        Some(d) if !d.write => row_at(table, port, memories, wires[d.row as usize]),
         _ => had,
     }
 }
 
-// Writes what this driver of the bank's port writes.
-fn write_rows(driver: Option<Driver>, wires: &[u64], rows: &mut Vec<u64>)
-    requires { IsServedInRooms (length wires.now) driver }
-    ensures { rows.new.items ≡ rows_by wires.now driver rows.old.items }
+// Writes what this driver of the port writes.
+fn write_row(
+    table: &[MemEntry],
+    port: Port,
+    driver: Option<Driver>,
+    wires: &[u64],
+    memories: &mut [Vec<u64>],
+)
+    requires placed { IsPlaced table.now port }
+    requires driver { IsServedInRooms (length wires.now) driver }
+    requires memories { length memories.old ≡ length table.now }
+    ensures { lists_of memories.new ≡ written_by table.now wires.now port driver (lists_of memories.old) }
 {
     if let Some(d) = driver {
         if d.write {
-            set_row(rows, wires[d.row as usize], wires[d.data_ as usize]);
+            set_row(
+                table,
+                port,
+                memories,
+                wires[d.row as usize],
+                wires[d.data_ as usize],
+            );
         }
     }
 }
 
-/// Serves each port: a read takes a row into the held data, a write changes one. Both find the rows
-/// as they were before the clock.
-pub fn serve_ports(net: &Net, wires: &[u64], held: &mut [u64], banks: &mut [Vec<u64>])
+/// Takes into the held data what ports read.
+pub fn read_ports(net: &Net, ports: &[Port], wires: &[u64], memories: &[Vec<u64>], held: &mut [u64])
     requires valid { IsValid net.now }
+    requires ports { ports.now ≡ ports_of net.now.table }
     requires wires { length wires.now ≡ length net.now.cells }
+    requires memories { length memories.now ≡ length net.now.table }
     requires held { length held.old ≡ length net.now.drivers }
-    requires banks { length banks.old ≡ length net.now.drivers }
-    ensures held { held.new ≡ held_after wires.now net.now.drivers (rows_of banks.old) held.old }
-    ensures banks { rows_of banks.new ≡ banks_after wires.now net.now.drivers (rows_of banks.old) }
+    ensures { held.new ≡ held_after net.now.table wires.now net.now.drivers ports.now (lists_of memories.now) held.old }
 {
-    for (port, drivers) in net.drivers.as_slice().iter().enumerate() {
+    let table = net.table.as_slice();
+    for (i, drivers) in net.drivers.as_slice().iter().enumerate() {
         let driver = first_active(drivers.as_slice(), wires);
-        let datum = held_datum(driver, wires, &banks[port], held[port]);
-        held[port] = datum;
-        write_rows(driver, wires, &mut banks[port]);
+        let datum = held_datum(table, ports[i], driver, wires, memories, held[i]);
+        held[i] = datum;
+    }
+}
+
+/// Writes what ports write, in order.
+pub fn write_ports(net: &Net, ports: &[Port], wires: &[u64], memories: &mut [Vec<u64>])
+    requires valid { IsValid net.now }
+    requires ports { ports.now ≡ ports_of net.now.table }
+    requires wires { length wires.now ≡ length net.now.cells }
+    requires memories { length memories.old ≡ length net.now.table }
+    ensures { lists_of memories.new ≡ memories_after net.now.table wires.now net.now.drivers ports.now (lists_of memories.old) }
+{
+    let table = net.table.as_slice();
+    for (i, drivers) in net.drivers.as_slice().iter().enumerate() {
+        let driver = first_active(drivers.as_slice(), wires);
+        write_row(table, ports[i], driver, wires, memories);
     }
 }
 

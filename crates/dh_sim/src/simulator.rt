@@ -1,4 +1,4 @@
-//! The simulator: a net with its registers, held data, banks and wires in flat arrays.
+//! The simulator: a net with its registers, held data, memories and wires in flat arrays.
 
 ghost use Rattle.std.specs.Prelude.{◌≡◌, IfOk};
 ghost use Rattle.dh_tree.specs.Tables.{Fits};
@@ -10,6 +10,7 @@ ghost use Rattle.dh_sim.specs.Shows.{ShowsAt};
 use crate::arrays::{
     Shown, clock_arrays, copied, initial_registers, settled_wires, shown_by, zeros,
 };
+use crate::layouts::Layout;
 use dh_base::NoMemory;
 use dh_net::Net;
 use dh_tree::Memories;
@@ -20,23 +21,25 @@ use std::marker::Model;
 #[derive(Drop)]
 pub struct Sim<'a> {
     net: &'a Net,
+    layout: Layout,
     registers: Vec<u64>,
-    // the held data of each port; a port, its bank and its memory have one number
+    // the held data of each port
     held: Vec<u64>,
-    banks: Vec<Vec<u64>>,
+    memories: Vec<Vec<u64>>,
     // the wires of the present state
     wires: Vec<u64>,
     clash: bool,
 }
 
 impl<'a> Model for Sim<'a> {
+    ghost use Rattle.dh_sim.specs.Layouts.{IsLayout};
     ghost use Rattle.dh_sim.specs.Points.{Point, IsSound, state_of};
 
     ghost Value = { Point };
 
-    ghost view = { λ s. record { net = s.net.now; state = state_of s.registers.items s.held.items s.banks.items; clash = s.clash } };
+    ghost view = { λ s. record { net = s.net.now; state = state_of s.registers.items s.held.items s.memories.items; clash = s.clash } };
 
-    ghost invariant = { λ s. IsSound s.net.now (state_of s.registers.items s.held.items s.banks.items) s.wires.items };
+    ghost invariant = { λ s. IsLayout s.net.now.table s.layout × IsSound s.net.now (state_of s.registers.items s.held.items s.memories.items) s.wires.items };
 }
 
 impl<'a> Sim<'a> {
@@ -50,15 +53,17 @@ impl<'a> Sim<'a> {
         requires fits { Fits net.now.table memories }
         ensures { IfOk result (λ s. s ≡ started net.now memories) }
     {
+        let layout = Layout::new(alloc, net.table.as_slice())?;
         let registers = initial_registers(alloc, net)?;
         let held = zeros(alloc, net.drivers.len())?;
-        let wires = settled_wires(alloc, net, &registers, &held)?;
-        let banks = memories.into_lists();
+        let wires = settled_wires(alloc, net, &layout, &registers, &held)?;
+        let memories = memories.into_lists();
         Ok(Sim {
             net,
+            layout,
             registers,
             held,
-            banks,
+            memories,
             wires,
             clash: false,
         })
@@ -73,9 +78,10 @@ impl<'a> Sim<'a> {
     {
         self.clash = clock_arrays(
             self.net,
+            &self.layout,
             &mut self.registers,
             &mut self.held,
-            &mut self.banks,
+            &mut self.memories,
             &mut self.wires,
         );
         self.shown()
@@ -94,16 +100,16 @@ impl<'a> Sim<'a> {
     ///
     /// `NoMemory` where an allocation was refused.
     pub fn memories(&self, alloc: Global) -> Result<Memories, NoMemory>
-        ensures { IfOk result (λ m. m ≡ self.now.state.banks) }
+        ensures { IfOk result (λ m. m ≡ self.now.state.memories) }
     {
-        Ok(Memories::new(copied(alloc, &self.banks)?))
+        Ok(Memories::new(copied(alloc, &self.memories)?))
     }
 
     /// The memories in the present state. Takes no memory.
     pub fn into_memories(self) -> Memories
-        ensures contents { result ≡ self.entry.state.banks }
+        ensures contents { result ≡ self.entry.state.memories }
         ensures fits { Fits self.entry.net.table result }
     {
-        Memories::new(self.banks)
+        Memories::new(self.memories)
     }
 }

@@ -1,11 +1,13 @@
 -- The lines of registers, wires and updates tell what they declare.
-use Rattle.std.proofs.Common.{◌≡◌, ℕ, ◌-◌, ◌<◌, ◌≤◌, ◌^◌, List, [], ◌∷◌, ◌++◌, ◌∙◌, ap, sym, refl, append_assoc, arith}
-use Rattle.std.specs.Prelude.{codes}
+use Rattle.std.proofs.Common.{◌≡◌, ℕ, ◌+◌, ◌-◌, ◌<◌, ◌≤◌, ◌^◌, List, [], ◌∷◌, ◌++◌, ◌∙◌, ap, sym, refl, append_assoc, arith}
+use Rattle.std.specs.Prelude.{codes, slice_index}
+use Rattle.std.specs.List.{AllByRecursion}
 use Rattle.std.specs.Fmt.{decimal}
 use Rattle.std.proofs.lemmas.List.{append_cancel_left}
 use Rattle.dh_net.specs.declared.nets.Cell.{Cell}
 use Rattle.dh_net.specs.declared.nets.CellForm.{CellForm}
 use Rattle.dh_net.specs.declared.nets.Register.{Register}
+use Rattle.dh_verilog.specs.Listed.{numbered}
 use Rattle.dh_verilog.specs.Text.{register_line, form_text, cell_line, update_line}
 use Rattle.dh_verilog.proofs.Shapes.{Piece, fixed, numeral, same_line}
 use Rattle.dh_verilog.proofs.Lines.{Begins, Tells}
@@ -22,10 +24,10 @@ pub record IsSmallRegister (r : Register) : Type 0 where
   pub initial : r.initial < 2 ^ 64
   pub next : r.next < 2 ^ 64
 
-pub record IsSmallCell (c : Cell) : Type 0 where
+pub record IsSmallCell (cells : List Cell) (c : Cell) : Type 0 where
   pub least : 1 ≤ c.width
   pub greatest : c.width ≤ 64
-  pub form : HasSmall c.form
+  pub form : HasSmall cells c.form
 
 small_width : (w : ℕ) → w ≤ 64 → w < 2 ^ 64
 small_width w h = omega arith
@@ -59,7 +61,7 @@ abbrev update_pieces : ℕ → Register → List Piece
 update_pieces i r =
     fixed (codes "    r") ∷ (fixed (decimal i) ∷ (fixed (codes " <= w") ∷ (numeral r.next ∷ (fixed (codes ";\n") ∷ []))))
 
-pub update_begins : Begins update_line 2 32 Anything
+pub update_begins : Begins update_line 4 114 Anything
 update_begins = record { byte = λ i r x. refl; next = λ i r x. tt }
 
 pub update_tells : Tells update_line IsSmallRegister StepsAlike Anything
@@ -78,8 +80,8 @@ abbrev cell_pieces : ℕ → Cell → List Piece
 cell_pieces i c =
     fixed (codes "  wire [") ∷ (numeral (c.width - 1) ∷ (fixed (codes ":0] w") ∷ (fixed (decimal i) ∷ (fixed (codes " = ") ∷ []))))
 
-pub cell_begins : Begins cell_line 2 119 Anything
-cell_begins = record { byte = λ i r x. refl; next = λ i r x. tt }
+pub cell_begins : (cells : List Cell) → Begins (cell_line cells) 2 119 Anything
+cell_begins cells = record { byte = λ i r x. refl; next = λ i r x. tt }
 
 abbrev cell_of : ℕ → CellForm → Cell
 cell_of w f = record { width = w; form = f }
@@ -87,13 +89,31 @@ cell_of w f = record { width = w; form = f }
 one_cell : (c d : Cell) → c.width ≡ d.width → c.form ≡ d.form → c ≡ d
 one_cell c d p q = ap (λ w. cell_of w c.form) p ∙ ap (λ f. cell_of d.width f) q
 
-pub cell_tells : Tells cell_line IsSmallCell (λ c d. c ≡ d) Anything
-cell_tells i c d x y hc hd nx ny e =
+-- the line of a cell tells the cell, also where the cells of the two nets differ
+pub cell_tells : (cs ds : List Cell) (i : ℕ) (c d : Cell) (x y : List ℕ) → IsSmallCell cs c → IsSmallCell ds d → cell_line cs i c ++ x ≡ cell_line ds i d ++ y → (c ≡ d) × (x ≡ y)
+cell_tells cs ds i c d x y hc hd e =
     let c1 : c.width - 1 < 2 ^ 64 = omega arith in
     let d1 : d.width - 1 < 2 ^ 64 = omega arith in
     let end = codes ";\n" in
-    let t = same_line (cell_pieces i c) (cell_pieces i d) (form_text c.width c.form ++ end) (form_text d.width d.form ++ end) x y
+    let t = same_line (cell_pieces i c) (cell_pieces i d) (form_text cs c.width c.form ++ end) (form_text ds d.width d.form ++ end) x y
     (refl, (c1, (d1, (refl, (refl, (refl, (refl, (refl, tt)))))))) e in
-    let u = same_form c.width d.width c.form d.form (end ++ x) (end ++ y) (small_width c.width hc.greatest) (small_width d.width hd.greatest) hc.form hd.form refl refl
-    (sym (append_assoc (form_text c.width c.form) end x) ∙ (t.1 ∙ append_assoc (form_text d.width d.form) end y)) in
+    let u = same_form cs ds c.width d.width c.form d.form (end ++ x) (end ++ y) (small_width c.width hc.greatest) (small_width d.width hd.greatest) hc.form hd.form refl refl
+    (sym (append_assoc (form_text cs c.width c.form) end x) ∙ (t.1 ∙ append_assoc (form_text ds d.width d.form) end y)) in
     (one_cell c d (one_less c.width d.width hc.least hd.least t.0.0) u.0, append_cancel_left end x y u.1)
+
+-- so do the lines of all cells
+abbrev lines : List Cell → ℕ → List Cell → List ℕ
+lines cells i own = numbered (cell_line cells) i own
+
+pub cells_tell : (cs ds : List Cell) (i : ℕ) (own other : List Cell) (x y : List ℕ) → AllByRecursion (IsSmallCell cs) own → AllByRecursion (IsSmallCell ds) other
+    → (slice_index x 2 ≡ 119 → ⊥) → (slice_index y 2 ≡ 119 → ⊥) → lines cs i own ++ x ≡ lines ds i other ++ y → (own ≡ other) × (x ≡ y)
+cells_tell cs ds i [] [] x y gc gd ex ey e = (refl, e)
+cells_tell cs ds i [] (d ∷ other) x y gc gd ex ey e = absurd (ex (ap (λ t. slice_index t 2) e))
+cells_tell cs ds i (c ∷ own) [] x y gc gd ex ey e = absurd (ey (ap (λ t. slice_index t 2) (sym e)))
+cells_tell cs ds i (c ∷ own) (d ∷ other) x y gc gd ex ey e =
+    let first = cell_tells cs ds i c d (lines cs (i + 1) own ++ x) (lines ds (i + 1) other ++ y) gc.0 gd.0
+    (sym (append_assoc (cell_line cs i c) (lines cs (i + 1) own) x) ∙ (e ∙ append_assoc (cell_line ds i d) (lines ds (i + 1) other) y)) in
+    let more = cells_tell cs ds (i + 1) own other x y gc.1 gd.1 ex ey first.1 in
+    let head : c ≡ d = first.0 in
+    let tail : own ≡ other = more.0 in
+    (cc, more.1)

@@ -10,7 +10,7 @@ use Rattle.dh_verilog.specs.Listed.{each}
 use Rattle.dh_verilog.specs.Head.{pin}
 use Rattle.dh_verilog.specs.Driving.{enables_text, enable_line, ending_of, signal_width, zero_text, write_text, value_text, choice_text, choice_line, port_lines, driving_text}
 use Rattle.dh_net.specs.Valid.{ReadsZero}
-use Rattle.dh_verilog.specs.declared.ports.Port.{Port}
+use Rattle.dh_net.specs.declared.ports.Port.{Port}
 use Rattle.dh_verilog.specs.declared.ports.Signal.{Signal}
 use Rattle.dh_verilog.specs.declared.ports.Signal.TheVariants as signal
 use Rattle.dh_verilog.proofs.Reading.{NoDigit, number_then, unlike, first_digit}

@@ -1,4 +1,3 @@
-pub mod Widths
 pub mod Appended
 pub mod Walks
 pub mod Reading

@@ -4,7 +4,7 @@ use Rattle.std.specs.Fmt.{decimal}
 use Rattle.dh_net.specs.declared.nets.Driver.{Driver}
 use Rattle.dh_verilog.specs.Listed.{each}
 use Rattle.dh_verilog.specs.Head.{pin}
-use Rattle.dh_verilog.specs.declared.ports.Port.{Port}
+use Rattle.dh_net.specs.declared.ports.Port.{Port}
 use Rattle.dh_verilog.specs.declared.ports.Signal.{Signal}
 use Rattle.dh_verilog.specs.declared.ports.Signal.TheVariants as signal
 

@@ -1,18 +1,15 @@
 -- The head of a net's text: its comments, and the list of the module's ports.
-use Rattle.std.specs.Prelude.{ℕ, ◌+◌, ◌-◌, Bool, true, false, List, [], ◌∷◌, ◌++◌, codes}
+use Rattle.std.specs.Prelude.{ℕ, ◌-◌, Bool, true, false, if◌then◌else◌, List, [], ◌∷◌, ◌++◌, codes}
 use Rattle.std.specs.Fmt.{decimal}
 use Rattle.dh_base.specs.declared.outcomes.FaultKind.{FaultKind}
 use Rattle.dh_base.specs.declared.outcomes.FaultKind.TheVariants as fault
 use Rattle.dh_base.specs.declared.places.Place.{Place}
-use Rattle.dh_tree.specs.Tables.{elements_of}
-use Rattle.dh_value.specs.Words.{width_of}
 use Rattle.dh_value.specs.declared.kinds.Kind.{Kind}
 use Rattle.dh_value.specs.declared.kinds.Kind.TheVariants as kind
 use Rattle.dh_tree.specs.declared.tables.Dim.{Dim}
 use Rattle.dh_tree.specs.declared.tables.MemEntry.{MemEntry}
 use Rattle.dh_verilog.specs.Listed.{each}
-use Rattle.dh_verilog.specs.Rows.{row_width_of}
-use Rattle.dh_verilog.specs.declared.ports.Port.{Port}
+use Rattle.dh_net.specs.declared.ports.Port.{Port}
 
 -- `ubit 8`
 abbrev pub kind_text : Kind → List ℕ
@@ -46,17 +43,6 @@ abbrev pub fault_line : ℕ → FaultKind × Place → List ℕ
 fault_line i f =
     codes "// fault " ++ (decimal i ++ (codes " " ++ (fault_name f.0 ++ (codes " " ++ (decimal f.1.line ++ (codes ":" ++ (decimal f.1.column ++ codes "\n")))))))
 
--- the port of the memory with this number
-abbrev pub port_of : ℕ → MemEntry → Port
-port_of i e =
-    record { memory = i; bank = 0; port = 0; row_width = row_width_of (elements_of e.shape.dims); width = width_of e.shape.kind }
-
--- the ports of memories, in order of memory, bank and port; the first memory has this number. Each
--- memory has one bank with one port.
-abbrev pub ports_of : ℕ → List MemEntry → List Port
-ports_of i [] = []
-ports_of i (e ∷ es) = port_of i e ∷ ports_of (i + 1) es
-
 -- a pin of a port, `m0_b0_p0_en`, by the ending of its name
 abbrev pub pin : Port → List ℕ → List ℕ
 pin p ending = codes "m" ++ (decimal p.memory ++ (codes "_b" ++ (decimal p.bank ++ (codes "_p" ++ (decimal p.port ++ ending)))))
@@ -74,7 +60,11 @@ abbrev pub pin_lines : Port → List ℕ
 pin_lines p =
     bit_pin p (codes "_en") ++ (bit_pin p (codes "_we") ++ (wide_pin (codes "output") p.row_width p (codes "_row") ++ (wide_pin (codes "output") p.width p (codes "_out") ++ wide_pin (codes "input") p.width p (codes "_in"))))
 
+-- those of a port outside the module; a local one has none
+abbrev pub outer_pins : Port → List ℕ
+outer_pins p = if p.outside then pin_lines p else []
+
 -- from `module kernel(` to `);`
 abbrev pub module_text : List Port → List ℕ
 module_text ports =
-    codes "module kernel(\n  input clk,\n  output tick,\n  output done,\n  output [31:0] fault" ++ (each pin_lines ports ++ codes "\n);\n")
+    codes "module kernel(\n  input clk,\n  output tick,\n  output done,\n  output [31:0] fault" ++ (each outer_pins ports ++ codes "\n);\n")

@@ -1,7 +1,7 @@
 pub mod Adding
 pub mod Listed
-pub mod Rows
 pub mod Head
+pub mod Locals
 pub mod Driving
 pub mod Text
 pub mod Ranges

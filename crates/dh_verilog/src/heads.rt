@@ -2,14 +2,14 @@
 
 ghost use Rattle.std.specs.Prelude.{◌≡◌, [], IsOk, OnOk};
 ghost use Rattle.std.specs.List.{AllByRecursion};
-ghost use Rattle.dh_tree.specs.Tables.{IsEntry};
 ghost use Rattle.dh_verilog.specs.Adding.{Adds};
 ghost use Rattle.dh_verilog.specs.Listed.{each, numbered};
 ghost use Rattle.dh_verilog.specs.Ranges.{IsPlace};
-ghost use Rattle.dh_verilog.specs.Head.{kind_text, dim_text, dims_text, side_text, memory_line, fault_name, fault_line, ports_of, pin_lines, module_text};
+ghost use Rattle.dh_verilog.specs.Head.{kind_text, dim_text, dims_text, side_text, memory_line, fault_name, fault_line, outer_pins, module_text};
 
-use crate::ports::{port_of_memory, write_pins};
+use crate::ports::write_outer_pins;
 use dh_base::{FaultKind, Place};
+use dh_net::Port;
 use dh_tree::{Dim, Kind, MemEntry};
 use std::alloc::AllocError;
 use std::fmt::Write;
@@ -116,24 +116,22 @@ pub fn write_faults(out: &mut String, faults: &[(FaultKind, Place)]) -> Result<(
     Ok(())
 }
 
-// Writes the pins of all ports.
-fn write_all_pins(out: &mut String, table: &[MemEntry]) -> Result<(), AllocError>
-    requires { AllByRecursion IsEntry table.now }
-    ensures { Adds result out.old out.new (each pin_lines (ports_of 0 table.now)) }
+// Writes the pins of all ports outside the module.
+fn write_all_pins(out: &mut String, ports: &[Port]) -> Result<(), AllocError>
+    ensures { Adds result out.old out.new (each outer_pins ports.now) }
 {
-    for (i, entry) in table.iter().enumerate() {
-        write_pins(out, port_of_memory(i, entry))?;
+    for port in ports {
+        write_outer_pins(out, *port)?;
     }
     Ok(())
 }
 
 /// Writes the list of the module's ports.
-pub fn write_module(out: &mut String, table: &[MemEntry]) -> Result<(), AllocError>
-    requires { AllByRecursion IsEntry table.now }
-    ensures { Adds result out.old out.new (module_text (ports_of 0 table.now)) }
+pub fn write_module(out: &mut String, ports: &[Port]) -> Result<(), AllocError>
+    ensures { Adds result out.old out.new (module_text ports.now) }
 {
     out.push_str("module kernel(\n  input clk,\n  output tick,\n  output done,\n")?;
     out.push_str("  output [31:0] fault")?;
-    write_all_pins(out, table)?;
+    write_all_pins(out, ports)?;
     out.push_str("\n);\n")
 }

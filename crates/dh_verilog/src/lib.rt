@@ -3,8 +3,10 @@
 //! Stands on `dh_net`. docs/NETLIST.md tells the text's format.
 #![tactic(auto)]
 
+mod expressions;
 mod heads;
 mod laws;
+mod locals;
 mod ports;
 mod writing;
 

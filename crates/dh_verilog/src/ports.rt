@@ -1,31 +1,14 @@
 //! The ports of memories, their pins, and the lines that say what drives them.
 
-ghost use Rattle.std.specs.Prelude.{◌≡◌, ◌≤◌};
-ghost use Rattle.dh_tree.specs.Tables.{IsEntry};
+ghost use Rattle.std.specs.Prelude.{◌≡◌};
 ghost use Rattle.dh_verilog.specs.Adding.{Adds};
 ghost use Rattle.dh_verilog.specs.Listed.{each};
-ghost use Rattle.dh_verilog.specs.Head.{port_of, pin, bit_pin, wide_pin, pin_lines};
+ghost use Rattle.dh_verilog.specs.Head.{pin, bit_pin, wide_pin, pin_lines, outer_pins};
 ghost use Rattle.dh_verilog.specs.Driving.{enables_text, enable_line, ending_of, signal_width, zero_text, value_text, choice_text, choice_line, port_lines};
 
-use dh_net::{Driver, kind_width, row_width};
-use dh_tree::{MemEntry, element_count};
+use dh_net::{Driver, Port};
 use std::alloc::AllocError;
 use std::fmt::Write;
-
-/// A port of an outside memory, as the text names it.
-#[derive(Clone, Copy, Debug, PartialEq, Eq)]
-pub struct Port {
-    /// The number of its memory, from 0.
-    pub memory: u64,
-    /// The number of its bank, from 0.
-    pub bank: u64,
-    /// Its number within its bank, from 0.
-    pub port: u64,
-    /// Bits of the numbers of its rows, from 1 to 64.
-    pub row_width: u8,
-    /// Bits of its data, from 1 to 64.
-    pub width: u8,
-}
 
 /// What the net tells a port beside whether it is enabled.
 #[derive(Clone, Copy, Debug, PartialEq, Eq)]
@@ -38,25 +21,8 @@ pub enum Signal {
     Out,
 }
 
-/// The port of the memory with this number.
-#[tactic(auto, using(crate::proofs::Widths::row_width_is))]
-pub fn port_of_memory(memory: usize, entry: &MemEntry) -> Port
-    requires { IsEntry entry.now }
-    ensures is { result ≡ port_of memory entry.now }
-    ensures rows { 1 ≤ result.row_width }
-    ensures data { 1 ≤ result.width }
-{
-    Port {
-        memory: memory as u64,
-        bank: 0,
-        port: 0,
-        row_width: row_width(element_count(entry)),
-        width: kind_width(entry.shape.kind),
-    }
-}
-
-// Writes the name of a pin.
-fn write_pin(out: &mut String, port: Port, ending: &str) -> Result<(), AllocError>
+/// Writes the name of a pin.
+pub fn write_pin(out: &mut String, port: Port, ending: &str) -> Result<(), AllocError>
     ensures { Adds result out.old out.new (pin port ending.now) }
 {
     write!(
@@ -82,17 +48,14 @@ fn write_wide_pin(
     port: Port,
     ending: &str,
 ) -> Result<(), AllocError>
-    requires { 1 ≤ width }
     ensures { Adds result out.old out.new (wide_pin direction.now width port ending.now) }
 {
-    write!(out, ",\n  {} [{}:0] ", direction, width - 1)?;
+    write!(out, ",\n  {} [{}:0] ", direction, width.saturating_sub(1))?;
     write_pin(out, port, ending)
 }
 
-/// Writes the lines of the five pins.
-pub fn write_pins(out: &mut String, port: Port) -> Result<(), AllocError>
-    requires rows { 1 ≤ port.row_width }
-    requires data { 1 ≤ port.width }
+// Writes the lines of the five pins.
+fn write_pins(out: &mut String, port: Port) -> Result<(), AllocError>
     ensures { Adds result out.old out.new (pin_lines port) }
 {
     write_bit_pin(out, port, "_en")?;
@@ -100,6 +63,17 @@ pub fn write_pins(out: &mut String, port: Port) -> Result<(), AllocError>
     write_wide_pin(out, "output", port.row_width, port, "_row")?;
     write_wide_pin(out, "output", port.width, port, "_out")?;
     write_wide_pin(out, "input", port.width, port, "_in")
+}
+
+/// Writes the pins of a port outside the module.
+pub fn write_outer_pins(out: &mut String, port: Port) -> Result<(), AllocError>
+    ensures { Adds result out.old out.new (outer_pins port) }
+{
+    if port.outside {
+        write_pins(out, port)
+    } else {
+        Ok(())
+    }
 }
 
 // Writes the enable wires, joined.

@@ -41,12 +41,14 @@ pub(crate) fn read_sequence(reader: &mut Reader<'_>) -> Result<Vec<Vec<Command>>
         let part = read_part(reader)?;
         parts.push(part)?;
         if !reader.take(Mark::Dashes) {
+            parts.shrink_to_fit();
             return Ok(parts);
         }
     }
 }
 
-/// The commands of a part. A simple one that no `;` follows is the last.
+/// The commands of a part. A simple one that no `;` follows is the last. The list keeps no room to
+/// spare: most lists are short, and every pass walks them.
 #[cycle(command)]
 fn read_part(reader: &mut Reader<'_>) -> Result<Vec<Command>, Stop>
     requires { most_commands reader.old ≤ 2 ^ 32 }
@@ -61,6 +63,7 @@ fn read_part(reader: &mut Reader<'_>) -> Result<Vec<Command>, Stop>
                 let command = read_simple(reader)?;
                 commands.push(command)?;
                 if !reader.take(Mark::Semicolon) {
+                    commands.shrink_to_fit();
                     return Ok(commands);
                 }
             }
@@ -71,7 +74,10 @@ fn read_part(reader: &mut Reader<'_>) -> Result<Vec<Command>, Stop>
             Beginning::Semicolon => {
                 reader.skip(Mark::Semicolon)?;
             }
-            Beginning::Nothing => return Ok(commands),
+            Beginning::Nothing => {
+                commands.shrink_to_fit();
+                return Ok(commands);
+            }
         }
     }
 }

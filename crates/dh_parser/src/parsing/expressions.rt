@@ -128,6 +128,7 @@ fn read_indices(reader: &mut Reader<'_>) -> Result<Vec<Expr>, Stop>
         let index = read_index(reader)?;
         indices.push(index)?;
     }
+    indices.shrink_to_fit();
     Ok(indices)
 }
 

@@ -1,6 +1,5 @@
 -- The engine is asked once, and its one answer is reported.
 use Rattle.std.proofs.Common.{refl, inl, inr}
-use Rattle.dh_tree.proofs.NetTables.{program_table}
 use Rattle.dh_app.specs.Replies.{reply_seen}
 use Rattle.dh_app.proofs.Reported.{run_reported, only_answer}
 use Rattle.dh_app.proofs.simulating.report_run.Goals as goal
@@ -9,7 +8,7 @@ pub report_first-requires : goal.report_first-requires
 report_first-requires g c =
     record {
       answers = rw c.answers.ensures (only_answer c.args.net.now c.args.memories (g.E.Engine.seen c.finish.new.self).answers (rw c.in-Ok.ensures at c.in-Ok-finish.ensures.answers));
-      table = program_table _ c.requires.valid.table;
+      table = c.requires.valid.table;
     }
 
 pub returns : goal.returns

@@ -1,14 +1,13 @@
 -- The reply is that of the compiler, of the data, or of the run. The data is read by the net's table,
 -- which is the program's.
 use Rattle.std.proofs.Common.{List, Ok, Err, refl, subst, inl, inr}
-use Rattle.dh_tree.proofs.NetTables.{program_table}
 use Rattle.dh_tree.specs.declared.tables.MemEntry.{MemEntry}
 use Rattle.dh_tree.specs.Seen.{program_seen}
 use Rattle.dh_app.specs.Parts.{DataRead}
 use Rattle.dh_app.proofs.simulating.simulate_program.Goals as goal
 
 pub read_memories-requires : goal.read_memories-requires
-read_memories-requires g c = program_table _ c.in-Ok.ensures.valid.table
+read_memories-requires g c = c.in-Ok.ensures.valid.table
 
 pub report_run-requires : goal.report_run-requires
 report_run-requires g c = record { valid = c.in-Ok.ensures.valid; fits = c.in-Ok-read_memories.ensures.fits }

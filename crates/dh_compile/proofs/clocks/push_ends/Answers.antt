@@ -39,7 +39,7 @@ pub returns-clause-adds : goal.returns-clause-adds
 returns-clause-adds c = record {
   grows = c.loop-group.invariant.grows;
   wide = c.loop-group.invariant.wide;
-  is = links_end c.loop-group.draft.cells c.loop-group.chain c.loop-group.begin c.loop-group.group-index c.args.groups.now c.loop-group-test.false c.loop-group.invariant.links;
+  is = links_end c.loop-group.draft c.loop-group.chain c.loop-group.begin c.loop-group.group-index c.args.groups.now c.loop-group-test.false c.loop-group.invariant.links;
 }
 
 pub returns-clause-gains : goal.returns-clause-gains

@@ -12,5 +12,5 @@ invariant-loop-group l = record {
   wide : HasWidth l.draft.cells l.chain 1;
   inside : l.group-index ≤ length l.groups;
   gains : Gains l.fn.draft l.draft (1 + 3 * l.group-index);
-  links : Links l.draft.cells l.chain l.begin (drop l.group-index l.groups) l.groups;
+  links : Links l.draft l.chain l.begin (drop l.group-index l.groups) l.groups;
 }

@@ -37,7 +37,7 @@ loop-group-preserved c =
 pub returns-clause-adds : goal.returns-clause-adds
 returns-clause-adds c = record {
   grows = c.loop-group.invariant.grows;
-  drives = leads_end c.loop-group.draft.cells c.loop-group.drivers c.args.port.memory c.loop-group.begin c.loop-group.group-index c.args.groups.now (uses_of c.args.port.memory 0 c.args.groups.now) c.loop-group-test.false c.loop-group.invariant.leads;
+  drives = leads_end c.loop-group.draft c.loop-group.drivers c.args.port.memory c.loop-group.begin c.loop-group.group-index c.args.groups.now (uses_of c.args.port.memory 0 c.args.groups.now) c.loop-group-test.false c.loop-group.invariant.leads;
   fit = c.loop-group.invariant.fit;
 }
 

@@ -9,5 +9,5 @@ invariant-loop-memory l = record {
   grows : Grows l.fn.draft l.draft;
   inside : l.memory ≤ length l.entry-items;
   gains : Gains l.fn.draft l.draft (ports_cells l.memory l.program.groups);
-  has : HasPorts l.draft.cells l.ports l.program l.memory;
+  has : HasPorts l.draft l.ports l.program l.memory;
 }

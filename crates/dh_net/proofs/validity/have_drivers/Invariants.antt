@@ -1,16 +1,8 @@
-use Rattle.std.proofs.Common.{ℕ, ◌≡◌, ◌<◌, Some, List, drop}
-use Rattle.std.specs.Prelude.{slice_get}
-use Rattle.std.specs.List.{AllByRecursion}
-use Rattle.dh_tree.specs.Tables.{IsEntry}
-use Rattle.dh_tree.specs.declared.tables.MemEntry.{MemEntry}
-use Rattle.dh_net.specs.declared.nets.Driver.{Driver}
-use Rattle.dh_net.specs.Valid.{IsDriver}
+use Rattle.std.proofs.Common.{◌↔◌, drop}
+use Rattle.dh_net.specs.BankPorts.{ports_from, ports_of}
+use Rattle.dh_net.specs.Parts.{DrivePorts}
 use Rattle.dh_net.proofs.validity.have_drivers.Given as goal
 
-abbrev pub invariant-loop-port : goal.invariant-loop-port
-invariant-loop-port l =
-    record {
-      entries : AllByRecursion IsEntry (drop l.port l.table);
-      drivers : (p : ℕ) (ds : List Driver) (e : MemEntry) → p < l.port → slice_get l.drivers p ≡ Some ds → slice_get l.table p ≡ Some e
-          → (k : ℕ) (d : Driver) → slice_get ds k ≡ Some d → IsDriver l.cells e d;
-    }
+-- what is left is right where the whole is
+abbrev pub invariant-loop-memory : goal.invariant-loop-memory
+invariant-loop-memory l = DrivePorts l.cells (ports_from l.memory (drop l.memory l.table)) l.rest ↔ DrivePorts l.cells (ports_of l.table) l.drivers

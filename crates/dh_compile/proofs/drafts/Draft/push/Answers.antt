@@ -7,7 +7,7 @@ invariant_of-self-2 c =
 
 pub returns-clause-adds : goal.returns-clause-adds
 returns-clause-adds c =
-    adds_push c.args.self.now c.self.inside.table c.self.inside.cells c.push.new.self c.len-wire.result c.args.width c.args.form c.self.view_is c.in_ok-push.ensures c.len-wire.ensures
+    adds_push c.args.self.now c.self.inside.table c.self.inside.cells c.push.new.self c.len-wire.result c.args.width c.args.form c.self.view_is c.in_ok-push.ensures c.len-wire.ensures c.requires
 
 pub returns-clause-appended : goal.returns-clause-appended
 returns-clause-appended c =

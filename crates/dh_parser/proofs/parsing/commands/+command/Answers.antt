@@ -61,7 +61,7 @@ pub read_part-returns-then-not-take-clause-answer : goal.read_part-returns-then-
 read_part-returns-then-not-take-clause-answer t c =
     let s = known c.in_ok-command-in-Simple.ensures.answer in
     loop_ends c.loop-reader.invariant.loops (λ k. rw (simple_last _ _ s.0 c.in-Simple.ensures s.1.1 c.if-not-take.ensures.took.0 k)
-    (record { holds = ((λ put so. part_last c.push.new.self _ s.0 s.1.0.0 c.in_ok-push-in-Simple.ensures.items (c.if-not-take.ensures.commands ∙ s.1.0.1) so), c.if-not-take.ensures.took.1) }))
+    (record { holds = ((λ put so. part_last c.shrink_to_fit.new.self _ s.0 s.1.0.0 (c.shrink_to_fit.ensures.items ∙ c.in_ok-push-in-Simple.ensures.items) (c.if-not-take.ensures.commands ∙ s.1.0.1) so), c.if-not-take.ensures.took.1) }))
 
 pub read_part-loop-reader-preserved-else-not-take : goal.read_part-loop-reader-preserved-else-not-take
 read_part-loop-reader-preserved-else-not-take t c =
@@ -98,7 +98,7 @@ read_part-loop-reader-preserved t c =
 
 pub read_part-returns-in-Nothing-clause-answer : goal.read_part-returns-in-Nothing-clause-answer
 read_part-returns-in-Nothing-clause-answer t c =
-    loop_ends c.loop-reader.invariant.loops (λ k. rw (part_by _ begins_nothing c.in-Nothing.ensures k) (record { holds = ((λ put so. part_ends c.loop-reader.commands so), refl) }))
+    loop_ends c.loop-reader.invariant.loops (λ k. rw (part_by _ begins_nothing c.in-Nothing.ensures k) (record { holds = ((λ put so. part_ends c.shrink_to_fit-in-Nothing.new.self c.shrink_to_fit-in-Nothing.ensures.items so), refl) }))
 
 pub read_sequence-loop-parts-init : goal.read_sequence-loop-parts-init
 read_sequence-loop-parts-init t c = record {
@@ -116,7 +116,7 @@ pub read_sequence-returns-then-not-take-clause-answer : goal.read_sequence-retur
 read_sequence-returns-then-not-take-clause-answer t c =
     let s = known c.in_ok-part.ensures.answer in
     loop_ends c.loop-parts.invariant.loops (λ k. rw (parts_last c.loop-parts.reader.rest.now _ s.0 s.1.1 c.if-not-take.ensures.took.0 k)
-    (record { holds = ((λ put so. parts_end c.push.new.self c.in_ok-part.part s.0 (part_moved s.1.0 c.if-not-take.ensures.commands) c.in_ok-push.ensures.items so), c.if-not-take.ensures.took.1) }))
+    (record { holds = ((λ put so. parts_end c.shrink_to_fit.new.self c.in_ok-part.part s.0 (part_moved s.1.0 c.if-not-take.ensures.commands) (c.shrink_to_fit.ensures.items ∙ c.in_ok-push.ensures.items) so), c.if-not-take.ensures.took.1) }))
 
 pub read_sequence-loop-parts-preserved : goal.read_sequence-loop-parts-preserved
 read_sequence-loop-parts-preserved t c =

@@ -1,4 +1,5 @@
-use Rattle.std.proofs.Common.{rules, refl, sym}
+use Rattle.std.proofs.Common.{rules, refl, ap, map, sym, ◌∙◌}
+use Rattle.dh_tree.specs.Seen.{term_seen, terms}
 use Rattle.dh_parser.specs.Grammar.{index_then, no_indices}
 use Rattle.dh_parser.specs.Reading.{expression, the_index, more_indices}
 use Rattle.dh_parser.proofs.Going.{ok_then, err_then, given, when_true, when_false}
@@ -77,7 +78,8 @@ read_indices-loop-reader-preserved t c = record {
 
 pub read_indices-returns-clause-answer : goal.read_indices-returns-clause-answer
 read_indices-returns-clause-answer t c =
-    loop_done no_indices c.loop-reader.invariant.loops (indices_end _ (search rules)) (λ put so. terms_listed_all _ (so no_indices))
+    loop_done no_indices c.loop-reader.invariant.loops (indices_end _ (search rules))
+    (λ put so. ap (λ es. terms (map term_seen es)) c.shrink_to_fit.ensures.items ∙ terms_listed_all _ (so no_indices))
 
 pub read_named-returns-clause-answer : goal.read_named-returns-clause-answer
 read_named-returns-clause-answer t c =

@@ -1,0 +1,46 @@
+-- What functions of this crate promise one another.
+use Rattle.std.specs.Prelude.{◌≡◌, ℕ, suc, ◌+◌, ◌<◌, ◌≤◌, ◌^◌, ◌==◌, ◌&&◌, max, Bool, true, false, IsTrue, if◌then◌else◌, List, slice_get, slice_index, Option, Some, None, unwrap_or}
+use Rattle.std.specs.BTreeMap.{BTreeMap, get}
+use Rattle.std.specs.Ordering.{nat_cmp}
+use Rattle.dh_value.specs.declared.operators.Op.{Op}
+use Rattle.dh_value.specs.declared.operators.Op.TheVariants as op
+use Rattle.dh_plan.specs.declared.operations.Operation.{Operation}
+use Rattle.dh_plan.specs.LegalSchedules.{needed_clock, there_at, is_product}
+
+-- an operator multiplies
+abbrev pub is_times : Op → Bool
+is_times op.Mul = true
+is_times _ = false
+
+-- each operation of a block stands where all is there that it takes
+abbrev pub NeedsAreMet : (first : ℕ) → List Operation → (clocks : List ℕ) → Type 0
+NeedsAreMet first os clocks = (i : ℕ) (o : Operation) → slice_get os i ≡ Some o → needed_clock first os clocks o ≤ slice_index clocks i
+
+-- clocks that leave room for two more
+abbrev pub AreSmall : (clocks : List ℕ) → Type 0
+AreSmall clocks = (k : ℕ) → slice_index clocks k + 2 < 2 ^ 128
+
+-- depths that leave room for one more
+abbrev pub AreShallow : (depths : List ℕ) → Type 0
+AreShallow depths = (k : ℕ) → slice_index depths k < 2 ^ 32
+
+-- the greatest clock so far with that of one more value; none where the value is there at the length or later
+abbrev pub IsLater : Operation → (clock clocks_long last : ℕ) → Option ℕ → Type 0
+IsLater o clock clocks_long last None = clocks_long ≤ there_at o.form clock
+IsLater o clock clocks_long last (Some greatest) = (there_at o.form clock < clocks_long) × (greatest ≡ max last (there_at o.form clock))
+
+-- one more is counted at a clock, or it has so many that the limit allows no more
+abbrev pub Counts : (before after : ℕ → ℕ) → (clock limit : ℕ) → Bool → Type 0
+Counts before after clock limit true = (before clock < limit) × ((other : ℕ) → after other ≡ (if other == clock then suc (before other) else before other))
+Counts before after clock limit false = limit ≤ before clock
+
+-- an operation is counted at its clock, if it is a multiplication
+abbrev pub CountsProduct : Operation → (before after : ℕ → ℕ) → (clock limit : ℕ) → Bool → Type 0
+CountsProduct o before after clock limit true =
+    ((other : ℕ) → before other ≤ limit → after other ≤ limit)
+    × ((other : ℕ) → after other ≡ (if is_product o.form && (clock == other) then suc (before other) else before other))
+CountsProduct o before after clock limit false = IsTrue (is_product o.form) × (limit ≤ before clock)
+
+-- how many are counted at a clock
+abbrev pub count_in : BTreeMap ℕ ℕ → (clock : ℕ) → ℕ
+count_in counts clock = unwrap_or (get nat_cmp counts clock) 0

@@ -1,0 +1,7 @@
+use Rattle.std.proofs.Common.{◌≡◌, ◌++◌, string_bytes, drop}
+use Rattle.dh_verilog.specs.Listed.{each}
+use Rattle.dh_verilog.specs.Locals.{local_served}
+use Rattle.dh_verilog.proofs.locals.write_served.Given as goal
+
+abbrev pub invariant-loop-port : goal.invariant-loop-port
+invariant-loop-port l = string_bytes l.out ++ each local_served (drop l.port-index l.ports) ≡ string_bytes l.fn.out ++ each local_served l.ports
