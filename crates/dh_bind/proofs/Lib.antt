@@ -1,0 +1,15 @@
+pub mod Begun
+pub mod Charged
+pub mod Grants
+pub mod Flat
+pub mod Driven
+pub mod Paired
+pub mod Noting
+pub mod CostsKnown
+pub mod LedgerFacts
+pub mod StandingFacts
+pub mod RowTurns
+pub mod WalkTurns
+pub mod SeenMeets
+pub mod PortsBound
+pub mod Counted

@@ -1,0 +1,6 @@
+use Rattle.std.proofs.Common.{take}
+use Rattle.dh_bind.specs.Costs.{Noted, costs_in}
+use Rattle.dh_bind.proofs.costs.note_operations.Given as goal
+
+abbrev pub invariant-loop-operation : goal.invariant-loop-operation
+invariant-loop-operation l = Noted (take l.operation-index l.operations) (costs_in l.initial.memories l.initial.counts) (costs_in l.memories l.counts)

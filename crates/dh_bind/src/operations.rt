@@ -1,0 +1,74 @@
+//! What operations use.
+
+ghost use Rattle.std.specs.Prelude.{◌≡◌, ◌≤◌, ◌^◌, option_copied};
+ghost use Rattle.dh_plan.specs.SoundPlans.{use_in};
+ghost use Rattle.dh_bind.specs.Drafts.{all_operations, rows_of, use_rows};
+
+use dh_plan::{Operation, OperationForm, PlanBlock, Reach};
+
+/// What an operation reads or writes; None where it does neither.
+pub fn use_of(operation: &Operation) -> Option<&Reach>
+    ensures { option_copied result ≡ use_in operation.now.form }
+{
+    match &operation.form {
+        OperationForm::Read { access } => Some(access),
+        OperationForm::Write { access, value: _ } => Some(access),
+        OperationForm::Constant { word: _ } => None,
+        OperationForm::Old { register: _ } => None,
+        OperationForm::Compute {
+            op: _,
+            left: _,
+            right: _,
+        } => None,
+        OperationForm::Convert { inner: _, to: _ } => None,
+        OperationForm::Select {
+            test: _,
+            yes: _,
+            no: _,
+        } => None,
+        OperationForm::Check { ok: _, fault: _ } => None,
+        OperationForm::Probe {
+            access: _,
+            fault: _,
+        } => None,
+        OperationForm::Set {
+            register: _,
+            value: _,
+        } => None,
+    }
+}
+
+/// One more than the access of an operation; 0 where it uses none.
+fn row_after(operation: &Operation) -> usize
+    ensures number { result ≡ use_rows (use_in operation.now.form) }
+    ensures fits { result ≤ 2 ^ 32 }
+{
+    match use_of(operation) {
+        Some(reach) => reach.access as usize + 1,
+        None => 0,
+    }
+}
+
+/// One more than the greatest access of operations; 0 where they use none.
+fn rows_in(operations: &[Operation]) -> usize
+    ensures number { result ≡ rows_of operations.now }
+    ensures fits { result ≤ 2 ^ 32 }
+{
+    let mut rows = 0usize;
+    for operation in operations {
+        rows = rows.max(row_after(operation));
+    }
+    rows
+}
+
+/// The same of the operations of blocks.
+pub fn rows_needed(blocks: &[PlanBlock]) -> usize
+    ensures number { result ≡ rows_of (all_operations blocks.now) }
+    ensures fits { result ≤ 2 ^ 32 }
+{
+    let mut rows = 0usize;
+    for block in blocks {
+        rows = rows.max(rows_in(block.operations.as_slice()));
+    }
+    rows
+}

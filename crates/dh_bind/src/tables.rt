@@ -1,0 +1,22 @@
+//! Tables in which nothing stands yet.
+
+ghost use Rattle.std.specs.Prelude.{◌≡◌, None, IfOk, replicate};
+
+use dh_base::NoMemory;
+use std::alloc::Global;
+
+/// So many times None.
+pub fn nothing(alloc: Global, count: usize) -> Result<Vec<Option<u32>>, NoMemory>
+    ensures { IfOk result (λ v. v.items ≡ replicate count None) }
+{
+    let table = vec![in alloc; None; count]?;
+    Ok(table)
+}
+
+/// So many zeros.
+pub fn zeros(alloc: Global, count: usize) -> Result<Vec<u32>, NoMemory>
+    ensures { IfOk result (λ v. v.items ≡ replicate count 0) }
+{
+    let table = vec![in alloc; 0u32; count]?;
+    Ok(table)
+}

@@ -1,0 +1,82 @@
+//! The walk itself, part by part of the tree.
+
+ghost use Rattle.std.specs.Prelude.{◌≡◌, ◌<◌, Some, length};
+ghost use Rattle.dh_tree.specs.Meets.{access as meets_access};
+ghost use Rattle.dh_plan.specs.SeenPlans.{meets_seen};
+ghost use Rattle.dh_bind.specs.Costs.{memory_at};
+ghost use Rattle.dh_bind.specs.Standings.{ChargesRow, Walks, alls, ones};
+
+use crate::walker::{Stop, Walker};
+use dh_plan::Meets;
+use std::alloc::Global;
+
+/// Grants an access the ports that it charges on the banks of its memory.
+fn charge_row(walker: &mut Walker, access: u32, memory: u32) -> Result<(), Stop>
+    requires row { access < length walker.old.costs.memories }
+    requires inside { memory < length walker.old.ledgers }
+    requires memory { memory_at walker.old.costs.memories access ≡ Some memory }
+    ensures { ChargesRow access memory walker.old walker.new result }
+{
+    for bank in 0..64u32 {
+        walker.charge_bank(access, memory, bank)?;
+    }
+    Ok(())
+}
+
+/// Grants an access the ports that it charges.
+fn charge(walker: &mut Walker, access: u32) -> Result<(), Stop>
+    ensures { Walks (meets_access access) walker.old walker.new result }
+{
+    match walker.memory_of(access) {
+        Some(memory) => {
+            let Ok(()) = walker.note(memory) else {
+                return Err(Stop::NoMemory);
+            };
+            charge_row(walker, access, memory)
+        }
+        None => Ok(()),
+    }
+}
+
+/// Walks parts, one behind the other.
+#[cycle(walk)]
+fn walk_all(walker: &mut Walker, alloc: Global, parts: &[Meets]) -> Result<(), Stop>
+    ensures { Walks (alls parts.now) walker.old walker.new result }
+{
+    for part in parts {
+        walk(walker, alloc, part)?;
+    }
+    Ok(())
+}
+
+/// Walks parts of which no two meet: each from where they all begin.
+#[cycle(walk)]
+fn walk_one(walker: &mut Walker, alloc: Global, parts: &[Meets]) -> Result<(), Stop>
+    ensures { Walks (ones parts.now) walker.old walker.new result }
+{
+    let begun = walker.logged();
+    let mut ends = Vec::new(alloc);
+    for part in parts {
+        walk(walker, alloc, part)?;
+        let Ok(()) = walker.take_back(begun, &mut ends) else {
+            return Err(Stop::NoMemory);
+        };
+    }
+    let Ok(()) = walker.raise(ends.as_slice()) else {
+        return Err(Stop::NoMemory);
+    };
+    Ok(())
+}
+
+/// Walks a tree.
+#[cycle(walk)]
+#[tactic(auto, using(crate::proofs::SeenMeets::meets_are))]
+pub fn walk(walker: &mut Walker, alloc: Global, tree: &Meets) -> Result<(), Stop>
+    ensures { Walks (meets_seen tree.now) walker.old walker.new result }
+{
+    match tree {
+        Meets::Access { access } => charge(walker, *access),
+        Meets::All { parts } => walk_all(walker, alloc, parts.as_slice()),
+        Meets::One { parts } => walk_one(walker, alloc, parts.as_slice()),
+    }
+}
