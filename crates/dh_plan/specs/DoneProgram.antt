@@ -239,14 +239,12 @@ pub record RunTheSame (p q : PlainPlan) : Type 0 where
   pub memories_same : (memories : List (List ℕ)) (n : ℕ) → Fits p.table memories → (plan_state q memories n).memories ≡ (plan_state p memories n).memories
   pub places : (memories : List (List ℕ)) (n : ℕ) → Fits p.table memories → (plan_state q memories n).place ≡ (plan_state p memories n).place
 
--- the value of this number is a constant of the block
+-- the value of this number is a constant of the block; under a guard it would be one of two values
 pub record IsConstantAt (plan : PlainPlan) (block number : ℕ) : Type 0 where
   pub place : ℕ
   pub own : number ≡ first_in plan block + place
-  pub operation : Operation
-  pub there : slice_get (operations_in plan block) place ≡ Some operation
   pub word : Word
-  pub constant : operation.form ≡ Constant word
+  pub there : slice_get (operations_in plan block) place ≡ Some (record { guard = None; form = Constant word })
 
 abbrev pub IsConstantOr : PlainPlan → (block : ℕ) → Option ℕ → Type 0
 IsConstantOr plan block None = Unit {0}
@@ -263,10 +261,10 @@ abbrev pub IsStill : Option ViewMap → Type 0
 IsStill None = ⊥
 IsStill (Some v) = IsStillSort v.sort
 
--- the element is named by constants: by indices through no view that moves, or by a row
+-- the element is named by constants: by indices through no view that moves, or by a row and the bank that is picked
 abbrev pub NamedByConstants : PlainPlan → (block : ℕ) → Reach → (row : Option ℕ) → Type 0
 NamedByConstants plan block r None = AllByRecursion (IsConstantAt plan block) r.indices × AllByRecursion (λ s. IsStill (slice_get plan.views s.view)) r.steps
-NamedByConstants plan block r (Some row) = IsConstantAt plan block row
+NamedByConstants plan block r (Some row) = IsConstantAt plan block row × IsConstantOr plan block r.select
 
 -- an access leads to an element, whatever registers and memories hold
 abbrev pub IsAlwaysInside : PlainPlan → (block : ℕ) → Reach → Type 0
