@@ -10,6 +10,5 @@ pub mod LedgerFacts
 pub mod StandingFacts
 pub mod RowTurns
 pub mod WalkTurns
-pub mod SeenMeets
 pub mod PortsBound
 pub mod Counted

@@ -11,9 +11,9 @@ use Rattle.dh_bind.specs.declared.ledgers.Mark.{Mark}
 use Rattle.dh_bind.specs.Costs.{Costs, cost}
 use Rattle.dh_bind.specs.Drafts.{Draft}
 use Rattle.dh_bind.specs.Ledgers.{Alike, IsMark, AreMarks, Rises, spent_at, ports_in, undone, ends_now, top, state_or, spent_in, ports_of, banks_of, banks_in}
-use Rattle.dh_bind.specs.Standings.{Standing, GrantedIn, Walked, Overdrawn, InAll, TakenBack, InOne, alls, ones}
+use Rattle.dh_bind.specs.Standings.{Standing, GrantedIn, Walked, Overdrawn, InAll, TakenBack, InOne}
 use Rattle.dh_plan.specs.declared.plans.Meets.{Meets as Tree}
-use Rattle.dh_plan.specs.SeenPlans.{meets_seen}
+use Rattle.dh_plan.specs.SeenPlans.{meets_seen, alls, ones}
 use Rattle.dh_bind.proofs.Flat.{rest_is}
 use Rattle.dh_bind.proofs.Begun.{begin_first, begin_second, begin_one_first, begin_one_second}
 use Rattle.dh_bind.proofs.LedgerFacts.{spent_other, top_joined, undone_joined, all_joined, marks_alike}

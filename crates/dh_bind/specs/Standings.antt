@@ -1,9 +1,8 @@
 -- Where a walk of the tree of accesses stands, and what it leaves behind a part of the tree.
 use Rattle.std.specs.Prelude.{◌≡◌, ℕ, ◌+◌, ◌*◌, ◌<◌, ◌≤◌, max, List, [], ◌∷◌, ◌++◌, length, take, drop, slice_get, slice_set, slice_index, slice_index_or, nat_lt, if◌then◌else◌, Option, Some, Result, Ok, Err}
 use Rattle.dh_ledger.specs.Spending.{Spending}
-use Rattle.dh_tree.specs.Meets.{Meets, nothing, all, one, In, Distinct, load}
-use Rattle.dh_plan.specs.declared.plans.Meets.{Meets as Tree}
-use Rattle.dh_plan.specs.SeenPlans.{meets_seen, plan_seen}
+use Rattle.dh_tree.specs.Meets.{Meets, In, Distinct, load}
+use Rattle.dh_plan.specs.SeenPlans.{plan_seen}
 use Rattle.dh_bind.specs.declared.ledgers.Mark.{Mark}
 use Rattle.dh_bind.specs.declared.walker.Stop.{Stop}
 use Rattle.dh_bind.specs.declared.walker.Stop.TheVariants as stop
@@ -113,14 +112,6 @@ abbrev pub Walks : Meets → (old new : Standing) → Result (Unit {0}) Stop →
 Walks t old new (Ok done) = Walked old.costs t old new
 Walks t old new (Err stop.NoMemory) = Unit {0}
 Walks t old new (Err stop.Full) = Overdrawn old.costs t old
-
-abbrev pub alls : List Tree → Meets
-alls [] = nothing
-alls (t ∷ ts) = all (meets_seen t) (alls ts)
-
-abbrev pub ones : List Tree → Meets
-ones [] = nothing
-ones (t ∷ ts) = one (meets_seen t) (ones ts)
 
 -- what is still to be walked of an `all`, and that it leads to the whole
 pub record InAll (whole rest : Meets) (start now : Standing) : Type 0 where

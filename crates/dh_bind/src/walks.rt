@@ -4,7 +4,8 @@ ghost use Rattle.std.specs.Prelude.{◌≡◌, ◌<◌, Some, length};
 ghost use Rattle.dh_tree.specs.Meets.{access as meets_access};
 ghost use Rattle.dh_plan.specs.SeenPlans.{meets_seen};
 ghost use Rattle.dh_bind.specs.Costs.{memory_at};
-ghost use Rattle.dh_bind.specs.Standings.{ChargesRow, Walks, alls, ones};
+ghost use Rattle.dh_bind.specs.Standings.{ChargesRow, Walks};
+ghost use Rattle.dh_plan.specs.SeenPlans.{alls, ones};
 
 use crate::walker::{Stop, Walker};
 use dh_plan::Meets;
@@ -70,7 +71,7 @@ fn walk_one(walker: &mut Walker, alloc: Global, parts: &[Meets]) -> Result<(), S
 
 /// Walks a tree.
 #[cycle(walk)]
-#[tactic(auto, using(crate::proofs::SeenMeets::meets_are))]
+#[tactic(auto, using(dh_plan::proofs::SeenMeets::meets_are))]
 pub fn walk(walker: &mut Walker, alloc: Global, tree: &Meets) -> Result<(), Stop>
     ensures { Walks (meets_seen tree.now) walker.old walker.new result }
 {

@@ -1,3 +1,4 @@
+pub mod SeenMeets
 pub mod ValuesAlike
 pub mod BlocksSolved
 pub mod Appends

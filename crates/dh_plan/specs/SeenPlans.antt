@@ -25,6 +25,15 @@ unfoldable mutual
   one_seen end_of-Meets = meets.nothing
   one_seen (more_of-Meets p rest) = meets.one (meets_seen p) (one_seen rest)
 
+-- parts of which any two may meet, and parts of which no two ever meet, in order
+abbrev pub alls : List Meets → meets.Meets
+alls [] = meets.nothing
+alls (t ∷ ts) = meets.all (meets_seen t) (alls ts)
+
+abbrev pub ones : List Meets → meets.Meets
+ones [] = meets.nothing
+ones (t ∷ ts) = meets.one (meets_seen t) (ones ts)
+
 unfoldable mutual
   pub node_seen : Node → plain.Node
   node_seen (Step block) = plain.block_node block

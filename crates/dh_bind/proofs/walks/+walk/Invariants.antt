@@ -1,5 +1,6 @@
 use Rattle.std.proofs.Common.{drop}
-use Rattle.dh_bind.specs.Standings.{InAll, InOne, alls, ones}
+use Rattle.dh_plan.specs.SeenPlans.{alls, ones}
+use Rattle.dh_bind.specs.Standings.{InAll, InOne}
 use Rattle.dh_bind.proofs.walks.+walk.Given as goal
 
 abbrev pub invariant-walk_all-loop-part : goal.invariant-walk_all-loop-part

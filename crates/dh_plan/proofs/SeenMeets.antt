@@ -1,4 +1,4 @@
--- What is seen of a tree of accesses, form by form, where its parts stand in the code's lists.
+-- What is seen of a tree of accesses, form by form, where its parts stand in the code's lists. Shared by the crates above.
 use Rattle.std.proofs.Common.{◌≡◌, ℕ, refl, ap, ◌∙◌}
 use Rattle.std.specs.Prelude.{Vec}
 use Rattle.std.specs.Global.{Global}
@@ -6,8 +6,7 @@ use Rattle.dh_tree.specs.Meets as meets
 use Rattle.dh_plan.specs.declared.plans.Meets.{Meets}
 use Rattle.dh_plan.specs.declared.plans.Meets.TheVariants.{Access, All, One}
 use Rattle.dh_plan.specs.declared.plans.Meets.TheBlock as block
-use Rattle.dh_plan.specs.SeenPlans.{meets_seen, all_seen, one_seen}
-use Rattle.dh_bind.specs.Standings.{alls, ones}
+use Rattle.dh_plan.specs.SeenPlans.{meets_seen, all_seen, one_seen, alls, ones}
 use mathlib.Core.Former.{Count}
 
 pub access_is : (access : ℕ) → meets_seen (Access access) ≡ meets.access access

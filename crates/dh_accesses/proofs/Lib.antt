@@ -1,0 +1,3 @@
+pub mod CountedParts
+pub mod SameTrees
+pub mod MetParts
