@@ -150,6 +150,7 @@ storing_formed =
       threads = ((tt, tt), tt);
       counters = one_counter;
       counters_kept = ((λ block i guard value e. never_set block i guard 0 value e), tt);
+      flags = tt;
     }
 
 pub storing_sound : IsSound storing_plan

@@ -1,6 +1,6 @@
 -- What a graph of the code stands for: its ways, where a fork shows the ways of the groups that it begins. And what
 -- the pass that makes graphs states of its graph.
-use Rattle.std.specs.Prelude.{◌≡◌, ℕ, ◌<◌, List, [], ◌∷◌, length, slice_get, Option, Some, None}
+use Rattle.std.specs.Prelude.{◌≡◌, ℕ, zero, suc, ◌<◌, List, [], ◌∷◌, length, map, slice_get, Option, Some, None}
 use Rattle.dh_plan.specs.declared.graphs.Decision.{Decision}
 use Rattle.dh_plan.specs.declared.graphs.Decision.TheVariants.{Go, Test', Count', Fork, Rest}
 use Rattle.dh_plan.specs.declared.graphs.State.{State}
@@ -19,13 +19,22 @@ abbrev pub OfFirst : Option Group → (Decision → Type 0) → Type 0
 OfFirst None so = ⊥
 OfFirst (Some g) so = so g.first
 
+-- so many numbers from this one on
+abbrev pub numbers_from : (first count : ℕ) → List ℕ
+numbers_from first zero = []
+numbers_from first (suc n) = first ∷ numbers_from (suc first) n
+
+abbrev pub way_count : AllWays → ℕ
+way_count no_ways = 0
+way_count (way_then w ws) = suc (way_count ws)
+
 unfoldable mutual
-  -- a decision of the code, among these groups, is this way
+  -- a decision of the code, among these groups, is this way; the groups of a fork have one number after the other
   pub IsWay : List Group → Decision → Way → Type 0
   IsWay groups (Go state) (to_state s) = state ≡ s
   IsWay groups (Test' flag at a at' b) (by_flag f w v) = (flag ≡ f) × (IsWay groups a w × IsWay groups b v)
   IsWay groups (Count' counter last at a at' b) (by_count c l w v) = ((counter ≡ c) × (last ≡ l)) × (IsWay groups a w × IsWay groups b v)
-  IsWay groups (Fork forked) (to_fork f ws) = HasFirst f forked.items × AreWays groups forked.items ws
+  IsWay groups (Fork forked) (to_fork f ws) = HasFirst f forked.items × ((forked.items ≡ numbers_from f (way_count ws)) × AreWays groups forked.items ws)
   IsWay groups Rest to_end = Unit {0}
   IsWay groups d w = ⊥
 
@@ -75,9 +84,46 @@ pub record FlowWithin (plan : PlainPlan) (f : Flow) : Type 0 where
   pub states : (i : ℕ) (s : Stop) → slice_get f.states i ≡ Some s → WayWithin (length f.states) (length plan.registers) s.way
   pub joins : (i : ℕ) (w : Way) → slice_get f.joins i ≡ Some (Some w) → WayWithin (length f.states) (length plan.registers) w
 
+-- Groups: each state is of the group whose ways reach it, and the parent of a group is the one whose ways begin it.
+
+-- the groups of states, and the parents of groups
+abbrev pub homes_of : Graph → List ℕ
+homes_of g = map (λ s. s.group) g.states.items
+
+abbrev pub parents_of : Graph → List (Option ℕ)
+parents_of g = map (λ h. h.parent) g.groups.items
+
+abbrev mutual
+  -- a way of this group leads to states of the group, and begins groups whose parent it is
+  pub StaysInGroup : (homes : List ℕ) → (parents : List (Option ℕ)) → (group : ℕ) → Way → Type 0
+  StaysInGroup homes parents group (to_state state) = slice_get homes state ≡ Some group
+  StaysInGroup homes parents group (by_flag flag w v) = StaysInGroup homes parents group w × StaysInGroup homes parents group v
+  StaysInGroup homes parents group (by_count counter last w v) = StaysInGroup homes parents group w × StaysInGroup homes parents group v
+  StaysInGroup homes parents group (to_fork fork ws) = BeginsGroups homes parents group fork ws
+  StaysInGroup homes parents group to_end = Unit {0}
+
+  -- each thread stays in the group of its own number
+  pub BeginsGroups : (homes : List ℕ) → (parents : List (Option ℕ)) → (parent group : ℕ) → AllWays → Type 0
+  BeginsGroups homes parents parent group no_ways = Unit {0}
+  BeginsGroups homes parents parent group (way_then w ws) =
+      (slice_get parents group ≡ Some (Some parent)) × (StaysInGroup homes parents group w × BeginsGroups homes parents parent (suc group) ws)
+
+-- of a graph of the code, and what it stands for
+pub record GroupsFit (g : Graph) (f : Flow) : Type 0 where
+  -- the program's own group has no parent
+  pub own : slice_get (parents_of g) 0 ≡ Some None
+  pub first : StaysInGroup (homes_of g) (parents_of g) 0 f.first
+  pub states : (i home : ℕ) (s : Stop) → slice_get (homes_of g) i ≡ Some home → slice_get f.states i ≡ Some s
+      → (home < length g.groups.items) × StaysInGroup (homes_of g) (parents_of g) home s.way
+  -- where a fork goes on its parent does
+  pub joins : (i : ℕ) (w : Way) → slice_get f.joins i ≡ Some (Some w)
+      → (parent : ℕ) × ((slice_get (parents_of g) i ≡ Some (Some parent)) × StaysInGroup (homes_of g) (parents_of g) parent w)
+  pub parents : (i parent : ℕ) → slice_get (parents_of g) i ≡ Some (Some parent) → parent < length g.groups.items
+
 -- What the pass that makes graphs states of its graph: it does the phases of the plan.
 pub record IsGraphOf (plan : PlainPlan) (g : Graph) : Type 0 where
   pub flow : Flow
   pub shows : IsFlowOf g flow
   pub within : FlowWithin plan flow
+  pub groups : GroupsFit g flow
   pub does : FlowsAs flow plan

@@ -137,6 +137,23 @@ abbrev mutual
   list_blocks no_lists = []
   list_blocks (list_then ns lists) = blocks_of ns ++ list_blocks lists
 
+abbrev mutual
+  -- the flags of nodes, in order
+  pub flags_of : Nodes → List ℕ
+  flags_of no_nodes = []
+  flags_of (node_then n ns) = node_flags n ++ flags_of ns
+
+  pub node_flags : Node → List ℕ
+  node_flags (block_node block) = []
+  node_flags (turns_node counter turns body) = flags_of body
+  node_flags (loop_node test flag body) = flag ∷ flags_of body
+  node_flags (choice_node test flag chosen other) = flag ∷ (flags_of chosen ++ flags_of other)
+  node_flags (threads_node lists) = list_flags lists
+
+  pub list_flags : NodeLists → List ℕ
+  list_flags no_lists = []
+  list_flags (list_then ns lists) = flags_of ns ++ list_flags lists
+
 -- it is one of these
 abbrev pub IsOneOf : (n : ℕ) → List ℕ → Type 0
 IsOneOf n [] = ⊥
@@ -176,6 +193,10 @@ pub record AreCounters (plan : PlainPlan) (cs : List Counting) : Type 0 where
   pub wide : AllByRecursion (CountsTurns plan) cs
   pub apart : (i j : ℕ) (c d : Counting) → slice_get cs i ≡ Some c → slice_get cs j ≡ Some d → c.counter ≡ d.counter → i ≡ j
 
+-- a flag is a register that holds true or false
+abbrev pub IsFlag : PlainPlan → (flag : ℕ) → Type 0
+IsFlag plan flag = Names plan.registers flag × (kind_at plan.registers flag ≡ kind.Bool)
+
 -- no operation sets this register
 abbrev pub IsNeverSet : PlainPlan → (register : ℕ) → Type 0
 IsNeverSet plan register =
@@ -197,6 +218,7 @@ pub record IsFormed (plan : PlainPlan) : Type 0 where
   pub threads : ThreadsMeet plan plan.body
   pub counters : AreCounters plan (countings plan.body)
   pub counters_kept : AllByRecursion (KeepsCounter plan) (countings plan.body)
+  pub flags : AllByRecursion (IsFlag plan) (flags_of plan.body)
 
 -- What is of its steps.
 

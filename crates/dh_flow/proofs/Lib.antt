@@ -1,0 +1,17 @@
+pub mod NodeForms
+pub mod ToldForms
+pub mod PlacedLists
+pub mod MarksLeft
+pub mod TellsWays
+pub mod WalksMade
+pub mod WalksTurned
+pub mod WalksSeen
+pub mod WaysDo
+pub mod PlanFlows
+pub mod PartsThere
+pub mod WaysStay
+pub mod WaysShown
+pub mod MarksCover
+pub mod GraphShown
+pub mod GraphMade
+pub mod GraphStarted
