@@ -1,0 +1,5 @@
+use Rattle.dh_cells.proofs.SuitingRegisters.{suit_as}
+use Rattle.dh_cells.proofs.circuits.Circuit.into_parts.Goals as goal
+
+pub returns-clause-suit : goal.returns-clause-suit
+returns-clause-suit c = suit_as _ _ c.self.view_is c.self.invariant

@@ -1,0 +1,4 @@
+pub mod PlainCircuits
+pub mod Settled
+pub mod ShownValues
+pub mod FirstTests
