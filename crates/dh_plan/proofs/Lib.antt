@@ -15,3 +15,9 @@ pub mod LeastLengths
 pub mod Composed
 pub mod StoringSound
 pub mod StoringTree
+pub mod FittingValues
+pub mod FittingEffects
+pub mod StepsAlone
+pub mod TurnsKept
+pub mod StandingPlaces
+pub mod SteppingRuns

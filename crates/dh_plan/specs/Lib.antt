@@ -18,6 +18,7 @@ pub mod PlanSizes
 pub mod PlayedPlans
 pub mod Passes
 pub mod BlockLaws
+pub mod SoundRuns
 pub mod ExamplePlans
 pub mod ScheduleLaws
 pub mod ExamplePrograms

@@ -12,6 +12,7 @@ ghost use Rattle.dh_plan.specs.PassesCompose.{PassesCompose};
 ghost use Rattle.dh_plan.specs.PlainPlans.{PlainPlan};
 ghost use Rattle.dh_plan.specs.PlayedPlans.{PlansPlayPrograms};
 ghost use Rattle.dh_plan.specs.ScheduleLaws.{LeastIsLegal, HasLeastLengths};
+ghost use Rattle.dh_plan.specs.SoundRuns.{BlockValuesFit, PlanValuesFit, BlocksStepAlone, RunsMakeSteps};
 
 /// Where each operation of a block takes earlier values, its values are the one solution of its equations, whatever
 /// reads show by values before them; in a plan they show what is in memories.
@@ -36,6 +37,20 @@ pub fn pieces_come_in_order()
 /// A plan that does the phases of a program one for one runs as the program, from whatever memories.
 pub fn phases_make_runs()
     ensures { (c : CoreProgram) (plan : PlainPlan) (slots : Slots) → PhasesMakeRuns c plan slots }
+{}
+
+/// Each value of a well-formed block is of the kind of its operation and fits it, where registers fit, and what
+/// reads show; in a plan where memories fit.
+pub fn block_values_fit()
+    ensures values { BlockValuesFit }
+    ensures plan { PlanValuesFit }
+{}
+
+/// From memories that fit, a well-formed plan keeps the kinds of its registers and memories, and each step of its run
+/// is one of its steps, with the loops round it in turns of their own. Each block of such a step is one by itself.
+pub fn runs_make_steps()
+    ensures runs { RunsMakeSteps }
+    ensures alone { BlocksStepAlone }
 {}
 
 /// The schedule that puts each operation where all is there that it takes is legal without limits; and the least
