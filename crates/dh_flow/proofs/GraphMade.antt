@@ -7,13 +7,13 @@ use Rattle.dh_plan.specs.PlanRuns.{over}
 use Rattle.dh_plan.specs.SeenGraphs.{IsGraphOf}
 use Rattle.dh_plan.specs.SoundPlans.{IsFormed}
 use Rattle.dh_plan.specs.Ways.{to_end}
-use Rattle.dh_flow.specs.declared.measuring.Extent.{Extent}
-use Rattle.dh_flow.specs.declared.measuring.Mark.{Mark}
-use Rattle.dh_flow.specs.Extents.{states_in, groups_in}
+use Rattle.dh_flow.specs.declared.measuring.Footprint.{Footprint}
+use Rattle.dh_flow.specs.declared.measuring.NodeMark.{NodeMark}
+use Rattle.dh_flow.specs.Footprints.{states_in, groups_in}
 use Rattle.dh_flow.specs.Measured.{Measures}
 use Rattle.dh_flow.specs.PlainFlows.{states, groups, own_group, plan_states, plan_groups, way_in}
 use Rattle.dh_flow.specs.ToldWays.{Told, told, told_rest, told_entry, told_group, states_told, groups_told, group_told, placed_told, forked_told}
-use Rattle.dh_flow.specs.Walked.{states_at, groups_at, Room, Starts, Walks}
+use Rattle.dh_flow.specs.GraphWalks.{states_at, groups_at, Room, Starts, Walks}
 use Rattle.dh_flow.proofs.GraphShown.{graph_is}
 use Rattle.dh_flow.proofs.MarksCover.{marks_cover}
 use Rattle.dh_flow.proofs.TellsWays.{tells_in}
@@ -30,16 +30,16 @@ no_states g e = ap (λ l. length l) e
 one_group : (g : Graph) (t : Told) → groups_told g.groups.items ≡ told_group None t None ∷ [] → groups_at g ≡ 1
 one_group g t e = sym (length-map g.groups.items group_told) ∙ ap (λ l. length l) e
 
-made : (plan : PlainPlan) (marks rest : List Mark) (e : Extent) (g h : Graph) → IsFormed plan → length marks < 2 ^ 63 → Measures plan.body [] marks e → Starts e.entry g → Walks plan.body 0 told_rest marks rest g h → IsGraphOf plan h
+made : (plan : PlainPlan) (marks rest : List NodeMark) (e : Footprint) (g h : Graph) → IsFormed plan → length marks < 2 ^ 63 → Measures plan.body [] marks e → Starts e.entry g → Walks plan.body 0 told_rest marks rest g h → IsGraphOf plan h
 made plan marks rest e g h formed short measured starts walks =
     let ns = plan.body in
-    let cover : states_in ns + groups_in ns ≤ length marks = subst (λ (l : List Mark). states_in ns + groups_in ns ≤ length l) (sym measured.marks) (marks_cover ns) in
+    let cover : states_in ns + groups_in ns ≤ length marks = subst (λ (l : List NodeMark). states_in ns + groups_in ns ≤ length l) (sym measured.marks) (marks_cover ns) in
     let a = no_states g starts.states in
     let b = one_group g (told_entry e.entry 0 1 told_rest) starts.groups in
     let room : Room g (states_in ns) (groups_in ns) = (states_room (states_at g) (states_in ns) (groups_in ns) (length marks) (2 ^ 63) a cover short, groups_room (groups_at g) (states_in ns) (groups_in ns) (length marks) (2 ^ 63) b cover short) in
     let walked = walks.so [] to_end over measured.marks refl room in
     let first : told_entry e.entry 0 1 told_rest ≡ told (way_in ns 0 1 to_end) =
-    ap (λ (x : Extent). told_entry x.entry 0 1 told_rest) measured.extents ∙ sym (tells_in ns 0 1 to_end (subst (λ (n : ℕ). n + groups_in ns < 2 ^ 64) b room.1)) in
+    ap (λ (x : Footprint). told_entry x.entry 0 1 told_rest) measured.footprints ∙ sym (tells_in ns 0 1 to_end (subst (λ (n : ℕ). n + groups_in ns < 2 ^ 64) b room.1)) in
     let states_are : states_told h.states.items ≡ map placed_told (plan_states ns) =
     walked.grows.states ∙ (ap (λ l. states_told l ++ map placed_told (states ns (states_at g) (groups_at g) 0 to_end over)) starts.states
     ∙ (ap (λ x. map placed_told (states ns x (groups_at g) 0 to_end over)) a ∙ ap (λ x. map placed_told (states ns 0 x 0 to_end over)) b)) in
@@ -48,7 +48,7 @@ made plan marks rest e g h formed short measured starts walks =
     ∙ (ap (λ x. forked_told (own_group ns) ∷ map forked_told (groups ns x (groups_at g) 0 to_end over)) a ∙ ap (λ x. forked_told (own_group ns) ∷ map forked_told (groups ns 0 x 0 to_end over)) b)) in
     graph_is plan h formed states_are groups_are
 
-pub graph_made : (plan : PlainPlan) (ns : Nodes) (none marks rest : List Mark) (e : Extent) (g h : Graph) (t : Told) → IsFormed plan → ns ≡ plan.body → none ≡ [] → t ≡ told_rest → length marks < 2 ^ 63
+pub graph_made : (plan : PlainPlan) (ns : Nodes) (none marks rest : List NodeMark) (e : Footprint) (g h : Graph) (t : Told) → IsFormed plan → ns ≡ plan.body → none ≡ [] → t ≡ told_rest → length marks < 2 ^ 63
     → Measures ns none marks e → Starts e.entry g → Walks ns 0 t marks rest g h → IsGraphOf plan h
 graph_made plan ns none marks rest e g h t formed is empty way short measured starts walks =
     made plan marks rest e g h formed short

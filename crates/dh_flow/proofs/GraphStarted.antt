@@ -7,7 +7,7 @@ use Rattle.dh_plan.specs.declared.graphs.Group.{Group}
 use Rattle.dh_plan.specs.declared.graphs.State as code
 use Rattle.dh_flow.specs.declared.measuring.Entry.{Entry}
 use Rattle.dh_flow.specs.ToldWays.{Told, decision_told, told_rest, told_entry, told_group, groups_told}
-use Rattle.dh_flow.specs.Walked.{Starts}
+use Rattle.dh_flow.specs.GraphWalks.{Starts}
 
 abbrev own_alone : Decision → Group
 own_alone d = record { parent = None; first = d; after = None }

@@ -5,23 +5,23 @@ use Rattle.std.proofs.lemmas.List.{length-append}
 use Rattle.dh_plan.specs.PlainPlans.{Node, block_node, turns_node, loop_node, choice_node, threads_node, Nodes, no_nodes, node_then, NodeLists, no_lists, list_then}
 use Rattle.dh_flow.specs.declared.measuring.Entry.{Entry}
 use Rattle.dh_flow.specs.declared.measuring.Entry.TheVariants.{Nothing, State, Threads}
-use Rattle.dh_flow.specs.declared.measuring.Mark.{Mark}
-use Rattle.dh_flow.specs.Extents.{states_in, states_of, list_states, list_count, groups_in, groups_of, list_groups, lists_entry, entry_of, own_groups, extent_of, list_mark, node_mark, told_behind, cut_entry, marks_of, inner_marks, lists_marks}
+use Rattle.dh_flow.specs.declared.measuring.NodeMark.{NodeMark}
+use Rattle.dh_flow.specs.Footprints.{states_in, states_of, list_states, list_count, groups_in, groups_of, list_groups, lists_entry, entry_of, own_groups, footprint_of, list_mark, node_mark, told_behind, cut_entry, marks_of, inner_marks, lists_marks}
 
-joined : (xs inner : List Mark) (m : Mark) (s t g h : ℕ) → t + h ≤ length xs → s + g ≤ length inner + 1 → (s + t) + (g + h) ≤ length (xs ++ (inner ++ m ∷ []))
+joined : (xs inner : List NodeMark) (m : NodeMark) (s t g h : ℕ) → t + h ≤ length xs → s + g ≤ length inner + 1 → (s + t) + (g + h) ≤ length (xs ++ (inner ++ m ∷ []))
 joined xs inner m s t g h rest own =
     let one = length-append xs (inner ++ m ∷ []) in
     let two = length-append inner (m ∷ []) in
     omega (arith, rest, own, one, two)
 
-by_turns : (b : Bool) (xs : List Mark) (s g : ℕ) → s + g ≤ length xs → (if b then 0 else s) + (if b then 0 else g) ≤ length (if b then [] else xs) + 1
+by_turns : (b : Bool) (xs : List NodeMark) (s g : ℕ) → s + g ≤ length xs → (if b then 0 else s) + (if b then 0 else g) ≤ length (if b then [] else xs) + 1
 by_turns true xs s g h = omega arith
 by_turns false xs s g h = omega (arith, h)
 
 more : (s g n : ℕ) → s + g ≤ n → s + 1 + g ≤ n + 1
 more s g n h = omega (arith, h)
 
-two_arms : (xs ys : List Mark) (s t g h : ℕ) → s + g ≤ length xs → t + h ≤ length ys → s + t + 1 + (g + h) ≤ length (ys ++ xs) + 1
+two_arms : (xs ys : List NodeMark) (s t g h : ℕ) → s + g ≤ length xs → t + h ≤ length ys → s + t + 1 + (g + h) ≤ length (ys ++ xs) + 1
 two_arms xs ys s t g h one two =
     let whole = length-append ys xs in
     omega (arith, one, two, whole)
@@ -31,7 +31,7 @@ own_few Nothing s g n l h = omega (arith, h)
 own_few State s g n l h = omega (arith, h)
 own_few (Threads m c) s g n l h = omega (arith, h)
 
-one_list : (xs ys : List Mark) (m : Mark) (s t g h n : ℕ) → t + h + n ≤ length xs → s + g ≤ length ys → (s + t) + (g + h) + (n + 1) ≤ length (xs ++ (ys ++ m ∷ []))
+one_list : (xs ys : List NodeMark) (m : NodeMark) (s t g h n : ℕ) → t + h + n ≤ length xs → s + g ≤ length ys → (s + t) + (g + h) + (n + 1) ≤ length (xs ++ (ys ++ m ∷ []))
 one_list xs ys m s t g h n rest own =
     let one = length-append xs (ys ++ m ∷ []) in
     let two = length-append ys (m ∷ []) in
@@ -54,5 +54,5 @@ mutual
   lists_covered : (lists : NodeLists) → list_states lists + list_groups lists + list_count lists ≤ length (lists_marks lists)
   lists_covered no_lists = omega arith
   lists_covered (list_then ns lists) =
-      one_list (lists_marks lists) (marks_of ns) (told_behind (list_mark (extent_of ns)) (cut_entry (lists_entry lists))) (states_in ns) (list_states lists) (groups_in ns) (list_groups lists) (list_count lists)
+      one_list (lists_marks lists) (marks_of ns) (told_behind (list_mark (footprint_of ns)) (cut_entry (lists_entry lists))) (states_in ns) (list_states lists) (groups_in ns) (list_groups lists) (list_count lists)
       (lists_covered lists) (marks_cover ns)

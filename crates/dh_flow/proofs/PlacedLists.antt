@@ -8,7 +8,7 @@ use Rattle.dh_plan.specs.PlanRuns.{Todo, over, nodes_then, turn_then, again_then
 use Rattle.dh_plan.specs.Ways.{Way, to_state, to_end}
 use Rattle.dh_flow.specs.declared.measuring.Entry.{Entry}
 use Rattle.dh_flow.specs.declared.measuring.Entry.TheVariants.{Nothing, State, Threads}
-use Rattle.dh_flow.specs.Extents.{states_in, states_of, list_states, groups_in, groups_of, list_groups, list_count, own_groups, entry_of, node_entry, lists_entry, entry_or, fork_entry}
+use Rattle.dh_flow.specs.Footprints.{states_in, states_of, list_states, groups_in, groups_of, list_groups, list_count, own_groups, entry_of, node_entry, lists_entry, entry_or, fork_entry}
 use Rattle.dh_flow.specs.PlainFlows.{way_in, turn_way, states, node_placed, list_placed, begun, begun_if, groups, node_forked, list_forked}
 
 pub record Sits {A : Type 0} (xs whole : List A) (a : ℕ) : Type 0 where

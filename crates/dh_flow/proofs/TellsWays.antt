@@ -8,10 +8,10 @@ use Rattle.dh_plan.specs.SeenGraphs.{numbers_from, way_count}
 use Rattle.dh_plan.specs.Ways.{Way, to_end}
 use Rattle.dh_flow.specs.declared.measuring.Entry.{Entry}
 use Rattle.dh_flow.specs.declared.measuring.Entry.TheVariants.{Nothing, State, Threads}
-use Rattle.dh_flow.specs.Extents.{states_in, groups_in, groups_of, list_groups, list_count, entry_of, node_entry, lists_entry, entry_or, own_groups, fork_entry, cut, cut_entry}
+use Rattle.dh_flow.specs.Footprints.{states_in, groups_in, groups_of, list_groups, list_count, entry_of, node_entry, lists_entry, entry_or, own_groups, fork_entry, cut, cut_entry}
 use Rattle.dh_flow.specs.PlainFlows.{way_or, way_in, way_in_node, ways_in}
 use Rattle.dh_flow.specs.ToldWays.{Told, told_fork, told, cut_numbers, told_entry}
-use Rattle.dh_flow.specs.Walked.{cut_sum}
+use Rattle.dh_flow.specs.GraphWalks.{cut_sum}
 use Rattle.dh_flow.proofs.PlacedLists.{Begins}
 
 pub small : (n : ℕ) → n < 2 ^ 64 → min n (2 ^ 64 - 1) ≡ n

@@ -9,10 +9,10 @@ use Rattle.dh_plan.specs.declared.plans.Node as code
 use Rattle.dh_plan.specs.declared.plans.Node.TheVariants as form
 use Rattle.dh_plan.specs.PlainPlans.{Node, choice_node, loop_node, threads_node, turns_node}
 use Rattle.dh_plan.specs.SeenPlans.{node_seen, nodes_seen}
-use Rattle.dh_flow.specs.declared.measuring.Mark.{Mark}
+use Rattle.dh_flow.specs.declared.measuring.NodeMark.{NodeMark}
 use Rattle.dh_flow.specs.Measured.{all_lists_seen}
 use Rattle.dh_flow.specs.ToldWays.{Told, told_go}
-use Rattle.dh_flow.specs.Walked.{states_at, turn_told, loop_told, choice_told, first_told, AddsGroups, Pushes, Walks, WalksNode, WalksLists}
+use Rattle.dh_flow.specs.GraphWalks.{states_at, turn_told, loop_told, choice_told, first_told, AddsGroups, Pushes, Walks, WalksNode, WalksLists}
 use Rattle.dh_flow.proofs.NodeForms.{step_is, turns_is, loop_is, choice_is, threads_is}
 use Rattle.dh_flow.proofs.WalksMade.{walks_step, walks_no_turn, walks_turns, walks_loop, walks_choice, walks_threads}
 
@@ -25,7 +25,7 @@ not_zero n some = by (n == 0) refl
         absurd (some none)
     by false f = f
 
-module _ (node : code.Node) (own : ℕ) (m : Mark) (way : Told) (old new : List Mark) (g h : Graph) where
+module _ (node : code.Node) (own : ℕ) (m : NodeMark) (way : Told) (old new : List NodeMark) (g h : Graph) where
   seen_as : (n : Node) → node_seen node ≡ n → WalksNode n own m way old new g h → WalksNode (node_seen node) own m way old new g h
   seen_as n e walks = subst (λ x. WalksNode x own m way old new g h) (sym e) walks
 
@@ -40,7 +40,7 @@ module _ (node : code.Node) (own : ℕ) (m : Mark) (way : Told) (old new : List 
       seen_as (loop_node test flag (nodes_seen xs)) (ap node_seen is ∙ (loop_is test flag body ∙ ap (λ x. loop_node test flag (nodes_seen x)) (sym same)))
       (walks_loop test flag (nodes_seen xs) own m way d old new g p h d_is pushes (subst (λ t. Walks (nodes_seen xs) own t old new p h) again_is walks))
 
-  pub choice_seen : (test flag : ℕ) (chosen other : Vec code.Node Global) (xs ys : List code.Node) (d : Told) (mid : List Mark) (p q : Graph) → node ≡ form.Choice test flag chosen other → xs ≡ chosen.items → ys ≡ other.items
+  pub choice_seen : (test flag : ℕ) (chosen other : Vec code.Node Global) (xs ys : List code.Node) (d : Told) (mid : List NodeMark) (p q : Graph) → node ≡ form.Choice test flag chosen other → xs ≡ chosen.items → ys ≡ other.items
       → d ≡ choice_told flag m way g → Pushes test own d g p → Walks (nodes_seen xs) own way old mid p q → Walks (nodes_seen ys) own way mid new q h → WalksNode (node_seen node) own m way old new g h
   choice_seen test flag chosen other xs ys d mid p q is xs_is ys_is d_is pushes one two =
       seen_as (choice_node test flag (nodes_seen xs) (nodes_seen ys))
@@ -53,9 +53,9 @@ module _ (node : code.Node) (own : ℕ) (m : Mark) (way : Told) (old new : List 
       seen_as (threads_node (all_lists_seen vs)) (ap node_seen is ∙ (threads_is lists ∙ ap (λ x. threads_node (all_lists_seen x)) (sym same)))
       (walks_threads (all_lists_seen vs) own first m way old new g p h made first_is walks adds)
 
-pub no_turn_seen : (node : code.Node) (own : ℕ) (m : Mark) (way : Told) (old : List Mark) (g : Graph) (counter count : ℕ) (body : Vec code.Node Global) → node ≡ form.Turns counter count body → count ≡ 0 → WalksNode (node_seen node) own m way old old g g
+pub no_turn_seen : (node : code.Node) (own : ℕ) (m : NodeMark) (way : Told) (old : List NodeMark) (g : Graph) (counter count : ℕ) (body : Vec code.Node Global) → node ≡ form.Turns counter count body → count ≡ 0 → WalksNode (node_seen node) own m way old old g g
 no_turn_seen node own m way old g counter count body is none =
     seen_as node own m way old old g g (turns_node counter count (nodes_seen body.items)) (ap node_seen is ∙ turns_is counter count body) (walks_no_turn counter count (nodes_seen body.items) own m way old g none)
 
-pub step_seen : (node : code.Node) (own : ℕ) (m : Mark) (way : Told) (old : List Mark) (g h : Graph) (block : ℕ) → node ≡ form.Step block → Pushes block own way g h → WalksNode (node_seen node) own m way old old g h
+pub step_seen : (node : code.Node) (own : ℕ) (m : NodeMark) (way : Told) (old : List NodeMark) (g h : Graph) (block : ℕ) → node ≡ form.Step block → Pushes block own way g h → WalksNode (node_seen node) own m way old old g h
 step_seen node own m way old g h block is pushes = seen_as node own m way old old g h _ (ap node_seen is ∙ step_is block) (walks_step block own m way old g h pushes)

@@ -12,7 +12,7 @@ use Rattle.dh_plan.specs.PlanRuns.{Todo, over, nodes_then, turn_then, test_then,
 use Rattle.dh_plan.specs.Ways.{Way, to_state, to_end, resolve, resolve_all, places_of, leads_to, block_of_stop, way_of_join}
 use Rattle.dh_flow.specs.declared.measuring.Entry.{Entry}
 use Rattle.dh_flow.specs.declared.measuring.Entry.TheVariants.{Nothing, State, Threads}
-use Rattle.dh_flow.specs.Extents.{states_in, states_of, groups_in, groups_of, list_groups, list_count, entry_of, node_entry, lists_entry, entry_or}
+use Rattle.dh_flow.specs.Footprints.{states_in, states_of, groups_in, groups_of, list_groups, list_count, entry_of, node_entry, lists_entry, entry_or}
 use Rattle.dh_flow.specs.PlainFlows.{way_or, way_in, way_in_node, ways_in, Placed, placed, Forked, forked, loop_way, choice_way, turn_way, states, node_placed, list_placed, begun, begun_if, groups, node_forked, list_forked, stop_of}
 use Rattle.dh_flow.proofs.PlacedLists.{Sits, sits_front, sits_back, sits_tail, sits_first, all_put, states_length, placed_length, groups_length, forked_length, nested_length, none_behind, node_none, Begins, fork_none, fork_begins}
 

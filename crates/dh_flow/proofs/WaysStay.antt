@@ -12,7 +12,7 @@ use Rattle.dh_plan.specs.PlanRuns.{Todo, over, nodes_then, turn_then, test_then,
 use Rattle.dh_plan.specs.Ways.{Way, to_state, by_flag, by_count, to_fork, to_end, AllWays, no_ways, way_then}
 use Rattle.dh_flow.specs.declared.measuring.Entry.{Entry}
 use Rattle.dh_flow.specs.declared.measuring.Entry.TheVariants.{Nothing, State, Threads}
-use Rattle.dh_flow.specs.Extents.{states_in, states_of, list_states, groups_in, groups_of, list_groups, list_count, entry_of, node_entry, lists_entry}
+use Rattle.dh_flow.specs.Footprints.{states_in, states_of, list_states, groups_in, groups_of, list_groups, list_count, entry_of, node_entry, lists_entry}
 use Rattle.dh_flow.specs.PlainFlows.{way_or, way_in, way_in_node, ways_in, Placed, placed, Forked, forked, loop_way, choice_way, turn_way, states, node_placed, list_placed, begun, begun_if, groups, node_forked, list_forked}
 use Rattle.dh_flow.proofs.PartsThere.{PartsAre, NodeParts, ListParts}
 use Rattle.dh_flow.proofs.PlacedLists.{Sits, sits_front, sits_back, sits_tail, sits_first, all_put, states_length, groups_length, nested_length, lists_length, node_none, lists_none, Begins, fork_begins}

@@ -1,5 +1,5 @@
-pub mod Extents
+pub mod Footprints
 pub mod Measured
 pub mod PlainFlows
 pub mod ToldWays
-pub mod Walked
+pub mod GraphWalks

@@ -8,7 +8,7 @@ use Rattle.dh_plan.specs.PlanRuns.{Todo, over, nodes_then, turn_then, test_then,
 use Rattle.dh_plan.specs.Ways.{Way, to_state, by_flag, by_count, to_fork, to_end, AllWays, no_ways, way_then, Stop, Flow}
 use Rattle.dh_flow.specs.declared.measuring.Entry.{Entry}
 use Rattle.dh_flow.specs.declared.measuring.Entry.TheVariants.{Nothing, State, Threads}
-use Rattle.dh_flow.specs.Extents.{states_in, states_of, groups_in, groups_of, list_groups, node_entry, lists_entry}
+use Rattle.dh_flow.specs.Footprints.{states_in, states_of, groups_in, groups_of, list_groups, node_entry, lists_entry}
 
 -- where nodes begin, or another way where they do no block
 abbrev pub way_or : Entry → (begins past : Way) → Way

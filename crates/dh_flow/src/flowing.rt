@@ -4,17 +4,17 @@ ghost use Rattle.std.specs.Prelude.{IfOk};
 ghost use Rattle.dh_plan.specs.SeenGraphs.{IsGraphOf};
 ghost use Rattle.dh_plan.specs.SeenPlans.{plan_seen};
 ghost use Rattle.dh_plan.specs.SoundPlans.{IsFormed};
-ghost use Rattle.dh_flow.specs.Walked.{Starts};
+ghost use Rattle.dh_flow.specs.GraphWalks.{Starts};
 
 use crate::deciding::way_into;
-use crate::measuring::{Extent, measure};
+use crate::measuring::{Footprint, measure};
 use crate::walking::walk;
 use dh_base::NoMemory;
 use dh_plan::{Decision, Graph, Group, Plan};
 use std::alloc::Global;
 
 /// A graph without states, with the group of the program alone, which begins as nodes that take so much.
-fn start(alloc: Global, whole: Extent) -> Result<Graph, NoMemory>
+fn start(alloc: Global, whole: Footprint) -> Result<Graph, NoMemory>
     ensures { IfOk result (λ g. Starts whole.entry g) }
 {
     let first = way_into(alloc, whole.entry, 0, 1, &Decision::Rest)?;

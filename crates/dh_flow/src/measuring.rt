@@ -4,7 +4,7 @@
 ghost use Rattle.std.specs.Prelude.{◌≡◌, IfOk, OnOk, length};
 ghost use Rattle.dh_plan.specs.PlainPlans.{no_nodes};
 ghost use Rattle.dh_flow.specs.declared.measuring.Entry.TheVariants.{Nothing};
-ghost use Rattle.dh_flow.specs.Extents.{cut, extent_of, list_mark, test_mark, entry_or, joined_extent, tested_extent, grouped_extent, forked_extent, arms_mark};
+ghost use Rattle.dh_flow.specs.Footprints.{cut, footprint_of, list_mark, test_mark, entry_or, joined_footprint, tested_footprint, grouped_footprint, forked_footprint, arms_mark};
 ghost use Rattle.dh_flow.specs.Measured.{Leaves, MeasuresAll, MeasuresOne, MeasuresThreads};
 
 use dh_base::NoMemory;
@@ -23,7 +23,7 @@ pub enum Entry {
 
 /// What nodes take of the graph.
 #[derive(Clone, Copy, Debug)]
-pub struct Extent {
+pub struct Footprint {
     /// How many states.
     pub states: u64,
     /// How many groups.
@@ -34,11 +34,11 @@ pub struct Extent {
 
 /// What the second walk is told of a node.
 #[derive(Clone, Copy, Debug)]
-pub struct Mark {
+pub struct NodeMark {
     /// The node.
-    pub own: Extent,
+    pub own: Footprint,
     /// Its body, or its first arm.
-    pub inner: Extent,
+    pub inner: Footprint,
     /// How its second arm begins.
     pub other: Entry,
     /// How the nodes behind it begin.
@@ -46,10 +46,10 @@ pub struct Mark {
 }
 
 /// What no node takes.
-pub fn blank() -> Extent
-    ensures { result ≡ extent_of no_nodes }
+pub fn blank() -> Footprint
+    ensures { result ≡ footprint_of no_nodes }
 {
-    Extent {
+    Footprint {
         states: 0,
         groups: 0,
         entry: Entry::Nothing,
@@ -57,10 +57,10 @@ pub fn blank() -> Extent
 }
 
 /// The mark of nodes without parts of their own.
-pub fn plain_mark(own: Extent) -> Mark
+pub fn plain_mark(own: Footprint) -> NodeMark
     ensures { result ≡ list_mark own }
 {
-    Mark {
+    NodeMark {
         own,
         inner: blank(),
         other: Entry::Nothing,
@@ -80,10 +80,10 @@ fn first_of(first: Entry, second: Entry) -> Entry
 }
 
 /// What nodes take that stand one behind the other.
-fn joined(first: Extent, second: Extent) -> Extent
-    ensures { result ≡ joined_extent first second }
+fn joined(first: Footprint, second: Footprint) -> Footprint
+    ensures { result ≡ joined_footprint first second }
 {
-    Extent {
+    Footprint {
         states: first.states.saturating_add(second.states),
         groups: first.groups.saturating_add(second.groups),
         entry: first_of(first.entry, second.entry),
@@ -91,10 +91,10 @@ fn joined(first: Extent, second: Extent) -> Extent
 }
 
 /// What a test and what comes behind it take.
-fn tested(inside: Extent) -> Extent
-    ensures { result ≡ tested_extent inside }
+fn tested(inside: Footprint) -> Footprint
+    ensures { result ≡ tested_footprint inside }
 {
-    Extent {
+    Footprint {
         states: inside.states.saturating_add(1),
         groups: inside.groups,
         entry: Entry::State,
@@ -102,8 +102,8 @@ fn tested(inside: Extent) -> Extent
 }
 
 /// What so many threads take: their groups are there where one of them does a block.
-fn forked(lists: Extent, count: u64) -> Extent
-    ensures { result ≡ forked_extent lists count }
+fn forked(lists: Footprint, count: u64) -> Footprint
+    ensures { result ≡ forked_footprint lists count }
 {
     match lists.entry {
         Entry::Nothing => lists,
@@ -113,10 +113,10 @@ fn forked(lists: Extent, count: u64) -> Extent
 }
 
 /// What threads take whose groups are there.
-fn with_groups(lists: Extent, count: u64) -> Extent
-    ensures { result ≡ grouped_extent lists count }
+fn with_groups(lists: Footprint, count: u64) -> Footprint
+    ensures { result ≡ grouped_footprint lists count }
 {
-    Extent {
+    Footprint {
         states: lists.states,
         groups: lists.groups.saturating_add(count),
         entry: Entry::Threads {
@@ -134,11 +134,15 @@ fn list_number(lists: &[Vec<Node>]) -> u64
 }
 
 /// Leaves the mark of a node in front of nodes that take so much. Gives what all of them take.
-fn leave(mark: Mark, behind: Extent, marks: &mut Vec<Mark>) -> Result<Extent, NoMemory>
+fn leave(
+    mark: NodeMark,
+    behind: Footprint,
+    marks: &mut Vec<NodeMark>,
+) -> Result<Footprint, NoMemory>
     ensures mark { OnOk result (Leaves mark behind.entry marks.old marks.new) }
-    ensures whole { IfOk result (λ e. e ≡ joined_extent mark.own behind) }
+    ensures whole { IfOk result (λ e. e ≡ joined_footprint mark.own behind) }
 {
-    marks.push(Mark {
+    marks.push(NodeMark {
         own: mark.own,
         inner: mark.inner,
         other: mark.other,
@@ -149,7 +153,7 @@ fn leave(mark: Mark, behind: Extent, marks: &mut Vec<Mark>) -> Result<Extent, No
 
 /// Measures nodes in order.
 #[cycle(measure)]
-pub fn measure(nodes: &[Node], marks: &mut Vec<Mark>) -> Result<Extent, NoMemory>
+pub fn measure(nodes: &[Node], marks: &mut Vec<NodeMark>) -> Result<Footprint, NoMemory>
     ensures { IfOk result (MeasuresAll nodes.now marks.old marks.new) }
 {
     let mut whole = blank();
@@ -163,7 +167,7 @@ pub fn measure(nodes: &[Node], marks: &mut Vec<Mark>) -> Result<Extent, NoMemory
 /// Measures a node: gives its mark, and leaves those of the nodes inside it.
 #[cycle(measure)]
 #[tactic(auto, using(crate::proofs::NodeForms::nodes_are))]
-fn measure_inside(node: &Node, marks: &mut Vec<Mark>) -> Result<Mark, NoMemory>
+fn measure_inside(node: &Node, marks: &mut Vec<NodeMark>) -> Result<NodeMark, NoMemory>
     ensures { IfOk result (MeasuresOne node.now marks.old marks.new) }
 {
     match node {
@@ -193,10 +197,10 @@ fn measure_inside(node: &Node, marks: &mut Vec<Mark>) -> Result<Mark, NoMemory>
 }
 
 /// The mark of a loop with a test.
-fn loop_mark(body: Extent) -> Mark
-    ensures { result ≡ test_mark (tested_extent body) body Nothing }
+fn loop_mark(body: Footprint) -> NodeMark
+    ensures { result ≡ test_mark (tested_footprint body) body Nothing }
 {
-    Mark {
+    NodeMark {
         own: tested(body),
         inner: body,
         other: Entry::Nothing,
@@ -205,10 +209,10 @@ fn loop_mark(body: Extent) -> Mark
 }
 
 /// The mark of a test before two arms.
-fn choice_mark(then: Extent, other: Extent) -> Mark
+fn choice_mark(then: Footprint, other: Footprint) -> NodeMark
     ensures { result ≡ arms_mark «then» other }
 {
-    Mark {
+    NodeMark {
         own: tested(joined(then, other)),
         inner: then,
         other: other.entry,
@@ -218,18 +222,18 @@ fn choice_mark(then: Extent, other: Extent) -> Mark
 
 /// Measures threads, and leaves a mark of each.
 #[cycle(measure)]
-fn measure_lists(lists: &[Vec<Node>], marks: &mut Vec<Mark>) -> Result<Extent, NoMemory>
+fn measure_lists(lists: &[Vec<Node>], marks: &mut Vec<NodeMark>) -> Result<Footprint, NoMemory>
     ensures { IfOk result (MeasuresThreads lists.now marks.old marks.new) }
 {
     let mut whole = blank();
     for i in (0..lists.len()).rev() {
         let list = lists[i].as_slice();
-        let mut extent = blank();
+        let mut footprint = blank();
         for j in (0..list.len()).rev() {
             let mark = measure_inside(&list[j], marks)?;
-            extent = leave(mark, extent, marks)?;
+            footprint = leave(mark, footprint, marks)?;
         }
-        whole = leave(plain_mark(extent), whole, marks)?;
+        whole = leave(plain_mark(footprint), whole, marks)?;
     }
     Ok(whole)
 }

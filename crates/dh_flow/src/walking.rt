@@ -3,16 +3,16 @@
 
 ghost use Rattle.std.specs.Prelude.{◌≡◌, IfOk, OnOk};
 ghost use Rattle.dh_flow.specs.ToldWays.{decision_told};
-ghost use Rattle.dh_flow.specs.Walked.{states_at, groups_at, first_told, AddsGroups, Forks, IsChoiceWay, IsLoopWay, IsTurnWay, Pushes, TakesUp, WalksAll, WalksIn, WalksOne};
+ghost use Rattle.dh_flow.specs.GraphWalks.{states_at, groups_at, first_told, AddsGroups, Forks, IsChoiceWay, IsLoopWay, IsTurnWay, Pushes, TakesUp, WalksAll, WalksIn, WalksOne};
 
 use crate::deciding::{counts, tests, way_into};
-use crate::measuring::{Entry, Mark, blank, plain_mark};
+use crate::measuring::{Entry, NodeMark, blank, plain_mark};
 use dh_base::NoMemory;
 use dh_plan::{Decision, Graph, Group, Node, State};
 use std::alloc::Global;
 
 /// The next mark, of which there is one for each node and each thread.
-fn take_up(marks: &mut Vec<Mark>) -> Mark
+fn take_up(marks: &mut Vec<NodeMark>) -> NodeMark
     ensures { TakesUp marks.old.items marks.new.items result }
 {
     match marks.pop() {
@@ -70,7 +70,7 @@ fn way_of_turn(
 fn way_of_loop(
     alloc: Global,
     flag: u64,
-    mark: Mark,
+    mark: NodeMark,
     way: Decision,
     graph: &Graph,
 ) -> Result<Decision, NoMemory>
@@ -93,7 +93,7 @@ fn way_of_loop(
 fn way_of_choice(
     alloc: Global,
     flag: u64,
-    mark: Mark,
+    mark: NodeMark,
     way: &Decision,
     graph: &Graph,
 ) -> Result<Decision, NoMemory>
@@ -142,7 +142,7 @@ pub fn walk(
     nodes: &[Node],
     own: u64,
     way: &Decision,
-    marks: &mut Vec<Mark>,
+    marks: &mut Vec<NodeMark>,
     graph: &mut Graph,
 ) -> Result<(), NoMemory>
     ensures { OnOk result (WalksAll nodes.now own way.now marks.old marks.new graph.old graph.new) }
@@ -160,7 +160,7 @@ fn walk_next(
     node: &Node,
     own: u64,
     way: &Decision,
-    marks: &mut Vec<Mark>,
+    marks: &mut Vec<NodeMark>,
     graph: &mut Graph,
 ) -> Result<(), NoMemory>
     ensures { OnOk result (WalksOne node.now own way.now marks.old marks.new graph.old graph.new) }
@@ -178,10 +178,10 @@ fn walk_next(
 fn walk_node(
     alloc: Global,
     node: &Node,
-    mark: Mark,
+    mark: NodeMark,
     own: u64,
     way: Decision,
-    marks: &mut Vec<Mark>,
+    marks: &mut Vec<NodeMark>,
     graph: &mut Graph,
 ) -> Result<(), NoMemory>
     ensures { OnOk result (WalksIn node.now own mark way marks.old marks.new graph.old graph.new) }
@@ -236,7 +236,7 @@ fn walk_lists(
     parent: u64,
     own: u64,
     way: Decision,
-    marks: &mut Vec<Mark>,
+    marks: &mut Vec<NodeMark>,
     graph: &mut Graph,
 ) -> Result<Vec<Group>, NoMemory>
     ensures { IfOk result (Forks lists.now parent own way marks.old marks.new graph.old graph.new) }

@@ -21,5 +21,5 @@ measure_inside-returns-in_ok-all-in-Threads t c =
 
 pub measure_lists-loop-i-preserved : goal.measure_lists-loop-i-preserved
 measure_lists-loop-i-preserved t c =
-    lists_turn c.args.lists.now c.loop-i.i c.loop-j.j c.index-lists-i.result c.as_slice-list.result.now c.args.marks.now.items c.loop-i.marks.items c.loop-j.marks.items c.leave-in-loop-i.new.marks.items c.loop-i.whole c.loop-j.extent c.in_ok-whole.whole c.plain_mark.result
+    lists_turn c.args.lists.now c.loop-i.i c.loop-j.j c.index-lists-i.result c.as_slice-list.result.now c.args.marks.now.items c.loop-i.marks.items c.loop-j.marks.items c.leave-in-loop-i.new.marks.items c.loop-i.whole c.loop-j.footprint c.in_ok-whole.whole c.plain_mark.result
     c.loop-i-test.true c.loop-i.auto.i c.index-lists-i.is c.as_slice-list.ensures.value c.loop-j-test.false c.loop-j.invariant c.plain_mark.ensures c.in_ok-whole.ensures.mark c.in_ok-whole.ensures.whole c.loop-i.invariant

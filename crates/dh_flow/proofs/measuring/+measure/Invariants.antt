@@ -11,4 +11,4 @@ abbrev pub invariant-measure_lists-loop-i : goal.invariant-measure_lists-loop-i
 invariant-measure_lists-loop-i l = MeasuresLists (all_lists_seen (drop l.i l.lists)) l.fn.marks.items l.marks.items l.whole
 
 abbrev pub invariant-measure_lists-loop-j : goal.invariant-measure_lists-loop-j
-invariant-measure_lists-loop-j l = Measures (nodes_seen (drop l.j l.list)) l.initial.marks.items l.marks.items l.extent
+invariant-measure_lists-loop-j l = Measures (nodes_seen (drop l.j l.list)) l.initial.marks.items l.marks.items l.footprint

@@ -2,7 +2,7 @@ use Rattle.std.proofs.Common.{◌-◌, refl, ap, ◌∙◌}
 use Rattle.std.proofs.lemmas.Result.{on_ok_weaker}
 use Rattle.dh_plan.specs.SeenPlans.{node_seen}
 use Rattle.dh_flow.specs.ToldWays.{decision_told, told_go, told_rest}
-use Rattle.dh_flow.specs.Walked.{cut_sum}
+use Rattle.dh_flow.specs.GraphWalks.{cut_sum}
 use Rattle.dh_flow.proofs.ToldForms.{rest_is, go_is}
 use Rattle.dh_flow.proofs.WalksMade.{walks_next}
 use Rattle.dh_flow.proofs.WalksTurned.{nodes_begin, nodes_turn, nodes_end, lists_turn, lists_end, turned_at_rest, told_at_rest, told_there}

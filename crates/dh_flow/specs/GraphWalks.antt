@@ -13,15 +13,15 @@ use Rattle.dh_plan.specs.SeenPlans.{node_seen, nodes_seen}
 use Rattle.dh_plan.specs.Ways.{Way}
 use Rattle.dh_flow.specs.declared.measuring.Entry.{Entry}
 use Rattle.dh_flow.specs.declared.measuring.Entry.TheVariants.{Nothing, State, Threads}
-use Rattle.dh_flow.specs.declared.measuring.Mark.{Mark}
-use Rattle.dh_flow.specs.Extents.{states_in, states_of, list_states, list_count, lists_entry, groups_in, groups_of, list_groups, node_mark, told_behind, marks_of, inner_marks, lists_marks}
+use Rattle.dh_flow.specs.declared.measuring.NodeMark.{NodeMark}
+use Rattle.dh_flow.specs.Footprints.{states_in, states_of, list_states, list_count, lists_entry, groups_in, groups_of, list_groups, node_mark, told_behind, marks_of, inner_marks, lists_marks}
 use Rattle.dh_flow.specs.Measured.{all_lists_seen}
 use Rattle.dh_flow.specs.PlainFlows.{Placed, Forked, way_in, states, node_placed, list_placed, begun, groups, node_forked, list_forked}
 use Rattle.dh_flow.specs.ToldWays.{Told, decision_told, told, told_go, told_test, told_count, told_rest, told_entry, told_state, told_group, states_told, groups_told, placed_told, forked_told}
 
 -- the mark that was left last is taken up
-pub record TakesUp (old new : List Mark) (m : Mark) : Type 0 where
-  pub so : (below : List Mark) (x : Mark) → old ≡ below ++ x ∷ [] → (m ≡ x) × (new ≡ below)
+pub record TakesUp (old new : List NodeMark) (m : NodeMark) : Type 0 where
+  pub so : (below : List NodeMark) (x : NodeMark) → old ≡ below ++ x ∷ [] → (m ≡ x) × (new ≡ below)
 
 abbrev pub states_at : Graph → ℕ
 states_at g = length g.states.items
@@ -45,10 +45,10 @@ cut_sum m n = min (m + n) (2 ^ 64 - 1)
 abbrev pub turn_told : (counter last : ℕ) → Entry → Told → Graph → Told
 turn_told counter last e way g = told_count counter last (told_entry e (states_at g) (groups_at g) told_rest) way
 
-abbrev pub loop_told : (flag : ℕ) → Mark → Told → Graph → Told
+abbrev pub loop_told : (flag : ℕ) → NodeMark → Told → Graph → Told
 loop_told flag m way g = told_test flag (told_entry m.inner.entry (cut_sum (states_at g) 1) (groups_at g) (told_go (states_at g))) way
 
-abbrev pub choice_told : (flag : ℕ) → Mark → Told → Graph → Told
+abbrev pub choice_told : (flag : ℕ) → NodeMark → Told → Graph → Told
 choice_told flag m way g =
     told_test flag (told_entry m.inner.entry (cut_sum (states_at g) 1) (groups_at g) way)
     (told_entry m.other (cut_sum (cut_sum (states_at g) 1) m.inner.states) (cut_sum (groups_at g) m.inner.groups) way)
@@ -57,10 +57,10 @@ choice_told flag m way g =
 abbrev pub IsTurnWay : Decision → (counter last : ℕ) → Entry → Decision → Graph → Type 0
 IsTurnWay d counter last e way g = decision_told d ≡ turn_told counter last e (decision_told way) g
 
-abbrev pub IsLoopWay : Decision → (flag : ℕ) → Mark → Decision → Graph → Type 0
+abbrev pub IsLoopWay : Decision → (flag : ℕ) → NodeMark → Decision → Graph → Type 0
 IsLoopWay d flag m way g = decision_told d ≡ loop_told flag m (decision_told way) g
 
-abbrev pub IsChoiceWay : Decision → (flag : ℕ) → Mark → Decision → Graph → Type 0
+abbrev pub IsChoiceWay : Decision → (flag : ℕ) → NodeMark → Decision → Graph → Type 0
 IsChoiceWay d flag m way g = decision_told d ≡ choice_told flag m (decision_told way) g
 
 -- own groups, where threads begin
@@ -78,24 +78,24 @@ pub record Pushes (block own : ℕ) (way : Told) (old new : Graph) : Type 0 wher
   pub states : states_told new.states.items ≡ states_told old.states.items ++ told_state block own way ∷ []
   pub groups : groups_told new.groups.items ≡ groups_told old.groups.items
 
-pub record Walked (below new : List Mark) (ps : List Placed) (fs : List Forked) (g h : Graph) : Type 0 where
+pub record Walked (below new : List NodeMark) (ps : List Placed) (fs : List Forked) (g h : Graph) : Type 0 where
   pub marks : new ≡ below
   pub grows : Grows ps fs g h
 
-pub record Walks (ns : Nodes) (own : ℕ) (way : Told) (old new : List Mark) (g h : Graph) : Type 0 where
-  pub so : (below : List Mark) (w : Way) (k : Todo) → old ≡ below ++ marks_of ns → way ≡ told w → Room g (states_in ns) (groups_in ns)
+pub record Walks (ns : Nodes) (own : ℕ) (way : Told) (old new : List NodeMark) (g h : Graph) : Type 0 where
+  pub so : (below : List NodeMark) (w : Way) (k : Todo) → old ≡ below ++ marks_of ns → way ≡ told w → Room g (states_in ns) (groups_in ns)
       → Walked below new (states ns (states_at g) (groups_at g) own w k) (groups ns (states_at g) (groups_at g) own w k) g h
 
 -- the first of nodes, behind which comes the way into the rest
-pub record WalksNext (n : Node) (own : ℕ) (way : Told) (old new : List Mark) (g h : Graph) : Type 0 where
-  pub so : (ns : Nodes) (below : List Mark) (w : Way) (k : Todo) → old ≡ below ++ marks_of (node_then n ns) → way ≡ told w → Room g (states_in (node_then n ns)) (groups_in (node_then n ns))
+pub record WalksNext (n : Node) (own : ℕ) (way : Told) (old new : List NodeMark) (g h : Graph) : Type 0 where
+  pub so : (ns : Nodes) (below : List NodeMark) (w : Way) (k : Todo) → old ≡ below ++ marks_of (node_then n ns) → way ≡ told w → Room g (states_in (node_then n ns)) (groups_in (node_then n ns))
       → Walked (below ++ marks_of ns) new
       (node_placed n (states_at g) (groups_at g) own (way_in ns (states_at g + states_of n) (groups_at g + groups_of n) w) (nodes_then ns k))
       (node_forked n (states_at g) (groups_at g) own (way_in ns (states_at g + states_of n) (groups_at g + groups_of n) w) (nodes_then ns k)) g h
 
 -- a node, whose mark was taken up
-pub record WalksNode (n : Node) (own : ℕ) (m : Mark) (way : Told) (old new : List Mark) (g h : Graph) : Type 0 where
-  pub so : (e : Entry) (below : List Mark) (w : Way) (k : Todo) → m ≡ told_behind (node_mark n) e → old ≡ below ++ inner_marks n → way ≡ told w → Room g (states_of n) (groups_of n)
+pub record WalksNode (n : Node) (own : ℕ) (m : NodeMark) (way : Told) (old new : List NodeMark) (g h : Graph) : Type 0 where
+  pub so : (e : Entry) (below : List NodeMark) (w : Way) (k : Todo) → m ≡ told_behind (node_mark n) e → old ≡ below ++ inner_marks n → way ≡ told w → Room g (states_of n) (groups_of n)
       → Walked below new (node_placed n (states_at g) (groups_at g) own w k) (node_forked n (states_at g) (groups_at g) own w k) g h
 
 -- threads that begin have numbers from this one on
@@ -103,8 +103,8 @@ abbrev pub RoomFrom : (own : ℕ) → NodeLists → Type 0
 RoomFrom own lists = (lists_entry lists ≡ Nothing → ⊥) → own + list_count lists < 2 ^ 64
 
 -- threads of this parent: their states and nested groups, and besides their own groups
-pub record WalksLists (lists : NodeLists) (parent own : ℕ) (after : Option Told) (old new : List Mark) (g h : Graph) (made : List Group) : Type 0 where
-  pub so : (below : List Mark) (join : Option Way) (k : Todo) → old ≡ below ++ lists_marks lists → after ≡ option_map told join → Room g (list_states lists) (list_groups lists) → RoomFrom own lists
+pub record WalksLists (lists : NodeLists) (parent own : ℕ) (after : Option Told) (old new : List NodeMark) (g h : Graph) (made : List Group) : Type 0 where
+  pub so : (below : List NodeMark) (join : Option Way) (k : Todo) → old ≡ below ++ lists_marks lists → after ≡ option_map told join → Room g (list_states lists) (list_groups lists) → RoomFrom own lists
       → Walked below new (list_placed lists (states_at g) (groups_at g) own) (list_forked lists (states_at g) (groups_at g) own) g h
       × (groups_told made ≡ map forked_told (begun lists (states_at g) (groups_at g) parent join k))
 
@@ -121,14 +121,14 @@ pub record Starts (e : Entry) (g : Graph) : Type 0 where
 
 -- What functions do, by the nodes and ways of the code.
 
-abbrev pub WalksAll : List code.Node → (group : ℕ) → Decision → (old new : Vec Mark Global) → (g h : Graph) → Type 0
+abbrev pub WalksAll : List code.Node → (group : ℕ) → Decision → (old new : Vec NodeMark Global) → (g h : Graph) → Type 0
 WalksAll nodes group way old new g h = Walks (nodes_seen nodes) group (decision_told way) old.items new.items g h
 
-abbrev pub WalksOne : code.Node → (group : ℕ) → Decision → (old new : Vec Mark Global) → (g h : Graph) → Type 0
+abbrev pub WalksOne : code.Node → (group : ℕ) → Decision → (old new : Vec NodeMark Global) → (g h : Graph) → Type 0
 WalksOne node group way old new g h = WalksNext (node_seen node) group (decision_told way) old.items new.items g h
 
-abbrev pub WalksIn : code.Node → (group : ℕ) → Mark → Decision → (old new : Vec Mark Global) → (g h : Graph) → Type 0
+abbrev pub WalksIn : code.Node → (group : ℕ) → NodeMark → Decision → (old new : Vec NodeMark Global) → (g h : Graph) → Type 0
 WalksIn node group mark way old new g h = WalksNode (node_seen node) group mark (decision_told way) old.items new.items g h
 
-abbrev pub Forks : List (Vec code.Node Global) → (parent first : ℕ) → Decision → (old new : Vec Mark Global) → (g h : Graph) → Vec Group Global → Type 0
+abbrev pub Forks : List (Vec code.Node Global) → (parent first : ℕ) → Decision → (old new : Vec NodeMark Global) → (g h : Graph) → Vec Group Global → Type 0
 Forks lists parent first way old new g h own = WalksLists (all_lists_seen lists) parent first (Some (decision_told way)) old.items new.items g h own.items

@@ -4,8 +4,8 @@ use Rattle.std.specs.Prelude.{ℕ, ◌+◌, ◌-◌, ◌^◌, ◌==◌, if◌the
 use Rattle.dh_plan.specs.PlainPlans.{Node, block_node, turns_node, loop_node, choice_node, threads_node, Nodes, no_nodes, node_then, NodeLists, no_lists, list_then}
 use Rattle.dh_flow.specs.declared.measuring.Entry.{Entry}
 use Rattle.dh_flow.specs.declared.measuring.Entry.TheVariants.{Nothing, State, Threads}
-use Rattle.dh_flow.specs.declared.measuring.Extent.{Extent}
-use Rattle.dh_flow.specs.declared.measuring.Mark.{Mark}
+use Rattle.dh_flow.specs.declared.measuring.Footprint.{Footprint}
+use Rattle.dh_flow.specs.declared.measuring.NodeMark.{NodeMark}
 
 abbrev mutual
   -- how many states nodes take; a loop without turns takes none
@@ -90,75 +90,75 @@ cut_entry Nothing = Nothing
 cut_entry State = State
 cut_entry (Threads nested count) = Threads (cut nested) (cut count)
 
-abbrev pub extent : (states groups : ℕ) → Entry → Extent
-extent states groups entry = record { states = cut states; groups = cut groups; entry = cut_entry entry }
+abbrev pub footprint : (states groups : ℕ) → Entry → Footprint
+footprint states groups entry = record { states = cut states; groups = cut groups; entry = cut_entry entry }
 
-abbrev pub extent_of : Nodes → Extent
-extent_of ns = extent (states_in ns) (groups_in ns) (entry_of ns)
+abbrev pub footprint_of : Nodes → Footprint
+footprint_of ns = footprint (states_in ns) (groups_in ns) (entry_of ns)
 
-abbrev pub node_extent : Node → Extent
-node_extent n = extent (states_of n) (groups_of n) (node_entry n)
+abbrev pub node_footprint : Node → Footprint
+node_footprint n = footprint (states_of n) (groups_of n) (node_entry n)
 
-abbrev pub lists_extent : NodeLists → Extent
-lists_extent lists = extent (list_states lists) (list_groups lists) (lists_entry lists)
+abbrev pub lists_footprint : NodeLists → Footprint
+lists_footprint lists = footprint (list_states lists) (list_groups lists) (lists_entry lists)
 
 -- What functions make of them.
 
-abbrev pub joined_extent : Extent → Extent → Extent
-joined_extent a b =
+abbrev pub joined_footprint : Footprint → Footprint → Footprint
+joined_footprint a b =
     record { states = min (a.states + b.states) (2 ^ 64 - 1); groups = min (a.groups + b.groups) (2 ^ 64 - 1); entry = entry_or a.entry b.entry }
 
-abbrev pub tested_extent : Extent → Extent
-tested_extent a = record { states = min (a.states + 1) (2 ^ 64 - 1); groups = a.groups; entry = State }
+abbrev pub tested_footprint : Footprint → Footprint
+tested_footprint a = record { states = min (a.states + 1) (2 ^ 64 - 1); groups = a.groups; entry = State }
 
-abbrev pub grouped_extent : Extent → (count : ℕ) → Extent
-grouped_extent a count = record { states = a.states; groups = min (a.groups + count) (2 ^ 64 - 1); entry = Threads a.groups count }
+abbrev pub grouped_footprint : Footprint → (count : ℕ) → Footprint
+grouped_footprint a count = record { states = a.states; groups = min (a.groups + count) (2 ^ 64 - 1); entry = Threads a.groups count }
 
-abbrev pub forked_by : Entry → Extent → (count : ℕ) → Extent
+abbrev pub forked_by : Entry → Footprint → (count : ℕ) → Footprint
 forked_by Nothing a count = a
-forked_by State a count = grouped_extent a count
-forked_by (Threads nested threads) a count = grouped_extent a count
+forked_by State a count = grouped_footprint a count
+forked_by (Threads nested threads) a count = grouped_footprint a count
 
-abbrev pub forked_extent : Extent → (count : ℕ) → Extent
-forked_extent a count = forked_by a.entry a count
+abbrev pub forked_footprint : Footprint → (count : ℕ) → Footprint
+forked_footprint a count = forked_by a.entry a count
 
 -- The marks.
 
-abbrev pub test_mark : Extent → Extent → Entry → Mark
+abbrev pub test_mark : Footprint → Footprint → Entry → NodeMark
 test_mark own inner other = record { own = own; inner = inner; other = other; behind = Nothing }
 
 -- of a test before two arms that take so much
-abbrev pub arms_mark : Extent → Extent → Mark
-arms_mark chosen other = test_mark (tested_extent (joined_extent chosen other)) chosen other.entry
+abbrev pub arms_mark : Footprint → Footprint → NodeMark
+arms_mark chosen other = test_mark (tested_footprint (joined_footprint chosen other)) chosen other.entry
 
 -- of nodes without parts of their own
-abbrev pub list_mark : Extent → Mark
-list_mark own = test_mark own (extent_of no_nodes) Nothing
+abbrev pub list_mark : Footprint → NodeMark
+list_mark own = test_mark own (footprint_of no_nodes) Nothing
 
 -- the mark of a node, but for what comes behind it
-abbrev pub node_mark : Node → Mark
-node_mark (block_node block) = list_mark (node_extent (block_node block))
-node_mark (turns_node counter turns body) = list_mark (node_extent (turns_node counter turns body))
-node_mark (loop_node test flag body) = test_mark (node_extent (loop_node test flag body)) (extent_of body) Nothing
-node_mark (choice_node test flag chosen other) = test_mark (node_extent (choice_node test flag chosen other)) (extent_of chosen) (cut_entry (entry_of other))
-node_mark (threads_node lists) = list_mark (node_extent (threads_node lists))
+abbrev pub node_mark : Node → NodeMark
+node_mark (block_node block) = list_mark (node_footprint (block_node block))
+node_mark (turns_node counter turns body) = list_mark (node_footprint (turns_node counter turns body))
+node_mark (loop_node test flag body) = test_mark (node_footprint (loop_node test flag body)) (footprint_of body) Nothing
+node_mark (choice_node test flag chosen other) = test_mark (node_footprint (choice_node test flag chosen other)) (footprint_of chosen) (cut_entry (entry_of other))
+node_mark (threads_node lists) = list_mark (node_footprint (threads_node lists))
 
-abbrev pub told_behind : Mark → Entry → Mark
+abbrev pub told_behind : NodeMark → Entry → NodeMark
 told_behind m e = record { own = m.own; inner = m.inner; other = m.other; behind = e }
 
 abbrev mutual
   -- the marks of nodes, in the order in which they are left: from the last node to the first, each behind those inside
-  pub marks_of : Nodes → List Mark
+  pub marks_of : Nodes → List NodeMark
   marks_of no_nodes = []
   marks_of (node_then n ns) = marks_of ns ++ (inner_marks n ++ told_behind (node_mark n) (cut_entry (entry_of ns)) ∷ [])
 
-  pub inner_marks : Node → List Mark
+  pub inner_marks : Node → List NodeMark
   inner_marks (block_node block) = []
   inner_marks (turns_node counter turns body) = if turns == 0 then [] else marks_of body
   inner_marks (loop_node test flag body) = marks_of body
   inner_marks (choice_node test flag chosen other) = marks_of other ++ marks_of chosen
   inner_marks (threads_node lists) = lists_marks lists
 
-  pub lists_marks : NodeLists → List Mark
+  pub lists_marks : NodeLists → List NodeMark
   lists_marks no_lists = []
-  lists_marks (list_then ns lists) = lists_marks lists ++ (marks_of ns ++ told_behind (list_mark (extent_of ns)) (cut_entry (lists_entry lists)) ∷ [])
+  lists_marks (list_then ns lists) = lists_marks lists ++ (marks_of ns ++ told_behind (list_mark (footprint_of ns)) (cut_entry (lists_entry lists)) ∷ [])
