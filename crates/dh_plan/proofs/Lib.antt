@@ -21,3 +21,4 @@ pub mod StepsAlone
 pub mod TurnsKept
 pub mod StandingPlaces
 pub mod SteppingRuns
+pub mod SameStates

@@ -19,6 +19,7 @@ pub mod PlayedPlans
 pub mod Passes
 pub mod BlockLaws
 pub mod SoundRuns
+pub mod AlikeRuns
 pub mod ExamplePlans
 pub mod ScheduleLaws
 pub mod ExamplePrograms

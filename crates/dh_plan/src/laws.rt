@@ -5,6 +5,7 @@ ghost use Rattle.dh_tree.specs.PlainTrees.{Program};
 ghost use Rattle.dh_meaning.specs.Core.{CoreProgram};
 ghost use Rattle.dh_plan.specs.declared.operations.Operation.{Operation};
 ghost use Rattle.dh_plan.specs.Blocks.{BlockEvent};
+ghost use Rattle.dh_plan.specs.AlikeRuns.{PlansRunAlike};
 ghost use Rattle.dh_plan.specs.BlockLaws.{BlocksHaveOneSolution, MemoriesLookBack, BlocksDoByValues, AppendsKeep, EndsInOrder, PutsInOrder, SetsInOrder};
 ghost use Rattle.dh_plan.specs.Correspondence.{Slots};
 ghost use Rattle.dh_plan.specs.DoneProgram.{PhasesMakeRuns};
@@ -51,6 +52,12 @@ pub fn block_values_fit()
 pub fn runs_make_steps()
     ensures runs { RunsMakeSteps }
     ensures alone { BlocksStepAlone }
+{}
+
+/// Two plans of the same nodes, registers and faults run as one, where in each step of the first their blocks do the
+/// same.
+pub fn plans_run_alike()
+    ensures { PlansRunAlike }
 {}
 
 /// The schedule that puts each operation where all is there that it takes is legal without limits; and the least
