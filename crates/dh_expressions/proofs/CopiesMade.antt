@@ -1,0 +1,462 @@
+-- Copies path by path. A path is led by itself or by an earlier one; so a path that leads is joined by later ones
+-- alone, and the guard of its copy holds where that of one of the paths that it leads does.
+use Rattle.std.proofs.Common.{◌≡◌, ℕ, zero, suc, ◌+◌, ◌-◌, ◌^◌, ◌<◌, ◌≤◌, ◌⊎◌, inl, inr, ⊎_elim, Bool, true, false, List, [], ◌∷◌, Some, None, refl, sym, ap, ◌∙◌, subst, arith, length, drop, add-one, get_or}
+use Rattle.std.specs.Prelude.{◌++◌, ◌==◌, ◌&&◌, ◌||◌, if◌then◌else◌, min, slice_get, slice_index, slice_set, Option}
+use Rattle.std.proofs.lemmas.Bool.{cases_eq, cases_lt}
+use Rattle.std.proofs.lemmas.Bool.Decides.{nat_tests}
+use Rattle.std.proofs.lemmas.List.{length-append}
+use Rattle.std.proofs.Math.Seq.{drop-cons}
+use Rattle.dh_value.specs.declared.operators.Op.TheVariants.{Either}
+use Rattle.dh_value.specs.declared.words.Word.{Word}
+use Rattle.dh_value.specs.Operations.{binary_of, is_true, truth}
+use Rattle.dh_tree.specs.PlainTrees.{TermForm}
+use Rattle.dh_events.specs.Scopes.{IsLow}
+use Rattle.dh_events.specs.Tables.{numbered, with_number}
+use Rattle.dh_expressions.specs.declared.copies.AccessAt.{AccessAt}
+use Rattle.dh_expressions.specs.declared.drafts.Draft.{Draft}
+use Rattle.dh_expressions.specs.declared.scenes.Scene.{Scene}
+use Rattle.dh_expressions.specs.Copying.{AddsCopy, AddsLeader, AddsOther, AreCopies, AreNone, CopiesSoFar, Counts, DoneBy, Forgets, HasScopes, depends_at, IsCopy, JoinsGuards, JoinsLeader, MakesCopiesBy, forgotten, guard_put, leaders_at, with_guard}
+use Rattle.dh_expressions.specs.Drafted.{Begun, Computes, Extends, Fits, Step, holds, shown, tale}
+use Rattle.dh_expressions.specs.Levels.{counted}
+use Rattle.dh_expressions.specs.Numbers.{narrowed}
+use Rattle.dh_expressions.specs.Shown.{guard_of}
+use Rattle.dh_expressions.proofs.ListPlaces.{place_of_more, place_within, set_here, set_long, set_other, some_same, there}
+use Rattle.dh_expressions.proofs.Pushing.{begun_later, extends_again, extends_self, fits_before}
+
+-- Guards.
+
+truth_back : (t : Bool) → is_true (truth t) ≡ t
+truth_back true = refl
+truth_back false = refl
+
+or_on : (a b : Bool) → (a ≡ true) ⊎ (b ≡ true) → (a || b) ≡ true
+or_on true b h = refl
+or_on false b (inl e) = absurd (cc)
+or_on false b (inr e) = e
+
+or_by : (a b : Bool) → (a || b) ≡ true → (a ≡ true) ⊎ (b ≡ true)
+or_by true b e = inl refl
+or_by false b e = inr e
+
+pub either_made : (d e : Draft) (one other n : ℕ) → Computes d e n (λ x. binary_of Either (shown x one) (shown x other)) → JoinsGuards d e (Some one) (Some other) (Some n)
+either_made d e one other n c = record {
+  extends = c.extends;
+  quiet = c.quiet;
+  none = λ e. absurd (cc);
+  on = λ x f b h. same x f b ∙ or_on (is_true (shown x one)) (is_true (shown x other)) h;
+  by = λ x f b h. or_by (is_true (shown x one)) (is_true (shown x other)) (sym (same x f b) ∙ h);
+}
+  where
+    same : (x : Step) → Fits x e → Begun x d → is_true (shown x n) ≡ (is_true (shown x one) || is_true (shown x other))
+    same x f b = ap (λ (w : Word). is_true w) (c.is x f b) ∙ truth_back (is_true (shown x one) || is_true (shown x other))
+
+pub first_always : (d : Draft) (one other : Option ℕ) → one ≡ None → JoinsGuards d d one other None
+first_always d one other e = record {
+  extends = extends_self d;
+  quiet = λ x f b. refl;
+  none = λ h. refl;
+  on = λ x f b h. refl;
+  by = λ x f b h. inl (subst (λ (g : Option ℕ). holds x g) (sym e) refl);
+}
+
+pub second_always : (d : Draft) (one other : Option ℕ) → other ≡ None → JoinsGuards d d one other None
+second_always d one other e = record {
+  extends = extends_self d;
+  quiet = λ x f b. refl;
+  none = λ h. refl;
+  on = λ x f b h. refl;
+  by = λ x f b h. inr (subst (λ (g : Option ℕ). holds x g) (sym e) refl);
+}
+
+abbrev guarded_by : AccessAt → Option ℕ → AccessAt
+guarded_by c g = record { leader = c.leader; bank = c.bank; place = c.place; guard = g }
+
+pub leader_joined : (d e : Draft) (copies changed : List AccessAt) (leader : ℕ) (guard joined : Option ℕ) (c : AccessAt) → slice_get copies leader ≡ Some c
+    → changed ≡ slice_set copies leader (record { leader = c.leader; bank = c.bank; place = c.place; guard = joined })
+    → JoinsGuards d e c.guard guard joined → JoinsLeader d e copies changed leader guard
+leader_joined d e copies changed leader guard joined c at is j = record {
+  extends = j.extends;
+  quiet = j.quiet;
+  joined = joined;
+  changed_is = is ∙ sym (ap (λ o. guard_put o copies leader joined) at);
+  joins = λ k other. subst (λ (a : AccessAt). JoinsGuards d e a.guard guard joined) (some_same c k (sym at ∙ other)) j;
+}
+
+pub leader_past : (d : Draft) (copies : List AccessAt) (leader : ℕ) (guard : Option ℕ) → length copies ≤ leader → JoinsLeader d d copies copies leader guard
+leader_past d copies leader guard past = record {
+  extends = extends_self d;
+  quiet = λ x f b. refl;
+  joined = None;
+  changed_is = by (slice_get copies leader) refl;
+  joins = λ c at. absurd (never (place_within copies leader c at));
+}
+  where
+    never : leader < length copies → ⊥
+    never h = omega (arith, h, past)
+
+    by : (o : Option AccessAt) → slice_get copies leader ≡ o → copies ≡ guard_put o copies leader None
+    by None e = refl
+    by (Some c) e = absurd (never (place_within copies leader c e))
+
+-- with the guard of one changed, each place has what it had, or is that one
+pub guard_place : (copies : List AccessAt) (at k : ℕ) (g : Option ℕ) (z : AccessAt) → slice_get (with_guard copies at g) k ≡ Some z
+    → ((slice_get copies k ≡ Some z) × (k ≡ at → ⊥)) ⊎ ((k ≡ at) × ((c : AccessAt) × ((slice_get copies at ≡ Some c) × (z ≡ record { leader = c.leader; bank = c.bank; place = c.place; guard = g }))))
+guard_place copies at k g z e = by (slice_get copies at) refl e
+  where
+    by : (o : Option AccessAt) → slice_get copies at ≡ o → slice_get (guard_put o copies at g) k ≡ Some z
+        → ((slice_get copies k ≡ Some z) × (k ≡ at → ⊥)) ⊎ ((k ≡ at) × ((c : AccessAt) × ((slice_get copies at ≡ Some c) × (z ≡ record { leader = c.leader; bank = c.bank; place = c.place; guard = g }))))
+    by None there e = inl (e, λ same. absurd (lost (sym (ap (λ n. slice_get copies n) same) ∙ e) there))
+      where
+        lost : slice_get copies at ≡ Some z → slice_get copies at ≡ None → ⊥
+        lost a b = cc
+    by (Some c) found e = ⊎_elim
+        (λ same. inr (same, (c, (found, sym (some_same (guarded_by c g) z (sym (set_here copies at (guarded_by c g) (place_within copies at c found)) ∙ (ap (λ n. slice_get (slice_set copies at (guarded_by c g)) n) (sym same) ∙ e)))))))
+        (λ other. inl (sym (set_other copies at k (guarded_by c g) other) ∙ e, other))
+        (cases_eq k at)
+
+guard_long : (copies : List AccessAt) (at : ℕ) (g : Option ℕ) → length (with_guard copies at g) ≡ length copies
+guard_long copies at g = by (slice_get copies at)
+  where
+    by : (o : Option AccessAt) → length (guard_put o copies at g) ≡ length copies
+    by None = refl
+    by (Some c) = set_long copies at _
+
+-- Numbers of leaders on banks.
+module _ (leader bank : ℕ → ℕ) where
+  pub leaders_few : (own n : ℕ) → leaders_at leader bank own n ≤ n
+  leaders_few own zero = omega arith
+  leaders_few own (suc n) = by ((leader n == n) && (bank n == own)) (leaders_at leader bank own n) (leaders_few own n)
+    where
+      by : (t : Bool) (m : ℕ) → m ≤ n → (if t then suc m else m) ≤ suc n
+      by true m few = omega (arith, few)
+      by false m few = omega (arith, few)
+
+  leaders_some : (own n : ℕ) → (leaders_at leader bank own n ≡ 0) ⊎ ((k : ℕ) × ((k < n) × (bank k ≡ own)))
+  leaders_some own zero = inl refl
+  leaders_some own (suc n) = ⊎_elim (λ same. inr (n, (omega arith, same))) (λ other. further other (leaders_some own n)) (cases_eq (bank n) own)
+    where
+      skip : (a b : Bool) (m : ℕ) → b ≡ false → m ≡ 0 → (if a && b then suc m else m) ≡ 0
+      skip true true m off none = absurd (cc)
+      skip true false m off none = none
+      skip false b m off none = none
+
+      further : (bank n ≡ own → ⊥) → (leaders_at leader bank own n ≡ 0) ⊎ ((k : ℕ) × ((k < n) × (bank k ≡ own)))
+          → (leaders_at leader bank own (suc n) ≡ 0) ⊎ ((k : ℕ) × ((k < suc n) × (bank k ≡ own)))
+      further other (inl none) = inl (skip (leader n == n) (bank n == own) (leaders_at leader bank own n) (differs (bank n) own other) none)
+        where
+          differs : (a b : ℕ) → (a ≡ b → ⊥) → (a == b) ≡ false
+          differs a b apart = grind (arith, nat_tests)
+      further other (inr h) = inr (h.0, (less h.1.0, h.1.1))
+        where
+          less : h.0 < n → h.0 < suc n
+          less l = omega (arith, l)
+
+  -- a leader more
+  counted_more : (f : ℕ → ℕ) (n own b : ℕ) → leader n ≡ n → own ≡ bank n → n < 2 ^ 64 - 1 → ((b : ℕ) → f b ≡ leaders_at leader bank b n)
+      → with_number f own (min (f own + 1) (2 ^ 64 - 1)) b ≡ leaders_at leader bank b (suc n)
+  counted_more f n own b leads is few so = by (own == b) refl
+    where
+      first : (leader n == n) ≡ true
+      first = let e : leader n ≡ n = leads in grind (arith, nat_tests, e)
+
+      both : (p q : Bool) → p ≡ true → q ≡ true → (p && q) ≡ true
+      both true q e h = h
+      both false q e h = absurd (cc)
+
+      by : (t : Bool) → (own == b) ≡ t → (if t then min (f own + 1) (2 ^ 64 - 1) else f b) ≡ leaders_at leader bank b (suc n)
+      by true e =
+          let same : own ≡ b = grind (arith, nat_tests, e) in
+          let small = leaders_few b n in
+          let now : f own ≡ leaders_at leader bank b n = so own ∙ ap (λ m. leaders_at leader bank m n) same in
+          counts (f own) (leaders_at leader bank b n) now small
+          ∙ ap (λ t. if t then suc (leaders_at leader bank b n) else leaders_at leader bank b n) (sym (both (leader n == n) (bank n == b) first (let g : bank n ≡ b = sym is ∙ same in grind (arith, nat_tests, g))))
+        where
+          counts : (m l : ℕ) → m ≡ l → l ≤ n → min (m + 1) (2 ^ 64 - 1) ≡ suc l
+          counts m l same small = omega (arith, same, small, few)
+      by false e = so b ∙ ap (λ t. if t then suc (leaders_at leader bank b n) else leaders_at leader bank b n) (sym (second (leader n == n) (bank n == b) (ap (λ m. m == b) (sym is) ∙ e)))
+        where
+          second : (p q : Bool) → q ≡ false → (p && q) ≡ false
+          second true q e = e
+          second false q e = refl
+
+  -- no leader more
+  counted_still : (n b : ℕ) → (leader n ≡ n → ⊥) → leaders_at leader bank b n ≡ leaders_at leader bank b (suc n)
+  counted_still n b other = ap (λ t. if t && (bank n == b) then suc (leaders_at leader bank b n) else leaders_at leader bank b n) (sym (differs (leader n) n other))
+    where
+      differs : (a b : ℕ) → (a ≡ b → ⊥) → (a == b) ≡ false
+      differs a b apart = grind (arith, nat_tests)
+
+-- Banks that are forgotten.
+pub forgotten_none : (copies : List AccessAt) (f : ℕ → ℕ) (b : ℕ) → (f b ≡ 0) ⊎ ((k : ℕ) × ((c : AccessAt) × ((slice_get copies k ≡ Some c) × (c.bank ≡ b)))) → forgotten copies f b ≡ 0
+forgotten_none [] f b (inl none) = none
+forgotten_none [] f b (inr h) = absurd (lost h.0 h.1.0 h.1.1.0)
+  where
+    lost : (k : ℕ) (c : AccessAt) → slice_get [] k ≡ Some c → ⊥
+    lost k c e = cc
+forgotten_none (d ∷ copies) f b h = forgotten_none copies (with_number f d.bank 0) b (by (d.bank == b) refl h)
+  where
+    by : (t : Bool) → (d.bank == b) ≡ t → (f b ≡ 0) ⊎ ((k : ℕ) × ((c : AccessAt) × ((slice_get (d ∷ copies) k ≡ Some c) × (c.bank ≡ b))))
+        → ((if t then 0 else f b) ≡ 0) ⊎ ((k : ℕ) × ((c : AccessAt) × ((slice_get copies k ≡ Some c) × (c.bank ≡ b))))
+    by true e h = inl refl
+    by false e (inl none) = inl none
+    by false e (inr (zero, (c, (at, same)))) = absurd (apart d.bank b e (ap (λ (a : AccessAt). a.bank) (some_same d c at) ∙ same))
+      where
+        apart : (m n : ℕ) → (m == n) ≡ false → m ≡ n → ⊥
+        apart m n e same = grind (arith, nat_tests, e, same)
+    by false e (inr (suc k, (c, (at, same)))) = inr (k, (c, (at, same)))
+
+pub forgets_more : (copies : List AccessAt) (i : ℕ) (d : AccessAt) (f g whole : ℕ → ℕ) → i < length copies → g ≡ with_number f (get_or copies i d).bank 0
+    → forgotten (drop i copies) f ≡ whole → forgotten (drop (i + 1) copies) g ≡ whole
+forgets_more copies i d f g whole within is e =
+    ap (λ k. forgotten (drop (i + 1) copies) k) is
+    ∙ (sym (ap (λ cs. forgotten cs f) (drop-cons copies i d within ∙ ap (λ (n : ℕ). get_or copies i d ∷ drop n copies) (let s : suc i ≡ i + 1 = omega arith in s))) ∙ e)
+
+-- Flags of loops.
+pub counts_more : (scene : Scene) (n : ℕ) (form : TermForm) (writes : Bool) (counts more : List Bool) (b : Bool) → (HasScopes scene → IsLow n → b ≡ depends_at scene form writes n)
+    → more ≡ counts ++ b ∷ [] → Counts scene n form writes counts → Counts scene (n + 1) form writes more
+counts_more scene n form writes counts more b is added h = record {
+  long = ap length added ∙ (length-append counts _ ∙ ap (λ m. m + 1) h.long);
+  each = λ scopes level within small. ap (λ bs. counted bs level) added ∙ by scopes level small (cases_lt level n) within;
+}
+  where
+    front : (cs : List Bool) (k : ℕ) → k < length cs → get_or (cs ++ b ∷ []) k false ≡ get_or cs k false
+    front [] k within = absurd (none k within)
+      where
+        none : (k : ℕ) → k < 0 → ⊥
+        none k e = omega (arith, e)
+    front (x ∷ cs) zero within = refl
+    front (x ∷ cs) (suc k) within = front cs k (less k (length cs) within)
+      where
+        less : (k l : ℕ) → suc k < suc l → k < l
+        less k l e = omega (arith, e)
+
+    by : HasScopes scene → (level : ℕ) → IsLow level → (level < n) ⊎ (n ≤ level) → level < n + 1 → counted (counts ++ b ∷ []) level ≡ depends_at scene form writes level
+    by scopes level small (inl before) within = front counts level (subst (λ (m : ℕ). level < m) (sym h.long) before) ∙ h.each scopes level before small
+    by scopes level small (inr behind) within =
+        let own : level ≡ n = omega (arith, behind, within) in
+        ap (λ m. get_or (counts ++ b ∷ []) m false) (own ∙ sym h.long)
+        ∙ (last counts ∙ (is scopes (subst (λ (m : ℕ). IsLow m) own small) ∙ ap (λ m. depends_at scene form writes m) (sym own)))
+      where
+        last : (cs : List Bool) → get_or (cs ++ b ∷ []) (length cs) false ≡ b
+        last [] = refl
+        last (x ∷ cs) = last cs
+
+-- Steps of the loop over paths.
+module _ (leader bank : ℕ → ℕ) (guards : List (Option ℕ)) where
+  pub copies_first : (d : Draft) (numbers : List ℕ) → CopiesSoFar d d numbers numbers guards leader bank 0 []
+  copies_first d numbers = record {
+    extends = extends_self d;
+    quiet = λ x f b. refl;
+    long = refl;
+    counts = λ none b. none b;
+    reached = λ k c e. absurd (lost k c e);
+    are = λ none x f b. record { long = refl; each = λ k c e. absurd (lost k c e) };
+  }
+    where
+      lost : (k : ℕ) (c : AccessAt) → slice_get [] k ≡ Some c → ⊥
+      lost k c e = cc
+
+  later : (x : Step) (n first : ℕ) → DoneBy x leader guards n first → DoneBy x leader guards (suc n) first
+  later x n first d = record { path = d.path; within = let w = d.within in omega (arith, w); leads = d.leads; on = d.on }
+
+  -- the path is one of those before, or the last one
+  earlier_or_last : (x : Step) (n first : ℕ) → DoneBy x leader guards (suc n) first → DoneBy x leader guards n first ⊎ ((leader n ≡ first) × holds x (guard_of guards n))
+  earlier_or_last x n first d = ⊎_elim (λ same. inr (ap leader (sym same) ∙ d.leads, subst (λ (p : ℕ). holds x (guard_of guards p)) same d.on))
+      (λ other. inl (record { path = d.path; within = less d.path other d.within; leads = d.leads; on = d.on })) (cases_eq d.path n)
+    where
+      less : (p : ℕ) → (p ≡ n → ⊥) → p < suc n → p < n
+      less p other w = omega (arith, other, w)
+
+  module _ (low : (p : ℕ) → leader p ≤ p) (old d e : Draft) (numbers ms after : List ℕ) (n l b : ℕ) (g : Option ℕ) (copies more : List AccessAt)
+      (is : l ≡ leader n) (at : b ≡ bank n) (guard : g ≡ guard_of guards n) (few : n < 2 ^ 64 - 1) (h : CopiesSoFar old d numbers ms guards leader bank n copies) where
+    abbrev placed : Option ℕ → AccessAt
+    placed o = record { leader = l; bank = b; place = narrowed (slice_index ms b); guard = o }
+
+    place_told : AreNone numbers → narrowed (slice_index ms b) ≡ narrowed (leaders_at leader bank (bank n) n)
+    place_told none = ap narrowed (h.counts none b ∙ ap (λ m. leaders_at leader bank m n) at)
+
+    -- where the path leads itself
+    leads_itself : AddsLeader d e copies more ms after n l b g → CopiesSoFar old e numbers after guards leader bank (suc n) more
+    leads_itself s = record {
+      extends = subst (λ (k : Draft). Extends old k) (sym s.same) h.extends;
+      quiet = subst (λ (k : Draft). (x : Step) → Fits x k → Begun x old → tale x k ≡ tale x old) (sym s.same) h.quiet;
+      long = ap length s.copies_are ∙ (length-append copies _ ∙ (ap (λ m. m + 1) h.long ∙ add-one n));
+      counts = λ none m. ap (λ (f : ℕ → ℕ). f m) s.counts ∙ counted_more leader bank (numbered ms) n b m own at few (λ m. h.counts none m);
+      reached = λ k c there. reaches k c (place_of_more copies (placed g) c k (sym (ap (λ cs. slice_get cs k) s.copies_are) ∙ there));
+      are = λ none x f s0. record {
+        long = ap length s.copies_are ∙ (length-append copies _ ∙ (ap (λ m. m + 1) h.long ∙ add-one n));
+        each = λ k c there. copy_at none x (subst (λ (k : Draft). Fits x k) s.same f) s0 k c (place_of_more copies (placed g) c k (sym (ap (λ cs. slice_get cs k) s.copies_are) ∙ there));
+      };
+    }
+      where
+        own : leader n ≡ n
+        own = sym is ∙ s.own
+
+        reaches : (k : ℕ) (c : AccessAt) → (slice_get copies k ≡ Some c) ⊎ ((k ≡ length copies) × (c ≡ placed g)) → c.bank ≡ bank k
+        reaches k c (inl there) = h.reached k c there
+        reaches k c (inr p) = ap (λ (a : AccessAt). a.bank) p.1 ∙ (at ∙ ap bank (sym (p.0 ∙ h.long)))
+
+        before : (k : ℕ) (c : AccessAt) → slice_get copies k ≡ Some c → leader k ≡ leader n → ⊥
+        before k c there same =
+            let w = place_within copies k c there in
+            let long = h.long in
+            let first = low k in
+            never k (leader k) w long first (same ∙ own)
+          where
+            never : (k j : ℕ) → k < length copies → length copies ≡ n → j ≤ k → j ≡ n → ⊥
+            never k j w long first same = omega (arith, w, long, first, same)
+
+        newest : AreNone numbers → (x : Step) → IsCopy x leader bank guards (suc n) n (placed g)
+        newest none x = record {
+          leader_is = is;
+          bank_is = at;
+          place_is = place_told none;
+          alone = λ other. absurd (other own);
+          on = λ done. by done (earlier_or_last x n (leader n) done);
+          by = λ same on. record { path = n; within = omega arith; leads = own; on = subst (λ (o : Option ℕ). holds x o) guard on };
+        }
+          where
+            by : DoneBy x leader guards (suc n) (leader n) → DoneBy x leader guards n (leader n) ⊎ ((leader n ≡ leader n) × holds x (guard_of guards n)) → holds x g
+            by done (inl d) = absurd (never d.path (leader d.path) d.within (low d.path) (d.leads ∙ own))
+              where
+                never : (p j : ℕ) → p < n → j ≤ p → j ≡ n → ⊥
+                never p j w first same = omega (arith, w, first, same)
+            by done (inr p) = subst (λ (o : Option ℕ). holds x o) (sym guard) p.1
+
+        copy_at : AreNone numbers → (x : Step) → Fits x d → Begun x old → (k : ℕ) (c : AccessAt) → (slice_get copies k ≡ Some c) ⊎ ((k ≡ length copies) × (c ≡ placed g)) → IsCopy x leader bank guards (suc n) k c
+        copy_at none x f s0 k c (inl there) = record {
+          leader_is = kept.leader_is;
+          bank_is = kept.bank_is;
+          place_is = kept.place_is;
+          alone = kept.alone;
+          on = λ done. by (earlier_or_last x n (leader k) done);
+          by = λ same on. later x n k (kept.by same on);
+        }
+          where
+            kept : IsCopy x leader bank guards n k c
+            kept = (h.are none x f s0).each k c there
+
+            by : DoneBy x leader guards n (leader k) ⊎ ((leader n ≡ leader k) × holds x (guard_of guards n)) → holds x c.guard
+            by (inl d) = kept.on d
+            by (inr p) = absurd (before k c there (sym p.0))
+        copy_at none x f s0 k c (inr p) = subst (λ (m : ℕ). IsCopy x leader bank guards (suc n) m c) (sym (p.0 ∙ h.long)) (subst (λ (a : AccessAt). IsCopy x leader bank guards (suc n) n a) (sym p.1) (newest none x))
+
+    -- where an earlier path leads it
+    is_led : AddsOther d e copies more ms after n l b g → CopiesSoFar old e numbers after guards leader bank (suc n) more
+    is_led s = record {
+      extends = extends_again old d e h.extends s.joins.extends;
+      quiet = λ x f s0. s.joins.quiet x f (begun_later old d x h.extends s0) ∙ h.quiet x (fits_before d e x s.joins.extends f) s0;
+      long = long_now;
+      counts = λ none m. ap (λ ns. slice_index ns m) s.counts ∙ (h.counts none m ∙ counted_still leader bank n m other);
+      reached = λ k c there. reaches k c (place_of_more s.changed (placed None) c k (sym (ap (λ cs. slice_get cs k) s.copies_are) ∙ there));
+      are = λ none x f s0. record {
+        long = long_now;
+        each = λ k c there. copy_at none x f s0 k c (place_of_more s.changed (placed None) c k (sym (ap (λ cs. slice_get cs k) s.copies_are) ∙ there));
+      };
+    }
+      where
+        other : leader n ≡ n → ⊥
+        other same = s.other (is ∙ same)
+
+        changed_long : length s.changed ≡ n
+        changed_long = ap length s.joins.changed_is ∙ (guard_long copies l s.joins.joined ∙ h.long)
+
+        long_now : length more ≡ suc n
+        long_now = ap length s.copies_are ∙ (length-append s.changed _ ∙ (ap (λ m. m + 1) changed_long ∙ add-one n))
+
+        place_changed : (k : ℕ) (c : AccessAt) → slice_get s.changed k ≡ Some c
+            → ((slice_get copies k ≡ Some c) × (k ≡ l → ⊥)) ⊎ ((k ≡ l) × ((a : AccessAt) × ((slice_get copies l ≡ Some a) × (c ≡ record { leader = a.leader; bank = a.bank; place = a.place; guard = s.joins.joined }))))
+        place_changed k c there = guard_place copies l k s.joins.joined c (sym (ap (λ cs. slice_get cs k) s.joins.changed_is) ∙ there)
+
+        reaches : (k : ℕ) (c : AccessAt) → (slice_get s.changed k ≡ Some c) ⊎ ((k ≡ length s.changed) × (c ≡ placed None)) → c.bank ≡ bank k
+        reaches k c (inl there) = by (place_changed k c there)
+          where
+            by : ((slice_get copies k ≡ Some c) × (k ≡ l → ⊥)) ⊎ ((k ≡ l) × ((a : AccessAt) × ((slice_get copies l ≡ Some a) × (c ≡ record { leader = a.leader; bank = a.bank; place = a.place; guard = s.joins.joined })))) → c.bank ≡ bank k
+            by (inl p) = h.reached k c p.0
+            by (inr p) = ap (λ (a : AccessAt). a.bank) p.1.1.1 ∙ (h.reached l p.1.0 p.1.1.0 ∙ ap bank (sym p.0))
+        reaches k c (inr p) = ap (λ (a : AccessAt). a.bank) p.1 ∙ (at ∙ ap bank (sym (p.0 ∙ changed_long)))
+
+        newest : AreNone numbers → (x : Step) → IsCopy x leader bank guards (suc n) n (placed None)
+        newest none x = record {
+          leader_is = is;
+          bank_is = at;
+          place_is = place_told none;
+          alone = λ apart. refl;
+          on = λ done. refl;
+          by = λ same on. absurd (other same);
+        }
+
+        stays : AreNone numbers → (x : Step) → Fits x e → Begun x old → (k : ℕ) (c : AccessAt) → slice_get copies k ≡ Some c → (k ≡ l → ⊥) → IsCopy x leader bank guards (suc n) k c
+        stays none x f s0 k c there apart = record {
+          leader_is = kept.leader_is;
+          bank_is = kept.bank_is;
+          place_is = kept.place_is;
+          alone = kept.alone;
+          on = λ done. by (earlier_or_last x n (leader k) done);
+          by = λ same on. later x n k (kept.by same on);
+        }
+          where
+            kept : IsCopy x leader bank guards n k c
+            kept = (h.are none x (fits_before d e x s.joins.extends f) s0).each k c there
+
+            by : DoneBy x leader guards n (leader k) ⊎ ((leader n ≡ leader k) × holds x (guard_of guards n)) → holds x c.guard
+            by (inl d) = kept.on d
+            by (inr p) = subst (λ (o : Option ℕ). holds x o) (sym (kept.alone (λ leads. apart (sym leads ∙ (sym p.0 ∙ sym is))))) refl
+
+        joined : AreNone numbers → (x : Step) → Fits x e → Begun x old → (a : AccessAt) → slice_get copies l ≡ Some a
+            → IsCopy x leader bank guards (suc n) l (record { leader = a.leader; bank = a.bank; place = a.place; guard = s.joins.joined })
+        joined none x f s0 a there = record {
+          leader_is = kept.leader_is;
+          bank_is = kept.bank_is;
+          place_is = kept.place_is;
+          alone = λ apart. j.none (kept.alone apart);
+          on = λ done. by (earlier_or_last x n (leader l) done);
+          by = λ same on. back same (j.by x f sd on);
+        }
+          where
+            sd : Begun x d
+            sd = begun_later old d x h.extends s0
+
+            kept : IsCopy x leader bank guards n l a
+            kept = (h.are none x (fits_before d e x s.joins.extends f) s0).each l a there
+
+            j : JoinsGuards d e a.guard g s.joins.joined
+            j = s.joins.joins a there
+
+            by : DoneBy x leader guards n (leader l) ⊎ ((leader n ≡ leader l) × holds x (guard_of guards n)) → holds x s.joins.joined
+            by (inl d) = j.on x f sd (inl (kept.on d))
+            by (inr p) = j.on x f sd (inr (subst (λ (o : Option ℕ). holds x o) (sym guard) p.1))
+
+            back : leader l ≡ l → holds x a.guard ⊎ holds x g → DoneBy x leader guards (suc n) l
+            back same (inl on) = later x n l (kept.by same on)
+            back same (inr on) = record { path = n; within = omega arith; leads = sym is; on = subst (λ (o : Option ℕ). holds x o) guard on }
+
+        copy_at : AreNone numbers → (x : Step) → Fits x e → Begun x old → (k : ℕ) (c : AccessAt) → (slice_get s.changed k ≡ Some c) ⊎ ((k ≡ length s.changed) × (c ≡ placed None)) → IsCopy x leader bank guards (suc n) k c
+        copy_at none x f s0 k c (inl there) = by (place_changed k c there)
+          where
+            by : ((slice_get copies k ≡ Some c) × (k ≡ l → ⊥)) ⊎ ((k ≡ l) × ((a : AccessAt) × ((slice_get copies l ≡ Some a) × (c ≡ record { leader = a.leader; bank = a.bank; place = a.place; guard = s.joins.joined })))) → IsCopy x leader bank guards (suc n) k c
+            by (inl p) = stays none x f s0 k c p.0 p.1
+            by (inr p) = subst (λ (m : ℕ). IsCopy x leader bank guards (suc n) m c) (sym p.0) (subst (λ (a : AccessAt). IsCopy x leader bank guards (suc n) l a) (sym p.1.1.1) (joined none x f s0 p.1.0 p.1.1.0))
+        copy_at none x f s0 k c (inr p) = subst (λ (m : ℕ). IsCopy x leader bank guards (suc n) m c) (sym (p.0 ∙ changed_long)) (subst (λ (a : AccessAt). IsCopy x leader bank guards (suc n) n a) (sym p.1) (newest none x))
+
+    pub copies_more : AddsCopy d e copies more ms after n l b g → CopiesSoFar old e numbers after guards leader bank (n + 1) more
+    copies_more s = subst (λ (m : ℕ). CopiesSoFar old e numbers after guards leader bank m more) (sym (add-one n)) (by s)
+      where
+        by : AddsCopy d e copies more ms after n l b g → CopiesSoFar old e numbers after guards leader bank (suc n) more
+        by (inl s) = leads_itself s
+        by (inr s) = is_led s
+
+  pub copies_made : (old d : Draft) (numbers ms after : List ℕ) (n : ℕ) (copies : List AccessAt) → n ≡ length guards → CopiesSoFar old d numbers ms guards leader bank n copies
+      → Forgets ms after copies → MakesCopiesBy old d numbers after guards leader bank copies
+  copies_made old d numbers ms after n copies all h gone = record {
+    extends = h.extends;
+    quiet = h.quiet;
+    none = λ none b. ap (λ (f : ℕ → ℕ). f b) gone ∙ forgotten_none copies (numbered ms) b (by b none (leaders_some leader bank b n));
+    are = λ none x f s. subst (λ (m : ℕ). AreCopies x leader bank guards m copies) all (h.are none x f s);
+  }
+    where
+      by : (b : ℕ) → AreNone numbers → (leaders_at leader bank b n ≡ 0) ⊎ ((k : ℕ) × ((k < n) × (bank k ≡ b))) → (numbered ms b ≡ 0) ⊎ ((k : ℕ) × ((c : AccessAt) × ((slice_get copies k ≡ Some c) × (c.bank ≡ b))))
+      by b none (inl nothing) = inl (h.counts none b ∙ nothing)
+      by b none (inr p) =
+          let found = there copies p.0 (subst (λ (m : ℕ). p.0 < m) (sym h.long) p.1.0) in
+          inr (p.0, (found.0, (found.1, h.reached p.0 found.0 found.1 ∙ p.1.1)))

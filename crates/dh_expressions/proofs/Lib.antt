@@ -1,0 +1,12 @@
+pub mod Pushing
+pub mod Evaluating
+pub mod Multiplying
+pub mod CounterWidths
+pub mod IteratorTurns
+pub mod PathLeaders
+pub mod ListPlaces
+pub mod CopiesMade
+pub mod AccessesKept
+pub mod CopiesStand
+pub mod ElementsReached
+pub mod BankSpans

@@ -1,0 +1,144 @@
+-- The copies of an access. `leader` is for each path the first one with its key, `bank` the bank that is reached
+-- there, and `guards` are those of the paths.
+use Rattle.std.specs.Prelude.{◌≡◌, ◌⊎◌, ℕ, zero, suc, ◌+◌, ◌-◌, ◌<◌, ◌^◌, ◌==◌, ◌&&◌, ◌||◌, min, Bool, if◌then◌else◌, List, [], ◌∷◌, ◌++◌, length, slice_get, slice_index, slice_set, Option, Some, None}
+use Rattle.dh_tree.specs.Indices.{form_of}
+use Rattle.dh_tree.specs.PlainTrees.{Term, TermForm}
+use Rattle.dh_tree.specs.Seen.{program_seen}
+use Rattle.dh_meaning.specs.Bindings.{bindings_of}
+use Rattle.dh_meets.specs.Charges.{element_depends}
+use Rattle.dh_events.specs.Accesses.{element_in}
+use Rattle.dh_events.specs.Scopes.{AreScopes, IsLow}
+use Rattle.dh_events.specs.Tables.{numbered, with_number}
+use Rattle.dh_expressions.specs.declared.banks.Span.{Span}
+use Rattle.dh_expressions.specs.declared.copies.AccessAt.{AccessAt}
+use Rattle.dh_expressions.specs.declared.drafts.Draft.{Draft}
+use Rattle.dh_expressions.specs.declared.paths.Level.{Level}
+use Rattle.dh_expressions.specs.declared.scenes.Scene.{Scene}
+use Rattle.dh_expressions.specs.Drafted.{Begun, Extends, Fits, Step, holds, tale}
+use Rattle.dh_expressions.specs.Levels.{counted, leader_number}
+use Rattle.dh_expressions.specs.Numbers.{narrowed}
+use Rattle.dh_expressions.specs.ReachedBanks.{spans_number}
+use Rattle.dh_expressions.specs.Shown.{guard_of}
+
+-- On which loops an access depends.
+
+-- an access depends on the loop of this level; a write on every one
+abbrev pub depends_at : Scene → TermForm → (writes : Bool) → (level : ℕ) → Bool
+depends_at scene form writes level = writes || element_depends (bindings_of (program_seen scene.program.now)) level (element_in form)
+
+-- the scene tells where each variable of its program is declared
+abbrev pub HasScopes : Scene → Type 0
+HasScopes scene = AreScopes (bindings_of (program_seen scene.program.now)) scene.scopes.now
+
+-- flags of so many loops that say so
+pub record Counts (scene : Scene) (levels : ℕ) (form : TermForm) (writes : Bool) (counts : List Bool) : Type 0 where
+  pub long : length counts ≡ levels
+  pub each : HasScopes scene → (level : ℕ) → level < levels → IsLow level → counted counts level ≡ depends_at scene form writes level
+
+abbrev pub leaders_by : List Level → List Bool → (path : ℕ) → ℕ
+leaders_by levels counts path = leader_number levels (counted counts) path
+
+abbrev pub banks_by : List Span → List Level → (own : ℕ) → (path : ℕ) → ℕ
+banks_by spans levels own path = narrowed (spans_number spans levels own path)
+
+-- Copies.
+
+-- how many of the first paths lead and reach a bank
+abbrev pub leaders_at : (leader bank : ℕ → ℕ) → (own n : ℕ) → ℕ
+leaders_at leader bank own zero = 0
+leaders_at leader bank own (suc n) = if (leader n == n) && (bank n == own) then suc (leaders_at leader bank own n) else leaders_at leader bank own n
+
+-- at one of the first paths that a path leads, so many, the guard holds
+pub record DoneBy (x : Step) (leader : ℕ → ℕ) (guards : List (Option ℕ)) (n first : ℕ) : Type 0 where
+  pub path : ℕ
+  pub within : path < n
+  pub leads : leader path ≡ first
+  pub on : holds x (guard_of guards path)
+
+-- The copy at path k, when the first n paths are copied. A leader is done where one of the paths is that it leads;
+-- the others have no guard.
+pub record IsCopy (x : Step) (leader bank : ℕ → ℕ) (guards : List (Option ℕ)) (n k : ℕ) (c : AccessAt) : Type 0 where
+  pub leader_is : c.leader ≡ leader k
+  pub bank_is : c.bank ≡ bank k
+  pub place_is : c.place ≡ narrowed (leaders_at leader bank (bank k) k)
+  pub alone : (leader k ≡ k → ⊥) → c.guard ≡ None
+  pub on : DoneBy x leader guards n (leader k) → holds x c.guard
+  pub by : leader k ≡ k → holds x c.guard → DoneBy x leader guards n k
+
+-- the copies at the first n paths
+pub record AreCopies (x : Step) (leader bank : ℕ → ℕ) (guards : List (Option ℕ)) (n : ℕ) (copies : List AccessAt) : Type 0 where
+  pub long : length copies ≡ n
+  pub each : (k : ℕ) (c : AccessAt) → slice_get copies k ≡ Some c → IsCopy x leader bank guards n k c
+
+-- no bank is counted
+abbrev pub AreNone : List ℕ → Type 0
+AreNone numbers = (b : ℕ) → slice_index numbers b ≡ 0
+
+-- the copies at all paths are made
+pub record MakesCopiesBy (old new : Draft) (numbers after : List ℕ) (guards : List (Option ℕ)) (leader bank : ℕ → ℕ) (copies : List AccessAt) : Type 0 where
+  pub extends : Extends old new
+  pub quiet : (x : Step) → Fits x new → Begun x old → tale x new ≡ tale x old
+  pub none : AreNone numbers → AreNone after
+  pub are : AreNone numbers → (x : Step) → Fits x new → Begun x old → AreCopies x leader bank guards (length guards) copies
+
+-- Inside: one copy after the other.
+
+-- the guard of what is done where one of two is
+pub record JoinsGuards (old new : Draft) (one other joined : Option ℕ) : Type 0 where
+  pub extends : Extends old new
+  pub quiet : (x : Step) → Fits x new → Begun x old → tale x new ≡ tale x old
+  pub none : one ≡ None → joined ≡ None
+  pub on : (x : Step) → Fits x new → Begun x old → holds x one ⊎ holds x other → holds x joined
+  pub by : (x : Step) → Fits x new → Begun x old → holds x joined → holds x one ⊎ holds x other
+
+abbrev pub guard_put : Option AccessAt → List AccessAt → (at : ℕ) → Option ℕ → List AccessAt
+guard_put None copies at guard = copies
+guard_put (Some c) copies at guard = slice_set copies at (record { leader = c.leader; bank = c.bank; place = c.place; guard = guard })
+
+-- the copies with the guard of one changed
+abbrev pub with_guard : List AccessAt → (at : ℕ) → Option ℕ → List AccessAt
+with_guard copies at guard = guard_put (slice_get copies at) copies at guard
+
+-- a further guard joins that of a leader
+pub record JoinsLeader (old new : Draft) (copies changed : List AccessAt) (leader : ℕ) (guard : Option ℕ) : Type 0 where
+  pub extends : Extends old new
+  pub quiet : (x : Step) → Fits x new → Begun x old → tale x new ≡ tale x old
+  pub joined : Option ℕ
+  pub changed_is : changed ≡ with_guard copies leader joined
+  pub joins : (c : AccessAt) → slice_get copies leader ≡ Some c → JoinsGuards old new c.guard guard joined
+
+-- a leader is added, and counted on its bank
+pub record AddsLeader (old new : Draft) (copies more : List AccessAt) (numbers after : List ℕ) (number leader bank : ℕ) (guard : Option ℕ) : Type 0 where
+  pub own : leader ≡ number
+  pub same : new ≡ old
+  pub copies_are : more ≡ copies ++ record { leader = leader; bank = bank; place = narrowed (slice_index numbers bank); guard = guard } ∷ []
+  pub counts : numbered after ≡ with_number (numbered numbers) bank (min (slice_index numbers bank + 1) (2 ^ 64 - 1))
+
+-- another is added, and joins its leader
+pub record AddsOther (old new : Draft) (copies more : List AccessAt) (numbers after : List ℕ) (number leader bank : ℕ) (guard : Option ℕ) : Type 0 where
+  pub other : leader ≡ number → ⊥
+  pub changed : List AccessAt
+  pub joins : JoinsLeader old new copies changed leader guard
+  pub copies_are : more ≡ changed ++ record { leader = leader; bank = bank; place = narrowed (slice_index numbers bank); guard = None } ∷ []
+  pub counts : after ≡ numbers
+
+abbrev pub AddsCopy : (old new : Draft) → (copies more : List AccessAt) → (numbers after : List ℕ) → (number leader bank : ℕ) → (guard : Option ℕ) → Type 0
+AddsCopy old new copies more numbers after number leader bank guard =
+    AddsLeader old new copies more numbers after number leader bank guard ⊎ AddsOther old new copies more numbers after number leader bank guard
+
+-- the numbers when the banks of copies are forgotten
+abbrev pub forgotten : List AccessAt → (ℕ → ℕ) → ℕ → ℕ
+forgotten [] f = f
+forgotten (c ∷ cs) f = forgotten cs (with_number f c.bank 0)
+
+abbrev pub Forgets : (numbers after : List ℕ) → List AccessAt → Type 0
+Forgets numbers after copies = numbered after ≡ forgotten copies (numbered numbers)
+
+-- the copies at the first n paths, with the leaders counted on their banks
+pub record CopiesSoFar (old new : Draft) (numbers after : List ℕ) (guards : List (Option ℕ)) (leader bank : ℕ → ℕ) (n : ℕ) (copies : List AccessAt) : Type 0 where
+  pub extends : Extends old new
+  pub quiet : (x : Step) → Fits x new → Begun x old → tale x new ≡ tale x old
+  pub long : length copies ≡ n
+  pub counts : AreNone numbers → (b : ℕ) → slice_index after b ≡ leaders_at leader bank b n
+  pub reached : (k : ℕ) (c : AccessAt) → slice_get copies k ≡ Some c → c.bank ≡ bank k
+  pub are : AreNone numbers → (x : Step) → Fits x new → Begun x old → AreCopies x leader bank guards n copies

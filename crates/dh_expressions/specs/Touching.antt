@@ -1,0 +1,42 @@
+-- An access gets its operations: its fault is named, and its copies are made.
+use Rattle.std.specs.Prelude.{◌≡◌, ◌⊎◌, ℕ, ◌<◌, ◌^◌, Bool, List, [], length, Option, Some}
+use Rattle.dh_tree.specs.Indices.{form_of}
+use Rattle.dh_tree.specs.PlainTrees.{Term, TermForm}
+use Rattle.dh_expressions.specs.declared.accesses.Accesses.{Accesses}
+use Rattle.dh_expressions.specs.declared.accesses.Touched.{Touched}
+use Rattle.dh_expressions.specs.declared.copies.AccessAt.{AccessAt}
+use Rattle.dh_expressions.specs.declared.drafts.Draft.{Draft}
+use Rattle.dh_expressions.specs.declared.scenes.Around.{Around}
+use Rattle.dh_expressions.specs.declared.scenes.Scene.{Scene}
+use Rattle.dh_expressions.specs.Copying.{AreCopies, AreNone, HasScopes}
+use Rattle.dh_expressions.specs.Drafted.{Begun, Extends, Fits, Step, tale}
+use Rattle.dh_expressions.specs.Noted.{given_in, touched_in}
+use Rattle.dh_expressions.specs.Standings.{IsTouched, Standing, standing_at}
+use Rattle.dh_expressions.specs.Reaching.{place_written}
+
+-- its copies, by where it stands
+pub record MakesCopies (old new : Draft) (scene : Scene) (around : Around) (numbers after : List ℕ) (s : Standing) (copies : List AccessAt) : Type 0 where
+  pub extends : Extends old new
+  pub quiet : (x : Step) → Fits x new → Begun x old → tale x new ≡ tale x old
+  pub none : AreNone numbers → AreNone after
+  pub are : AreNone numbers → HasScopes scene → length around.levels.now < 2 ^ 63 → (x : Step) → Fits x new → Begun x old
+      → AreCopies x s.leader s.bank s.guards (length s.guards) copies
+
+-- an access that has operations had them before, or is this one, of which no read gave anything
+pub record IsNew (old new : Draft) (scene : Scene) (around : Around) (s : Standing) (before : Accesses) (number m : ℕ) (t : Touched) : Type 0 where
+  pub own : m ≡ number
+  pub none : t.given ≡ []
+  pub is : AreNone before.counts.items → HasScopes scene → length around.levels.now < 2 ^ 63 → (x : Step) → Fits x new → Begun x old → IsTouched x s t
+
+pub record TouchesAt (scene : Scene) (around : Around) (s : Standing) (old new : Draft) (before after : Accesses) (number : ℕ) : Type 0 where
+  pub extends : Extends old new
+  pub quiet : (x : Step) → Fits x new → Begun x old → tale x new ≡ tale x old
+  pub long : length after.touched.items ≡ length before.touched.items
+  pub kept : (m : ℕ) (t : Touched) → touched_in before m ≡ Some t → touched_in after m ≡ Some t
+  pub there : number < length before.touched.items → (t : Touched) × (touched_in after number ≡ Some t)
+  pub known : (m : ℕ) (t : Touched) → touched_in after m ≡ Some t → (touched_in before m ≡ Some t) ⊎ IsNew old new scene around s before number m t
+  pub none : AreNone before.counts.items → AreNone after.counts.items
+
+abbrev pub Touches : Scene → Around → (memory : ℕ) → (access : Term) → (writes : Bool) → (old new : Draft) → (before after : Accesses) → (number : ℕ) → Type 0
+Touches scene around memory access writes old new before after number =
+    TouchesAt scene around (standing_at scene around memory (place_written access) (form_of access) writes) old new before after number

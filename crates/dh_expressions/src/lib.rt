@@ -1,0 +1,38 @@
+//! Operations of a plan from expressions, at one path of copies at a time: constants, registers,
+//! operators, and
+//! reads and writes of elements with a probe before each. Copies of a read that have one key are
+//! one read, and so
+//! are equal reads of one block. Takes a typed program, the registers of its variables, and of
+//! each access the
+//! earlier read that it shares; gives operations in one list for all blocks. Stands on `dh_plan`,
+//! `dh_code`,
+//! `dh_events`, `dh_shape` and below. The rule: docs/LANGUAGE.md, "Copies"; after Nigam and
+//! others, PLDI 2020.
+//! Linear in the operations that it makes.
+#![tactic(auto)]
+
+mod accesses;
+mod banks;
+mod copies;
+mod drafts;
+mod elements;
+mod iterators;
+mod kinds;
+mod paths;
+mod scenes;
+mod terms;
+
+pub use accesses::{Accesses, Touched, untouched};
+pub use copies::AccessAt;
+pub use drafts::{
+    Draft, name_fault, push, push_compute, push_constant, push_convert, push_old, push_select,
+    push_set,
+};
+pub use elements::{Aim, push_write};
+pub use iterators::{counter_width, turn_count};
+pub use kinds::{entity_of, extension, is_read, is_same, kind_found, literal, narrow, truth};
+pub use paths::{Level, Paths, copy_at, inside, outside, rank_at};
+pub use scenes::{Around, Lane, Scene, guard_at};
+pub use terms::{
+    Valued, memory_of, push_held, push_indices, push_row, push_shown, push_term, slot_at,
+};

@@ -1,0 +1,284 @@
+//! Operations from expressions, at one path at a time: faults of an earlier path come first.
+
+ghost use Rattle.std.specs.Prelude.{◌≡◌, IfOk, map};
+ghost use Rattle.dh_tree.specs.Seen.{program_seen, term_seen, terms};
+ghost use Rattle.dh_meaning.specs.CoreOf.{entity_number, known_of, memory_of as memory_found};
+ghost use Rattle.dh_expressions.specs.Evaluated.{AimsByIndices, AimsByRow, EvaluatesTerm, ShowsVariable};
+ghost use Rattle.dh_expressions.specs.Drafted.{Gives, shown};
+ghost use Rattle.dh_expressions.specs.Reaching.{ReadsNext};
+ghost use Rattle.dh_expressions.specs.Shown.{applied_shown, converted_shown, extended_shown, held_shown, lowest_bit, register_at, variable_shown};
+
+use crate::accesses::Accesses;
+use crate::drafts::{Draft, push_compute, push_constant, push_convert, push_old};
+use crate::elements::{Aim, push_read};
+use crate::iterators::push_iterator;
+use crate::kinds::{entity_of, extension, is_read, is_same, kind_found, literal, truth};
+use crate::paths::rank_at;
+use crate::scenes::{Lane, Scene};
+use dh_base::{Items, NoMemory};
+use dh_code::{Held, place_of};
+use dh_tree::{Expr, ExprForm, Kind, Ref};
+use dh_value::Op;
+
+/// A value, and the number of the next access behind its expression.
+#[derive(Clone, Copy)]
+pub struct Valued {
+    /// The number of the operation that gives it.
+    pub value: u64,
+    /// The number of the next access.
+    pub next: u32,
+}
+
+/// The number of the memory that a name stands for; every access of a typed program has one.
+pub fn memory_of(scene: &Scene<'_>, of: &Ref) -> usize
+    ensures { result ≡ memory_found (known_of (program_seen scene.now.program.now)) of.now }
+{
+    let Some(entity) = of.entity else {
+        return 0;
+    };
+    match scene.program.memory_number(entity) {
+        Some(number) => number,
+        None => 0,
+    }
+}
+
+/// The register of a variable at a path.
+pub fn slot_at(held: Held, lane: &Lane<'_>) -> u64
+    ensures { result ≡ register_at held lane.now }
+{
+    let rank = rank_at(lane.around.levels, held.depth, lane.number);
+    u64::from(held.first).saturating_add(rank)
+}
+
+/// Adds what the variable of a register holds: the value that it was given in this step, or else
+/// what the register
+/// held as the step began.
+pub fn push_shown(
+    draft: &mut Draft,
+    current: &[Option<u64>],
+    register: u64,
+) -> Result<u64, NoMemory>
+    ensures { IfOk result (λ v. Gives draft.old draft.new v (λ x. variable_shown x current.now
+        register)) }
+{
+    match current.get(register as usize) {
+        Some(given) => match *given {
+            Some(value) => Ok(value),
+            None => push_old(draft, register),
+        },
+        None => push_old(draft, register),
+    }
+}
+
+/// Adds what a variable holds at a path, as a value of a kind.
+pub fn push_variable(
+    scene: &Scene<'_>,
+    lane: &Lane<'_>,
+    current: &[Option<u64>],
+    draft: &mut Draft,
+    of: &Ref,
+    kind: Kind,
+) -> Result<u64, NoMemory>
+    ensures { IfOk result (λ n. ShowsVariable scene.now lane.now current.now draft.old draft.new n
+        (entity_number of.now.entity) kind) }
+{
+    let held = place_of(scene.held, of);
+    match scene.program.counter(entity_of(of)) {
+        Some(counter) => push_iterator(draft, lane, counter, held, kind),
+        None => push_shown(draft, current, slot_at(held, lane)),
+    }
+}
+
+/// Adds a value in an integer kind: nothing is done where it is a word of that kind already.
+pub fn push_converted(draft: &mut Draft, from: &Expr, value: u64, to: Kind) -> Result<u64, NoMemory>
+    ensures { IfOk result (λ v. Gives draft.old draft.new v (λ x. converted_shown (term_seen
+        from.now) to (shown x value))) }
+{
+    if is_same(kind_found(from.kind), to) && !is_read(from) {
+        return Ok(value);
+    }
+    push_convert(draft, value, to)
+}
+
+/// Adds an operand, extended to an integer kind; as it is for Bool.
+pub fn push_extended(draft: &mut Draft, from: &Expr, value: u64, to: Kind) -> Result<u64, NoMemory>
+    ensures { IfOk result (λ v. Gives draft.old draft.new v (λ x. extended_shown (term_seen
+        from.now) to (shown x value))) }
+{
+    match to {
+        Kind::Bool => Ok(value),
+        Kind::Unsigned(_) => push_converted(draft, from, value, to),
+        Kind::Signed(_) => push_converted(draft, from, value, to),
+    }
+}
+
+/// Adds a truth that a memory held, as a word: its lowest bit.
+fn push_lowest_bit(draft: &mut Draft, value: u64) -> Result<u64, NoMemory>
+    ensures { IfOk result (λ v. Gives draft.old draft.new v (λ x. lowest_bit (shown x value))) }
+{
+    let bit = push_convert(draft, value, Kind::Unsigned(1))?;
+    let one = push_constant(draft, literal(Kind::Unsigned(1), false, 1))?;
+    push_compute(draft, Op::Eq, bit, one)
+}
+
+/// Adds a value as a variable or a memory of a kind holds it.
+pub fn push_held(draft: &mut Draft, from: &Expr, value: u64, to: Kind) -> Result<u64, NoMemory>
+    ensures { IfOk result (λ v. Gives draft.old draft.new v (λ x. held_shown (term_seen from.now)
+        to (shown x value))) }
+{
+    match to {
+        Kind::Bool => {
+            if is_read(from) {
+                push_lowest_bit(draft, value)
+            } else {
+                Ok(value)
+            }
+        }
+        Kind::Unsigned(_) => push_converted(draft, from, value, to),
+        Kind::Signed(_) => push_converted(draft, from, value, to),
+    }
+}
+
+/// Adds an operator on the values of two expressions.
+fn push_operation(
+    draft: &mut Draft,
+    op: Op,
+    left: &Expr,
+    right: &Expr,
+    a: u64,
+    b: u64,
+) -> Result<u64, NoMemory>
+    ensures { IfOk result (λ v. Gives draft.old draft.new v (λ x. applied_shown op (term_seen
+        left.now) (term_seen right.now) (shown x a) (shown x b))) }
+{
+    let to = extension(op, kind_found(left.kind), kind_found(right.kind));
+    let x = push_extended(draft, left, a, to)?;
+    let y = push_extended(draft, right, b, to)?;
+    push_compute(draft, op, x, y)
+}
+
+/// Adds the reading of the element that an access of a name aims at, and counts the access.
+fn push_element(
+    scene: &Scene<'_>,
+    lane: &Lane<'_>,
+    accesses: &mut Accesses,
+    draft: &mut Draft,
+    access: &Expr,
+    of: &Ref,
+    aim: &Aim,
+) -> Result<Valued, NoMemory>
+    ensures { IfOk result (λ r. ReadsNext scene.now lane.now draft.old draft.new accesses.old
+        accesses.new (term_seen access.now) of.now aim.now r) }
+{
+    let memory = memory_of(scene, of);
+    let next = aim.number.saturating_add(1);
+    let value = push_read(scene, lane, accesses, draft, access, memory, aim)?;
+    Ok(Valued { value, next })
+}
+
+/// Adds the operations of an expression at a path, whose accesses are numbered from `first` on.
+#[cycle(terms)]
+#[tactic(auto, using(dh_tree::proofs::SeenTerms::terms_are))]
+pub fn push_term(
+    scene: &Scene<'_>,
+    lane: &Lane<'_>,
+    current: &[Option<u64>],
+    accesses: &mut Accesses,
+    draft: &mut Draft,
+    first: u32,
+    value: &Expr,
+) -> Result<Valued, NoMemory>
+    ensures { IfOk result (λ r. EvaluatesTerm scene.now lane.now current.now draft.old draft.new
+        accesses.old accesses.new first (term_seen value.now) r) }
+{
+    let kind = kind_found(value.kind);
+    match &value.form {
+        ExprForm::Number { negative, value } => {
+            let value = push_constant(draft, literal(kind, *negative, *value))?;
+            Ok(Valued { value, next: first })
+        }
+        ExprForm::Truth { value } => {
+            let value = push_constant(draft, truth(*value))?;
+            Ok(Valued { value, next: first })
+        }
+        ExprForm::Variable { of } => {
+            let value = push_variable(scene, lane, current, draft, of, kind)?;
+            Ok(Valued { value, next: first })
+        }
+        ExprForm::Access { of, indices } => {
+            let indices = indices.as_slice();
+            let aim = push_indices(scene, lane, current, accesses, draft, first, indices)?;
+            push_element(scene, lane, accesses, draft, value, of, &aim)
+        }
+        ExprForm::Physical { of, row, .. } => {
+            let aim = push_row(scene, lane, current, accesses, draft, first, row)?;
+            push_element(scene, lane, accesses, draft, value, of, &aim)
+        }
+        ExprForm::Binary { op, left, right } => {
+            let left: &Expr = left;
+            let right: &Expr = right;
+            let a = push_term(scene, lane, current, accesses, draft, first, left)?;
+            let b = push_term(scene, lane, current, accesses, draft, a.next, right)?;
+            let value = push_operation(draft, *op, left, right, a.value, b.value)?;
+            let next = b.next;
+            Ok(Valued { value, next })
+        }
+        ExprForm::Cast { inner, to } => {
+            let inner: &Expr = inner;
+            let a = push_term(scene, lane, current, accesses, draft, first, inner)?;
+            let value = push_converted(draft, inner, a.value, *to)?;
+            let next = a.next;
+            Ok(Valued { value, next })
+        }
+    }
+}
+
+/// Adds the operations of indices at a path, from the left.
+#[cycle(terms)]
+pub fn push_indices(
+    scene: &Scene<'_>,
+    lane: &Lane<'_>,
+    current: &[Option<u64>],
+    accesses: &mut Accesses,
+    draft: &mut Draft,
+    first: u32,
+    indices: &[Expr],
+) -> Result<Aim, NoMemory>
+    ensures { IfOk result (λ aim. AimsByIndices scene.now lane.now current.now draft.old draft.new
+        accesses.old accesses.new first (terms (map term_seen indices.now)) aim) }
+{
+    let mut values = Items::new(scene.alloc);
+    let mut number = first;
+    for index in indices {
+        let valued = push_term(scene, lane, current, accesses, draft, number, index)?;
+        values.push(valued.value)?;
+        number = valued.next;
+    }
+    Ok(Aim {
+        indices: values,
+        row: None,
+        number,
+    })
+}
+
+/// Adds the operations of the row of a bank at a path.
+#[cycle(terms)]
+pub fn push_row(
+    scene: &Scene<'_>,
+    lane: &Lane<'_>,
+    current: &[Option<u64>],
+    accesses: &mut Accesses,
+    draft: &mut Draft,
+    first: u32,
+    row: &Expr,
+) -> Result<Aim, NoMemory>
+    ensures { IfOk result (λ aim. AimsByRow scene.now lane.now current.now draft.old draft.new
+        accesses.old accesses.new first (term_seen row.now) aim) }
+{
+    let valued = push_term(scene, lane, current, accesses, draft, first, row)?;
+    Ok(Aim {
+        indices: Items::new(scene.alloc),
+        row: Some(valued.value),
+        number: valued.next,
+    })
+}
