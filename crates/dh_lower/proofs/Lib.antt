@@ -1,0 +1,11 @@
+pub mod ValuesShown
+pub mod SpotsFollow
+pub mod BoundPortFacts
+pub mod UsersAlone
+pub mod AsksMeant
+pub mod OnePortServed
+pub mod ReadsMade
+pub mod PutsByPlace
+pub mod BanksSpread
+pub mod PortWrites
+pub mod OperationWrites

@@ -1,0 +1,9 @@
+pub mod ShownWords
+pub mod SpotsDone
+pub mod LowerLaws
+pub mod PortUsers
+pub mod NetOfPlan
+pub mod StepFacts
+pub mod KeyedPuts
+pub mod StepPuts
+pub mod ClockLaws

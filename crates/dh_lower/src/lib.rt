@@ -1,0 +1,13 @@
+//! The net of a plan, ahead of its code: what its wires, ports and registers stand for, clock by clock.
+//! Takes a plan, its graph, schedule and binding, and is to give a net that plays the plan. So far it has the laws by
+//! which such a net is told right: wires show the values of blocks as these are there, ports serve their users one at
+//! a time and keep what was read, writes come by ports, and states follow the places of the plan.
+//! Stands on `dh_plan` and `dh_net`. Nothing of the program stands on this crate yet.
+#![tactic(auto)]
+
+mod laws;
+
+pub use laws::{
+    clocks_keep_reads, ports_have_one_user, spots_follow_places, wires_show_values,
+    writes_come_by_ports,
+};
