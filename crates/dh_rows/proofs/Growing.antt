@@ -1,0 +1,129 @@
+-- Operations that come behind others. Readings that obey all obey those in front, so what is known of a value stays
+-- known; and of the operation at the end its own equation says what it gives. All else is put together of these.
+use Rattle.std.proofs.Common.{◌≡◌, ℕ, zero, suc, ◌+◌, ◌<◌, ◌≤◌, ◌⊎◌, inl, inr, true, List, Some, None, refl, sym, ap, ◌∙◌, subst, arith, length}
+use Rattle.std.specs.Prelude.{Option, [], ◌∷◌, ◌++◌, slice_get}
+use Rattle.std.specs.List.{AllByRecursion}
+use Rattle.std.proofs.lemmas.Bool.{cases_lt}
+use Rattle.std.proofs.lemmas.List.{append_assoc, append-nil, length-append}
+use Rattle.std.proofs.lemmas.Option.{slice_get_within}
+use Rattle.dh_value.specs.declared.kinds.Kind.{Kind}
+use Rattle.dh_plan.specs.declared.operations.Operation.{Operation}
+use Rattle.dh_plan.specs.declared.operations.OperationForm.{OperationForm}
+use Rattle.dh_plan.specs.Ordered.{form_takes}
+use Rattle.dh_plan.proofs.Appends.{there_in_front}
+use Rattle.dh_rows.specs.Readings.{Readings, Obeys, HasPlain, IsEarlier, IsAdded, Grows, Adds, IsValue, IsValueOrNone, is_plain, plain_kind, plain_word, PlainSuits}
+use Rattle.dh_rows.specs.MadeOperations.{pushed}
+
+pub grows_self : (os : List Operation) → Grows os os
+grows_self os = record { more = []; appended = sym (append-nil os) }
+
+pub grows_on : (a b c : List Operation) → Grows a b → Grows b c → Grows a c
+grows_on a b c g h = record { more = g.more ++ h.more; appended = h.appended ∙ (ap (λ (os : List Operation). os ++ h.more) g.appended ∙ append_assoc a g.more h.more) }
+
+pub grown_length : (a b : List Operation) → Grows a b → length a ≤ length b
+grown_length a b g = let l : length b ≡ length a + length g.more = ap (λ (os : List Operation). length os) g.appended ∙ length-append a g.more in omega (arith, l)
+
+pub kept_there : (a b : List Operation) → Grows a b → (n : ℕ) (o : Operation) → slice_get a n ≡ Some o → slice_get b n ≡ Some o
+kept_there a b g n o e = subst (λ (os : List Operation). slice_get os n ≡ Some o) (sym g.appended) (there_in_front a g.more n o e)
+
+-- below the end of the first part nothing else stands there
+front_there : (a more : List Operation) (n : ℕ) (o : Operation) → n < length a → slice_get (a ++ more) n ≡ Some o → slice_get a n ≡ Some o
+front_there [] more n o l e = absurd (omega (arith, l))
+front_there (p ∷ a) more zero o l e = e
+front_there (p ∷ a) more (suc n) o l e = front_there a more n o (omega (arith, l)) e
+
+pub was_there : (a b : List Operation) → Grows a b → (n : ℕ) (o : Operation) → n < length a → slice_get b n ≡ Some o → slice_get a n ≡ Some o
+was_there a b g n o l e = front_there a g.more n o l (subst (λ (os : List Operation). slice_get os n ≡ Some o) g.appended e)
+
+at_end : (os : List Operation) (o : Operation) → slice_get (os ++ o ∷ []) (length os) ≡ Some o
+at_end [] o = refl
+at_end (p ∷ os) o = at_end os o
+
+module _ (x : Readings) where
+  pub obeys_before : (a b : List Operation) → Grows a b → Obeys x b → Obeys x a
+  obeys_before a b g h = record {
+    words = λ n f l p. h.words n f l (later n f p);
+    kinds = λ n f l p. h.kinds n f l (later n f p);
+    clocks = λ n bound f l p t. h.clocks n bound f l (later n f p) t;
+  }
+    where
+      later : (n : ℕ) (f : OperationForm) → HasPlain a n f → HasPlain b n f
+      later n f p = record { there = kept_there a b g n _ p.there; plain = p.plain }
+
+  -- the equations of an operation that was just put down
+  module _ (os : List Operation) (f : OperationForm) (plain : is_plain f ≡ true) (begun : x.first ≤ length os) where
+    pub pushed_plain : HasPlain (pushed os None f).operations (length os) f
+    pushed_plain = record { there = at_end os _; plain = plain }
+
+    pub pushed_word : Obeys x (pushed os None f).operations → x.word (length os) ≡ plain_word x.word f
+    pushed_word h = h.words (length os) f begun pushed_plain
+
+    pub pushed_kind : Obeys x (pushed os None f).operations → x.kind (length os) ≡ plain_kind x.kind f
+    pushed_kind h = h.kinds (length os) f begun pushed_plain
+
+pub pushed_grows : (os : List Operation) (guard : Option ℕ) (f : OperationForm) → Grows os (pushed os guard f).operations
+pushed_grows os guard f = record { more = _; appended = refl }
+
+module _ (x : Readings) (clock : ℕ) where
+  pub earlier_later : (own next v : ℕ) → own ≤ next → IsEarlier x clock own v → IsEarlier x clock next v
+  earlier_later own next v l e = record { begun = e.begun; before = let b = e.before in omega (arith, l, b); there = e.there }
+
+  pub value_later : (a b : List Operation) (k : Kind) (v : ℕ) → Grows a b → IsValue x clock a k v → IsValue x clock b k v
+  value_later a b k v g h o =
+      let s = h (obeys_before x a b g o) in
+      record { earlier = earlier_later (length a) (length b) v (grown_length a b g) s.earlier; kind_is = s.kind_is }
+
+  pub maybe_later : (a b : List Operation) (k : Kind) (v : Option ℕ) → Grows a b → IsValueOrNone x clock a k v → IsValueOrNone x clock b k v
+  maybe_later a b k None g h = tt
+  maybe_later a b k (Some v) g h = value_later a b k v g h
+
+  pub adds_self : (os : List Operation) → Adds x clock os os
+  adds_self os = record { grows = grows_self os; each = λ h n o l e. let m = slice_get_within os n o e in absurd (omega (arith, l, m)) }
+
+  pub adds_on : (a b c : List Operation) → Adds x clock a b → Adds x clock b c → Adds x clock a c
+  adds_on a b c g h = record { grows = grows_on a b c g.grows h.grows; each = λ o n p l e. either o n p l e (cases_lt n (length b)) }
+    where
+      either : Obeys x c → (n : ℕ) (p : Operation) → length a ≤ n → slice_get c n ≡ Some p → (n < length b) ⊎ (length b ≤ n) → IsAdded x clock n p
+      either o n p l e (inl m) = g.each (obeys_before x b c h.grows o) n p l (was_there b c h.grows n p m e)
+      either o n p l e (inr m) = h.each o n p m e
+
+  all_there : (own : ℕ) (vs : List ℕ) → AllByRecursion (λ v. IsEarlier x clock own v) vs → AllByRecursion (λ v. x.clock v ≤ clock) vs
+  all_there own [] h = tt
+  all_there own (v ∷ vs) h = (h.0.there, all_there own vs h.1)
+
+  all_later : (own next : ℕ) (vs : List ℕ) → own ≤ next → AllByRecursion (λ v. IsEarlier x clock own v) vs → AllByRecursion (λ v. IsEarlier x clock next v) vs
+  all_later own next [] l h = tt
+  all_later own next (v ∷ vs) l h = (earlier_later own next v l h.0, all_later own next vs l h.1)
+
+  -- One plain operation more, without a guard, of values that are there and suit it.
+  module _ (os : List Operation) (f : OperationForm) (plain : is_plain f ≡ true) (begun : x.first ≤ length os)
+      (takes : Obeys x os → AllByRecursion (λ v. IsEarlier x clock (length os) v) (form_takes f)) (suits : Obeys x os → PlainSuits x.kind f) where
+    pub pushed_adds : Adds x clock os (pushed os None f).operations
+    pushed_adds = record { grows = pushed_grows os None f; each = λ h n o l e. last h n o l e (slice_get_within _ n o e) }
+      where
+        ends : length (pushed os None f).operations ≡ length os + 1
+        ends = length-append os _
+
+        same : (o : Operation) → slice_get (pushed os None f).operations (length os) ≡ Some o → record { guard = None; form = f } ≡ o
+        same o e = let two = sym (at_end os (record { guard = None; form = f })) ∙ e in cc
+
+        last : Obeys x (pushed os None f).operations → (n : ℕ) (o : Operation) → length os ≤ n → slice_get (pushed os None f).operations n ≡ Some o → n < length (pushed os None f).operations
+            → IsAdded x clock n o
+        last h n o l e m =
+            let own : length os ≡ n = (let t = ends in omega (arith, l, m, t)) in
+            subst (λ i. IsAdded x clock i o) own
+            (subst (λ (p : Operation). IsAdded x clock (length os) p) (same o (subst (λ i. slice_get (pushed os None f).operations i ≡ Some o) (sym own) e))
+            (record { guard = refl; plain = plain; takes = takes (obeys_before x os _ (pushed_grows os None f) h); suits = suits (obeys_before x os _ (pushed_grows os None f) h) }))
+
+    pub pushed_value : (k : Kind) → (Obeys x os → plain_kind x.kind f ≡ k) → IsValue x clock (pushed os None f).operations k (length os)
+    pushed_value k kinds h =
+        let o = obeys_before x os _ (pushed_grows os None f) h in
+        let ends : length (pushed os None f).operations ≡ length os + 1 = length-append os _ in
+        record {
+          earlier = record {
+            begun = begun;
+            before = omega (arith, ends);
+            there = h.clocks (length os) clock f begun (pushed_plain x os f plain begun) (all_there (length os) (form_takes f) (takes o));
+          };
+          kind_is = pushed_kind x os f plain begun h ∙ kinds o;
+        }

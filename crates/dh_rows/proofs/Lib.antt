@@ -1,0 +1,13 @@
+pub mod PowersOfTwo
+pub mod TurnsOfBits
+pub mod Growing
+pub mod PutDown
+pub mod BitsOfNumbers
+pub mod PutSpread
+pub mod CountWords
+pub mod DigitNumbers
+pub mod PutBehind
+pub mod CountedSums
+pub mod CountedDivisions
+pub mod CountedRows
+pub mod CountedTests
