@@ -3,22 +3,16 @@
 use crate::texts::{LONGEST, stores};
 use dh_check::{Forms, check_without_ports};
 use dh_phases::{Phase, phases};
-use dh_tree::Typed;
 use std::alloc::Global;
 use std::test::Fail;
 
-/// The program of a text in which these forms may stand.
-fn checked(alloc: Global, text: &str, forms: Forms) -> Result<Typed, Fail> {
+/// The phases of a whole program.
+fn phases_of(alloc: Global, text: &str) -> Result<Vec<Phase>, Fail> {
     let bytes = text.as_bytes();
     if bytes.len() > LONGEST {
         return Err("too long")?;
     }
-    Ok(check_without_ports(alloc, bytes, forms)?)
-}
-
-/// The phases of a whole program.
-fn phases_of(alloc: Global, text: &str) -> Result<Vec<Phase>, Fail> {
-    let typed = checked(alloc, text, Forms::Unchecked)?;
+    let typed = check_without_ports(alloc, bytes, Forms::Unchecked)?;
     let whole = typed.tree().body.id;
     Ok(phases(alloc, &typed, whole)?)
 }
