@@ -1,4 +1,5 @@
 pub mod DimSizes
+pub mod Located
 pub mod RowsRead
 pub mod BanksSpent
 pub mod Entries

@@ -3,7 +3,6 @@ use Rattle.std.proofs.Common.{◌≡◌, ℕ, zero, suc, ◌+◌, ◌<◌, ◌�
 use Rattle.std.specs.Prelude.{Result, slice_set}
 use Rattle.std.proofs.Math.Seq.{drop-cons}
 use Rattle.std.proofs.lemmas.List.{length-set}
-use Rattle.dh_value.specs.declared.words.Word.{Word}
 use Rattle.dh_meaning.specs.Effects.{Event, stop_after}
 use Rattle.dh_code.specs.declared.codes.Operation.{Operation}
 use Rattle.dh_code.specs.declared.evaluating.Scene.{Scene}
@@ -54,13 +53,13 @@ module _ (s : Scene) (slots ranks : List ℕ) (at : ℕ) (os : List Operation) (
         ap (λ n. operation_events (begun_in s) now o ++ events_after (begun_in s) (with_given (begun_in s) now (at + i) o) n (drop (suc i) os)) (sym next)
         ∙ ap (λ l. events_after (begun_in s) now (at + i) l) (sym split)
 
-    pub operates_turn : (w : Word) (given' : List ℕ) (banks' : List Bank) → w ≡ operation_word (begun_in s) now o → given' ≡ slice_set given (at + i) w.bits → length banks' ≡ length banks → StayUsed s.step banks banks'
+    pub operates_turn : (given' : List ℕ) (banks' : List Bank) → given' ≡ slice_set given (at + i) (operation_word (begun_in s) now o).bits → length banks' ≡ length banks → StayUsed s.step banks banks'
         → ((es : List Event) → HaveSpent s.entries.now es s.step banks → HaveSpent s.entries.now (es ++ operation_events (begun_in s) now o) s.step banks')
         → Operates s slots ranks at os first banks_first (suc i) given' banks'
-    operates_turn w given' banks' worth set kept uses spends = record {
+    operates_turn given' banks' sets kept uses spends = record {
       long = kept ∙ h.long;
       used = λ k. uses (h.used k);
-      room = ap (λ l. length l) set ∙ (length-set given (at + i) w.bits ∙ h.room);
+      room = ap (λ l. length l) sets ∙ (length-set given (at + i) (operation_word (begun_in s) now o).bits ∙ h.room);
       seen = ap (λ l. sight_after (begun_in s) (sight slots l ranks) (at + suc i) (drop (suc i) os)) sets ∙ rest_seen;
       spent = λ es k. let g = h.spent es k in (
         g.0 ++ operation_events (begun_in s) now o,
@@ -72,9 +71,6 @@ module _ (s : Scene) (slots ranks : List ℕ) (at : ℕ) (os : List Operation) (
         ),
       );
     }
-      where
-        sets : given' ≡ slice_set given (at + i) (operation_word (begun_in s) now o).bits
-        sets = set ∙ ap (λ (x : Word). slice_set given (at + i) x.bits) worth
 
     pub operates_stop : (A B : Type 0) (x : Stop) (banks' after : List Bank) (result : Result B Stop) → result ≡ Err x → SpendsMore {A = A} s banks (Err x) banks' (operation_events (begun_in s) now o)
         → SpendsMore {A = B} s banks_first result after (events_after (begun_in s) (sight slots first ranks) at os)

@@ -13,8 +13,9 @@ use Rattle.dh_code.specs.declared.evaluating.Stop.{Stop}
 use Rattle.dh_code.specs.declared.running.State.{State}
 use Rattle.dh_code.specs.declared.spending.Bank.{Bank}
 use Rattle.dh_code.specs.Coded.{AreSlotsOf, IsFlat}
+use Rattle.dh_code.specs.Operated.{Sight, operand_word}
 use Rattle.dh_code.specs.Plain.{all_plain}
-use Rattle.dh_code.specs.Scenes.{IsScene, Spends, begun_in, flat_events, flat_word}
+use Rattle.dh_code.specs.Scenes.{IsScene, Spends, begun_in, flat_events, flat_sight, flat_word}
 use Rattle.dh_code.specs.Slots.{Holds, Placing}
 use Rattle.dh_code.specs.Spent.{HaveSpent}
 use Rattle.dh_code.specs.States.{AreRanks, Ends, IsAssigned, IsReady, Keeps, KeepsVariables, SpendsFlat, sight_in}
@@ -30,6 +31,10 @@ module _ (s : Scene) (scene : IsScene s) (p : Placing) (factors ranks : List ℕ
 
   abbrev happens : List Event
   happens = term_events (begun_in s) e.variables path t
+
+  -- the value of an expression's operand behind its operations
+  pub flat_worth : (w : Word) → w ≡ operand_word (sight_in middle ranks) f.value → sight_in middle ranks ≡ flat_sight s (sight_in old ranks) f → w ≡ flat_word s (sight_in old ranks) f
+  flat_worth w same seen = same ∙ ap (λ (x : Sight). operand_word x f.value) seen
 
   pub worth_of : (w : Word) → w ≡ flat_word s (sight_in old ranks) f → w ≡ value
   worth_of w same = same ∙ flat_value s scene p e.variables factors path t f (sight_in old ranks) k.variables at is can ready.room

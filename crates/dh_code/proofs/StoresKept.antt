@@ -1,5 +1,5 @@
 -- What a state keeps behind a store.
-use Rattle.std.proofs.Common.{◌≡◌, ℕ, ◌+◌, ◌-◌, ◌≤◌, List, [], ◌∷◌, ◌++◌, length, Ok, Err, Some, refl, ap, sym, ◌∙◌, subst, arith, append_assoc, append-nil}
+use Rattle.std.proofs.Common.{◌≡◌, ℕ, ◌+◌, ◌-◌, ◌≤◌, List, [], ◌∷◌, ◌++◌, length, Ok, Err, Some, None, refl, ap, sym, ◌∙◌, subst, arith, append_assoc, append-nil}
 use Rattle.std.specs.Prelude.{Result}
 use Rattle.std.proofs.lemmas.List.{length-append}
 use Rattle.dh_base.specs.declared.outcomes.FaultKind.TheVariants.{OutOfRange}
@@ -18,15 +18,16 @@ use Rattle.dh_code.specs.declared.evaluating.Stop.TheVariants as stop
 use Rattle.dh_code.specs.declared.running.State.{State}
 use Rattle.dh_code.specs.declared.running.Write.{Write}
 use Rattle.dh_code.specs.declared.spots.Element.{Element}
+use Rattle.dh_code.specs.declared.spots.Spread.{Spread}
 use Rattle.dh_code.specs.Coded.{IsFlatStore}
 use Rattle.dh_code.specs.Made.{Aimed, Made, target_made, term_made}
 use Rattle.dh_code.specs.Operated.{Sight, access_spot, events_after, operand_word, sight_after}
 use Rattle.dh_code.specs.Plain.{all_plain, plain}
 use Rattle.dh_code.specs.Rows.{spot_seen}
-use Rattle.dh_code.specs.Scenes.{IsScene, Spends, begun_in, flat_events, flat_sight, flat_word}
+use Rattle.dh_code.specs.Scenes.{IsScene, Spends, begun_in, flat_events, flat_sight, flat_word, placed, spread_spot}
 use Rattle.dh_code.specs.Slots.{Holds, Placing}
 use Rattle.dh_code.specs.Spent.{HaveSpent}
-use Rattle.dh_code.specs.States.{AreRanks, Ends, FindsSeen, IsReady, Keeps, KeepsSlots, KeepsVariables, Puts, SpendsFlat, sight_in, writes_in}
+use Rattle.dh_code.specs.States.{AreRanks, Ends, IsReady, Keeps, KeepsSlots, KeepsVariables, Puts, SpendsFlat, sight_in, writes_in}
 use Rattle.dh_code.specs.Suited.{CanEvaluate, IsSuitedTarget, TargetInside}
 use Rattle.dh_code.proofs.BanksSpent.{stop_more}
 use Rattle.dh_code.proofs.FlatMeaning.{none_aimed, none_written, stopped_events, written_append, written_both}
@@ -114,7 +115,10 @@ module _ (s : Scene) (scene : IsScene s) (p : Placing) (factors ranks : List ℕ
       (subst (λ (l : List Event). Spends {A = A} s.entries.now (all_plain e.events ++ l) s.step (Err x) middle.banks.items) events_are (spends (all_plain e.events) k.spent)))
 
   -- what is kept when all is evaluated
-  module _ (word : Word) (same : word ≡ flat_word s w f) (seen : sight_in middle ranks ≡ flat_sight s w f) (kept : KeepsVariables old middle) (spends : SpendsFlat {A = Word} s old (Ok word) middle ranks f) where
+  module _ (word : Word) (given_word : word ≡ operand_word (sight_in middle ranks) f.value) (seen : sight_in middle ranks ≡ flat_sight s w f) (kept : KeepsVariables old middle) (spends : SpendsFlat {A = Word} s old (Ok word) middle ranks f) where
+    same : word ≡ flat_word s w f
+    same = given_word ∙ ap (λ (x : Sight). operand_word x f.value) seen
+
     spent : HaveSpent s.entries.now (all_plain (e.events ++ happens)) s.step middle.banks.items
     spent =
         subst (λ (l : List Event). HaveSpent s.entries.now l s.step middle.banks.items) (sym (plain_append e.events happens))
@@ -123,20 +127,19 @@ module _ (s : Scene) (scene : IsScene s) (p : Placing) (factors ranks : List ℕ
     whole_plain : (x : Event) → all_plain (e.events ++ (term_events (begun_in s) v path t ++ (target_events (begun_in s) v path target ++ x ∷ []))) ≡ all_plain (e.events ++ happens) ++ plain x ∷ []
     whole_plain x = ap all_plain (grouped x) ∙ plain_append (e.events ++ happens) (x ∷ [])
 
-    pub store_faults : (A : Type 0) (x : Stop) (result : Result (Unit {0}) Stop) (new : State) → result ≡ Err x → FindsSeen s (sight_in middle ranks) a (Err x) → Ends p s.entries.now (stored_at (begun_in s) reach target t path e) s.step result new
-    store_faults A x result new stopped finds = subst (λ (r : Result (Unit {0}) Stop). Ends p s.entries.now (stored_at (begun_in s) reach target t path e) s.step r new) (sym stopped) (by x finds)
-      where
-        by : (x : Stop) → FindsSeen s (sight_in middle ranks) a (Err x) → Ends {A = Unit {0}} p s.entries.now (stored_at (begun_in s) reach target t path e) s.step (Err x) new
-        by (stop.At o) h =
-            ap (λ k. stop_after s.entries.now [] (all_plain (e.events ++ (term_events (begun_in s) v path t ++ (target_events (begun_in s) v path target ++ write_made reach path (kept_bits s.entries.now reach.memory value) k ∷ []))))) (sym (spot_is seen) ∙ h.0)
-            ∙ (ap (λ l. stop_after s.entries.now [] l) (whole_plain (faults reach.number reach.place path OutOfRange))
-            ∙ (stop_more s.entries.now [] (all_plain (e.events ++ happens)) (faults 0 reach.place [] OutOfRange ∷ []) spent.clear
-            ∙ ap Some (ap (λ (y : Access). Faulted OutOfRange y.place) (sym is.access) ∙ sym h.1)))
-        by stop.NoMemory h = absurd h
+    pub store_faults : (A : Type 0) (x : Stop) (new : State) → x ≡ stop.At (Faulted OutOfRange a.place) → access_spot (begun_in s) (sight_in middle ranks) a ≡ None → Ends {A = A} p s.entries.now (stored_at (begun_in s) reach target t path e) s.step (Err x) new
+    store_faults A x new stopped none = subst (λ (y : Stop). Ends {A = A} p s.entries.now (stored_at (begun_in s) reach target t path e) s.step (Err y) new) (sym stopped)
+        (ap (λ k. stop_after s.entries.now [] (all_plain (e.events ++ (term_events (begun_in s) v path t ++ (target_events (begun_in s) v path target ++ write_made reach path (kept_bits s.entries.now reach.memory value) k ∷ []))))) (sym (spot_is seen) ∙ none)
+        ∙ (ap (λ l. stop_after s.entries.now [] l) (whole_plain (faults reach.number reach.place path OutOfRange))
+        ∙ (stop_more s.entries.now [] (all_plain (e.events ++ happens)) (faults 0 reach.place [] OutOfRange ∷ []) spent.clear
+        ∙ ap Some (ap (λ (y : Access). Faulted OutOfRange y.place) (sym is.access)))))
 
-    module _ (el : Element) (finds : FindsSeen s (sight_in middle ranks) a (Ok el)) where
+    module _ (spread : Spread) (leads : access_spot (begun_in s) (sight_in middle ranks) a ≡ Some (spread_spot a.memory spread)) where
+      abbrev el : Element
+      el = placed a.memory spread
+
       there : spot_reached (begun_in s) v path reach target ≡ Some (spot_seen el)
-      there = sym (spot_is seen) ∙ finds.0
+      there = sym (spot_is seen) ∙ leads
 
       abbrev bits : ℕ
       bits = kept_bits s.entries.now el.memory word

@@ -1,5 +1,5 @@
 -- The banks of all memories in one list: those of a memory stand behind those of the memories before it.
-use Rattle.std.specs.Prelude.{◌≡◌, ℕ, ◌+◌, ◌<◌, ◌≤◌, zero, suc, ◌&&◌, true, false, if◌then◌else◌, List, [], ◌∷◌, length, get_or, map, Option, Some, None, ℤ, pos, int_le, int_lt, unsigned_abs}
+use Rattle.std.specs.Prelude.{◌≡◌, ℕ, ◌+◌, ◌*◌, ◌/◌, ◌%◌, ◌^◌, ◌<◌, ◌≤◌, zero, suc, ◌&&◌, true, false, if◌then◌else◌, List, [], ◌∷◌, length, get_or, map, Option, Some, None, ℤ, pos, int_le, int_lt, unsigned_abs}
 use Rattle.std.specs.List.{AllByRecursion}
 use Rattle.dh_tree.specs.declared.tables.Dim.{Dim}
 use Rattle.dh_tree.specs.declared.tables.MemEntry.{MemEntry}
@@ -48,6 +48,20 @@ Spreads ds is (Some s) =
 abbrev pub IsSpread : List Dim → Option Spread → Type 0
 IsSpread ds None = Unit {0}
 IsSpread ds (Some s) = (s.bank < banks_of ds) × ((s.row < rows_of ds) × (s.position < elements_of ds))
+
+-- where an index of a further dimension leads, from where those before it lead
+abbrev pub spread_behind : Spread → Dim → (index : ℕ) → Spread
+spread_behind s d index = record {
+  bank = s.bank * d.banks + index % d.banks;
+  row = s.row * (d.size / d.banks) + index / d.banks;
+  position = s.position * d.size + index;
+}
+
+-- its numbers are of 64 bits
+pub record HasRoom (s : Spread) (d : Dim) (index : ℕ) : Type 0 where
+  pub bank : s.bank * d.banks + index % d.banks < 2 ^ 64
+  pub row : s.row * (d.size / d.banks) + index / d.banks < 2 ^ 64
+  pub position : s.position * d.size + index < 2 ^ 64
 
 -- the memory is there, and so is the bank
 abbrev pub HasBank : List MemEntry → (memory bank : ℕ) → Type 0

@@ -3,6 +3,7 @@
 use Rattle.std.specs.Prelude.{ℕ, ◌+◌, ◌%◌, ◌^◌, ◌<◌, List, [], ◌∷◌, ◌++◌, map, length, slice_index, slice_set, Option, ℤ}
 use Rattle.std.specs.List.{AllByRecursion}
 use Rattle.dh_value.specs.declared.kinds.Kind.{Kind}
+use Rattle.dh_value.specs.declared.operators.Op.{Op}
 use Rattle.dh_value.specs.declared.words.Word.{Word}
 use Rattle.dh_value.specs.Words as words
 use Rattle.dh_value.specs.Words.{IsKind, IsInteger, IsWord, width_of, with_bits, word_of}
@@ -64,6 +65,13 @@ access_spot b s a = target_spot b s a.memory a.target
 -- an access that has no number
 abbrev pub unnumbered : Access → Reach
 unnumbered a = record { number = 0; place = a.place; memory = a.memory }
+
+-- what an operator gives on two operands, and what an operand is in an integer kind
+abbrev pub combined_word : Sight → Op → (left right : Operand) → Word
+combined_word s op left right = binary_of op (operand_word s left) (operand_word s right)
+
+abbrev pub converted_word : Sight → Operand → Kind → Word
+converted_word s from to = word_of to (words.value_of (operand_word s from))
 
 -- what an operation gives
 abbrev pub operation_word : Begun → Sight → Operation → Word

@@ -1,11 +1,9 @@
 -- What stays as it is during a step, and how an evaluation ends.
 use Rattle.std.specs.Prelude.{◌≡◌, ℕ, ◌^◌, ◌<◌, ◌≤◌, List, [], ◌∷◌, ◌++◌, length, slice_get, slice_range, Option, Some, None, Result, Ok, Err}
 use Rattle.std.specs.List.{AllByRecursion}
-use Rattle.dh_base.specs.declared.outcomes.FaultKind.TheVariants.{OutOfRange}
-use Rattle.dh_base.specs.declared.outcomes.Outcome.TheVariants.{Faulted}
 use Rattle.dh_base.specs.declared.places.Place.{Place}
 use Rattle.dh_value.specs.declared.words.Word.{Word}
-use Rattle.dh_value.specs.Words.{width_of, with_bits}
+use Rattle.dh_value.specs.Words.{width_of}
 use Rattle.dh_tree.specs.declared.tables.MemEntry.{MemEntry}
 use Rattle.dh_tree.specs.Shapes.{IsMemory}
 use Rattle.dh_tree.specs.Tables.{elements_in, most_elements}
@@ -18,7 +16,6 @@ use Rattle.dh_code.specs.declared.codes.Action.{Action}
 use Rattle.dh_code.specs.declared.codes.Action.TheVariants.{Store, Assign, Choose}
 use Rattle.dh_code.specs.declared.codes.Step.{Step}
 use Rattle.dh_code.specs.declared.codes.Code.{Code}
-use Rattle.dh_code.specs.declared.operands.View.{View}
 use Rattle.dh_code.specs.declared.evaluating.Scene.{Scene}
 use Rattle.dh_code.specs.declared.evaluating.Stop.{Stop}
 use Rattle.dh_code.specs.declared.evaluating.Stop.TheVariants as stop
@@ -26,7 +23,7 @@ use Rattle.dh_code.specs.declared.spending.Bank.{Bank}
 use Rattle.dh_code.specs.declared.spots.Element.{Element}
 use Rattle.dh_code.specs.declared.spots.Spread.{Spread}
 use Rattle.dh_code.specs.Banks.{AreFirsts, HasBank}
-use Rattle.dh_code.specs.Operated.{IsAccess, IsOperand, IsOperation, Sight, access_spot, events_after, operand_word, operation_events, operation_word, sight_after, view_seen}
+use Rattle.dh_code.specs.Operated.{IsAccess, IsOperand, IsOperation, Sight, access_spot, events_after, operand_word, operation_events, operation_word, sight_after}
 use Rattle.dh_code.specs.declared.codes.Operation.TheVariants.{Read}
 use Rattle.dh_code.specs.Rows.{contents_of, element_in, spot_seen}
 use Rattle.dh_code.specs.Spent.{HaveSpent}
@@ -90,23 +87,17 @@ abbrev pub SpendsWrite : {A : Type 0} → Scene → List Bank → Result A Stop 
 SpendsWrite s old result new place element =
     (es : List Event) (value : ℕ) → HaveSpent s.entries.now es s.step old → Spends s.entries.now (es ++ writes 0 place [] (spot_seen element) value ∷ []) s.step result new
 
--- what an element holds
-abbrev pub element_value : Scene → Element → Word
-element_value s element = with_bits (kind_in s.entries.now element.memory) (element_in (contents_of s.memories.now) element.memory element.position)
-
 abbrev pub spread_spot : (memory : ℕ) → Spread → Spot
 spread_spot memory p = record { memory = memory; bank = p.bank; row = p.row; position = p.position }
 
--- an access leads there, or is out of range
-abbrev pub LeadsTo : Scene → View → Access → Option Spread → Type 0
-LeadsTo s v a None = access_spot (begun_in s) (view_seen v) a ≡ None
-LeadsTo s v a (Some p) = (access_spot (begun_in s) (view_seen v) a ≡ Some (spread_spot a.memory p)) × HasBank s.entries.now a.memory p.bank
+-- the element of a memory that lies there
+abbrev pub placed : (memory : ℕ) → Spread → Element
+placed memory p = record { memory = memory; bank = p.bank; row = p.row; position = p.position }
 
--- its element, or its fault
-abbrev pub Finds : Scene → View → Access → Result Element Stop → Type 0
-Finds s v a (Ok e) = (access_spot (begun_in s) (view_seen v) a ≡ Some (spot_seen e)) × HasBank s.entries.now e.memory e.bank
-Finds s v a (Err (stop.At outcome)) = (access_spot (begun_in s) (view_seen v) a ≡ None) × (outcome ≡ Faulted OutOfRange a.place)
-Finds s v a (Err stop.NoMemory) = ⊥
+-- an access leads there, or is out of range
+abbrev pub LeadsTo : Scene → Sight → Access → Option Spread → Type 0
+LeadsTo s w a None = access_spot (begun_in s) w a ≡ None
+LeadsTo s w a (Some p) = (access_spot (begun_in s) w a ≡ Some (spread_spot a.memory p)) × HasBank s.entries.now a.memory p.bank
 
 -- Expressions.
 
@@ -124,16 +115,16 @@ flat_word s w f = operand_word (flat_sight s w f) f.value
 abbrev pub flat_events : Scene → Sight → Flat → List Event
 flat_events s w f = events_after (begun_in s) w f.from (flat_operations s.code.now f)
 
--- Operations, as a view sees them.
+-- Operations.
 
-abbrev pub word_in : Scene → View → Operation → Word
-word_in s v o = operation_word (begun_in s) (view_seen v) o
+abbrev pub word_in : Scene → Sight → Operation → Word
+word_in s w o = operation_word (begun_in s) w o
 
-abbrev pub events_in : Scene → View → Operation → List Event
-events_in s v o = operation_events (begun_in s) (view_seen v) o
+abbrev pub events_in : Scene → Sight → Operation → List Event
+events_in s w o = operation_events (begun_in s) w o
 
-abbrev pub read_word : Scene → View → Access → Word
-read_word s v a = operation_word (begun_in s) (view_seen v) (Read a)
+abbrev pub read_word : Scene → Sight → Access → Word
+read_word s w a = operation_word (begun_in s) w (Read a)
 
-abbrev pub read_events : Scene → View → Access → List Event
-read_events s v a = operation_events (begun_in s) (view_seen v) (Read a)
+abbrev pub read_events : Scene → Sight → Access → List Event
+read_events s w a = operation_events (begun_in s) w (Read a)

@@ -122,12 +122,6 @@ Puts s old result new place element value =
     → Spends s.entries.now (es ++ writes 0 place [] (spot_seen element) (kept_bits s.entries.now element.memory value) ∷ []) s.step result new.banks.items
     × IfOk result (λ _. new.writes.items ≡ old.writes.items ++ record { memory = element.memory; position = element.position; bits = kept_bits s.entries.now element.memory value } ∷ [])
 
--- where an access leads, for what is seen
-abbrev pub FindsSeen : Scene → Sight → Access → Result Element Stop → Type 0
-FindsSeen s w a (Ok e) = (access_spot (begun_in s) w a ≡ Some (spot_seen e)) × HasBank s.entries.now e.memory e.bank
-FindsSeen s w a (Err (stop.At outcome)) = (access_spot (begun_in s) w a ≡ None) × (outcome ≡ Faulted OutOfRange a.place)
-FindsSeen s w a (Err stop.NoMemory) = ⊥
-
 -- What code means.
 
 -- the ranks of a path inside loops

@@ -6,18 +6,20 @@ ghost use Rattle.dh_base.specs.declared.outcomes.FaultKind.TheVariants.{OutOfRan
 ghost use Rattle.dh_base.specs.declared.outcomes.Outcome.TheVariants.{Faulted, Stuck};
 ghost use Rattle.dh_code.specs.declared.evaluating.Stop.TheVariants as stop;
 ghost use Rattle.dh_tree.specs.Elements.{banks_of};
+ghost use Rattle.dh_value.specs.Operations.{Suits, binary_of};
+ghost use Rattle.dh_value.specs.Words.{IsInteger, IsWord};
 ghost use Rattle.dh_code.specs.Banks.{AreDims, HasBank, LiesInRow, first_bank, all_banks};
-ghost use Rattle.dh_code.specs.Operated.{IsAccess, IsOperation, events_after, sight, sight_after};
+ghost use Rattle.dh_code.specs.Operated.{IsAccess, IsOperand, IsOperation, combined_word, converted_word, events_after, kind_of_operand, sight, sight_after};
 ghost use Rattle.dh_code.specs.Spent.{StayUsed};
-ghost use Rattle.dh_code.specs.Scenes.{Finds, IsScene, LeadsTo, SpendsMore, begun_in, element_value, events_in, read_at, read_events, read_word, word_in};
+ghost use Rattle.dh_code.specs.Scenes.{IsScene, LeadsTo, SpendsMore, begun_in, events_in, placed, read_at, read_events, read_word, word_in};
 
-use crate::codes::{Access, Code, Operation, Target};
+use crate::codes::{Access, Code, Operand, Operation, Target};
 use crate::operands::{View, element_of, value_at};
 use crate::spending::{Bank, read_row};
 use crate::spots::{Element, Spread, index_below, locate, measure, place_in_bank};
 use dh_base::{FaultKind, NoMemory, Outcome, Place};
 use dh_tree::{Dim, MemEntry};
-use dh_value::{Word, binary, cast, number};
+use dh_value::{Kind, Op, Word, binary, cast, number};
 use std::alloc::{AllocError, AllocFailed, Global};
 
 /// Why a step ends early.
@@ -71,7 +73,7 @@ pub struct Scene<'a> {
 }
 
 /// A fault where an index is out of range.
-fn out_of_range(place: Place) -> Stop
+pub fn out_of_range(place: Place) -> Stop
     ensures { result ≡ stop.At (Faulted OutOfRange place) }
 {
     Stop::At(Outcome::Faulted {
@@ -119,107 +121,163 @@ fn in_row(dims: &[Dim], bank: u64, row: i128) -> Option<Spread>
     }
 }
 
+/// The element of a memory that lies there.
+pub fn element_at(memory: usize, spread: Spread) -> Element
+    ensures { result ≡ placed memory spread }
+{
+    Element {
+        memory,
+        bank: spread.bank,
+        row: spread.row,
+        position: spread.position,
+    }
+}
+
 /// Where an access leads; None where it is out of range.
-fn reached(scene: &Scene<'_>, view: &View<'_>, access: &Access) -> Option<Spread>
+pub fn reached(
+    scene: &Scene<'_>,
+    slots: &[u64],
+    given: &[u64],
+    ranks: &[u32],
+    access: &Access,
+) -> Option<Spread>
     requires scene { IsScene scene.now }
     requires access { IsAccess scene.now.entries.now access.now }
-    ensures { LeadsTo scene.now view.now access.now result }
+    ensures { LeadsTo scene.now (sight slots.now given.now ranks.now) access.now result }
 {
+    let view = View {
+        slots,
+        given,
+        ranks,
+    };
     match &access.target {
         Target::Indices { operands } => {
             let dims = scene.entries[access.memory].shape.dims.as_slice();
-            locate(view, dims, operands.as_slice())
+            locate(&view, dims, operands.as_slice())
         }
         Target::Row { bank, row } => {
             let dims = scene.entries[access.memory].shape.dims.as_slice();
-            in_row(dims, *bank, number(value_at(view, row)))
+            in_row(dims, *bank, number(value_at(&view, row)))
         }
     }
 }
 
-/// The element to which an access leads, or its fault.
-pub fn find(scene: &Scene<'_>, view: &View<'_>, access: &Access) -> Result<Element, Stop>
-    requires scene { IsScene scene.now }
-    requires access { IsAccess scene.now.entries.now access.now }
-    ensures { Finds scene.now view.now access.now result }
-{
-    match reached(scene, view, access) {
-        Some(spread) => Ok(Element {
-            memory: access.memory,
-            bank: spread.bank,
-            row: spread.row,
-            position: spread.position,
-        }),
-        None => Err(out_of_range(access.place)),
-    }
-}
-
-/// Reads an element.
-fn read(scene: &Scene<'_>, banks: &mut [Bank], place: Place, element: Element) -> Result<Word, Stop>
+/// Takes the port that a read of an element needs, where it needs one.
+fn take(scene: &Scene<'_>, banks: &mut [Bank], place: Place, element: Element) -> Result<(), Stop>
     requires scene { IsScene scene.now }
     requires there { HasBank scene.now.entries.now element.memory element.bank }
     requires long { length banks.old ≡ all_banks scene.now.entries.now }
     ensures long { length banks.new ≡ length banks.old }
     ensures used { StayUsed scene.now.step banks.old banks.new }
-    ensures value { IfOk result (λ w. w ≡ element_value scene.now element) }
     ensures spends { SpendsMore scene.now banks.old result banks.new (read_at place element) }
 {
     let at = bank_at(scene, element);
     let ports = scene.entries[element.memory].shape.ports;
-    if !read_row(&mut banks[at], ports, scene.step, element.row)? {
-        return Err(stuck(place, element));
+    if read_row(&mut banks[at], ports, scene.step, element.row)? {
+        Ok(())
+    } else {
+        Err(stuck(place, element))
     }
-    Ok(Word {
-        kind: scene.entries[element.memory].shape.kind,
-        bits: element_of(scene.memories, element.memory, element.position),
-    })
 }
 
-/// Finds and reads the element of an access.
-fn read_access(
+/// Finds and reads the element of an access, and keeps its bits under the number of the operation.
+/// (An answer that is an error or the bits would be moved in parts, which takes long.)
+fn read(
     scene: &Scene<'_>,
-    view: &View<'_>,
+    slots: &[u64],
+    ranks: &[u32],
+    given: &mut [u64],
     banks: &mut [Bank],
+    at: usize,
     access: &Access,
-) -> Result<Word, Stop>
+) -> Result<(), Stop>
     requires scene { IsScene scene.now }
     requires access { IsAccess scene.now.entries.now access.now }
     requires long { length banks.old ≡ all_banks scene.now.entries.now }
     ensures long { length banks.new ≡ length banks.old }
     ensures used { StayUsed scene.now.step banks.old banks.new }
-    ensures value { IfOk result (λ w. w ≡ read_word scene.now view.now access.now) }
+    ensures room { length given.new ≡ length given.old }
+    ensures gives { IfOk result (λ _. given.new ≡ slice_set given.old at
+        (read_word scene.now (sight slots.now given.old ranks.now) access.now).bits) }
     ensures spends { SpendsMore scene.now banks.old result banks.new
-        (read_events scene.now view.now access.now) }
+        (read_events scene.now (sight slots.now given.old ranks.now) access.now) }
 {
-    let element = find(scene, view, access)?;
-    read(scene, banks, access.place, element)
+    let Some(spread) = reached(scene, slots, given, ranks, access) else {
+        return Err(out_of_range(access.place));
+    };
+    let element = element_at(access.memory, spread);
+    take(scene, banks, access.place, element)?;
+    let bits = element_of(scene.memories, element.memory, element.position);
+    set_number(given, at, bits);
+    Ok(())
 }
 
-/// What an operation gives.
-fn perform(
-    scene: &Scene<'_>,
-    view: &View<'_>,
-    banks: &mut [Bank],
-    operation: &Operation,
-) -> Result<Word, Stop>
-    requires scene { IsScene scene.now }
-    requires operation { IsOperation scene.now.entries.now operation.now }
-    requires long { length banks.old ≡ all_banks scene.now.entries.now }
-    ensures long { length banks.new ≡ length banks.old }
-    ensures used { StayUsed scene.now.step banks.old banks.new }
-    ensures value { IfOk result (λ w. w ≡ word_in scene.now view.now operation.now) }
-    ensures spends { SpendsMore scene.now banks.old result banks.new
-        (events_in scene.now view.now operation.now) }
+/// The bits that an operator gives. Each operator stands in an arm of its own, so that the code of
+/// its operation can be put there.
+fn operated(op: Op, left: Word, right: Word) -> u64
+    requires left { IsWord left }
+    requires right { IsWord right }
+    requires suits { Suits op left.kind right.kind }
+    ensures { result ≡ (binary_of op left right).bits }
 {
-    match operation {
-        Operation::Binary { op, left, right } => {
-            let a = value_at(view, left);
-            let b = value_at(view, right);
-            Ok(binary(*op, a, b))
-        }
-        Operation::Convert { from, to } => Ok(cast(value_at(view, from), *to)),
-        Operation::Read { access } => read_access(scene, view, banks, access),
+    match op {
+        Op::Add => binary(Op::Add, left, right).bits,
+        Op::Sub => binary(Op::Sub, left, right).bits,
+        Op::Mul => binary(Op::Mul, left, right).bits,
+        Op::And => binary(Op::And, left, right).bits,
+        Op::Or => binary(Op::Or, left, right).bits,
+        Op::Xor => binary(Op::Xor, left, right).bits,
+        Op::Shl => binary(Op::Shl, left, right).bits,
+        Op::Shr => binary(Op::Shr, left, right).bits,
+        Op::Lt => binary(Op::Lt, left, right).bits,
+        Op::Gt => binary(Op::Gt, left, right).bits,
+        Op::Le => binary(Op::Le, left, right).bits,
+        Op::Ge => binary(Op::Ge, left, right).bits,
+        Op::Eq => binary(Op::Eq, left, right).bits,
+        Op::Ne => binary(Op::Ne, left, right).bits,
+        Op::Both => binary(Op::Both, left, right).bits,
+        Op::Either => binary(Op::Either, left, right).bits,
     }
+}
+
+/// The bits of what an operator gives on two operands.
+fn combined(
+    slots: &[u64],
+    given: &[u64],
+    ranks: &[u32],
+    op: Op,
+    left: &Operand,
+    right: &Operand,
+) -> u64
+    requires left { IsOperand left.now }
+    requires right { IsOperand right.now }
+    requires suits { Suits op (kind_of_operand left.now) (kind_of_operand right.now) }
+    ensures { result ≡
+        (combined_word (sight slots.now given.now ranks.now) op left.now right.now).bits }
+{
+    let view = View {
+        slots,
+        given,
+        ranks,
+    };
+    let a = value_at(&view, left);
+    let b = value_at(&view, right);
+    operated(op, a, b)
+}
+
+/// The bits of an operand in an integer kind.
+fn converted(slots: &[u64], given: &[u64], ranks: &[u32], from: &Operand, to: Kind) -> u64
+    requires to { IsInteger to }
+    requires from { IsOperand from.now }
+    ensures { result ≡
+        (converted_word (sight slots.now given.now ranks.now) from.now to).bits }
+{
+    let view = View {
+        slots,
+        given,
+        ranks,
+    };
+    cast(value_at(&view, from), to).bits
 }
 
 /// Sets a number of a list, where there is one.
@@ -228,6 +286,42 @@ pub fn set_number(list: &mut [u64], at: usize, number: u64)
 {
     if at < list.len() {
         list[at] = number;
+    }
+}
+
+/// Does the operation of a number.
+fn perform(
+    scene: &Scene<'_>,
+    slots: &[u64],
+    ranks: &[u32],
+    given: &mut [u64],
+    banks: &mut [Bank],
+    at: usize,
+    operation: &Operation,
+) -> Result<(), Stop>
+    requires scene { IsScene scene.now }
+    requires operation { IsOperation scene.now.entries.now operation.now }
+    requires long { length banks.old ≡ all_banks scene.now.entries.now }
+    ensures long { length banks.new ≡ length banks.old }
+    ensures used { StayUsed scene.now.step banks.old banks.new }
+    ensures room { length given.new ≡ length given.old }
+    ensures gives { IfOk result (λ _. given.new ≡ slice_set given.old at
+        (word_in scene.now (sight slots.now given.old ranks.now) operation.now).bits) }
+    ensures spends { SpendsMore scene.now banks.old result banks.new
+        (events_in scene.now (sight slots.now given.old ranks.now) operation.now) }
+{
+    match operation {
+        Operation::Binary { op, left, right } => {
+            let bits = combined(slots, given, ranks, *op, left, right);
+            set_number(given, at, bits);
+            Ok(())
+        }
+        Operation::Convert { from, to } => {
+            let bits = converted(slots, given, ranks, from, *to);
+            set_number(given, at, bits);
+            Ok(())
+        }
+        Operation::Read { access } => read(scene, slots, ranks, given, banks, at, access),
     }
 }
 
@@ -256,13 +350,7 @@ pub fn operate(
         at operations.now) }
 {
     for (i, operation) in operations.iter().enumerate() {
-        let view = View {
-            slots,
-            given,
-            ranks,
-        };
-        let word = perform(scene, &view, banks, operation)?;
-        set_number(given, at + i, word.bits);
+        perform(scene, slots, ranks, given, banks, at + i, operation)?;
     }
     Ok(())
 }

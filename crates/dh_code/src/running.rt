@@ -4,17 +4,19 @@ ghost use Rattle.std.specs.Prelude.{◌≡◌, ◌∷◌, [], if◌then◌else�
 ghost use Rattle.dh_value.specs.Words.{IsWord};
 ghost use Rattle.dh_code.specs.declared.codes.Action.TheVariants.{Assign, Choose, Store};
 ghost use Rattle.dh_code.specs.Banks.{HasBank, all_banks};
-ghost use Rattle.dh_code.specs.Operated.{IsAccess};
+ghost use Rattle.dh_code.specs.Operated.{IsAccess, IsOperand, operand_word};
 ghost use Rattle.dh_code.specs.Rows.{contents_of};
-ghost use Rattle.dh_code.specs.Scenes.{IsHeld, IsScene, SpendsWrite, flat_sight, flat_word};
+ghost use Rattle.dh_code.specs.Scenes.{IsHeld, IsScene, LeadsTo, SpendsWrite, flat_sight};
 ghost use Rattle.dh_code.specs.Spent.{StayUsed};
-ghost use Rattle.dh_code.specs.States.{AreWritten, Assigns, CanBeDone, Decides, DoesAll, DoesOne, FindsSeen, GoBackAlike, IsAside, IsAssigned, IsReady, KeepsBack, KeepsSlots, KeepsVariables, Parts, Puts, SpendsFlat, Stores, sight_in, undone};
+ghost use Rattle.dh_code.specs.States.{AreWritten, Assigns, CanBeDone, Decides, DoesAll, DoesOne, GoBackAlike, IsAside, IsAssigned, IsReady, KeepsBack, KeepsSlots, KeepsVariables, Parts, Puts, SpendsFlat, Stores, sight_in, undone};
 
-use crate::codes::{Access, Action, Flat};
-use crate::evaluating::{Scene, Stop, bank_at, find, operate, set_number, stuck};
+use crate::codes::{Access, Action, Flat, Operand};
+use crate::evaluating::{
+    Scene, Stop, bank_at, element_at, operate, out_of_range, reached, set_number, stuck,
+};
 use crate::operands::{View, number_at, slot, value_at, whole};
 use crate::spending::{Bank, write_row};
-use crate::spots::Element;
+use crate::spots::{Element, Spread};
 use dh_base::{NoMemory, Place};
 use dh_value::{Word, cast};
 use std::alloc::AllocFailed;
@@ -69,37 +71,41 @@ pub fn set(state: &mut State, slot: usize, bits: u64) -> Result<(), AllocFailed<
     Ok(())
 }
 
-/// The value of an expression at a path of these ranks.
-fn evaluate(scene: &Scene<'_>, state: &mut State, ranks: &[u32], value: &Flat) -> Result<Word, Stop>
+/// Does the operations of an expression at a path of these ranks.
+fn evaluate(scene: &Scene<'_>, state: &mut State, ranks: &[u32], value: &Flat) -> Result<(), Stop>
     requires scene { IsScene scene.now }
     requires ready { IsReady scene.now state.old }
     requires held { IsHeld scene.now.code.now.operations value.now }
     ensures ready { IsReady scene.now state.new }
     ensures kept { KeepsVariables state.old state.new }
-    ensures value { IfOk result (λ w.
-        w ≡ flat_word scene.now (sight_in state.old ranks.now) value.now) }
-    ensures word { IfOk result (λ w. IsWord w) }
     ensures seen { IfOk result (λ _. sight_in state.new ranks.now
         ≡ flat_sight scene.now (sight_in state.old ranks.now) value.now) }
     ensures spends { SpendsFlat scene.now state.old result state.new ranks.now value.now }
 {
-    let slots = state.variables.as_slice();
     let operations = &scene.code.operations.as_slice()[value.from..value.to];
     operate(
         scene,
-        slots,
+        state.variables.as_slice(),
         ranks,
         state.given.as_mut_slice(),
         state.banks.as_mut_slice(),
         value.from,
         operations,
-    )?;
+    )
+}
+
+/// The value of an operand, as a state sees it at a path of these ranks.
+fn value_in(state: &State, ranks: &[u32], operand: &Operand) -> Word
+    requires { IsOperand operand.now }
+    ensures value { result ≡ operand_word (sight_in state.now ranks.now) operand.now }
+    ensures word { IsWord result }
+{
     let view = View {
-        slots,
+        slots: state.variables.as_slice(),
         given: state.given.as_slice(),
         ranks,
     };
-    Ok(value_at(&view, &value.value))
+    value_at(&view, operand)
 }
 
 /// Evaluates a right side at a path and sets a variable to it.
@@ -118,7 +124,8 @@ fn assign(
     ensures back { KeepsBack state.old state.new }
     ensures ran { Assigns scene.now state.old result state.new ranks.now value.now first depth }
 {
-    let word = evaluate(scene, state, ranks, value)?;
+    evaluate(scene, state, ranks, value)?;
+    let word = value_in(state, ranks, &value.value);
     set(state, slot(first, depth, ranks), whole(word))?;
     Ok(())
 }
@@ -167,23 +174,20 @@ fn put(
     Ok(())
 }
 
-/// The element of an access, as a state sees it at a path of these ranks.
-fn find_in(
-    scene: &Scene<'_>,
-    state: &State,
-    ranks: &[u32],
-    access: &Access,
-) -> Result<Element, Stop>
+/// Where an access leads, as a state sees it at a path of these ranks; None where it is out of
+/// range.
+fn reached_in(scene: &Scene<'_>, state: &State, ranks: &[u32], access: &Access) -> Option<Spread>
     requires scene { IsScene scene.now }
     requires access { IsAccess scene.now.entries.now access.now }
-    ensures { FindsSeen scene.now (sight_in state.now ranks.now) access.now result }
+    ensures { LeadsTo scene.now (sight_in state.now ranks.now) access.now result }
 {
-    let view = View {
-        slots: state.variables.as_slice(),
-        given: state.given.as_slice(),
+    reached(
+        scene,
+        state.variables.as_slice(),
+        state.given.as_slice(),
         ranks,
-    };
-    find(scene, &view, access)
+        access,
+    )
 }
 
 /// Evaluates a right side at a path, then the indices of an element, and writes the one to the
@@ -203,9 +207,18 @@ fn store(
     ensures back { KeepsBack state.old state.new }
     ensures ran { Stores scene.now state.old result state.new ranks.now value.now access.now }
 {
-    let word = evaluate(scene, state, ranks, value)?;
-    let element = find_in(scene, state, ranks, access)?;
-    put(scene, state, access.place, element, word)
+    evaluate(scene, state, ranks, value)?;
+    let word = value_in(state, ranks, &value.value);
+    let Some(spread) = reached_in(scene, state, ranks, access) else {
+        return Err(out_of_range(access.place));
+    };
+    put(
+        scene,
+        state,
+        access.place,
+        element_at(access.memory, spread),
+        word,
+    )
 }
 
 /// Evaluates a test at a path of these ranks.
@@ -222,7 +235,8 @@ pub fn decide(
     ensures back { KeepsBack state.old state.new }
     ensures decides { Decides scene.now state.old result state.new ranks.now test.now }
 {
-    let word = evaluate(scene, state, ranks, test)?;
+    evaluate(scene, state, ranks, test)?;
+    let word = value_in(state, ranks, &test.value);
     Ok(word.bits == 1)
 }
 

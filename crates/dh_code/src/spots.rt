@@ -1,10 +1,10 @@
 //! Where an element of a memory lies.
 
-ghost use Rattle.std.specs.Prelude.{◌≡◌, ℕ, ◌<◌, Some};
+ghost use Rattle.std.specs.Prelude.{◌≡◌, ℕ, ◌<◌, ◌≤◌, ◌*◌, ◌/◌, ◌%◌, ◌^◌, Some};
 ghost use Rattle.std.specs.List.{AllByRecursion};
 ghost use Rattle.dh_tree.specs.Elements.{banks_of, rows_of, position_in_bank};
 ghost use Rattle.dh_tree.specs.Tables.{elements_of};
-ghost use Rattle.dh_code.specs.Banks.{AreDims, IsExtent, IsSpread, Spreads, index_within};
+ghost use Rattle.dh_code.specs.Banks.{AreDims, HasRoom, IsExtent, IsSpread, Spreads, index_within, spread_behind};
 ghost use Rattle.dh_code.specs.Operated.{IsOperand, index_values, view_seen};
 
 use crate::codes::Operand;
@@ -80,6 +80,47 @@ pub fn measure(dims: &[Dim]) -> Extent
     }
 }
 
+/// A number by one of at least 1: rounded down, and what is left. Most dimensions have one bank, and
+/// a division takes long.
+fn divided(number: u64, by: u64) -> (u64, u64)
+    requires some { 1 ≤ by }
+    ensures down { result.0 ≡ number / by }
+    ensures left { result.1 ≡ number % by }
+{
+    if by == 1 {
+        (number, 0)
+    } else {
+        (number / by, number % by)
+    }
+}
+
+/// So many rows for each of those so far.
+fn rows_behind(row: u64, dim: &Dim) -> u64
+    requires some { 1 ≤ dim.now.banks }
+    requires room { row * (dim.now.size / dim.now.banks) < 2 ^ 64 }
+    ensures { result ≡ row * (dim.now.size / dim.now.banks) }
+{
+    if row == 0 {
+        0
+    } else {
+        row * divided(dim.size, dim.banks).0
+    }
+}
+
+/// Where an index of the next dimension leads, from where those before it led.
+fn next_spread(spread: Spread, dim: &Dim, index: u64) -> Spread
+    requires some { 1 ≤ dim.now.banks }
+    requires room { HasRoom spread dim.now index }
+    ensures { result ≡ spread_behind spread dim.now index }
+{
+    let (outer, inner) = divided(index, dim.banks);
+    Spread {
+        bank: spread.bank * dim.banks + inner,
+        row: rows_behind(spread.row, dim) + outer,
+        position: spread.position * dim.size + index,
+    }
+}
+
 /// Where the element of these indices lies; None where there is none.
 pub fn locate(view: &View<'_>, dims: &[Dim], indices: &[Operand]) -> Option<Spread>
     requires dims { AreDims dims.now }
@@ -87,28 +128,21 @@ pub fn locate(view: &View<'_>, dims: &[Dim], indices: &[Operand]) -> Option<Spre
     ensures spreads { Spreads dims.now (index_values (view_seen view.now) indices.now) result }
     ensures within { IsSpread dims.now result }
 {
-    let [dim, further @ ..] = dims else {
-        return if indices.is_empty() {
-            Some(Spread {
-                bank: 0,
-                row: 0,
-                position: 0,
-            })
-        } else {
-            None
-        };
-    };
-    let [operand, others @ ..] = indices else {
+    if indices.len() != dims.len() {
         return None;
+    }
+    let mut spread = Spread {
+        bank: 0,
+        row: 0,
+        position: 0,
     };
-    let index = index_below(number(value_at(view, operand)), dim.size)?;
-    let inner = locate(view, further, others)?;
-    let width = measure(further);
-    Some(Spread {
-        bank: (index % dim.banks) * width.banks + inner.bank,
-        row: (index / dim.banks) * width.rows + inner.row,
-        position: index * width.elements + inner.position,
-    })
+    for (i, dim) in dims.iter().enumerate() {
+        let Some(index) = index_below(number(value_at(view, &indices[i])), dim.size) else {
+            return None;
+        };
+        spread = next_spread(spread, dim, index);
+    }
+    Some(spread)
 }
 
 /// The place among all elements of the one in this row of this bank.

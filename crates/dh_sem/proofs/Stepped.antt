@@ -32,7 +32,7 @@ use Rattle.dh_sem.specs.declared.stepping.Course as code
 use Rattle.dh_sem.specs.Frames.{AreToCome, IsBlockOf, IsPlace, StandsFirst, StandsFor}
 use Rattle.dh_sem.specs.Phased.{Course, IsEarlier, IsSoundFrame}
 use Rattle.dh_sem.specs.Runs.{IsSteady, Run, StandsAs, StandsAt, StepsOn, place_outcome}
-use Rattle.dh_sem.specs.Steps.{Advanced, Advances, IsBack, block_effect, course_seen}
+use Rattle.dh_sem.specs.Steps.{Advanced, Advances, IsBack, block_effect, course_seen, stop_outcome}
 use Rattle.dh_sem.proofs.SmallMemories.{small_written}
 use Rattle.dh_sem.proofs.StepsDone.{unused_by}
 
@@ -242,6 +242,16 @@ module _ {s : Scene} {new : State} (ready : IsReady s new) (cc : code.Course) (o
   stop_seen x o is advances back =
       subst (λ (r : Run). StepsOn r (Ok o) (run_at s.entries.now course o steps memories new.variables.items place frames)) viewed
       (stop_steps s cc old number held frames course steps memories outcome place coursed listed copied going there o new gs (subst (λ (x : Stop). Advances s cc old (Err x) new number held gs) is advances) back.variables)
+
+pub stop_is : (x : Stop) (o : Outcome) → stop_outcome x ≡ Some o → x ≡ stop.At o
+stop_is (stop.At p) o e = ap stop.At (same e)
+  where
+    same : Some p ≡ Some o → p ≡ o
+    same e = cc
+stop_is stop.NoMemory o e = absurd (never e)
+  where
+    never : None ≡ Some o → ⊥
+    never e = absurd cc
 
 -- A run that can go on can still do so.
 module _ {s : Scene} {new : State} (ready : IsReady s new) (course : Course) (coded : s.code.now ≡ course.code) (o o' : Outcome) (steps : ℕ) (memories : List (List ℕ)) (slots : List ℕ) (place : Option ℕ) (frames : List Frame)

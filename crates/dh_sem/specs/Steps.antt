@@ -1,5 +1,6 @@
 -- What the calls that do a step promise.
 use Rattle.std.specs.Prelude.{◌≡◌, ℕ, ◌+◌, ◌-◌, ◌<◌, ◌≤◌, ◌==◌, Bool, if◌then◌else◌, List, [], ◌∷◌, length, reverse, slice_index, slice_set, Option, Some, None, Result, Ok, Err, IfOk}
+use Rattle.dh_base.specs.declared.outcomes.Outcome.{Outcome}
 use Rattle.dh_tree.specs.declared.tables.MemEntry.{MemEntry}
 use Rattle.dh_meaning.specs.Paths.{Path, paths_in}
 use Rattle.dh_meaning.specs.Core.{CoreTerm, Turning, CorePhase, straightly, turning, looping, choosing, CorePhases}
@@ -187,6 +188,16 @@ abbrev pub EndsSo : Placing → Scene → Course → Effect → Next → Result 
 EndsSo p s c e n (Ok at) new frames = Advanced p s c e n new at frames
 EndsSo p s c e n (Err (stop.At outcome)) new frames = stop_after s.entries.now [] (all_plain e.events) ≡ Some outcome
 EndsSo p s c e n (Err stop.NoMemory) new frames = Unit {0}
+
+-- the phase to which a step leads, where it does not stop
+abbrev pub which : Result (Unit {0}) Stop → Option ℕ → Result (Option ℕ) Stop
+which (Ok u) next = Ok next
+which (Err x) next = Err x
+
+-- the outcome at a stop
+abbrev pub stop_outcome : Stop → Option Outcome
+stop_outcome (stop.At outcome) = Some outcome
+stop_outcome stop.NoMemory = None
 
 -- what the block of a place does from these variables on
 abbrev pub block_effect : Scene → (factors : List ℕ) → Block → Variables → Effect

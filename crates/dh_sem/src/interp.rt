@@ -9,6 +9,7 @@ ghost use Rattle.dh_tree.specs.Tables.{Fits, elements_in, most_elements};
 ghost use Rattle.dh_code.specs.Banks.{AreFirsts, all_banks};
 ghost use Rattle.dh_sem.specs.Runnable.{IsRunnable};
 ghost use Rattle.dh_sem.specs.Runs.{StandsAt, StepsOn, place_outcome};
+ghost use Rattle.dh_sem.specs.Steps.{stop_outcome};
 
 use crate::gathering::{Made, hold_all};
 use crate::lanes::first_lanes;
@@ -128,6 +129,16 @@ fn outcome_at(place: Option<usize>) -> Outcome
     }
 }
 
+/// The outcome at a stop; None at want of memory.
+fn stopped_at(stop: Stop) -> Option<Outcome>
+    ensures { result ≡ stop_outcome stop }
+{
+    match stop {
+        Stop::At(outcome) => Some(outcome),
+        Stop::NoMemory => None,
+    }
+}
+
 impl<'a> Interp<'a> {
     /// The program before its first step, with these memories.
     ///
@@ -220,8 +231,16 @@ impl<'a> Interp<'a> {
         };
         self.spare.clear();
         self.spare.extend_from_slice(self.frames.as_slice())?;
-        match advance(&scene, &course, &mut self.state, &mut self.spare, at) {
-            Ok(next) => {
+        let mut next = None;
+        match advance(
+            &scene,
+            &course,
+            &mut self.state,
+            &mut self.spare,
+            at,
+            &mut next,
+        ) {
+            Ok(_) => {
                 make_writes(self.alloc, &mut self.memories, self.state.writes.as_slice());
                 mem::swap(&mut self.frames, &mut self.spare);
                 self.steps += 1;
@@ -229,11 +248,13 @@ impl<'a> Interp<'a> {
                 self.outcome = outcome_at(next);
                 Ok(self.outcome)
             }
-            Err(Stop::At(outcome)) => {
-                self.outcome = outcome;
-                Ok(outcome)
-            }
-            Err(Stop::NoMemory) => Err(NoMemory),
+            Err(stop) => match stopped_at(stop) {
+                Some(outcome) => {
+                    self.outcome = outcome;
+                    Ok(outcome)
+                }
+                None => Err(NoMemory),
+            },
         }
     }
 

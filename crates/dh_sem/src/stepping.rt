@@ -1,12 +1,12 @@
 //! One logical step, and where a run then stands.
 
-ghost use Rattle.std.specs.Prelude.{◌≡◌, ◌+◌, ◌*◌, ◌-◌, ◌^◌, ◌<◌, ◌≤◌, ◌==◌, Bool, if◌then◌else◌, IfOk, Some, length, slice_get};
+ghost use Rattle.std.specs.Prelude.{◌≡◌, ◌+◌, ◌*◌, ◌%◌, ◌-◌, ◌^◌, ◌<◌, ◌≤◌, ◌==◌, Bool, if◌then◌else◌, IfOk, Some, length, slice_get};
 ghost use Rattle.std.specs.List.{AllByRecursion};
 ghost use Rattle.dh_code.specs.Scenes.{IsHeld, IsScene};
 ghost use Rattle.dh_code.specs.States.{IsReady, KeepsBack, written_by};
 ghost use Rattle.dh_sem.specs.declared.phases.Frame.TheVariants.{Turn};
 ghost use Rattle.dh_sem.specs.Phased.{AreLinked, IsEarlier, IsSoundCourse, IsSoundFrame, arm_of, turns_in};
-ghost use Rattle.dh_sem.specs.Steps.{Advances, BackIfStopped, BeginsTurn, Descends, Follows, GoesOn, IsRested, Lightens, NowhereIfNone, OnlyVariables, RunsBlock, RunsNext, SetsCopy, TestsAll, course_seen};
+ghost use Rattle.dh_sem.specs.Steps.{Advances, BackIfStopped, BeginsTurn, Descends, Follows, GoesOn, IsRested, Lightens, NowhereIfNone, OnlyVariables, RunsBlock, RunsNext, SetsCopy, TestsAll, course_seen, which};
 
 use crate::lanes::Lanes;
 use crate::phases::{Form, Frame, Phase, Turns};
@@ -102,6 +102,19 @@ fn set_copy(state: &mut State, ranks: &[u32], turns: &Turns, value: u64) -> Resu
     Ok(())
 }
 
+/// Which copy of its turn a path of a number does, in a loop of so many copies. (A division takes
+/// long, and a loop that stands in no other one has no path beyond its copies.)
+fn copy_of(number: u64, factor: u64) -> u64
+    requires some { 1 ≤ factor }
+    ensures { result ≡ number % factor }
+{
+    if number < factor {
+        number
+    } else {
+        number % factor
+    }
+}
+
 /// Begins a turn of a `for`: at each path inside it the iterator has its value.
 fn begin_turn(state: &mut State, lanes: &Lanes, turns: &Turns, turn: u64) -> Result<(), NoMemory>
     requires some_factor { 1 ≤ turns.now.factor }
@@ -112,18 +125,18 @@ fn begin_turn(state: &mut State, lanes: &Lanes, turns: &Turns, turn: u64) -> Res
     let base = turns.low + turn * turns.factor;
     let rows = lanes.rows.as_slice();
     for (i, row) in rows.iter().enumerate() {
-        let copy = i as u64 % turns.factor;
+        let copy = copy_of(i as u64, turns.factor);
         set_copy(state, row.as_slice(), turns, base + copy)?;
     }
     Ok(())
 }
 
 /// The phase of a number.
-fn phase_at(phases: &[Phase], at: usize) -> Phase
+fn phase_at(phases: &[Phase], at: usize) -> &Phase
     requires there { at < length phases.now }
-    ensures { slice_get phases.now at ≡ Some result }
+    ensures { slice_get phases.now at ≡ Some result.now }
 {
-    phases[at]
+    &phases[at]
 }
 
 /// The lanes of a number.
@@ -223,7 +236,7 @@ fn next_turn(
         next state.old state.new frames.old.items frames.new.items) }
 {
     let phase = phase_at(course.phases, at);
-    let Some(turns) = turns_of(&phase) else {
+    let Some(turns) = turns_of(phase) else {
         return Ok(None);
     };
     let next = turn + 1;
@@ -264,7 +277,7 @@ fn follow(
             }
             let phase = phase_at(course.phases, at);
             frames.push(Frame::Again { at })?;
-            descend(course, state, frames, arm(&phase, true))
+            descend(course, state, frames, arm(phase, true))
         }
         Frame::Again { at } => {
             frames.push(Frame::Test { at })?;
@@ -272,7 +285,7 @@ fn follow(
         }
         Frame::Pick { at } => {
             let phase = phase_at(course.phases, at);
-            descend(course, state, frames, arm(&phase, holds))
+            descend(course, state, frames, arm(phase, holds))
         }
     }
 }
@@ -302,14 +315,16 @@ pub fn go_on(
     }
 }
 
-/// Does the block of a phase, and goes on to the next one.
+/// Does the block of a phase, and goes on to the next one. Gives the phase of that, if there is one,
+/// in `next`.
 fn run_next(
     scene: &Scene<'_>,
     course: &Course<'_>,
     state: &mut State,
     frames: &mut Vec<Frame>,
     at: usize,
-) -> Result<Option<usize>, Stop>
+    next: &mut Option<usize>,
+) -> Result<(), Stop>
     requires scene { IsScene scene.now }
     requires ready { IsReady scene.now state.old }
     requires course { IsSoundCourse (course_seen scene.now course.now) }
@@ -319,23 +334,25 @@ fn run_next(
     ensures back { KeepsBack state.old state.new }
     ensures frames { IfOk result
         (λ _. AllByRecursion (IsSoundFrame (length course.now.phases.now)) frames.new.items) }
-    ensures place { IfOk result (λ at. IsEarlier (length course.now.phases.now) at) }
-    ensures runs { RunsNext scene.now course.now state.old result state.new at frames.old.items
-        frames.new.items }
+    ensures place { IfOk result (λ _. IsEarlier (length course.now.phases.now) next.new) }
+    ensures runs { RunsNext scene.now course.now state.old (which result next.new) state.new at
+        frames.old.items frames.new.items }
 {
     let holds = run_block(scene, course, state, at)?;
-    Ok(go_on(course, state, frames, holds)?)
+    *next = go_on(course, state, frames, holds)?;
+    Ok(())
 }
 
-/// Does the block of a phase, and goes on to the next one. After a stop the variables are as
-/// before, and only the frames are not.
+/// Does the block of a phase, and goes on to the next one, which it gives in `next`. After a stop the
+/// variables are as before, and only the frames and `next` are not.
 pub fn advance(
     scene: &Scene<'_>,
     course: &Course<'_>,
     state: &mut State,
     frames: &mut Vec<Frame>,
     at: usize,
-) -> Result<Option<usize>, Stop>
+    next: &mut Option<usize>,
+) -> Result<(), Stop>
     requires scene { IsScene scene.now }
     requires rested { IsRested scene.now state.old }
     requires course { IsSoundCourse (course_seen scene.now course.now) }
@@ -345,14 +362,14 @@ pub fn advance(
     ensures back { BackIfStopped result state.old state.new }
     ensures frames { IfOk result
         (λ _. AllByRecursion (IsSoundFrame (length course.now.phases.now)) frames.new.items) }
-    ensures place { IfOk result (λ at. IsEarlier (length course.now.phases.now) at) }
-    ensures advances { Advances scene.now course.now state.old result state.new at frames.old.items
-        frames.new.items }
+    ensures place { IfOk result (λ _. IsEarlier (length course.now.phases.now) next.new) }
+    ensures advances { Advances scene.now course.now state.old (which result next.new) state.new at
+        frames.old.items frames.new.items }
 {
     state.writes.clear();
     state.changes.clear();
-    match run_next(scene, course, state, frames, at) {
-        Ok(next) => Ok(next),
+    match run_next(scene, course, state, frames, at, next) {
+        Ok(()) => Ok(()),
         Err(stop) => {
             undo(state.variables.as_mut_slice(), state.changes.as_slice());
             release(state.banks.as_mut_slice());
@@ -365,6 +382,9 @@ pub fn advance(
 pub fn make_writes(alloc: Global, memories: &mut Memories, writes: &[Write])
     ensures { memories.new ≡ written_by writes.now memories.old }
 {
+    if writes.is_empty() {
+        return;
+    }
     let held = mem::replace(memories, Memories::new(Vec::new(alloc)));
     let mut lists = held.into_lists();
     write_all(&mut lists, writes);

@@ -1,5 +1,4 @@
 use Rattle.std.proofs.Common.{ap, sym, subst, ◌∙◌, Err, add-one}
-use Rattle.dh_value.specs.declared.words.Word.{Word}
 use Rattle.std.proofs.lemmas.Result.{err_from_is_err_and}
 use Rattle.dh_code.specs.declared.codes.Operation.{Operation}
 use Rattle.dh_code.specs.Operated.{IsOperation}
@@ -18,24 +17,24 @@ perform-requires-clause-operation c =
 pub perform-requires-clause-long : goal.perform-requires-clause-long
 perform-requires-clause-long c = c.loop-i.invariant.long ∙ c.requires.long
 
-pub returns-in_err-word-clause-long : goal.returns-in_err-word-clause-long
-returns-in_err-word-clause-long c = c.perform.ensures.long ∙ c.loop-i.invariant.long
+pub returns-in_err-perform-clause-long : goal.returns-in_err-perform-clause-long
+returns-in_err-perform-clause-long c = c.perform.ensures.long ∙ c.loop-i.invariant.long
 
-pub returns-in_err-word-clause-room : goal.returns-in_err-word-clause-room
-returns-in_err-word-clause-room c = c.loop-i.invariant.room
+pub returns-in_err-perform-clause-room : goal.returns-in_err-perform-clause-room
+returns-in_err-perform-clause-room c = c.perform.ensures.room ∙ c.loop-i.invariant.room
 
-pub returns-in_err-word-clause-spends : goal.returns-in_err-word-clause-spends
-returns-in_err-word-clause-spends c =
+pub returns-in_err-perform-clause-spends : goal.returns-in_err-perform-clause-spends
+returns-in_err-perform-clause-spends c =
     let u = err_from_is_err_and c.from_residual.result c.from_residual.ensures.1 in
     operates_stop c.args.scene.now c.args.slots.now c.args.ranks.now c.args.at c.args.operations.now c.args.given.now c.args.banks.now
     c.loop-i.i c.loop-i.given c.loop-i.banks c.index-operations-i.result c.loop-i-test.true c.index-operations-i.is c.loop-i.invariant
-    Word (Unit {0}) c.in_err-word.field-0.0 c.perform.new.banks c.perform.new.banks c.from_residual.result (u.1 ∙ ap (λ x. Err x) u.2) c.in_err-word.ensures.spends
+    (Unit {0}) (Unit {0}) c.in_err-perform.field-0.0 c.perform.new.banks c.perform.new.banks c.from_residual.result (u.1 ∙ ap (λ x. Err x) u.2) c.in_err-perform.ensures.spends
 
 pub loop-i-preserved : goal.loop-i-preserved
 loop-i-preserved c = rw (add-one c.loop-i.i)
     (operates_turn c.args.scene.now c.args.slots.now c.args.ranks.now c.args.at c.args.operations.now c.args.given.now c.args.banks.now
     c.loop-i.i c.loop-i.given c.loop-i.banks c.index-operations-i.result c.loop-i-test.true c.index-operations-i.is c.loop-i.invariant
-    c.in_ok-word.word c.set_number.new.list c.perform.new.banks c.in_ok-word.ensures.value c.set_number.ensures c.perform.ensures.long c.perform.ensures.used c.in_ok-word.ensures.spends)
+    c.perform.new.given c.perform.new.banks c.in_ok-perform.ensures.gives c.perform.ensures.long c.perform.ensures.used c.in_ok-perform.ensures.spends)
 
 pub returns-clause-long : goal.returns-clause-long
 returns-clause-long c = c.loop-i.invariant.long
@@ -53,8 +52,8 @@ returns-clause-spends c =
     operates_spent c.args.scene.now c.args.slots.now c.args.ranks.now c.args.at c.args.operations.now c.args.given.now c.args.banks.now
     c.loop-i.i c.loop-i.given c.loop-i.banks c.loop-i-test.false c.loop-i.invariant
 
-pub returns-in_err-word-clause-used : goal.returns-in_err-word-clause-used
-returns-in_err-word-clause-used c = λ h. c.perform.ensures.used (c.loop-i.invariant.used h)
+pub returns-in_err-perform-clause-used : goal.returns-in_err-perform-clause-used
+returns-in_err-perform-clause-used c = λ h. c.perform.ensures.used (c.loop-i.invariant.used h)
 
 pub returns-clause-used : goal.returns-clause-used
 returns-clause-used c = c.loop-i.invariant.used

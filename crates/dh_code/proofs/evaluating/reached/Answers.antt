@@ -8,7 +8,7 @@ use Rattle.dh_value.specs.Words as words
 use Rattle.dh_code.specs.declared.codes.Target.{Target}
 use Rattle.dh_code.specs.declared.codes.Operand.{Operand}
 use Rattle.dh_code.specs.Banks.{AreDims, Spreads}
-use Rattle.dh_code.specs.Operated.{IsTarget, index_values, view_seen}
+use Rattle.dh_code.specs.Operated.{IsTarget, index_values, sight}
 use Rattle.dh_code.proofs.Entries.{dims_is, dims_of}
 use Rattle.dh_code.proofs.FoundSpots.{by_indices_leads, by_row_leads}
 use Rattle.dh_code.proofs.evaluating.reached.Goals as goal
@@ -21,10 +21,10 @@ locate-requires-clause-dims c =
 pub returns-in-Indices : goal.returns-in-Indices
 returns-in-Indices c =
     let has = subst (λ (t : Target). IsTarget c.args.scene.now.entries.now c.args.access.now.memory t) c.in-Indices.is c.requires.access in
-    by_indices_leads c.args.scene.now c.args.view.now c.args.access.now c.as_slice-dims.result.now
+    by_indices_leads c.args.scene.now (sight c.args.slots.now c.args.given.now c.args.ranks.now) c.args.access.now c.as_slice-dims.result.now
     (c.as_slice-dims.ensures ∙ sym (dims_is c.args.scene.now.entries.now c.args.access.now.memory c.index-scene-access.result has.0)) has.0
     c.in-Indices.operands c.locate.result c.in-Indices.is
-    (subst (λ (os : List Operand). Spreads c.as_slice-dims.result.now (index_values (view_seen c.args.view.now) os) c.locate.result) c.as_slice.ensures c.locate.ensures.spreads) c.locate.ensures.within
+    (subst (λ (os : List Operand). Spreads c.as_slice-dims.result.now (index_values (sight c.args.slots.now c.args.given.now c.args.ranks.now) os) c.locate.result) c.as_slice.ensures c.locate.ensures.spreads) c.locate.ensures.within
 
 pub in_row-requires-clause-dims : goal.in_row-requires-clause-dims
 in_row-requires-clause-dims c =
@@ -39,6 +39,6 @@ in_row-requires-clause-bank c =
 pub returns-in-Row : goal.returns-in-Row
 returns-in-Row c =
     let has = subst (λ (t : Target). IsTarget c.args.scene.now.entries.now c.args.access.now.memory t) c.in-Row.is c.requires.access in
-    by_row_leads c.args.scene.now c.args.view.now c.args.access.now c.as_slice-dims-in-Row.result.now
+    by_row_leads c.args.scene.now (sight c.args.slots.now c.args.given.now c.args.ranks.now) c.args.access.now c.as_slice-dims-in-Row.result.now
     (c.as_slice-dims-in-Row.ensures ∙ sym (dims_is c.args.scene.now.entries.now c.args.access.now.memory c.index-scene-access-in-Row.result has.0.0)) has.0.0
     c.in-Row.bank c.in-Row.row (to_z w128 (of_z w128 c.number.result)) c.in_row.result c.in-Row.is (to_z-of_z w128 c.number.result (sfits_lit (yes_ltb c.number.type_inv)) ∙ (c.number.ensures ∙ ap (λ w. words.value_of w) c.value_at.ensures.value)) has.0 c.in_row.ensures

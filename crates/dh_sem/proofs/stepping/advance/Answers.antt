@@ -6,7 +6,7 @@ use Rattle.dh_sem.proofs.StepsDone.{step_goes, step_stops, unused_by}
 use Rattle.dh_sem.proofs.stepping.advance.Goals as goal
 
 pub returns-in-Ok-clause-advances : goal.returns-in-Ok-clause-advances
-returns-in-Ok-clause-advances c = step_goes c.args.scene.now c.args.course.now c.args.state.now (record { variables = c.args.state.now.variables; given = c.args.state.now.given; banks = c.args.state.now.banks; writes = c.clear.new.self; changes = c.clear-2.new.self }) c.run_next.new.state c.args.at c.args.frames.now.items c.run_next.new.frames.items c.requires.rested refl refl c.clear.ensures.items c.in-Ok.next c.in-Ok.ensures.runs
+returns-in-Ok-clause-advances c = step_goes c.args.scene.now c.args.course.now c.args.state.now (record { variables = c.args.state.now.variables; given = c.args.state.now.given; banks = c.args.state.now.banks; writes = c.clear.new.self; changes = c.clear-2.new.self }) c.run_next.new.state c.args.at c.args.frames.now.items c.run_next.new.frames.items c.requires.rested refl refl c.clear.ensures.items c.run_next.new.next c.in-Ok.ensures.runs
 
 pub returns-in-Err-clause-ready : goal.returns-in-Err-clause-ready
 returns-in-Err-clause-ready c = record {

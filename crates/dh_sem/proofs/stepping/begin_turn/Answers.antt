@@ -16,10 +16,10 @@ loop-i-preserved c =
     let t = c.args.turns.now in
     let row = c.index-rows-i.result in
     rw (add-one c.loop-i.i)
-    (turn_more c.args.lanes.now t c.args.turn c.args.state.now c.loop-i.i c.loop-i.state c.loop-i.invariant row (t.low + c.args.turn * t.factor) (c.loop-i.i % t.factor) (t.low + c.args.turn * t.factor + c.loop-i.i % t.factor) c.set_copy.new.state
+    (turn_more c.args.lanes.now t c.args.turn c.args.state.now c.loop-i.i c.loop-i.state c.loop-i.invariant row (t.low + c.args.turn * t.factor) c.copy_of-copy.result (t.low + c.args.turn * t.factor + c.copy_of-copy.result) c.set_copy.new.state
     (subst (λ (l : List (Vec ℕ Global)). c.loop-i.i < length l) c.as_slice-rows.ensures.value c.loop-i-test.true) (subst (λ (l : List (Vec ℕ Global)). row ≡ get_or l c.loop-i.i row) c.as_slice-rows.ensures.value c.index-rows-i.is)
-    c.requires.some_factor c.requires.counted refl refl refl c.set_copy.ensures.only
-    (subst (λ (l : List ℕ). SetsCopy c.loop-i.state c.set_copy.new.state l t (t.low + c.args.turn * t.factor + c.loop-i.i % t.factor)) c.as_slice.ensures.value c.in_ok-set_copy.ensures.sets))
+    c.requires.some_factor c.requires.counted refl c.copy_of-copy.ensures refl c.set_copy.ensures.only
+    (subst (λ (l : List ℕ). SetsCopy c.loop-i.state c.set_copy.new.state l t (t.low + c.args.turn * t.factor + c.copy_of-copy.result)) c.as_slice.ensures.value c.in_ok-set_copy.ensures.sets))
 
 pub returns-clause-only : goal.returns-clause-only
 returns-clause-only c = c.loop-i.invariant.only

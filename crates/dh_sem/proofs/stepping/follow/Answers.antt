@@ -29,7 +29,7 @@ returns-in_ok-push-in-Test-clause-follows c =
     IfOk-weaker c.descend-in-Test.result _ _ (λ found h.
     subst (λ (f : Frame). Follows c.args.course.now f c.args.holds found c.args.state.now c.descend-in-Test.new.state c.args.frames.now.items c.descend-in-Test.new.frames.items) (sym c.in-Test.is)
     (subst (λ (b : Bool). Follows c.args.course.now (Test c.in-Test.at) b found c.args.state.now c.descend-in-Test.new.state c.args.frames.now.items c.descend-in-Test.new.frames.items) (sym c.if-not-holds.false)
-    (test_follows c.args.course.now c.in-Test.at c.phase_at-phase.result found c.args.state.now c.descend-in-Test.new.state c.args.frames.now.items c.push.new.self.items c.descend-in-Test.new.frames.items c.phase_at-phase.ensures c.in_ok-push-in-Test.ensures.items
+    (test_follows c.args.course.now c.in-Test.at c.phase_at-phase.result.now found c.args.state.now c.descend-in-Test.new.state c.args.frames.now.items c.push.new.self.items c.descend-in-Test.new.frames.items c.phase_at-phase.ensures c.in_ok-push-in-Test.ensures.items
     (subst (λ (l : Option ℕ). NowhereIfNone l found c.args.state.now c.descend-in-Test.new.state c.push.new.self.items c.descend-in-Test.new.frames.items) c.arm.ensures h.0)
     (subst (λ (l : Option ℕ). Descends c.args.course.now l found c.args.state.now c.descend-in-Test.new.state c.push.new.self.items c.descend-in-Test.new.frames.items) c.arm.ensures h.1))))
     (ok_both c.descend-in-Test.result _ _ c.descend-in-Test.ensures.none c.descend-in-Test.ensures.descends)
@@ -43,7 +43,7 @@ pub returns-in-Pick-clause-follows : goal.returns-in-Pick-clause-follows
 returns-in-Pick-clause-follows c =
     IfOk-weaker c.descend-in-Pick.result _ _ (λ found h.
     subst (λ (f : Frame). Follows c.args.course.now f c.args.holds found c.args.state.now c.descend-in-Pick.new.state c.args.frames.now.items c.descend-in-Pick.new.frames.items) (sym c.in-Pick.is)
-    (pick_follows c.args.course.now c.in-Pick.at c.phase_at-phase-in-Pick.result found c.args.holds c.args.state.now c.descend-in-Pick.new.state c.args.frames.now.items c.descend-in-Pick.new.frames.items c.phase_at-phase-in-Pick.ensures
+    (pick_follows c.args.course.now c.in-Pick.at c.phase_at-phase-in-Pick.result.now found c.args.holds c.args.state.now c.descend-in-Pick.new.state c.args.frames.now.items c.descend-in-Pick.new.frames.items c.phase_at-phase-in-Pick.ensures
     (subst (λ (l : Option ℕ). NowhereIfNone l found c.args.state.now c.descend-in-Pick.new.state c.args.frames.now.items c.descend-in-Pick.new.frames.items) c.arm-in-Pick.ensures h.0)
     (subst (λ (l : Option ℕ). Descends c.args.course.now l found c.args.state.now c.descend-in-Pick.new.state c.args.frames.now.items c.descend-in-Pick.new.frames.items) c.arm-in-Pick.ensures h.1)))
     (ok_both c.descend-in-Pick.result _ _ c.descend-in-Pick.ensures.none c.descend-in-Pick.ensures.descends)

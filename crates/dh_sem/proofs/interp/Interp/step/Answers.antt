@@ -1,8 +1,8 @@
 -- What a step leads to is steady, and stands as the checked semantics says.
-use Rattle.std.proofs.Common.{ap, refl, ◌∙◌}
+use Rattle.std.proofs.Common.{ap, refl, sym, ◌∙◌}
 use Rattle.dh_code.specs.States.{written_by}
 use Rattle.dh_sem.specs.Runs.{Run}
-use Rattle.dh_sem.proofs.Stepped.{coursed_as, done_seen, frames_copied, frames_sound, stands_still, steady_back, steady_next, stop_seen}
+use Rattle.dh_sem.proofs.Stepped.{coursed_as, done_seen, frames_copied, frames_sound, stands_still, steady_back, steady_next, stop_is, stop_seen}
 use Rattle.dh_sem.proofs.interp.Interp.step.Goals as goal
 
 pub returns-in_default : goal.returns-in_default
@@ -16,20 +16,20 @@ pub invariant_of-self-in-Ok : goal.invariant_of-self-in-Ok
 invariant_of-self-in-Ok c =
     let i = c.self.inside in
     steady_next c.in-Ok.ensures.ready (record { code = i.made.code; phases = i.made.phases.items; lanes = i.made.lanes.items }) refl i.outcome c.outcome_at-self-inside.result i.steps i.memories i.state.variables.items i.place i.frames.items
-    i.state.given.items i.state.banks.items i.firsts.items c.self.invariant c.as_slice-2.result.now c.in-Ok.next c.advance.new.frames.items c.swap.new.x.items c.make_writes.new.memories c.as_slice-2.ensures.value
+    i.state.given.items i.state.banks.items i.firsts.items c.self.invariant c.as_slice-2.result.now c.advance.new.next c.advance.new.frames.items c.swap.new.x.items c.make_writes.new.memories c.as_slice-2.ensures.value
     (c.make_writes.ensures ∙ ap (λ ws. written_by ws i.memories) c.as_slice-in-Ok.ensures.value) (ap (λ v. v.items) c.swap.ensures.x_after) c.in-Ok.ensures.frames c.in-Ok.ensures.place refl
 
-pub invariant_of-self-in-Err-At : goal.invariant_of-self-in-Err-At
-invariant_of-self-in-Err-At c =
+pub invariant_of-self-in-Some-stopped_at : goal.invariant_of-self-in-Some-stopped_at
+invariant_of-self-in-Some-stopped_at c =
     let i = c.self.inside in
-    steady_back c.in-Err-At.ensures.ready (record { code = i.made.code; phases = i.made.phases.items; lanes = i.made.lanes.items }) refl i.outcome c.in-Err-At.outcome i.steps i.memories i.state.variables.items i.place i.frames.items
-    i.state.given.items i.state.banks.items i.firsts.items c.self.invariant i.state c.in-Err-At.ensures.back
+    steady_back c.in-Err.ensures.ready (record { code = i.made.code; phases = i.made.phases.items; lanes = i.made.lanes.items }) refl i.outcome c.in-Some-stopped_at.outcome i.steps i.memories i.state.variables.items i.place i.frames.items
+    i.state.given.items i.state.banks.items i.firsts.items c.self.invariant i.state c.in-Err.ensures.back
 
-pub invariant_of-self-in-Err-NoMemory : goal.invariant_of-self-in-Err-NoMemory
-invariant_of-self-in-Err-NoMemory c =
+pub invariant_of-self-in-None : goal.invariant_of-self-in-None
+invariant_of-self-in-None c =
     let i = c.self.inside in
-    steady_back c.in-Err-NoMemory.ensures.ready (record { code = i.made.code; phases = i.made.phases.items; lanes = i.made.lanes.items }) refl i.outcome i.outcome i.steps i.memories i.state.variables.items i.place i.frames.items
-    i.state.given.items i.state.banks.items i.firsts.items c.self.invariant i.state c.in-Err-NoMemory.ensures.back
+    steady_back c.in-Err.ensures.ready (record { code = i.made.code; phases = i.made.phases.items; lanes = i.made.lanes.items }) refl i.outcome i.outcome i.steps i.memories i.state.variables.items i.place i.frames.items
+    i.state.given.items i.state.banks.items i.firsts.items c.self.invariant i.state c.in-Err.ensures.back
 
 pub returns-in-Ok : goal.returns-in-Ok
 returns-in-Ok c =
@@ -37,12 +37,12 @@ returns-in-Ok c =
     done_seen c.in-Ok.ensures.ready (record { phases = c.as_slice-2.result; lanes = c.as_slice-3.result }) i.state c.in-Some.at c.extend_from_slice.new.self.items i.frames.items c.advance.new.frames.items
     (record { code = i.made.code; phases = i.made.phases.items; lanes = i.made.lanes.items }) i.steps i.memories i.outcome i.place (coursed_as i.made.code c.as_slice-2.result.now i.made.phases.items c.as_slice-3.result.now i.made.lanes.items c.as_slice-2.ensures.value c.as_slice-3.ensures.value) c.lists.ensures
     (frames_copied c.extend_from_slice.new.self.items c.clear.new.self.items c.as_slice-4.result.now i.frames.items c.in_ok-extend_from_slice.ensures.items c.clear.ensures.items c.as_slice-4.ensures.value) c.in-Going.is c.in-Some.is c.args.self.now c.self.view_is
-    c.in-Ok.next c.swap.new.x.items c.make_writes.new.memories c.outcome_at-self-inside.result c.in-Ok.ensures.advances (c.make_writes.ensures ∙ ap (λ ws. written_by ws i.memories) c.as_slice-in-Ok.ensures.value) c.outcome_at-self-inside.ensures (ap (λ v. v.items) c.swap.ensures.x_after)
+    c.advance.new.next c.swap.new.x.items c.make_writes.new.memories c.outcome_at-self-inside.result c.in-Ok.ensures.advances (c.make_writes.ensures ∙ ap (λ ws. written_by ws i.memories) c.as_slice-in-Ok.ensures.value) c.outcome_at-self-inside.ensures (ap (λ v. v.items) c.swap.ensures.x_after)
 
-pub returns-in-Err-At : goal.returns-in-Err-At
-returns-in-Err-At c =
+pub returns-in-Some-stopped_at : goal.returns-in-Some-stopped_at
+returns-in-Some-stopped_at c =
     let i = c.self.inside in
-    stop_seen c.in-Err-At.ensures.ready (record { phases = c.as_slice-2.result; lanes = c.as_slice-3.result }) i.state c.in-Some.at c.extend_from_slice.new.self.items i.frames.items c.advance.new.frames.items
+    stop_seen c.in-Err.ensures.ready (record { phases = c.as_slice-2.result; lanes = c.as_slice-3.result }) i.state c.in-Some.at c.extend_from_slice.new.self.items i.frames.items c.advance.new.frames.items
     (record { code = i.made.code; phases = i.made.phases.items; lanes = i.made.lanes.items }) i.steps i.memories i.outcome i.place (coursed_as i.made.code c.as_slice-2.result.now i.made.phases.items c.as_slice-3.result.now i.made.lanes.items c.as_slice-2.ensures.value c.as_slice-3.ensures.value) c.lists.ensures
     (frames_copied c.extend_from_slice.new.self.items c.clear.new.self.items c.as_slice-4.result.now i.frames.items c.in_ok-extend_from_slice.ensures.items c.clear.ensures.items c.as_slice-4.ensures.value) c.in-Going.is c.in-Some.is c.args.self.now c.self.view_is
-    c.in-Err-At.field-0 c.in-Err-At.outcome c.in-Err-At.field-0-is c.in-Err-At.ensures.advances c.in-Err-At.ensures.back
+    c.in-Err.stop c.in-Some-stopped_at.outcome (stop_is c.in-Err.stop c.in-Some-stopped_at.outcome (sym c.stopped_at.ensures ∙ c.in-Some-stopped_at.is)) c.in-Err.ensures.advances c.in-Err.ensures.back
