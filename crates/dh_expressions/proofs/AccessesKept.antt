@@ -1,6 +1,6 @@
 -- Accesses in a list by their numbers. One gets its operations once, and then is as it stands; what its reads give
 -- is noted behind. All others stay as they are.
-use Rattle.std.proofs.Common.{◌≡◌, ℕ, zero, suc, ◌+◌, ◌-◌, ◌^◌, ◌<◌, ◌≤◌, ◌⊎◌, inl, inr, ⊎_elim, Bool, true, false, List, [], ◌∷◌, Some, None, refl, sym, ap, ◌∙◌, subst, arith, length, get_or, drop}
+use Rattle.std.proofs.Common.{◌≡◌, ℕ, ◌<◌, ◌≤◌, ◌⊎◌, inl, inr, ⊎_elim, Bool, true, false, List, [], ◌∷◌, Some, None, refl, sym, ap, ◌∙◌, subst, arith, length, drop}
 use Rattle.std.specs.Prelude.{◌++◌, ◌==◌, if◌then◌else◌, slice_get, slice_set, slice_index_or, Option}
 use Rattle.std.proofs.lemmas.Bool.{cases_eq, cases_lt}
 use Rattle.std.proofs.lemmas.Bool.Decides.{nat_tests}
@@ -23,7 +23,7 @@ use Rattle.dh_expressions.specs.Noted.{Notes, given_in, given_then, given_to, is
 use Rattle.dh_expressions.specs.Standings.{IsTouched, Standing}
 use Rattle.dh_expressions.specs.Touching.{IsNew, MakesCopies, TouchesAt}
 use Rattle.dh_expressions.proofs.ListPlaces.{place_of_more, place_within, set_here, set_long, set_other, some_same, there}
-use Rattle.dh_expressions.proofs.Pushing.{at_seam, begun_later, extends_again, extends_self, fits_before, in_front}
+use Rattle.dh_expressions.proofs.Pushing.{at_seam, begun_later, extends_again, extends_self, in_front}
 
 -- A fault that is named.
 

@@ -25,7 +25,6 @@ use Rattle.dh_expressions.specs.declared.banks.Span.{Span}
 use Rattle.dh_expressions.specs.declared.paths.Level.{Level}
 use Rattle.dh_expressions.specs.declared.scenes.Scene.{Scene}
 use Rattle.dh_expressions.specs.Levels.{copy_to}
-use Rattle.dh_expressions.specs.Numbers.{narrowed}
 use Rattle.dh_expressions.specs.ReachedBanks.{AddsSpan, IsSpan, TellsBank, TellsSpans, bank_added, bank_by, index_first, indices_first, level_with, span_bank, span_index, spans_bank, spans_number, term_first}
 use Rattle.dh_expressions.proofs.ListPlaces.{place_within, some_same, there}
 

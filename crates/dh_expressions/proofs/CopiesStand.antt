@@ -1,7 +1,7 @@
 -- Copies by lists of flags and spans are those of where the access stands: flags and spans tell the same leaders
 -- and banks.
-use Rattle.std.proofs.Common.{◌≡◌, ℕ, ◌+◌, ◌-◌, ◌^◌, ◌<◌, ◌≤◌, Bool, List, refl, sym, ap, ◌∙◌, subst, arith, length}
-use Rattle.std.specs.Prelude.{min, Option}
+use Rattle.std.proofs.Common.{◌≡◌, ℕ, ◌+◌, ◌-◌, ◌^◌, ◌<◌, Bool, List, ap, ◌∙◌, subst, arith, length}
+use Rattle.std.specs.Prelude.{min}
 use mathlib.Core.Path.{fun_ext}
 use Rattle.dh_base.specs.declared.places.Place.{Place}
 use Rattle.dh_tree.specs.PlainTrees.{TermForm}
@@ -12,7 +12,6 @@ use Rattle.dh_expressions.specs.declared.drafts.Draft.{Draft}
 use Rattle.dh_expressions.specs.declared.scenes.Around.{Around}
 use Rattle.dh_expressions.specs.declared.scenes.Scene.{Scene}
 use Rattle.dh_expressions.specs.Copying.{AreCopies, Counts, HasScopes, MakesCopiesBy, banks_by, depends_at, leaders_by}
-use Rattle.dh_expressions.specs.Drafted.{Step}
 use Rattle.dh_expressions.specs.Levels.{counted, leader_number, parts_from}
 use Rattle.dh_expressions.specs.Numbers.{narrowed}
 use Rattle.dh_expressions.specs.ReachedBanks.{TellsBank, bank_by, spans_number}

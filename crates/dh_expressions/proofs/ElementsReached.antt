@@ -1,7 +1,7 @@
 -- Reads and writes at one path. A probe tells the fault that the program has there. A read that was given before
 -- means what its source means; another is done, since the guard of its leader holds, and gives what is there.
-use Rattle.std.proofs.Common.{◌≡◌, ℕ, zero, suc, ◌+◌, ◌-◌, ◌^◌, ◌<◌, ◌≤◌, ◌⊎◌, inl, inr, ⊎_elim, Bool, true, false, List, [], ◌∷◌, ◌++◌, Some, None, refl, sym, ap, ◌∙◌, subst, arith, length, drop, append_assoc}
-use Rattle.std.specs.Prelude.{if◌then◌else◌, min, slice_get, unsigned_abs, Option, ℤ}
+use Rattle.std.proofs.Common.{◌≡◌, ℕ, ◌^◌, ◌<◌, Bool, true, false, List, [], ◌∷◌, ◌++◌, Some, None, refl, sym, ap, ◌∙◌, subst, arith, length, drop, append_assoc}
+use Rattle.std.specs.Prelude.{if◌then◌else◌, slice_get, unsigned_abs, Option, ℤ}
 use Rattle.std.proofs.lemmas.List.{append-nil}
 use Rattle.dh_base.specs.declared.outcomes.FaultKind.{FaultKind}
 use Rattle.dh_base.specs.declared.outcomes.FaultKind.TheVariants.{OutOfRange}
@@ -12,18 +12,15 @@ use Rattle.dh_value.specs.Words.{with_bits}
 use Rattle.dh_tree.specs.declared.tables.MemEntry.{MemEntry}
 use Rattle.dh_tree.specs.declared.trees.expressions.Ref.{Ref}
 use Rattle.dh_tree.specs.Elements.{Spot, dims_at, spot_in_bank}
-use Rattle.dh_tree.specs.Indices.{form_of}
 use Rattle.dh_tree.specs.PlainTrees as plain
 use Rattle.dh_tree.specs.Seen.{program_seen}
-use Rattle.dh_meaning.specs.Core.{CoreTerm, CoreTerms, Reach, Target, by_indices, by_row, read}
-use Rattle.dh_meaning.specs.Effects.{Event, bits_at, is_row, kind_in, read_made, spot_by_indices, spot_by_row, spot_reached, value_of, values_of, write_made}
-use Rattle.dh_meaning.specs.Effects as meaning
+use Rattle.dh_meaning.specs.Core.{CoreTerm, CoreTerms, Target, by_indices, by_row, read}
+use Rattle.dh_meaning.specs.Effects.{bits_at, is_row, kind_in, read_made, spot_by_indices, spot_by_row, spot_reached, value_of, write_made}
 use Rattle.dh_meaning.specs.Paths.{Path}
-use Rattle.dh_plan.specs.declared.operations.Operation.{Operation}
 use Rattle.dh_plan.specs.declared.operations.OperationForm.{OperationForm}
-use Rattle.dh_plan.specs.declared.operations.OperationForm.TheVariants.{Probe, Read, Write}
+use Rattle.dh_plan.specs.declared.operations.OperationForm.TheVariants.{Probe, Write}
 use Rattle.dh_plan.specs.declared.operations.Reach as plans
-use Rattle.dh_plan.specs.Blocks.{BlockEvent, fails, puts, StepStart, block_events, fails_outside, form_events, form_word, guarded, in_memories, is_on, operation_events, puts_inside, spot_in_row, spot_of_reach}
+use Rattle.dh_plan.specs.Blocks.{BlockEvent, fails, puts, block_events, fails_outside, form_events, guarded, is_on, puts_inside, spot_in_row, spot_of_reach}
 use Rattle.dh_expressions.specs.declared.accesses.Accesses.{Accesses}
 use Rattle.dh_expressions.specs.declared.accesses.Touched.{Touched}
 use Rattle.dh_expressions.specs.declared.copies.AccessAt.{AccessAt}
@@ -31,18 +28,18 @@ use Rattle.dh_expressions.specs.declared.drafts.Draft.{Draft}
 use Rattle.dh_expressions.specs.declared.elements.Aim.{Aim}
 use Rattle.dh_expressions.specs.declared.scenes.Lane.{Lane}
 use Rattle.dh_expressions.specs.declared.scenes.Scene.{Scene}
-use Rattle.dh_expressions.specs.Copying.{AreNone, DoneBy, IsCopy}
-use Rattle.dh_expressions.specs.Drafted.{Begun, Extends, Fits, Pushes, Step, Tale, failed, fails_to_hold, fault_told, form_shown, holds, operation_shown, put, shown, tale, told, told_block}
-use Rattle.dh_expressions.specs.Evaluated.{Evaluates, IsDone, IsSited, Knows, NamesSmallBank, Reads, SourceMeans, View, begun_of, lane_guard, lane_path, numbers_shown, source_at}
-use Rattle.dh_expressions.specs.Noted.{Notes, copied_in, copied_of, copy_or_alone, fault_in, fault_of_touched, given_by, given_in, touched_in}
+use Rattle.dh_expressions.specs.Copying.{AreNone, IsCopy}
+use Rattle.dh_expressions.specs.Drafted.{Begun, Extends, Fits, Pushes, Step, Tale, fails_to_hold, fault_told, form_shown, holds, put, shown, tale, told, told_block}
+use Rattle.dh_expressions.specs.Evaluated.{IsSited, Knows, NamesSmallBank, SourceMeans, View, begun_of, lane_guard, lane_path, numbers_shown, source_at}
+use Rattle.dh_expressions.specs.Noted.{Notes, copied_in, copied_of, copy_or_alone, fault_in, fault_of_touched, given_by, touched_in}
 use Rattle.dh_expressions.specs.Numbers.{narrowed}
 use Rattle.dh_expressions.specs.ReachedBanks.{bank_by}
-use Rattle.dh_expressions.specs.Reaching.{AimsAt, Finds, FormHasTarget, IsAimed, IsFairRead, IsRead, ReadsElement, RowIs, Tells, one_bank, reach_at, reach_told}
+use Rattle.dh_expressions.specs.Reaching.{AimsAt, Finds, FormHasTarget, IsAimed, IsRead, ReadsElement, RowIs, Tells, reach_at, reach_told}
 use Rattle.dh_expressions.specs.Standings.{IsTouched, Standing, standing_at}
 use Rattle.dh_expressions.specs.Touching.{IsNew, TouchesAt}
 use Rattle.dh_expressions.proofs.AccessesKept.{noted_knows, touched_knows}
 use Rattle.dh_expressions.proofs.ListPlaces.{place_within, some_same, there}
-use Rattle.dh_expressions.proofs.Pushing.{begun_later, extends_again, extends_self, fits_before, pushed_events, pushed_extends, pushed_longer, pushed_there}
+use Rattle.dh_expressions.proofs.Pushing.{begun_later, extends_again, extends_self, fits_before, pushed_events, pushed_extends, pushed_there}
 
 -- Tales of operations.
 

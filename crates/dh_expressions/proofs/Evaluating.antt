@@ -1,6 +1,6 @@
 -- Parts of a block put together. A step that fits all operations fits those of each part, so what was stated of a
 -- part holds of the whole; tales come one after the other.
-use Rattle.std.proofs.Common.{◌≡◌, ℕ, suc, ◌+◌, ◌-◌, ◌<◌, ◌^◌, drop, get_or, map, Bool, true, false, if◌then◌else◌, List, [], ◌∷◌, ◌++◌, Some, None, refl, sym, ap, ◌∙◌, subst, arith, length, append_assoc}
+use Rattle.std.proofs.Common.{◌≡◌, ℕ, suc, ◌+◌, ◌-◌, ◌<◌, ◌^◌, drop, get_or, map, Bool, true, false, if◌then◌else◌, List, [], ◌∷◌, ◌++◌, Some, refl, sym, ap, ◌∙◌, subst, arith, length, append_assoc}
 use Rattle.std.specs.Prelude.{Option, ℤ, pos, min, Result, Ok, is_ok}
 use Rattle.dh_base.specs.declared.lists.NoMemory.{NoMemory}
 use Rattle.std.proofs.Math.Seq.{drop-cons}
@@ -21,7 +21,7 @@ use Rattle.dh_tree.specs.declared.trees.expressions.Expr.{Expr}
 use Rattle.dh_tree.specs.declared.trees.expressions.Ref.{Ref}
 use Rattle.dh_meaning.specs.AccessNumbers.{term_accesses, terms_accesses}
 use Rattle.dh_meaning.specs.Bindings.{kind_found, kind_or_first}
-use Rattle.dh_meaning.specs.Core.{CoreTerm, Reach, Target, binary, by_indices, by_row, read}
+use Rattle.dh_meaning.specs.Core.{CoreTerm, Target, binary, by_indices, by_row, read}
 use Rattle.dh_meaning.specs.CoreOf.{core_term, core_terms, entity_number, extended, memory_of, operation_of}
 use Rattle.dh_meaning.specs.Effects as meaning
 use Rattle.dh_meaning.specs.Effects.{Event, Variables, bits_of, read_made, reads, writes, faults, spot_reached, term_events, value_of}
@@ -33,9 +33,9 @@ use Rattle.dh_expressions.specs.declared.scenes.Lane.{Lane}
 use Rattle.dh_expressions.specs.declared.scenes.Scene.{Scene}
 use Rattle.dh_expressions.specs.declared.elements.Aim.{Aim}
 use Rattle.dh_expressions.specs.declared.terms.Valued.{Valued}
-use Rattle.dh_expressions.specs.Drafted.{Begun, Computes, Extends, Fits, Gives, Step, Tale, failed, put, holds, shown, tale, told}
+use Rattle.dh_expressions.specs.Drafted.{Begun, Computes, Fits, Gives, Step, Tale, failed, put, shown, tale, told}
 use Rattle.dh_expressions.specs.Shown.{applied_shown, converted_shown, extended_shown, is_kept, kind_written}
-use Rattle.dh_expressions.specs.Evaluated.{AimsByIndices, AimsByRow, Evaluates, EvaluatesAll, EvaluatesIndices, EvaluatesTerm, Fair, FairAll, GivesWhere, IsDone, IsKept, IsSited, Knows, Sees, SeesAll, ShowsVariable, View, begun_of, known_in, lane_guard, lane_path, numbers_shown, term_told, term_value, terms_told, terms_values}
+use Rattle.dh_expressions.specs.Evaluated.{AimsByIndices, AimsByRow, Evaluates, EvaluatesAll, EvaluatesIndices, EvaluatesTerm, Fair, FairAll, IsDone, IsSited, Knows, Sees, SeesAll, ShowsVariable, View, begun_of, known_in, lane_guard, lane_path, numbers_shown, term_told, term_value, terms_told, terms_values}
 use Rattle.dh_expressions.specs.Reaching.{AimsAt, IsFairRead, IsRead, ReadsAt, ReadsElement, ReadsNext, RowIs, reach_at}
 use Rattle.dh_expressions.proofs.Pushing.{begun_later, extends_again, extends_self, fits_before, gives}
 

@@ -1,10 +1,9 @@
 -- What an iterator holds. Its value is the start, which is its lower end and the copy, and the turn times the
 -- factor; all are taken modulo 2^width of the kind, so that the start may first be taken modulo 2^64.
-use Rattle.std.proofs.Common.{◌≡◌, ℕ, ◌+◌, ◌-◌, ◌*◌, ◌%◌, ◌^◌, ◌<◌, ◌≤◌, pos, refl, sym, ap, ◌∙◌, subst, arith, zero, suc, false}
+use Rattle.std.proofs.Common.{◌≡◌, ℕ, ◌+◌, ◌-◌, ◌*◌, ◌%◌, ◌^◌, ◌<◌, ◌≤◌, pos, sym, ap, ◌∙◌, subst, arith, zero, suc, false}
 use Rattle.std.specs.Prelude.{slice_index}
 use Rattle.std.proofs.Math.Nat.{add-mod-mod, div-zero}
 use Rattle.dh_value.specs.declared.kinds.Kind.{Kind}
-use Rattle.dh_value.specs.declared.kinds.Kind.TheVariants.{Unsigned}
 use Rattle.dh_value.specs.declared.operators.Op.TheVariants.{Add}
 use Rattle.dh_value.specs.declared.words.Word.{Word}
 use Rattle.dh_value.specs.Words.{IsInteger, IsKind, value_of, width_of, with_bits, word_of}
@@ -14,7 +13,6 @@ use Rattle.dh_value.proofs.Values.{integer_width}
 use Rattle.dh_tree.specs.declared.trees.counters.Counter.{Counter}
 use Rattle.dh_meaning.specs.Effects.{bits_of}
 use Rattle.dh_meaning.specs.Phases.{turn_count}
-use Rattle.dh_plan.specs.Blocks.{kind_at}
 use Rattle.dh_code.specs.declared.places.Held.{Held}
 use Rattle.dh_expressions.specs.declared.drafts.Draft.{Draft}
 use Rattle.dh_expressions.specs.declared.scenes.Lane.{Lane}

@@ -1,5 +1,5 @@
 -- Elements of lists by their places: with one more behind, and with one changed.
-use Rattle.std.proofs.Common.{◌≡◌, ℕ, zero, suc, ◌+◌, ◌<◌, ◌≤◌, ◌⊎◌, inl, inr, List, Some, None, refl, sym, ap, ◌∙◌, subst, arith, length}
+use Rattle.std.proofs.Common.{◌≡◌, ℕ, zero, suc, ◌<◌, ◌⊎◌, inl, inr, List, Some, None, refl, sym, ap, arith, length}
 use Rattle.std.specs.Prelude.{[], ◌∷◌, ◌++◌, slice_get, slice_set, Option}
 
 abbrev some_or : {A : Type 0} → A → Option A → A

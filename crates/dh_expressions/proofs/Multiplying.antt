@@ -1,7 +1,6 @@
 -- Words of an integer kind as numbers modulo 2^width: a shift multiplies the number, and a sum adds both.
-use Rattle.std.proofs.Common.{◌≡◌, ℕ, zero, suc, ◌+◌, ◌*◌, ◌%◌, ◌/◌, ◌^◌, ◌<◌, ◌≤◌, Bool, true, false, Some, None, pos, refl, sym, ap, ◌∙◌, subst, arith}
+use Rattle.std.proofs.Common.{◌≡◌, ℕ, zero, suc, ◌+◌, ◌*◌, ◌%◌, ◌/◌, ◌^◌, ◌<◌, ◌≤◌, Some, None, pos, refl, sym, ap, ◌∙◌, subst, arith}
 use Rattle.std.specs.Prelude.{Option}
-use Rattle.std.proofs.lemmas.Bool.{eqb-true}
 use Rattle.std.proofs.lemmas.Nat.{mod-mul-add, mul-mod_first, pow_pos}
 use Rattle.std.proofs.Math.Nat.{mod-add-mod, add-mod-mod, mod-add-div, mod-eq_of_lt, mod-lt}
 use Rattle.dh_value.specs.declared.kinds.Kind.{Kind}
@@ -14,8 +13,8 @@ use Rattle.dh_value.proofs.Masks.{cut_first, half}
 use Rattle.dh_value.proofs.Residues.{residue_is}
 use Rattle.dh_value.proofs.Values.{above_value, integer_width, shl_bits, sum_bits}
 use Rattle.dh_expressions.specs.declared.drafts.Draft.{Draft}
-use Rattle.dh_expressions.specs.Drafted.{Computes, Step, shown}
-use Rattle.dh_expressions.specs.Multiples.{AddsBit, Multiplies, ShowsNumber, ShowsSum, SumSoFar, Sums}
+use Rattle.dh_expressions.specs.Drafted.{Computes, shown}
+use Rattle.dh_expressions.specs.Multiples.{Multiplies, ShowsNumber, ShowsSum, SumSoFar, Sums}
 use Rattle.dh_expressions.proofs.Pushing.{begun_later, extends_again, extends_self, fits_before}
 
 integers_alike : (k : Kind) → IsInteger k → AreIntegers k k

@@ -1,6 +1,6 @@
 -- One operation more. A word that solves all equations solves those of the operations in front, so whatever was
 -- stated of them stays; and the equation of the new operation says what it gives.
-use Rattle.std.proofs.Common.{◌≡◌, ℕ, zero, suc, ◌+◌, ◌<◌, ◌≤◌, true, List, Some, None, refl, sym, ap, ◌∙◌, subst, arith, length, drop}
+use Rattle.std.proofs.Common.{◌≡◌, ℕ, zero, suc, ◌+◌, List, Some, None, refl, sym, ap, ◌∙◌, subst, arith, length, drop}
 use Rattle.std.specs.Prelude.{[], ◌∷◌, ◌++◌, slice_get, Option}
 use Rattle.std.proofs.lemmas.List.{drop-append-le, length-append, append-nil}
 use Rattle.dh_base.specs.declared.outcomes.FaultKind.{FaultKind}
@@ -11,7 +11,7 @@ use Rattle.dh_plan.specs.declared.operations.OperationForm.{OperationForm}
 use Rattle.dh_plan.specs.Blocks.{StepStart, BlockEvent, block_events, form_events}
 use Rattle.dh_plan.proofs.Appends.{events_behind}
 use Rattle.dh_expressions.specs.declared.drafts.Draft.{Draft}
-use Rattle.dh_expressions.specs.Drafted.{Step, shown, form_shown, Fits, Begun, Tale, tale, told_block, Extends, Pushes, Computes, Gives}
+use Rattle.dh_expressions.specs.Drafted.{Step, shown, form_shown, Fits, Begun, told_block, Extends, Pushes, Computes, Gives}
 
 pub in_front : {A : Type 0} (xs ys : List A) (i : ℕ) (y : A) → slice_get xs i ≡ Some y → slice_get (xs ++ ys) i ≡ Some y
 in_front [] ys i y e = absurd (cc)

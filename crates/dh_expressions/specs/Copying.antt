@@ -1,8 +1,7 @@
 -- The copies of an access. `leader` is for each path the first one with its key, `bank` the bank that is reached
 -- there, and `guards` are those of the paths.
 use Rattle.std.specs.Prelude.{◌≡◌, ◌⊎◌, ℕ, zero, suc, ◌+◌, ◌-◌, ◌<◌, ◌^◌, ◌==◌, ◌&&◌, ◌||◌, min, Bool, if◌then◌else◌, List, [], ◌∷◌, ◌++◌, length, slice_get, slice_index, slice_set, Option, Some, None}
-use Rattle.dh_tree.specs.Indices.{form_of}
-use Rattle.dh_tree.specs.PlainTrees.{Term, TermForm}
+use Rattle.dh_tree.specs.PlainTrees.{TermForm}
 use Rattle.dh_tree.specs.Seen.{program_seen}
 use Rattle.dh_meaning.specs.Bindings.{bindings_of}
 use Rattle.dh_meets.specs.Charges.{element_depends}

@@ -1,12 +1,12 @@
 -- Which bank an access reaches at a path, told by the first turn of each loop.
-use Rattle.std.specs.Prelude.{◌≡◌, ℕ, ◌+◌, ◌-◌, ◌*◌, ◌%◌, ◌^◌, ◌==◌, min, if◌then◌else◌, List, [], ◌∷◌, map, slice_get, Option, Some, None, ℤ, pos, ◌+ℤ◌, unsigned_abs}
+use Rattle.std.specs.Prelude.{◌≡◌, ℕ, ◌+◌, ◌-◌, ◌*◌, ◌%◌, ◌^◌, min, if◌then◌else◌, List, [], ◌∷◌, map, slice_get, Option, Some, None, pos, ◌+ℤ◌, unsigned_abs}
 use Rattle.dh_tree.specs.declared.tables.Dim.{Dim}
 use Rattle.dh_tree.specs.declared.trees.counters.Counter.{Counter}
 use Rattle.dh_tree.specs.Counters.{counters_of}
 use Rattle.dh_tree.specs.Elements.{bank_of, dims_at}
 use Rattle.dh_tree.specs.Indices.{IndexKind, constant, iterator, dynamic, index_kind}
 use Rattle.dh_tree.specs.Memories.{same_entity, table_of}
-use Rattle.dh_tree.specs.PlainTrees.{Term, term, TermForm, number, truth_value, named, accessed, in_bank, applied, converted, Terms, no_terms, term_then, Program}
+use Rattle.dh_tree.specs.PlainTrees.{Term, term, TermForm, accessed, in_bank, Terms, no_terms, term_then, Program}
 use Rattle.dh_tree.specs.Seen.{program_seen}
 use Rattle.dh_expressions.specs.declared.banks.Span.{Span}
 use Rattle.dh_expressions.specs.declared.paths.Level.{Level}

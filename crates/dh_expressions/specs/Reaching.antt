@@ -1,5 +1,5 @@
 -- Reads and writes of elements at one path. What a read gives is what the program reads, and a probe tells its fault.
-use Rattle.std.specs.Prelude.{◌≡◌, ℕ, ◌+◌, ◌-◌, ◌<◌, ◌^◌, min, Bool as Truth, true, false, List, [], ◌∷◌, ◌++◌, slice_get, Option, Some, None, ℤ}
+use Rattle.std.specs.Prelude.{◌≡◌, ℕ, ◌+◌, ◌-◌, ◌<◌, ◌^◌, min, true, false, List, [], ◌∷◌, ◌++◌, Option, Some, None, ℤ}
 use Rattle.dh_base.specs.declared.places.Place.{Place}
 use Rattle.dh_value.specs.Words as words
 use Rattle.dh_tree.specs.declared.trees.expressions.Ref.{Ref}

@@ -7,9 +7,7 @@ use Rattle.dh_value.specs.declared.operators.Op.{Op}
 use Rattle.dh_value.specs.declared.operators.Op.TheVariants.{Eq}
 use Rattle.dh_value.specs.Words.{value_of, with_bits, word_of}
 use Rattle.dh_value.specs.Operations.{binary_of}
-use Rattle.dh_tree.specs.declared.trees.expressions.Expr.{Expr}
 use Rattle.dh_tree.specs.PlainTrees as plain
-use Rattle.dh_tree.specs.Seen.{term_seen}
 use Rattle.dh_meaning.specs.Bindings.{kind_or_first}
 use Rattle.dh_code.specs.declared.places.Held.{Held}
 use Rattle.dh_code.specs.Extended.{extension_of}

@@ -1,7 +1,7 @@
 -- An access gets its operations: its fault is named, and its copies are made.
-use Rattle.std.specs.Prelude.{◌≡◌, ◌⊎◌, ℕ, ◌<◌, ◌^◌, Bool, List, [], length, Option, Some}
+use Rattle.std.specs.Prelude.{◌≡◌, ◌⊎◌, ℕ, ◌<◌, ◌^◌, Bool, List, [], length, Some}
 use Rattle.dh_tree.specs.Indices.{form_of}
-use Rattle.dh_tree.specs.PlainTrees.{Term, TermForm}
+use Rattle.dh_tree.specs.PlainTrees.{Term}
 use Rattle.dh_expressions.specs.declared.accesses.Accesses.{Accesses}
 use Rattle.dh_expressions.specs.declared.accesses.Touched.{Touched}
 use Rattle.dh_expressions.specs.declared.copies.AccessAt.{AccessAt}
@@ -10,7 +10,7 @@ use Rattle.dh_expressions.specs.declared.scenes.Around.{Around}
 use Rattle.dh_expressions.specs.declared.scenes.Scene.{Scene}
 use Rattle.dh_expressions.specs.Copying.{AreCopies, AreNone, HasScopes}
 use Rattle.dh_expressions.specs.Drafted.{Begun, Extends, Fits, Step, tale}
-use Rattle.dh_expressions.specs.Noted.{given_in, touched_in}
+use Rattle.dh_expressions.specs.Noted.{touched_in}
 use Rattle.dh_expressions.specs.Standings.{IsTouched, Standing, standing_at}
 use Rattle.dh_expressions.specs.Reaching.{place_written}
 

@@ -1,8 +1,6 @@
 //! Which bank an access reaches at a path, told by the first turn of each loop. An access by
-//! indices tells it
-//! by each dimension, whose index is a literal or an iterator with a literal added where there is
-//! more than one
-//! bank; an access of a row names its bank.
+//! indices tells it by each dimension, whose index is a literal or an iterator with a literal
+//! added where there is more than one bank; an access of a row names its bank.
 
 ghost use Rattle.std.specs.Prelude.{◌≡◌, ◌%◌, ◌<◌, ◌-◌, ◌^◌, [], Some, min, pos, ◌+ℤ◌, unsigned_abs, map, slice_get, IfOk, OnOk};
 ghost use Rattle.dh_tree.specs.Counters.{counters_of};

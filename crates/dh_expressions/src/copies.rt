@@ -1,8 +1,7 @@
 //! The copies of an access: which of them are one read or write, which bank each reaches, and
-//! where it stands among
-//! those of its access there. Copies of a read with one key are one: the first path with this key
-//! leads, and the
-//! read is done where it is done at one of its paths. A write is done at each of its paths.
+//! where it stands among those of its access there. Copies of a read with one key are one: the
+//! first path with this key leads, and the read is done where it is done at one of its paths. A
+//! write is done at each of its paths.
 
 ghost use Rattle.std.specs.Prelude.{◌≡◌, length, IfOk, OnOk};
 ghost use Rattle.dh_tree.specs.Seen.{form_seen};

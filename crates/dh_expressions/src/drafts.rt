@@ -1,6 +1,5 @@
 //! The operations of a plan, as they are put down: one list for all blocks, so that the number of
-//! an operation is
-//! its place.
+//! an operation is its place.
 
 ghost use Rattle.std.specs.Prelude.{◌≡◌, None, IfOk, if◌then◌else◌};
 ghost use Rattle.dh_value.specs.Operations.{binary_of, is_true};

@@ -1,6 +1,6 @@
 //! Reads and writes of elements at one path: a probe, which has the fault of an access that is
-//! out of range, and
-//! behind it the read or write. A read that an earlier path or access has made is found again.
+//! out of range, and behind it the read or write. A read that an earlier path or access has made
+//! is found again.
 
 ghost use Rattle.std.specs.Prelude.{◌≡◌, length, slice_get, IfOk, OnOk};
 ghost use Rattle.dh_plan.specs.declared.operations.OperationForm.TheVariants.{Probe, Write};
@@ -74,8 +74,7 @@ fn push_probe(
 }
 
 /// What a read gives that was made already: by the first path with its key, or at this path by
-/// the access that it
-/// shares.
+/// the access that it shares.
 fn made_before(
     scene: &Scene<'_>,
     accesses: &Accesses,

@@ -1,6 +1,5 @@
 //! What iterators hold: copy c of turn t has the value `low + t * factor + c`. The turn is read
-//! off the loop's
-//! counter. No multiplier is used for it: a multiple is a sum of shifts.
+//! off the loop's counter. No multiplier is used for it: a multiple is a sum of shifts.
 
 ghost use Rattle.std.specs.Prelude.{◌≡◌, ◌<◌, ◌≤◌, ◌/◌, ◌%◌, ◌^◌, true, false, IfOk};
 ghost use Rattle.dh_expressions.specs.Multiples.{AddsBit, IsCounterWidth, Multiplies, Sums, width_told};

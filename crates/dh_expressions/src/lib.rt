@@ -1,14 +1,10 @@
 //! Operations of a plan from expressions, at one path of copies at a time: constants, registers,
-//! operators, and
-//! reads and writes of elements with a probe before each. Copies of a read that have one key are
-//! one read, and so
-//! are equal reads of one block. Takes a typed program, the registers of its variables, and of
-//! each access the
-//! earlier read that it shares; gives operations in one list for all blocks. Stands on `dh_plan`,
-//! `dh_code`,
-//! `dh_events`, `dh_shape` and below. The rule: docs/LANGUAGE.md, "Copies"; after Nigam and
-//! others, PLDI 2020.
-//! Linear in the operations that it makes.
+//! operators, and reads and writes of elements with a probe before each. Copies of a read that
+//! have one key are one read, and so are equal reads of one block. Takes a typed program, the
+//! registers of its variables, and of each access the earlier read that it shares; gives
+//! operations in one list for all blocks. Stands on `dh_plan`, `dh_code`, `dh_events`, `dh_shape`
+//! and below. The rule: docs/LANGUAGE.md, "Copies"; after Nigam and others, PLDI 2020. Linear in
+//! the operations that it makes.
 #![tactic(auto)]
 
 mod accesses;
@@ -34,5 +30,6 @@ pub use kinds::{entity_of, extension, is_read, is_same, kind_found, literal, nar
 pub use paths::{Level, Paths, copy_at, inside, outside, rank_at};
 pub use scenes::{Around, Lane, Scene, guard_at};
 pub use terms::{
-    Valued, memory_of, push_held, push_indices, push_row, push_shown, push_term, slot_at,
+    Valued, memory_of, push_converted, push_extended, push_held, push_indices, push_operation,
+    push_row, push_shown, push_term, push_variable, slot_at,
 };

@@ -1,6 +1,5 @@
 //! The paths inside loops that stand one in the other: a path goes by its number among all of
-//! them in ascending
-//! order, and no list of paths is ever made.
+//! them in ascending order, and no list of paths is ever made.
 
 ghost use Rattle.std.specs.Prelude.{◌≡◌, ◌*◌, ◌-◌, ◌^◌, [], min, map, IfOk, nat_le, if◌then◌else◌};
 ghost use Rattle.dh_expressions.specs.Levels.{copy_number, counted, last_number, leader_number, levels_inside, part_number, rank_number, spread_level};

@@ -51,8 +51,7 @@ pub fn slot_at(held: Held, lane: &Lane<'_>) -> u64
 }
 
 /// Adds what the variable of a register holds: the value that it was given in this step, or else
-/// what the register
-/// held as the step began.
+/// what the register held as the step began.
 pub fn push_shown(
     draft: &mut Draft,
     current: &[Option<u64>],
@@ -140,7 +139,7 @@ pub fn push_held(draft: &mut Draft, from: &Expr, value: u64, to: Kind) -> Result
 }
 
 /// Adds an operator on the values of two expressions.
-fn push_operation(
+pub fn push_operation(
     draft: &mut Draft,
     op: Op,
     left: &Expr,

@@ -5,7 +5,7 @@ use Rattle.dh_tree.specs.Indices.{index_kind}
 use Rattle.dh_tree.specs.Seen.{form_seen, program_seen}
 use Rattle.dh_expressions.specs.declared.banks.Span.{Span}
 use Rattle.dh_expressions.specs.ReachedBanks.{IsSpan}
-use Rattle.dh_expressions.proofs.BankSpans.{span_constant, span_dynamic, span_iterator, span_lost}
+use Rattle.dh_expressions.proofs.BankSpans.{span_constant, span_dynamic, span_iterator}
 use Rattle.dh_expressions.proofs.banks.span_of.Goals as goal
 
 pub returns-in-Constant : goal.returns-in-Constant

@@ -1,7 +1,7 @@
-use Rattle.std.proofs.Common.{◌≡◌, ℕ, ◌+◌, ◌≤◌, length, subst, List, arith}
+use Rattle.std.proofs.Common.{◌≡◌, ℕ, ◌≤◌, length, subst, List, arith}
 use Rattle.dh_expressions.specs.declared.copies.AccessAt.{AccessAt}
 use Rattle.dh_expressions.specs.Copying.{Forgets, banks_by, leaders_by}
-use Rattle.dh_expressions.proofs.CopiesMade.{copies_first, copies_made, copies_more}
+use Rattle.dh_expressions.proofs.CopiesMade.{copies_made, copies_more}
 use Rattle.dh_expressions.proofs.copies.copies_by.Goals as goal
 
 pub loop-number-preserved : goal.loop-number-preserved

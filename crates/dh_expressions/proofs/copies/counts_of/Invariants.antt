@@ -1,5 +1,4 @@
 -- The loops so far are flagged.
-use Rattle.std.proofs.Common.{◌≡◌, ◌<◌, ℕ, length}
 use Rattle.dh_tree.specs.Seen.{form_seen}
 use Rattle.dh_expressions.specs.Copying.{Counts}
 use Rattle.dh_expressions.proofs.copies.counts_of.Given as goal

@@ -1,4 +1,4 @@
-use Rattle.std.proofs.Common.{◌≡◌, ℕ, sym, subst, Some}
+use Rattle.std.proofs.Common.{ℕ, sym, subst, Some}
 use Rattle.std.specs.Prelude.{Option}
 use Rattle.dh_expressions.specs.Copying.{JoinsGuards}
 use Rattle.dh_expressions.proofs.CopiesMade.{either_made, first_always, second_always}

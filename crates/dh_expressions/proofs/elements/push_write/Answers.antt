@@ -4,7 +4,6 @@ use Rattle.dh_tree.specs.Seen.{form_seen}
 use Rattle.dh_plan.specs.declared.operations.OperationForm.TheVariants.{Write}
 use Rattle.dh_plan.specs.declared.operations.Reach.{Reach}
 use Rattle.dh_expressions.specs.Drafted.{Pushes}
-use Rattle.dh_expressions.specs.Evaluated.{lane_guard}
 use Rattle.dh_expressions.specs.Reaching.{reach_told}
 use Rattle.dh_expressions.proofs.ElementsReached.{write_made_at}
 use Rattle.dh_expressions.proofs.elements.push_write.Goals as goal

@@ -1,4 +1,4 @@
-use Rattle.std.proofs.Common.{◌≡◌, ◌+◌, ◌≤◌, ◌^◌, ◌%◌, ap, subst, ℕ, arith}
+use Rattle.std.proofs.Common.{◌+◌, ◌≤◌, ◌^◌, ◌%◌, ap, subst, ℕ}
 use Rattle.std.proofs.lemmas.Result.{IfOk-weaker}
 use Rattle.dh_expressions.specs.Drafted.{Computes}
 use Rattle.dh_expressions.specs.Shown.{register_shown}

@@ -1,4 +1,3 @@
-use Rattle.std.proofs.Common.{arith}
 use Rattle.std.proofs.lemmas.Result.{IfOk-weaker}
 use Rattle.dh_expressions.proofs.Multiplying.{amount_word, shifted_by, shifted_none}
 use Rattle.dh_expressions.proofs.iterators.push_shifted.Goals as goal

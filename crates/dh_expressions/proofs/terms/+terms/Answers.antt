@@ -5,10 +5,8 @@ use Rattle.dh_value.specs.Words.{IsKind, with_bits}
 use Rattle.dh_tree.specs.PlainTrees.{accessed}
 use Rattle.dh_tree.specs.Seen.{form_seen, term_seen, terms}
 use Rattle.dh_tree.proofs.SeenTerms.{access_is, number_is, truth_is, variable_is}
-use Rattle.dh_meaning.specs.Bindings.{kind_or_first}
 use Rattle.dh_meaning.specs.CoreOf.{entity_number}
 use Rattle.dh_meaning.specs.Effects.{bits_of}
-use Rattle.dh_code.specs.Extended.{extension_of}
 use Rattle.dh_code.proofs.FlattenedForms.{bank_form, binary_form, cast_form}
 use Rattle.dh_code.proofs.Ranges.{drop_past}
 use Rattle.dh_expressions.specs.Evaluated.{ShowsVariable}
