@@ -151,5 +151,23 @@ module _ (plan : PlainPlan) (t : Timing) (u : Uses) (registers : List ℕ) (memo
       ∙ all_both (is_on first us guard) _ on
       (all_both (own == m.clock) _ (eq-eqb own m.clock clock) (eq-eqb (bank_picked first us r.banks r.select) user.bank picked)))
 
+  -- a write that acts asks where writes are made
+  pub write_asks : (user : User) (guard : Option ℕ) (r : Reach) (value : ℕ) → Acts plan registers memories m.active user (record { guard = guard; form = Write r value }) r
+      → m.commits ≡ true → user_asks plan t words m user ≡ true
+  write_asks user guard r value a commits =
+      let first = first_in plan user.block in
+      let us = words user.block in
+      let vs = meant_by user.block in
+      let own = slice_index (clocks_in plan t user.block) user.place in
+      let o : Operation = record { guard = guard; form = Write r value } in
+      let same = takes_same _ _ _ _ _ _ _ _ (now.blocks user.block a.active) user.place o a.there (now.last commits user.block a.active user.place) in
+      let P = SameAt first us vs in
+      let on : is_on first us guard ≡ true = guard_same first us vs guard (all_left P (one_or_none guard) (value ∷ reach_takes r) same) ∙ a.on in
+      let picked : bank_picked first us r.banks r.select ≡ user.bank = picks_same first us vs r (all_right P (one_or_none guard) (value ∷ reach_takes r) same).1 ∙ a.picks in
+      all_both (is_among user.block m.active) _ (is_among_all user.block m.active a.active)
+      (ap (λ (x : Option Operation). operation_asks first us user.bank own m x) a.there
+      ∙ all_both (is_on first us guard) _ on
+      (all_both m.commits _ commits (eq-eqb (bank_picked first us r.banks r.select) user.bank picked)))
+
   pub asks_means : (user : User) → user_asks plan t words m user ≡ true → AsksMeans plan registers memories m user
   asks_means user e = let a = asking user e in record { operation = a.operation; reach = a.reach; acts = a.acts }

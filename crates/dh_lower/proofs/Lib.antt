@@ -9,3 +9,13 @@ pub mod PutsByPlace
 pub mod BanksSpread
 pub mod PortWrites
 pub mod OperationWrites
+pub mod StepsShown
+pub mod StepWrites
+pub mod FitsKept
+pub mod StoreNetMade
+pub mod StepsDoBlocks
+pub mod PlanSteps
+pub mod SilentPorts
+pub mod NetInStep
+pub mod NetSimulates
+pub mod StoreMakeable

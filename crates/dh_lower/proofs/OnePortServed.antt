@@ -28,7 +28,7 @@ module _ (plan : PlainPlan) (t : Timing) (words : (block : ℕ) → List Word) (
   one_later : (v : User) (vs : List User) → OneAsks (v ∷ vs) → OneAsks vs
   one_later v vs one a b x y = one a b (inr x) (inr y)
 
-  active_asks : (d : Driver) (v : User) → DrivesFor plan t words m p wires d v → is_active wires d ≡ asks v
+  pub active_asks : (d : Driver) (v : User) → DrivesFor plan t words m p wires d v → is_active wires d ≡ asks v
   active_asks d v h = active_as (slice_index wires d.enable) (asks v) h.enable
 
   -- an active driver has a user that asks

@@ -88,12 +88,12 @@ row_taken first us vs (Write x value) r e h =
 row_taken first us vs (Set register value) r e h = absurd (cc)
 
 -- lists of ports
-no_clashes : (wires : List ℕ) (dss : List (List Driver)) → ((q : ℕ) (ds : List Driver) → slice_get dss q ≡ Some ds → has_clash wires ds ≡ false) → has_clashes wires dss ≡ false
+pub no_clashes : (wires : List ℕ) (dss : List (List Driver)) → ((q : ℕ) (ds : List Driver) → slice_get dss q ≡ Some ds → has_clash wires ds ≡ false) → has_clashes wires dss ≡ false
 no_clashes wires [] h = refl
 no_clashes wires (ds ∷ dss) h =
     ap (λ (b : Bool). b || has_clashes wires dss) (h 0 ds refl) ∙ no_clashes wires dss (λ q es at. h (suc q) es at)
 
-no_strays : (wires : List ℕ) (dss : List (List Driver)) (ps : List Port)
+pub no_strays : (wires : List ℕ) (dss : List (List Driver)) (ps : List Port)
     → ((q : ℕ) (ds : List Driver) (p : Port) → slice_get dss q ≡ Some ds → slice_get ps q ≡ Some p → has_stray wires ds p.rows ≡ false) → has_strays wires dss ps ≡ false
 no_strays wires [] ps h = refl
 no_strays wires (ds ∷ dss) [] h = refl
@@ -120,7 +120,7 @@ module _ (plan : PlainPlan) (t : Timing) (u : Uses) (users : (port : ℕ) → Li
     pub row : slice_index wires d.row ≡ spot.row
     pub below : spot.row < p.rows
 
-  asked : (q : ℕ) (p : Port) (d : Driver) (v : User) → slice_get (ports_of plan.table) q ≡ Some p → HasUser v (users q) → user_asks plan t words m v ≡ true
+  pub asked : (q : ℕ) (p : Port) (d : Driver) (v : User) → slice_get (ports_of plan.table) q ≡ Some p → HasUser v (users q) → user_asks plan t words m v ≡ true
       → DrivesFor plan t words m p wires d v → Asked q p d v
   asked q p d v at user e drive =
       let own = asking plan t u registers memories held words m now v e in
@@ -155,7 +155,7 @@ module _ (plan : PlainPlan) (t : Timing) (u : Uses) (users : (port : ℕ) → Li
         below = subst (λ (n : ℕ). n < p.rows) spot_row (subst (λ (n : ℕ). unsigned_abs (value_of (word_at first vs lead.1.row)) < n) (sym bound.rows) number_is.below);
       }
 
-  port_at_place : (q : ℕ) (ds : List Driver) → slice_get dss q ≡ Some ds → (p : Port) × (slice_get (ports_of plan.table) q ≡ Some p)
+  pub port_at_place : (q : ℕ) (ds : List Driver) → slice_get dss q ≡ Some ds → (p : Port) × (slice_get (ports_of plan.table) q ≡ Some p)
   port_at_place q ds at =
       elim (slice_get_cases (ports_of plan.table) q).1 [
         | inl found ↦ (found.0, found.2)

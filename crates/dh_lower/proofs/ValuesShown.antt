@@ -62,7 +62,7 @@ clock_of_value first os clocks i o at =
     let place : first + i - first ≡ i = add-sub_cancel_left first i in
     ap (λ (k : ℕ). there_from (slice_get os k) (slice_index clocks k)) place ∙ ap (λ (x : Option Operation). there_from x (slice_index clocks i)) at
 
-there_later : (f : OperationForm) (clock : ℕ) → clock ≤ there_at f clock
+pub there_later : (f : OperationForm) (clock : ℕ) → clock ≤ there_at f clock
 there_later (Constant word) clock = omega arith
 there_later (Old register) clock = omega arith
 there_later (Compute op left right) clock = omega arith

@@ -7,3 +7,7 @@ pub mod StepFacts
 pub mod KeyedPuts
 pub mod StepPuts
 pub mod ClockLaws
+pub mod StepLaws
+pub mod FitsLaws
+pub mod ExampleNets
+pub mod MadeNets

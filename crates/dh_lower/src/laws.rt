@@ -8,10 +8,12 @@ ghost use Rattle.dh_plan.specs.LegalSchedules.{Timing};
 ghost use Rattle.dh_plan.specs.PlainPlans.{PlainPlan};
 ghost use Rattle.dh_tree.specs.declared.tables.MemEntry.{MemEntry};
 ghost use Rattle.dh_lower.specs.ClockLaws.{ClockWrites, ClocksKeepReads, StepPortsRise};
+ghost use Rattle.dh_lower.specs.FitsLaws.{ClocksKeepFits};
 ghost use Rattle.dh_lower.specs.KeyedPuts.{PutsCommute};
 ghost use Rattle.dh_lower.specs.LowerLaws.{PortsLookBack, ShowsAllAtLast, ShowsWhatIsThere, SpotsFollowPlaces};
 ghost use Rattle.dh_lower.specs.PortUsers.{User};
 ghost use Rattle.dh_lower.specs.StepFacts.{AskingUsersAct, OneUserActs};
+ghost use Rattle.dh_lower.specs.StepLaws.{ClocksWriteSteps, EndsAreShown, PortsNeedNoMemories};
 
 /// Wires that solve the equations of a block by what its ports hold show each value once it is there, and in the
 /// last clock all of them.
@@ -48,4 +50,23 @@ pub fn writes_come_by_ports()
         → StepPortsRise plan u users }
     ensures clock { (table : List MemEntry) (wires : List ℕ) (dss : List (List Driver)) (ps : List Port)
         → ClockWrites table wires dss ps }
+{}
+
+/// In the clock in which a step's writes are made the ports write those of its events; in others they
+/// write nothing, and no driver that writes is active.
+pub fn clocks_write_steps()
+    ensures { (plan : PlainPlan) (t : Timing) (u : Uses) (users : (port : ℕ) → List User)
+        → ClocksWriteSteps plan t u users }
+{}
+
+/// Wires that show all values of a step's blocks show its faults, writes and sets, though they look at
+/// ports and not at memories.
+pub fn step_ends_are_shown()
+    ensures ends { EndsAreShown }
+    ensures values { PortsNeedNoMemories }
+{}
+
+/// States of a valid net go on fitting its widths, from clock to clock, where memories fit.
+pub fn clocks_keep_fits()
+    ensures { ClocksKeepFits }
 {}

@@ -5,9 +5,11 @@
 //! Stands on `dh_plan` and `dh_net`. Nothing of the program stands on this crate yet.
 #![tactic(auto)]
 
+mod examples;
 mod laws;
 
+pub use examples::{a_store_has_its_net, a_store_is_played};
 pub use laws::{
-    clocks_keep_reads, ports_have_one_user, spots_follow_places, wires_show_values,
-    writes_come_by_ports,
+    clocks_keep_fits, clocks_keep_reads, clocks_write_steps, ports_have_one_user,
+    spots_follow_places, step_ends_are_shown, wires_show_values, writes_come_by_ports,
 };
