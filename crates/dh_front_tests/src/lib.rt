@@ -11,6 +11,8 @@ mod outside;
 #[cfg(test)]
 mod passes;
 #[cfg(test)]
+mod phase_lengths;
+#[cfg(test)]
 mod phasing;
 #[cfg(test)]
 mod texts;

@@ -1,0 +1,11 @@
+pub mod LiveTurns
+pub mod MetTurns
+pub mod SharedTold
+pub mod Zeros
+pub mod UndoneFacts
+pub mod HeldFacts
+pub mod TermLevels
+pub mod CommandLevels
+pub mod PhaseLines
+pub mod StraightCores
+pub mod PhaseWalking

@@ -1,0 +1,82 @@
+-- Levels of 0 behind others.
+use Rattle.std.proofs.Common.{◌≡◌, ℕ, zero, suc, ◌+◌, ◌≤◌, drop, List, [], ◌∷◌, ◌++◌, replicate, length, append-nil, append_assoc, refl, ap, sym, ◌∙◌, arith}
+use mathlib.Core.Path.{fun_ext}
+use Rattle.std.specs.Prelude.{slice_index, if◌then◌else◌, nat_lt}
+use Rattle.dh_lengths.specs.HeldLevels.{read_in, zeros}
+
+pub one_zero : (xs : List ℕ) → xs ++ 0 ∷ [] ≡ xs ++ zeros 1
+one_zero xs = refl
+
+pub no_zeros : (xs : List ℕ) → xs ≡ xs ++ zeros 0
+no_zeros xs = sym (append-nil xs)
+
+zeros_sum : (m n : ℕ) → zeros m ++ zeros n ≡ zeros (m + n)
+zeros_sum zero n = ap zeros (from_none n)
+  where
+    from_none : (n : ℕ) → n ≡ 0 + n
+    from_none n = omega arith
+zeros_sum (suc m) n = ap (λ l. 0 ∷ l) (zeros_sum m n) ∙ ap zeros (shift m n)
+  where
+    shift : (m n : ℕ) → suc (m + n) ≡ suc m + n
+    shift m n = omega arith
+
+pub more_zeros : (xs : List ℕ) (m n : ℕ) → (xs ++ zeros m) ++ zeros n ≡ xs ++ zeros (m + n)
+more_zeros xs m n = append_assoc xs (zeros m) (zeros n) ∙ ap (λ l. xs ++ l) (zeros_sum m n)
+
+pub next_zero : (xs : List ℕ) (m : ℕ) → (xs ++ zeros m) ++ zeros 1 ≡ xs ++ zeros (suc m)
+next_zero xs m = more_zeros xs m 1 ∙ ap (λ n. xs ++ zeros n) (more m)
+  where
+    more : (m : ℕ) → m + 1 ≡ suc m
+    more m = omega arith
+
+-- they are found where nothing is
+index_zeros : (n k : ℕ) → slice_index (zeros n) k ≡ 0
+index_zeros zero k = refl
+index_zeros (suc n) zero = refl
+index_zeros (suc n) (suc k) = index_zeros n k
+
+pub index_more : (xs : List ℕ) (n k : ℕ) → slice_index (xs ++ zeros n) k ≡ slice_index xs k
+index_more [] n k = index_zeros n k
+index_more (x ∷ xs) n zero = refl
+index_more (x ∷ xs) n (suc k) = index_more xs n k
+
+pub read_more : (xs : List ℕ) (n first : ℕ) → read_in (xs ++ zeros n) first ≡ read_in xs first
+read_more xs n first = fun_ext (λ k. ap (λ m. if nat_lt k first then 0 else m) (index_more xs n k))
+
+pub zeros_long : (xs : List ℕ) (n : ℕ) → length (xs ++ zeros n) ≡ length xs + n
+zeros_long [] n = many n
+  where
+    many : (n : ℕ) → length (zeros n) ≡ 0 + n
+    many zero = refl
+    many (suc n) = ap suc (many n) ∙ shift n
+      where
+        shift : (n : ℕ) → suc (0 + n) ≡ 0 + suc n
+        shift n = omega arith
+zeros_long (x ∷ xs) n = ap suc (zeros_long xs n) ∙ shift (length xs) n
+  where
+    shift : (m n : ℕ) → suc (m + n) ≡ suc m + n
+    shift m n = omega arith
+
+-- Loops.
+
+pub zero_turn : (xs ys all : List ℕ) (m n k : ℕ) → ys ≡ xs ++ zeros m → k ≡ m + n → xs ++ zeros k ≡ all → ys ++ zeros n ≡ all
+zero_turn xs ys all m n k more sum so = ap (λ l. l ++ zeros n) more ∙ (more_zeros xs m n ∙ (ap (λ j. xs ++ zeros j) (sym sum) ∙ so))
+
+pub three_zeros : (xs ys zs ws : List ℕ) (a b c : ℕ) → ys ≡ xs ++ zeros a → zs ≡ ys ++ zeros b → ws ≡ zs ++ zeros c → ws ≡ xs ++ zeros (a + (b + c))
+three_zeros xs ys zs ws a b c e f g =
+    g ∙ (ap (λ l. l ++ zeros c) (f ∙ (ap (λ l. l ++ zeros b) e ∙ more_zeros xs a b)) ∙ (more_zeros xs (a + b) c ∙ ap (λ n. xs ++ zeros n) (regroup a b c)))
+  where
+    regroup : (a b c : ℕ) → a + b + c ≡ a + (b + c)
+    regroup a b c = omega arith
+
+pub no_more : (xs ys : List ℕ) (k : ℕ) → k ≡ 0 → xs ++ zeros k ≡ ys → xs ≡ ys
+no_more xs ys k none so = sym (append-nil xs) ∙ (ap (λ n. xs ++ zeros n) (sym none) ∙ so)
+
+pub drop_past : {A : Type 0} (xs : List A) (i : ℕ) → length xs ≤ i → drop i xs ≡ []
+drop_past [] zero h = refl
+drop_past [] (suc i) h = refl
+drop_past (x ∷ xs) zero h = elim (never (length xs) h) [ ]
+  where
+    never : (n : ℕ) → suc n ≤ 0 → ⊥
+    never n e = omega (arith, e)
+drop_past (x ∷ xs) (suc i) h = drop_past xs i (omega (arith, h))

@@ -1,0 +1,7 @@
+use Rattle.std.proofs.Common.{◌≡◌, take}
+use Rattle.dh_events.specs.Tables.{numbered}
+use Rattle.dh_lengths.specs.Undone.{undone}
+use Rattle.dh_lengths.proofs.undoing.undo.Given as goal
+
+abbrev pub invariant-loop-i : goal.invariant-loop-i
+invariant-loop-i l = undone (take l.i l.log) (numbered l.variables.items) ≡ undone l.log (numbered l.fn.variables.items)

@@ -1,0 +1,134 @@
+-- What the code holds of the levels of a phase, and what each step makes of it.
+use Rattle.std.specs.Prelude.{◌≡◌, ℕ, ◌+◌, ◌≤◌, nat_lt, if◌then◌else◌, List, [], ◌∷◌, ◌++◌, length, map, replicate, slice_index, Option, option_map, Vec}
+use Rattle.std.specs.Global.{Global}
+use Rattle.dh_tree.specs.declared.trees.expressions.Expr.{Expr}
+use Rattle.dh_tree.specs.Seen.{term_seen, terms}
+use Rattle.dh_meaning.specs.AccessNumbers.{maybe_accesses, term_accesses, terms_accesses}
+use Rattle.dh_meaning.specs.Core.{Reach, CoreTerm}
+use Rattle.dh_meaning.specs.CoreOf.{Known, core_term, core_terms, entity_number, first_value, store_to}
+use Rattle.dh_meaning.specs.Levels.{Levels, Leveled, level_ground, read_leveled, term_leveled, terms_leveled, command_leveled, with_variables, with_value}
+use Rattle.dh_events.specs.Tables.{numbered}
+use Rattle.dh_lengths.specs.declared.held.Held.{Held}
+use Rattle.dh_lengths.specs.declared.undoing.Mark.{Mark}
+use Rattle.dh_lengths.specs.SharedReads.{told}
+use Rattle.dh_lengths.specs.Undone.{mark, undone}
+
+-- accesses that have level 0
+
+abbrev pub zeros : ℕ → List ℕ
+zeros n = replicate n 0
+
+abbrev pub AddsZeros : (old new : Vec ℕ Global) → ℕ → Type 0
+AddsZeros old new n = new.items ≡ old.items ++ zeros n
+
+-- What is held.
+
+-- the level of a read of the phase, 0 of others
+abbrev pub read_in : (reads : List ℕ) → (first number : ℕ) → ℕ
+read_in reads first number = if nat_lt number first then 0 else slice_index reads number
+
+abbrev pub variable_in : List ℕ → Option ℕ → ℕ
+variable_in variables entity = numbered variables (entity_number entity)
+
+abbrev pub levels_of : (reads : List ℕ) → (first most : ℕ) → (variables : List ℕ) → Levels
+levels_of reads first most variables = record { variables = numbered variables; reads = read_in reads first; most = most }
+
+abbrev pub levels_seen : Held → Levels
+levels_seen h = levels_of h.reads.items h.first h.most h.variables.items
+
+-- the accesses so far
+abbrev pub count : Held → ℕ
+count h = length h.reads.items
+
+-- no level is greater than the number of accesses so far
+pub record AreSmall (n : ℕ) (l : Levels) : Type 0 where
+  pub variables : (e : ℕ) → l.variables e ≤ n
+  pub reads : (k : ℕ) → l.reads k ≤ n
+  pub most : l.most ≤ n
+
+pub record IsSound (h : Held) : Type 0 where
+  pub first : h.first ≤ count h
+  pub small : AreSmall (count h) (levels_seen h)
+
+-- What a step makes of it.
+
+-- nothing but reads came
+pub record KeepsVariables (old new : Held) : Type 0 where
+  pub shares : new.shares.now ≡ old.shares.now
+  pub first : new.first ≡ old.first
+  pub variables : new.variables.items ≡ old.variables.items
+  pub log : new.log.items ≡ old.log.items
+
+-- a value of a level, behind so many accesses more
+pub record GivesLevel (old new : Held) (i : Leveled) (level n : ℕ) : Type 0 where
+  pub is : level ≡ i.level
+  pub seen : levels_seen new ≡ i.levels
+  pub sound : IsSound new
+  pub low : level ≤ count new
+  pub counted : count new ≡ count old + n
+  pub keeps : KeepsVariables old new
+
+-- what is told where levels are small
+abbrev pub Leveling : (old : Held) → (outer : ℕ) → (Known → Type 0) → Type 0
+Leveling old outer P = (known : Known) → IsSound old → outer ≤ count old → P known
+
+abbrev pub leveled : ℕ → Levels → Leveled
+leveled level levels = record { level = level; levels = levels }
+
+-- the next read, whose indices have a level
+abbrev pub ReadsNext : (old new : Held) → (outer indices level : ℕ) → Type 0
+ReadsNext old new outer indices level =
+    (r : Reach) → r.number ≡ count old → IsSound old → outer ≤ count old → indices ≤ count old
+    → GivesLevel old new (read_leveled (told old.shares.now) outer r (leveled indices (levels_seen old))) level 1
+
+abbrev pub LevelsTerm : (old new : Held) → (outer : ℕ) → Expr → (level : ℕ) → Type 0
+LevelsTerm old new outer e level =
+    Leveling old outer (λ known. GivesLevel old new (term_leveled (told old.shares.now) outer (core_term known (count old) (term_seen e)) (levels_seen old)) level (term_accesses (term_seen e)))
+
+abbrev pub LevelsTerms : (old new : Held) → (outer : ℕ) → List Expr → (level : ℕ) → Type 0
+LevelsTerms old new outer es level =
+    Leveling old outer (λ known. GivesLevel old new (terms_leveled (told old.shares.now) outer (core_terms known (count old) (terms (map term_seen es))) (levels_seen old)) level (terms_accesses (terms (map term_seen es))))
+
+-- what a `let` sets its variable to
+abbrev pub LevelsMaybe : (old new : Held) → (outer : ℕ) → Option Expr → (level : ℕ) → Type 0
+LevelsMaybe old new outer value level =
+    Leveling old outer (λ known. (declared : _)
+    → GivesLevel old new (term_leveled (told old.shares.now) outer (first_value known (count old) declared (option_map term_seen value)) (levels_seen old)) level (maybe_accesses (option_map term_seen value)))
+
+-- levels, behind so many accesses more
+pub record GivesLevels (old new : Held) (l : Levels) (n : ℕ) : Type 0 where
+  pub seen : levels_seen new ≡ l
+  pub sound : IsSound new
+  pub counted : count new ≡ count old + n
+  pub keeps : KeepsVariables old new
+
+-- a store
+abbrev pub LevelsStore : (old new : Held) → (outer : ℕ) → (target value : Expr) → Type 0
+LevelsStore old new outer target value =
+    Leveling old outer (λ known. GivesLevels old new (command_leveled (told old.shares.now) outer (store_to known (count old + term_accesses (term_seen value)) (term_seen target) (core_term known (count old) (term_seen value))) (levels_seen old)) (term_accesses (term_seen value) + term_accesses (term_seen target)))
+
+-- accesses of level 0 came
+pub record Skips (old new : Held) (n : ℕ) : Type 0 where
+  pub reads : new.reads.items ≡ old.reads.items ++ zeros n
+  pub most : new.most ≡ old.most
+  pub keeps : KeepsVariables old new
+
+abbrev pub SkipsStore : (old new : Held) → (target value : Expr) → Type 0
+SkipsStore old new target value = Skips old new (term_accesses (term_seen value) + term_accesses (term_seen target))
+
+-- a variable has a level
+pub record AssignsLevel (old new : Held) (entity : Option ℕ) (level : ℕ) : Type 0 where
+  pub seen : levels_seen new ≡ with_variables (levels_seen old) (with_value (levels_seen old).variables (entity_number entity) level)
+  pub reads : new.reads.items ≡ old.reads.items
+  pub shares : new.shares.now ≡ old.shares.now
+  pub first : new.first ≡ old.first
+  pub log : new.log.items ≡ old.log.items ++ mark (entity_number entity) (variable_in old.variables.items entity) ∷ []
+
+-- the phase is over
+pub record EndsPhase (old new : Held) : Type 0 where
+  pub reads : new.reads.items ≡ old.reads.items
+  pub shares : new.shares.now ≡ old.shares.now
+  pub first : new.first ≡ count old
+  pub most : new.most ≡ 0
+  pub variables : numbered new.variables.items ≡ undone old.log.items (numbered old.variables.items)
+  pub log : new.log.items ≡ []

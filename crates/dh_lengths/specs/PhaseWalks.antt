@@ -1,0 +1,171 @@
+-- The walk along the phases of a program, of which a straight one stays open while commands may join it.
+use Rattle.std.specs.Prelude.{◌≡◌, ℕ, ◌+◌, ◌≤◌, suc, min, Bool, true, false, List, [], ◌∷◌, ◌++◌, map, Option, option_map, Box}
+use Rattle.std.specs.Global.{Global}
+use Rattle.dh_tree.specs.declared.trees.commands.Command.{Command}
+use Rattle.dh_tree.specs.declared.trees.expressions.Expr.{Expr}
+use Rattle.dh_tree.specs.Numbers.{IsNumbered, commands_in}
+use Rattle.dh_tree.specs.PlainTrees.{Action, ActionForm, lets, lets_memory, views, assigns, stores, reduces, calls, blocks, decides, repeats, counts, MaybeAction, no_action, one_action, Actions, no_actions, action_then, Groups, no_groups, group_then, action}
+use Rattle.dh_tree.specs.Seen.{action_seen, maybe_seen, term_seen}
+use Rattle.dh_meaning.specs.AccessNumbers.{accesses_of, other_accesses, term_accesses}
+use Rattle.dh_meaning.specs.CoreOf.{Known, core_commands, core_phases, core_term}
+use Rattle.dh_meaning.specs.Effects.{Block, tests}
+use Rattle.dh_meaning.specs.Levels.{block_length, commands_leveled, level_ground}
+use Rattle.dh_meaning.specs.Phases.{Located, Phase, straight, turns, repeated, decided, of_list, one_straight, other_phases, phases}
+use Rattle.dh_meaning.specs.Sites.{Around}
+use Rattle.dh_events.specs.Stages.{form_stage, stage_of}
+use Rattle.dh_events.specs.Tables.{numbered}
+use Rattle.dh_lengths.specs.declared.held.Held.{Held}
+use Rattle.dh_lengths.specs.declared.lengths.Walk.{Walk}
+use Rattle.dh_lengths.specs.PhaseBlocks.{blocks_in}
+use Rattle.dh_lengths.specs.SharedReads.{told}
+use Rattle.dh_lengths.specs.Undone.{undone}
+use Rattle.dh_lengths.specs.HeldLevels.{count, levels_seen, EndsPhase, IsSound}
+
+-- the lengths of phases
+abbrev pub lengths_in : (shared : ℕ → Option ℕ) → Known → List Phase → List ℕ
+lengths_in shared known ps = map (block_length shared) (blocks_in (core_phases known (of_list ps)))
+
+-- A line of phases: those before the last one, and the commands of the last one, where that is straight.
+
+abbrev pub front : List Phase → List Phase
+front [] = []
+front (straight cs ∷ []) = []
+front (turns loop count body ∷ []) = turns loop count body ∷ []
+front (repeated loop body ∷ []) = repeated loop body ∷ []
+front (decided choice chosen other ∷ []) = decided choice chosen other ∷ []
+front (p ∷ q ∷ ps) = p ∷ front (q ∷ ps)
+
+abbrev pub last_open : List Phase → List Located
+last_open [] = []
+last_open (straight cs ∷ []) = cs
+last_open (turns loop count body ∷ []) = []
+last_open (repeated loop body ∷ []) = []
+last_open (decided choice chosen other ∷ []) = []
+last_open (p ∷ q ∷ ps) = last_open (q ∷ ps)
+
+abbrev pub is_some_command : List Located → Bool
+is_some_command [] = false
+is_some_command (c ∷ cs) = true
+
+-- commands join the last phase, or begin another
+abbrev pub joins : (going : Bool) → (line : List Phase) → List Located → List Phase
+joins true line cs = front line ++ one_straight (last_open line ++ cs)
+joins false line cs = line ++ straight cs ∷ []
+
+-- a line with the phases of a command behind it
+abbrev pub put : (going : Bool) → (line further : List Phase) → List Phase
+put going line [] = line
+put going line (straight cs ∷ []) = joins going line cs
+put going line (turns loop count body ∷ []) = line ++ turns loop count body ∷ []
+put going line (repeated loop body ∷ []) = line ++ repeated loop body ∷ []
+put going line (decided choice chosen other ∷ []) = line ++ decided choice chosen other ∷ []
+put going line (p ∷ q ∷ ps) = line ++ (p ∷ q ∷ ps)
+
+-- whether the next straight command joins the last phase then
+abbrev pub goes_on : (going : Bool) → (further : List Phase) → Bool
+goes_on going [] = going
+goes_on going (straight cs ∷ []) = true
+goes_on going (turns loop count body ∷ []) = false
+goes_on going (repeated loop body ∷ []) = false
+goes_on going (decided choice chosen other ∷ []) = false
+goes_on going (p ∷ q ∷ ps) = false
+
+-- Where a walk stands.
+
+-- of each command the number of its phases is known
+abbrev mutual
+  pub TellsStages : (ℕ → ℕ) → Action → Type 0
+  TellsStages f (action id place form) = (f id ≡ form_stage form) × TellInside f form
+
+  pub TellInside : (ℕ → ℕ) → ActionForm → Type 0
+  TellInside f (lets name declared value) = Unit {0}
+  TellInside f (lets_memory name shape shape_places value) = Unit {0}
+  TellInside f (views name parent form) = Unit {0}
+  TellInside f (assigns target value) = Unit {0}
+  TellInside f (stores target value) = Unit {0}
+  TellInside f (reduces target op value) = Unit {0}
+  TellInside f (calls function arguments) = Unit {0}
+  TellInside f (blocks body) = TellGroups f body
+  TellInside f (decides test chosen other) = TellsStages f chosen × TellOther f other
+  TellInside f (repeats test body) = TellsStages f body
+  TellInside f (counts iterator declared low high factor body combine combine_place) = TellsStages f body × TellOther f combine
+
+  pub TellOther : (ℕ → ℕ) → MaybeAction → Type 0
+  TellOther f no_action = Unit {0}
+  TellOther f (one_action a) = TellsStages f a
+
+  pub TellGroups : (ℕ → ℕ) → Groups → Type 0
+  TellGroups f no_groups = Unit {0}
+  TellGroups f (group_then part rest) = TellPart f part × TellGroups f rest
+
+  pub TellPart : (ℕ → ℕ) → Actions → Type 0
+  TellPart f no_actions = Unit {0}
+  TellPart f (action_then a rest) = TellsStages f a × TellPart f rest
+
+-- the walk stands behind a line of phases, whose lengths it tells behind others: all but those of the open phase,
+-- whose levels it holds
+pub record Stands (known : Known) (base : List ℕ) (w : Walk) (line : List Phase) : Type 0 where
+  pub lengths : w.lengths.items ≡ base ++ lengths_in (told w.held.shares.now) known (front line)
+  pub seen : levels_seen w.held ≡ commands_leveled (told w.held.shares.now) 0 (core_commands known (last_open line)) level_ground
+  pub open_so : w.pending ≡ is_some_command (last_open line)
+  pub fresh : undone w.held.log.items (numbered w.held.variables.items) ≡ (λ e. 0)
+  pub sound : IsSound w.held
+  pub full : line ≡ front line ++ one_straight (last_open line)
+
+-- What steps make of it.
+
+-- the length of the phase that is held is told, and it is over
+pub record Tells (old new : Walk) : Type 0 where
+  pub lengths : new.lengths.items ≡ old.lengths.items ++ (min old.held.most (count old.held) + 1) ∷ []
+  pub ends : EndsPhase old.held new.held
+  pub going : new.going ≡ old.going
+  pub open_so : new.pending ≡ old.pending
+
+-- all phases of the line are told
+pub record IsClosed (known : Known) (base : List ℕ) (line : List Phase) (old new : Walk) : Type 0 where
+  pub stands : Stands known (base ++ lengths_in (told old.held.shares.now) known line) new []
+  pub going : new.going ≡ false
+  pub counted : count new.held ≡ count old.held
+  pub shares : new.held.shares.now ≡ old.held.shares.now
+
+abbrev pub Closes : (old new : Walk) → Type 0
+Closes old new = (known : Known) (base : List ℕ) (line : List Phase) → Stands known base old line → IsClosed known base line old new
+
+-- a phase goes on, or the next one begins
+abbrev pub OpensBy : (going : Bool) → (old new : Walk) → Type 0
+OpensBy true old new = new ≡ old
+OpensBy false old new = Closes old new
+
+-- a test is told behind all phases of the line
+pub record IsTested (known : Known) (base : List ℕ) (line : List Phase) (test : Expr) (old new : Walk) : Type 0 where
+  pub stands : Stands known
+      ((base ++ lengths_in (told old.held.shares.now) known line) ++ block_length (told old.held.shares.now) (tests (core_term known (count old.held) (term_seen test))) ∷ [])
+      new []
+  pub going : new.going ≡ false
+  pub counted : count new.held ≡ count old.held + term_accesses (term_seen test)
+  pub shares : new.held.shares.now ≡ old.held.shares.now
+
+abbrev pub WalksTest : (old new : Walk) → Expr → Type 0
+WalksTest old new test = (known : Known) (base : List ℕ) (line : List Phase) → Stands known base old line → IsTested known base line test old new
+
+-- further phases, with so many accesses
+pub record IsWalked (known : Known) (base : List ℕ) (line : List Phase) (old new : Walk) (further : List Phase) (n : ℕ) : Type 0 where
+  pub stands : Stands known base new (put old.going line further)
+  pub going : new.going ≡ goes_on old.going further
+  pub counted : count new.held ≡ count old.held + n
+  pub shares : new.held.shares.now ≡ old.held.shares.now
+
+abbrev pub WalksStraight : (old new : Walk) → Command → Type 0
+WalksStraight old new c =
+    (known : Known) (r : Around) (base : List ℕ) (line : List Phase) → stage_of (action_seen c) ≡ 1 → Stands known base old line
+    → IsWalked known base line old new (phases r (count old.held) (action_seen c)) (accesses_of (action_seen c))
+
+abbrev pub WalksCommand : (stages : List ℕ) → (old new : Walk) → Command → Type 0
+WalksCommand stages old new c =
+    (known : Known) (r : Around) (base : List ℕ) (line : List Phase) → TellsStages (numbered stages) (action_seen c) → Stands known base old line
+    → IsWalked known base line old new (phases r (count old.held) (action_seen c)) (accesses_of (action_seen c))
+
+abbrev pub WalksOther : (stages : List ℕ) → (old new : Walk) → Option (Box Command Global) → Type 0
+WalksOther stages old new other =
+    (known : Known) (r : Around) (base : List ℕ) (line : List Phase) → TellOther (numbered stages) (maybe_seen (option_map (λ b. action_seen b.value) other)) → Stands known base old line
+    → IsWalked known base line old new (other_phases r (count old.held) (maybe_seen (option_map (λ b. action_seen b.value) other))) (other_accesses (maybe_seen (option_map (λ b. action_seen b.value) other)))

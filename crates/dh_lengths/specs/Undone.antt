@@ -1,0 +1,31 @@
+-- The levels of variables, as functions, while they are put back and joined.
+use Rattle.std.specs.Prelude.{ℕ, ◌==◌, ◌||◌, max, Bool, false, List, [], ◌∷◌, map}
+use Rattle.dh_events.specs.Tables.{with_number}
+use Rattle.dh_lengths.specs.declared.undoing.Mark.{Mark}
+
+abbrev pub mark : (entity level : ℕ) → Mark
+mark entity level = record { entity = entity; level = level }
+
+-- what they were before the changes of a log, which holds what was before each
+abbrev pub undone : List Mark → (ℕ → ℕ) → ℕ → ℕ
+undone [] f = f
+undone (m ∷ ms) f = with_number (undone ms f) m.entity m.level
+
+-- set to what marks say
+abbrev pub redone : List Mark → (ℕ → ℕ) → ℕ → ℕ
+redone [] f = f
+redone (m ∷ ms) f = redone ms (with_number f m.entity m.level)
+
+-- the variables of marks have these levels
+abbrev pub marks_now : (ℕ → ℕ) → List Mark → List Mark
+marks_now f ms = map (λ m. mark m.entity (f m.entity)) ms
+
+-- raised to the levels of marks and of a test
+abbrev pub joined_all : (test : ℕ) → List Mark → (ℕ → ℕ) → ℕ → ℕ
+joined_all test [] f = f
+joined_all test (m ∷ ms) f = joined_all test ms (with_number f m.entity (max test (max (f m.entity) m.level)))
+
+-- a variable is marked
+abbrev pub has_mark : (entity : ℕ) → List Mark → Bool
+has_mark entity [] = false
+has_mark entity (m ∷ ms) = (m.entity == entity) || has_mark entity ms

@@ -1,0 +1,179 @@
+//! Which earlier read each read shares, from the events of a body.
+
+ghost use Rattle.std.specs.Prelude.{◌≡◌, ◌<◌, ℕ, IfOk, OnOk, length};
+ghost use Rattle.dh_tree.specs.Numbers.{IsNumbered};
+ghost use Rattle.dh_tree.specs.PlainTrees.{Program};
+ghost use Rattle.dh_tree.specs.Seen.{action_seen, form_seen};
+ghost use Rattle.dh_events.specs.Accesses.{entity_in};
+ghost use Rattle.dh_events.specs.Classes.{AreDistinct, Extends};
+ghost use Rattle.dh_events.specs.Noted.{event_seen};
+ghost use Rattle.dh_ports.specs.Scanned as scanned;
+ghost use Rattle.dh_lengths.specs.LiveFirsts.{none_read, shares_of};
+ghost use Rattle.dh_lengths.specs.SharedReads.{AreMet, AreWithin, FindsShares, IsMet, IsKeyMet, TellsShares};
+
+use crate::live::Live;
+use dh_base::NoMemory;
+use dh_events::{Classes, Event, Key, Notes, note_body, note_stages};
+use dh_tree::{Command, Expr, ExprForm};
+use std::alloc::Global;
+
+/// What an event is for the sharing of reads.
+#[derive(Clone, Copy)]
+pub enum Met {
+    /// A read of a class.
+    Read {
+        /// The number of the class.
+        class: usize,
+    },
+    /// An access that shares nothing and is not shared.
+    Alone,
+    /// An arm of an `if` begins.
+    Begins,
+    /// An arm ends.
+    Ends,
+    /// Nothing.
+    Other,
+}
+
+/// What an access names.
+#[tactic(auto, using(dh_tree::proofs::SeenTerms::terms_are))]
+fn entity_of(access: &Expr) -> Option<u32>
+    ensures { result ≡ entity_in (form_seen access.now.form) }
+{
+    match &access.form {
+        ExprForm::Access { of, .. } | ExprForm::Physical { of, .. } => of.entity,
+        ExprForm::Number { .. }
+        | ExprForm::Truth { .. }
+        | ExprForm::Variable { .. }
+        | ExprForm::Binary { .. }
+        | ExprForm::Cast { .. } => None,
+    }
+}
+
+/// The key of an event that is a read, where its names stand for something: it is that of reads that are
+/// equal, in one phase, and have no assignment between them to a variable in their indices.
+fn read_key(event: Event<'_>) -> Option<Key>
+    ensures { result ≡ scanned.read_key event.entry }
+{
+    match event {
+        Event::Touch {
+            access,
+            writes,
+            phase,
+            element,
+            newest,
+            ..
+        } => {
+            if writes {
+                return None;
+            }
+            match entity_of(access) {
+                Some(entity) => match element {
+                    Some(element) => Some(Key {
+                        phase,
+                        entity,
+                        element,
+                        newest,
+                    }),
+                    None => None,
+                },
+                None => None,
+            }
+        }
+        Event::Assigned { .. }
+        | Event::ArmBegins
+        | Event::ArmEnds
+        | Event::Begins
+        | Event::Next
+        | Event::Ends => None,
+    }
+}
+
+/// What an access with a key is for the sharing of reads.
+fn met_key(classes: &mut Classes, key: Option<Key>) -> Result<Met, NoMemory>
+    ensures met { IfOk result (λ m. IsKeyMet classes.new key m) }
+    ensures extends { OnOk result (Extends classes.old classes.new) }
+{
+    match key {
+        Some(key) => {
+            let class = classes.number(key)?;
+            Ok(Met::Read { class })
+        }
+        None => Ok(Met::Alone),
+    }
+}
+
+/// What an event is for the sharing of reads.
+fn met_at(classes: &mut Classes, event: Event<'_>) -> Result<Met, NoMemory>
+    ensures met { IfOk result (λ m. IsMet classes.new event.entry m) }
+    ensures extends { OnOk result (Extends classes.old classes.new) }
+{
+    match event {
+        Event::ArmBegins => Ok(Met::Begins),
+        Event::ArmEnds => Ok(Met::Ends),
+        Event::Touch { .. } => met_key(classes, read_key(event)),
+        Event::Assigned { .. } | Event::Begins | Event::Next | Event::Ends => Ok(Met::Other),
+    }
+}
+
+/// What events are for the sharing of reads.
+fn all_met(alloc: Global, classes: &mut Classes, events: &[Event<'_>]) -> Result<Vec<Met>, NoMemory>
+    ensures { IfOk result (λ met. AreMet classes.new events.now met.items) }
+{
+    let mut met = Vec::new(alloc);
+    for event in events {
+        met.push(met_at(classes, *event)?)?;
+    }
+    Ok(met)
+}
+
+/// Of each access among what is met, in order, the earlier read that it shares, if it shares one.
+fn shares_met(alloc: Global, classes: usize, met: &[Met]) -> Result<Vec<Option<usize>>, NoMemory>
+    requires within { AreWithin classes met.now }
+    ensures { IfOk result (λ shares. shares.items ≡ shares_of none_read 0 met.now) }
+{
+    let mut live = Live::new(alloc, classes)?;
+    let mut shares = Vec::new(alloc);
+    for m in met {
+        match *m {
+            Met::Read { class } => {
+                let shared = live.read(class, shares.len())?;
+                shares.push(shared)?;
+            }
+            Met::Alone => shares.push(None)?,
+            Met::Begins => live.begin(alloc)?,
+            Met::Ends => live.end(),
+            Met::Other => {}
+        }
+    }
+    Ok(shares)
+}
+
+/// Of each access among events, in order, the earlier read that it shares, if it shares one.
+fn find_shares(alloc: Global, events: &[Event<'_>]) -> Result<Vec<Option<usize>>, NoMemory>
+    ensures { IfOk result (λ shares. FindsShares events.now shares.items) }
+{
+    let mut classes = Classes::new(alloc);
+    let met = all_met(alloc, &mut classes, events)?;
+    shares_met(alloc, classes.len(), met.as_slice())
+}
+
+/// Of each access of a program's body, by its number in order of evaluation, the number of the earlier read
+/// that it shares; None of a write, and of a read that shares none.
+///
+/// A read shares the first read before it of the same element of its memory in its Straight phase, of which
+/// all arms are open, where no variable of the indices was assigned to in between.
+///
+/// # Errors
+///
+/// `NoMemory` where an allocation was refused.
+pub fn shared_reads(alloc: Global, body: &Command) -> Result<Vec<Option<usize>>, NoMemory>
+    ensures { IfOk result (λ shares. (p : Program) (first : ℕ) → p.body ≡ action_seen body.now
+        → IsNumbered first p.body → TellsShares p shares.items) }
+{
+    let mut stages = Vec::new(alloc);
+    note_stages(&mut stages, body)?;
+    let mut notes = Notes::new(alloc);
+    note_body(&mut notes, stages.as_slice(), body)?;
+    find_shares(alloc, notes.events.as_slice())
+}

@@ -1,0 +1,110 @@
+//! Accesses whose levels nothing asks for: each has level 0.
+
+ghost use Rattle.std.specs.Prelude.{map, option_map, OnOk};
+ghost use Rattle.dh_tree.specs.Seen.{action_seen, groups, maybe_seen, part_seen, term_seen, terms};
+ghost use Rattle.dh_meaning.specs.AccessNumbers.{accesses_of, other_accesses, term_accesses, terms_accesses};
+ghost use Rattle.dh_lengths.specs.HeldLevels.{AddsZeros};
+
+use dh_base::NoMemory;
+use dh_tree::{Command, CommandForm, Expr, ExprForm};
+
+/// Notes level 0 of one access.
+#[tactic(auto, using(crate::proofs::Zeros::one_zero))]
+pub fn skip(reads: &mut Vec<usize>) -> Result<(), NoMemory>
+    ensures { OnOk result (AddsZeros reads.old reads.new 1) }
+{
+    Ok(reads.push(0)?)
+}
+
+/// Notes level 0 of the accesses of an expression.
+#[cycle(skip_term)]
+#[tactic(auto, using(dh_tree::proofs::SeenTerms::terms_are, crate::proofs::Zeros::no_zeros, crate::proofs::Zeros::more_zeros, crate::proofs::Zeros::next_zero))]
+pub fn skip_term(reads: &mut Vec<usize>, value: &Expr) -> Result<(), NoMemory>
+    ensures { OnOk result (AddsZeros reads.old reads.new (term_accesses (term_seen value.now))) }
+{
+    match &value.form {
+        ExprForm::Number { .. } | ExprForm::Truth { .. } | ExprForm::Variable { .. } => Ok(()),
+        ExprForm::Access { indices, .. } => {
+            skip_terms(reads, indices.as_slice())?;
+            skip(reads)
+        }
+        ExprForm::Physical { row, .. } => {
+            skip_term(reads, row)?;
+            skip(reads)
+        }
+        ExprForm::Binary { left, right, .. } => {
+            skip_term(reads, left)?;
+            skip_term(reads, right)
+        }
+        ExprForm::Cast { inner, .. } => skip_term(reads, inner),
+    }
+}
+
+/// Notes level 0 of the accesses of indices.
+#[cycle(skip_term)]
+fn skip_terms(reads: &mut Vec<usize>, indices: &[Expr]) -> Result<(), NoMemory>
+    ensures { OnOk result (AddsZeros reads.old reads.new
+        (terms_accesses (terms (map term_seen indices.now)))) }
+{
+    for index in indices {
+        skip_term(reads, index)?;
+    }
+    Ok(())
+}
+
+/// Notes level 0 of the accesses of a command and of those inside it.
+#[cycle(skip_command)]
+#[tactic(auto, using(dh_tree::proofs::SeenActions::actions_are, crate::proofs::Zeros::no_zeros, crate::proofs::Zeros::more_zeros))]
+pub fn skip_command(reads: &mut Vec<usize>, command: &Command) -> Result<(), NoMemory>
+    ensures { OnOk result (AddsZeros reads.old reads.new (accesses_of (action_seen command.now))) }
+{
+    match &command.form {
+        CommandForm::Let { value, .. } => match value {
+            Some(value) => skip_term(reads, value),
+            None => Ok(()),
+        },
+        CommandForm::Assign { value, .. } | CommandForm::Reduce { value, .. } => {
+            skip_term(reads, value)
+        }
+        CommandForm::Store { target, value } => {
+            skip_term(reads, value)?;
+            skip_term(reads, target)
+        }
+        CommandForm::If { test, then, other } => {
+            skip_term(reads, test)?;
+            skip_command(reads, then)?;
+            skip_other(reads, other)
+        }
+        CommandForm::While { test, body } => {
+            skip_term(reads, test)?;
+            skip_command(reads, body)
+        }
+        CommandForm::For { body, combine, .. } => {
+            skip_command(reads, body)?;
+            skip_other(reads, combine)
+        }
+        CommandForm::Block { body } => {
+            for part in body.as_slice() {
+                for command in part.as_slice() {
+                    skip_command(reads, command)?;
+                }
+            }
+            Ok(())
+        }
+        CommandForm::LetMemory { .. } | CommandForm::View { .. } | CommandForm::Call { .. } => {
+            Ok(())
+        }
+    }
+}
+
+/// Notes level 0 of the accesses of a block that may lack.
+#[cycle(skip_command)]
+fn skip_other(reads: &mut Vec<usize>, other: &Option<Box<Command>>) -> Result<(), NoMemory>
+    ensures { OnOk result (AddsZeros reads.old reads.new
+        (other_accesses (maybe_seen (option_map (λ b. action_seen b.value) other.now)))) }
+{
+    match other {
+        Some(block) => skip_command(reads, block),
+        None => Ok(()),
+    }
+}

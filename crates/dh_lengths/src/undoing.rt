@@ -1,0 +1,75 @@
+//! The levels of variables: what they were before changes, and what they are behind the arms of an `if`.
+
+ghost use Rattle.std.specs.Prelude.{◌≡◌, drop, IfOk, OnOk};
+ghost use Rattle.dh_events.specs.Tables.{numbered};
+ghost use Rattle.dh_lengths.specs.Undone.{joined_all, marks_now, redone, undone};
+
+use dh_base::NoMemory;
+use dh_events::{get_at, set_at};
+use std::alloc::Global;
+
+/// The level of a variable at some moment.
+#[derive(Clone, Copy)]
+pub struct Mark {
+    /// The number of its entity.
+    pub entity: u32,
+    /// The level.
+    pub level: usize,
+}
+
+/// The marks from a place on.
+pub fn since(log: &[Mark], mark: usize) -> &[Mark]
+    ensures { result.now ≡ drop mark log.now }
+{
+    if mark <= log.len() { &log[mark..] } else { &[] }
+}
+
+/// Puts levels back to what marks say, the last of them first.
+pub fn undo(variables: &mut Vec<usize>, log: &[Mark]) -> Result<(), NoMemory>
+    ensures { OnOk result (numbered variables.new.items
+        ≡ undone log.now (numbered variables.old.items)) }
+{
+    for i in (0..log.len()).rev() {
+        let mark = log[i];
+        set_at(variables, mark.entity, mark.level)?;
+    }
+    Ok(())
+}
+
+/// Sets levels to what marks say, in order.
+pub fn redo(variables: &mut Vec<usize>, marks: &[Mark]) -> Result<(), NoMemory>
+    ensures { OnOk result (numbered variables.new.items
+        ≡ redone marks.now (numbered variables.old.items)) }
+{
+    for mark in marks {
+        set_at(variables, mark.entity, mark.level)?;
+    }
+    Ok(())
+}
+
+/// The levels that the variables of marks have now.
+pub fn marks_of(alloc: Global, variables: &[usize], log: &[Mark]) -> Result<Vec<Mark>, NoMemory>
+    ensures { IfOk result (λ marks. marks.items ≡ marks_now (numbered variables.now) log.now) }
+{
+    let mut marks = Vec::new(alloc);
+    for mark in log {
+        marks.push(Mark {
+            entity: mark.entity,
+            level: get_at(variables, mark.entity),
+        })?;
+    }
+    Ok(marks)
+}
+
+/// Raises levels to those of marks and to that of a test, where those of the marks are set in one of two
+/// arms.
+pub fn join(variables: &mut Vec<usize>, marks: &[Mark], test: usize) -> Result<(), NoMemory>
+    ensures { OnOk result (numbered variables.new.items
+        ≡ joined_all test marks.now (numbered variables.old.items)) }
+{
+    for mark in marks {
+        let now = get_at(variables.as_slice(), mark.entity);
+        set_at(variables, mark.entity, test.max(now.max(mark.level)))?;
+    }
+    Ok(())
+}
