@@ -1,13 +1,13 @@
 -- A clock of a valid net leads from a state that fits to one that fits, where memories fit. A register takes a wire of
 -- its width, and a port holds what it held, or an element of its memory.
 use Rattle.std.proofs.Common.{◌≡◌, ℕ, zero, suc, ◌+◌, ◌<◌, ◌^◌, Some, None, Bool, true, false, if◌then◌else◌, List, length, map, refl, sym, ap, subst, ◌∙◌, arith}
-use Rattle.std.specs.Prelude.{[], ◌∷◌, ◌++◌, Option, slice_get, slice_index, slice_index_or, nat_lt}
+use Rattle.std.specs.Prelude.{[], ◌∷◌, Option, slice_get, slice_index, nat_lt}
 use Rattle.std.specs.List.{AllByRecursion}
 use Rattle.std.proofs.lemmas.Nat.{pow_pos}
 use Rattle.dh_tree.specs.Tables.{Fits}
 use Rattle.dh_tree.specs.declared.tables.MemEntry.{MemEntry}
 use Rattle.dh_value.specs.Words.{width_of}
-use Rattle.dh_net.specs.BankPorts.{port_count, port_of, memory_ports, ports_from, ports_of}
+use Rattle.dh_net.specs.BankPorts.{port_count, memory_ports, ports_from, ports_of}
 use Rattle.dh_net.specs.Clock.{State, Settles, Clocks, served, memory_at, place_of, row_value, held_by, held_after}
 use Rattle.dh_net.specs.Laws.{FitsNet}
 use Rattle.dh_net.specs.Valid.{IsValid}
@@ -17,7 +17,6 @@ use Rattle.dh_net.specs.declared.nets.Register.{Register}
 use Rattle.dh_net.specs.declared.ports.Port.{Port}
 use Rattle.dh_net.proofs.Valuations.{cell_of, wires_fit}
 use Rattle.dh_plan.proofs.FittingEffects.{all_joined}
-use Rattle.dh_plan.proofs.TurnsKept.{all_at}
 use Rattle.dh_plan.proofs.ValuesAlike.{all_map}
 
 -- a port is of a memory of the table, and of its width

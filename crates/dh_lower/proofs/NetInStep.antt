@@ -2,18 +2,13 @@
 -- In a step its registers stand for a place in the graph that is the plan's, its memories are those of the run, and the
 -- reads whose clock has come are made; so wires show what is there, ports serve their users one at a time, and in the
 -- last clock all is shown as it is meant: faults, writes, what is set, and where the plan goes on.
-use Rattle.std.proofs.Common.{◌≡◌, ◌↔◌, ℕ, zero, suc, ◌<◌, ◌≤◌, inl, inr, Some, None, Bool, true, false, List, length, map, refl, sym, ap, subst, ◌∙◌, arith}
-use Rattle.std.specs.Prelude.{[], ◌∷◌, Option, is_none, slice_get, slice_index, ◌==◌, ◌&&◌}
-use Rattle.std.specs.List.{AllByRecursion}
-use Rattle.std.proofs.lemmas.Bool.{cases_lt, eqb-true, eq-eqb}
+use Rattle.std.proofs.Common.{◌≡◌, ◌↔◌, ℕ, suc, ◌<◌, ◌≤◌, Some, None, Bool, true, false, List, length, map, sym, ap, subst, ◌∙◌, arith}
+use Rattle.std.specs.Prelude.{Option, is_none, slice_get, slice_index, ◌==◌, ◌&&◌}
+use Rattle.std.proofs.lemmas.Bool.{eqb-true, eq-eqb}
 use Rattle.std.proofs.lemmas.Bool.Decides.{nat_tests}
-use Rattle.dh_base.specs.declared.outcomes.FaultKind.{FaultKind}
 use Rattle.dh_base.specs.declared.outcomes.Outcome.{Outcome}
-use Rattle.dh_base.specs.declared.outcomes.Outcome.TheVariants.{Going, Ended, Faulted}
-use Rattle.dh_base.specs.declared.places.Place as source
 use Rattle.dh_tree.specs.Tables.{Fits}
 use Rattle.dh_tree.specs.declared.tables.MemEntry.{MemEntry}
-use Rattle.dh_value.specs.declared.words.Word.{Word}
 use Rattle.dh_net.specs.BankPorts.{ports_of}
 use Rattle.dh_net.specs.Clock.{State, Settles, Clocks, is_active, has_clashes, has_strays, strays, held_after, memories_after}
 use Rattle.dh_net.specs.declared.nets.Driver.{Driver}
@@ -24,7 +19,7 @@ use Rattle.dh_plan.specs.declared.schedules.Limits.{Limits}
 use Rattle.dh_plan.specs.Blocks.{StepStart, in_memories, BlockEvent, RegisterSet, first_fault, puts_of, all_put, all_set}
 use Rattle.dh_plan.specs.LegalSchedules.{clocks_in}
 use Rattle.dh_plan.specs.PlainPlans.{first_in, operations_in}
-use Rattle.dh_plan.specs.PlanRuns.{Todo, Place, Next, next, start_at, block_values, step_events, step_sets, blocks_at, place_after, PlanState, plan_stands_at, plan_state_after, plan_step_from, plan_state}
+use Rattle.dh_plan.specs.PlanRuns.{Place, Next, start_at, block_values, step_events, step_sets, blocks_at, place_after, PlanState, plan_stands_at, plan_state_after, plan_step_from, plan_state}
 use Rattle.dh_plan.specs.PlayedPlans.{longest, plan_run}
 use Rattle.dh_plan.specs.SoundPlans.{IsOneOf}
 use Rattle.dh_plan.specs.SoundRuns.{IsStepInTurns, StandsInStep}
@@ -32,9 +27,9 @@ use Rattle.dh_plan.specs.Ways.{Spot, rests, Led, place_of, leads_to}
 use Rattle.dh_plan.proofs.BlocksSolved.{has_one_solution}
 use Rattle.dh_plan.proofs.SteppingRuns.{runs_make_steps}
 use Rattle.dh_plan.proofs.ValuesAlike.{memories_look_back}
-use Rattle.dh_lower.specs.ClockLaws.{PortsSay, PortsKeepReads}
+use Rattle.dh_lower.specs.ClockLaws.{PortsSay}
 use Rattle.dh_lower.specs.MadeNets.{IsMakeable}
-use Rattle.dh_lower.specs.NetOfPlan.{Making, Standing, events_by, sets_by, spot_length, words_of, fault_seen, led_on, moment_at, next_registers, ShowsAtClock, IsNetOf}
+use Rattle.dh_lower.specs.NetOfPlan.{Making, Standing, sets_by, spot_length, words_of, fault_seen, led_on, moment_at, ShowsAtClock, IsNetOf}
 use Rattle.dh_lower.specs.PortUsers.{Moment}
 use Rattle.dh_lower.specs.ShownWords.{in_ports, ReadsAreMade, IsAtClock}
 use Rattle.dh_lower.specs.SpotsDone.{blocks_of_spot, spot_after}
@@ -42,7 +37,7 @@ use Rattle.dh_lower.specs.StepFacts.{HasPortUsers, StepIsKept, IsMoment}
 use Rattle.dh_lower.specs.StepLaws.{PortsWriteStep, ShowsStepEnd}
 use Rattle.dh_lower.proofs.AsksMeant.{both}
 use Rattle.dh_lower.proofs.FitsKept.{fits_kept, held_long}
-use Rattle.dh_lower.proofs.PlanSteps.{going_is, going_has_none}
+use Rattle.dh_lower.proofs.PlanSteps.{going_is}
 use Rattle.dh_lower.proofs.ReadsMade.{clashes_never, strays_never, reads_made}
 use Rattle.dh_lower.proofs.SpotsFollow.{follows}
 use Rattle.dh_lower.proofs.StepsDoBlocks.{steps_do_some, some_not_none, takes_a_clock, all_clocks_long, stands_by_needs, over_at_last, clock_at_most, blocks_are}

@@ -1,8 +1,8 @@
 -- A net that is made of a plan simulates its run, and so plays it; and its writes come last.
 -- Inside a step it stands as `InStep` says; once the run is over its registers rest, with the tick of the last step if
 -- that was the clock before, and with the fault. Each fact is of one clock.
-use Rattle.std.proofs.Common.{◌≡◌, ◌↔◌, ℕ, zero, suc, ◌+◌, ◌-◌, ◌<◌, ◌≤◌, ◌^◌, inl, inr, Some, None, Bool, true, false, if◌then◌else◌, List, length, map, replicate, refl, sym, ap, subst, ◌∙◌, arith}
-use Rattle.std.specs.Prelude.{[], ◌∷◌, Option, is_none, slice_get, slice_index, ◌==◌}
+use Rattle.std.proofs.Common.{◌≡◌, ◌↔◌, ℕ, zero, suc, ◌+◌, ◌-◌, ◌<◌, ◌^◌, inl, inr, Some, None, Bool, true, false, if◌then◌else◌, List, length, map, replicate, refl, sym, ap, subst, ◌∙◌, arith}
+use Rattle.std.specs.Prelude.{Option, is_none, slice_get, slice_index, ◌==◌}
 use Rattle.std.proofs.lemmas.Bool.{cases_lt, eqb-true}
 use Rattle.std.proofs.lemmas.Bool.Decides.{nat_tests}
 use Rattle.std.proofs.lemmas.List.{length-replicate}
@@ -12,31 +12,29 @@ use Rattle.dh_base.specs.declared.outcomes.Outcome.{Outcome}
 use Rattle.dh_base.specs.declared.outcomes.Outcome.TheVariants.{Going, Ended, Faulted, Stuck}
 use Rattle.dh_base.specs.declared.places.Place as source
 use Rattle.dh_tree.specs.Tables.{Fits}
-use Rattle.dh_tree.specs.declared.tables.MemEntry.{MemEntry}
 use Rattle.dh_net.specs.BankPorts.{ports_of}
 use Rattle.dh_net.specs.Clock.{State, Settles, Clocks, ClocksTo, start_of, is_active, held_after, memories_after}
-use Rattle.dh_net.specs.Ends.{entry_at, fault_shown}
+use Rattle.dh_net.specs.Ends.{entry_at}
 use Rattle.dh_net.specs.Laws.{FitsNet}
 use Rattle.dh_net.specs.Plays.{Run, clocks_of, IsGoing, IsStuck, IsFine, HasSteps, EndsAfter, FaultsAfter, Fit}
 use Rattle.dh_net.specs.Simulates.{Simulates, ShowsStep, ShowsEnded, ShowsFaulted}
 use Rattle.dh_net.specs.declared.nets.Driver.{Driver}
 use Rattle.dh_net.specs.declared.nets.Net.{Net}
 use Rattle.dh_net.specs.declared.nets.Register.{Register}
-use Rattle.dh_net.proofs.Fits.{going_not_ended, steps_more, one_fit, fit_in_step, fit_at_end, fit_at_fault}
+use Rattle.dh_net.proofs.Fits.{going_not_ended, steps_more, one_fit, fit_in_step}
 use Rattle.dh_net.proofs.Simulation.{Stand, in_step, at_end, at_fault, plays_by}
 use Rattle.dh_net.proofs.Valuations.{some_valuation}
 use Rattle.dh_plan.specs.declared.schedules.Limits.{Limits}
 use Rattle.dh_plan.specs.Blocks.{BlockEvent, RegisterSet, first_fault}
-use Rattle.dh_plan.specs.PlanRuns.{Place, ended, Next, outcome_at, first_registers, PlanState, step_events, step_sets, blocks_at, plan_state_after}
+use Rattle.dh_plan.specs.PlanRuns.{ended, Next, first_registers, PlanState, step_events, step_sets, blocks_at, plan_state_after}
 use Rattle.dh_plan.specs.PlayedPlans.{longest, WritesLast, PlaysPlan}
-use Rattle.dh_plan.specs.Ways.{Spot, rests, Led, resolve}
+use Rattle.dh_plan.specs.Ways.{Spot, rests, resolve}
 use Rattle.dh_lower.specs.MadeNets.{IsMakeable}
 use Rattle.dh_lower.specs.NetOfPlan.{Making, Standing, spot_length, fault_seen, ShowsOver, IsNetOf}
-use Rattle.dh_lower.specs.ShownWords.{ReadsAreMade}
 use Rattle.dh_lower.proofs.AsksMeant.{both}
 use Rattle.dh_lower.proofs.FitsKept.{fits_kept, at_map}
 use Rattle.dh_lower.proofs.NetInStep.{state_of, run_of, place_in, begun, InStep, state_fits, step_takes, length_is, shows_clock, never_clashes, never_strays, waits_on, fault_is, step_is, StepMade, step_made, faulted_holds, faulted_memories, faulted_fit, writing_last}
-use Rattle.dh_lower.proofs.PlanSteps.{going_is, fine_at, ended_at, runs_never_stuck, going_has_none, ended_has_none, FaultIs, faulted_has, step_fault_named}
+use Rattle.dh_lower.proofs.PlanSteps.{fine_at, ended_at, runs_never_stuck, going_has_none, ended_has_none, faulted_has, step_fault_named}
 use Rattle.dh_lower.proofs.SilentPorts.{silent_clashes, silent_strays, silent_memories}
 use Rattle.dh_lower.proofs.StepsDoBlocks.{rests_where_ended}
 

@@ -3,8 +3,8 @@
 -- the bank. A read that was made before is kept: where its port were served again, its user would be that of the
 -- read, whose clock is over. A read whose clock this is asks; its port serves it, and holds its element from then on.
 use Rattle.std.proofs.Common.{◌≡◌, ℕ, suc, ◌+◌, ◌-◌, ◌<◌, ◌≤◌, ◌^◌, inl, inr, Some, Bool, true, false, if◌then◌else◌, List, length, ℤ, pos, negsuc, unsigned_abs, refl, sym, ap, subst, ◌∙◌, arith}
-use Rattle.std.specs.Prelude.{[], ◌∷◌, Option, slice_get, slice_index, int_le, int_lt, ◌||◌}
-use Rattle.std.proofs.lemmas.Bool.{cases_lt, lt-ltb}
+use Rattle.std.specs.Prelude.{[], ◌∷◌, Option, slice_get, slice_index, int_le, int_lt, ◌==◌, ◌||◌}
+use Rattle.std.proofs.lemmas.Bool.{cases_lt, lt-ltb, eq-eqb}
 use Rattle.std.proofs.lemmas.Int.{ints}
 use Rattle.std.proofs.lemmas.Option.{slice_get_cases, slice_get_within}
 use Rattle.std.proofs.Math.Nat.{add-sub_cancel_left, mod-eq_of_lt}
@@ -24,17 +24,17 @@ use Rattle.dh_plan.specs.declared.operations.Operation.{Operation}
 use Rattle.dh_plan.specs.declared.operations.OperationForm.{OperationForm}
 use Rattle.dh_plan.specs.declared.operations.OperationForm.TheVariants.{Constant, Old, Compute, Convert, Select, Check, Probe, Read, Write, Set}
 use Rattle.dh_plan.specs.declared.operations.Reach.{Reach}
-use Rattle.dh_plan.specs.Blocks.{is_on, bank_picked, word_at, in_memories, spot_of_reach}
+use Rattle.dh_plan.specs.Blocks.{is_on, first_bank, bank_picked, word_at, in_memories, spot_of_reach}
 use Rattle.dh_plan.specs.BlockLaws.{SameAt, SameAtAll}
 use Rattle.dh_plan.specs.BoundPorts.{Uses}
 use Rattle.dh_plan.specs.LegalSchedules.{Timing, clocks_in}
 use Rattle.dh_plan.specs.Ordered.{one_or_none, offsets_taken, form_takes}
 use Rattle.dh_plan.specs.PlainPlans.{PlainPlan, first_in, operations_in}
 use Rattle.dh_plan.specs.PlanRuns.{start_at, block_values}
-use Rattle.dh_plan.specs.SoundPlans.{IsOneOf, use_in}
+use Rattle.dh_plan.specs.SoundPlans.{IsOneOf, IsListed, use_in}
 use Rattle.dh_plan.proofs.ValuesAlike.{all_right}
 use Rattle.dh_lower.specs.PortUsers.{User, HasUser, Moment, user_asks, row_bits, SaysForm, SaysOperation, DrivesFor, DriveFor}
-use Rattle.dh_lower.specs.ShownWords.{port_bound, in_ports, ReadsAreMade}
+use Rattle.dh_lower.specs.ShownWords.{port_bound, is_bank_listed, bank_or_first, in_ports, ReadsAreMade}
 use Rattle.dh_lower.specs.StepFacts.{HasPortUsers, Acts, IsMoment}
 use Rattle.dh_lower.proofs.AsksMeant.{Asking, asking, read_asks, both}
 use Rattle.dh_lower.proofs.BoundPortFacts.{IsBound, bound_port}
@@ -86,6 +86,18 @@ row_taken first us vs (Write x value) r e h =
     let same : x ≡ r = cc in
     subst (λ (y : Reach). SameAtAll first us vs (one_or_none y.row)) same (all_right P (one_or_none x.select) _ last)
 row_taken first us vs (Set register value) r e h = absurd (cc)
+
+-- a bank that is listed
+listed_is : (bank place : ℕ) (banks : List (ℕ × ℕ)) → IsListed bank place banks → is_bank_listed bank banks ≡ true
+listed_is bank place [] h = absurd h
+listed_is bank place (b ∷ bs) h = elim h [
+  | inl here ↦ ap (λ (t : Bool). t || is_bank_listed bank bs) (eq-eqb b.0 bank here.0)
+  | inr later ↦ or_true (b.0 == bank) (is_bank_listed bank bs) (listed_is bank place bs later)
+]
+  where
+    or_true : (t u : Bool) → u ≡ true → (t || u) ≡ true
+    or_true true u e = refl
+    or_true false u e = e
 
 -- lists of ports
 pub no_clashes : (wires : List ℕ) (dss : List (List Driver)) → ((q : ℕ) (ds : List Driver) → slice_get dss q ≡ Some ds → has_clash wires ds ≡ false) → has_clashes wires dss ≡ false
@@ -234,7 +246,8 @@ module _ (plan : PlainPlan) (t : Timing) (u : Uses) (users : (port : ℕ) → Li
         let ds = drivers_there q bound.0 bound.1.there in
         let inside : q < length held = (let w = slice_get_within dss q ds.0 ds.1 in omega (arith, w, full)) in
         let place : first + i - first ≡ i = add-sub_cancel_left first i in
-        let look : (hs : List ℕ) → in_ports plan u hs block (first + i) r vs ≡ slice_index hs q = λ hs. ap (λ (n : ℕ). slice_index hs (port_bound plan u block n bank r)) place in
+        let picked : bank_or_first r.banks bank ≡ bank = ap (λ (b : Bool). if b then bank else first_bank r.banks) (listed_is bank listed.0 r.banks listed.1) in
+        let look : (hs : List ℕ) → in_ports plan u hs block (first + i) r vs ≡ slice_index hs q = λ hs. (λ n. slice_index hs (port_bound plan u block (place n) (picked n) r)) in
         let new : slice_index new_held q ≡ held_by plan.table wires bound.0 (served wires ds.0) memories (slice_index held q)
         = held_at plan.table wires dss (ports_of plan.table) memories held q ds.0 bound.0 ds.1 bound.1.there inside in
         look new_held ∙ (new ∙ by_served q bound.0 ds.0 v guard r acts bound.1.there user before

@@ -1,6 +1,6 @@
 -- Where no driver is active nothing clashes or strays, and memories stay.
-use Rattle.std.proofs.Common.{◌≡◌, ℕ, zero, suc, Some, None, Bool, true, false, not, nat_lt, if◌then◌else◌, List, refl, sym, ap, ◌∙◌}
-use Rattle.std.specs.Prelude.{[], ◌∷◌, Option, slice_get, slice_index, ◌&&◌, ◌||◌}
+use Rattle.std.proofs.Common.{◌≡◌, ℕ, suc, Some, None, Bool, false, not, nat_lt, if◌then◌else◌, List, refl, sym, ap, ◌∙◌}
+use Rattle.std.specs.Prelude.{[], ◌∷◌, slice_get, slice_index, ◌&&◌, ◌||◌}
 use Rattle.dh_tree.specs.declared.tables.MemEntry.{MemEntry}
 use Rattle.dh_net.specs.Clock.{is_active, any_active, has_clash, has_clashes, has_stray, has_strays, served, memories_after}
 use Rattle.dh_net.specs.declared.nets.Driver.{Driver}

@@ -3,7 +3,7 @@
 -- writes is served for an operation of the step, and writes what that one does. So both are the same writes, with rising
 -- ports, and leave the same memories. In any other clock no user that writes asks.
 use Rattle.std.proofs.Common.{◌≡◌, ℕ, zero, suc, ◌+◌, ◌<◌, inl, inr, Some, None, Bool, true, false, if◌then◌else◌, List, length, refl, sym, ap, subst, ◌∙◌, arith}
-use Rattle.std.specs.Prelude.{[], ◌∷◌, ◌++◌, Option, slice_get, slice_index, ◌&&◌}
+use Rattle.std.specs.Prelude.{[], ◌∷◌, ◌++◌, Option, slice_get, slice_index}
 use Rattle.std.proofs.lemmas.Option.{slice_get_cases, slice_get_within}
 use Rattle.dh_tree.specs.Elements.{Spot, dims_at, position_in_bank}
 use Rattle.dh_tree.specs.declared.tables.MemEntry.{MemEntry}
@@ -16,7 +16,7 @@ use Rattle.dh_plan.specs.declared.operations.Operation.{Operation}
 use Rattle.dh_plan.specs.declared.operations.OperationForm.{OperationForm}
 use Rattle.dh_plan.specs.declared.operations.OperationForm.TheVariants.{Constant, Old, Compute, Convert, Select, Check, Probe, Read, Write, Set}
 use Rattle.dh_plan.specs.declared.operations.Reach.{Reach}
-use Rattle.dh_plan.specs.Blocks.{StepStart, is_on, word_at, bank_picked, spot_of_reach, fails_unless, fails_outside, puts_inside, form_events, operation_events, block_events, Put, puts_of, all_put}
+use Rattle.dh_plan.specs.Blocks.{StepStart, is_on, word_at, spot_of_reach, fails_unless, fails_outside, puts_inside, form_events, operation_events, block_events, Put, puts_of, all_put}
 use Rattle.dh_plan.specs.BlockLaws.{SameAt, SameAtAll}
 use Rattle.dh_plan.specs.BoundPorts.{Uses}
 use Rattle.dh_plan.specs.LegalSchedules.{Timing, clocks_in}
@@ -26,14 +26,14 @@ use Rattle.dh_plan.specs.PlanRuns.{start_at, block_values, events_of_block, step
 use Rattle.dh_plan.specs.SoundPlans.{IsOneOf, use_in}
 use Rattle.dh_plan.proofs.Appends.{puts_behind}
 use Rattle.dh_plan.proofs.ValuesAlike.{all_right}
-use Rattle.dh_lower.specs.KeyedPuts.{KeyedPut, puts_in, IsPut, SamePuts}
-use Rattle.dh_lower.specs.PortUsers.{User, HasUser, Moment, form_asks, user_asks, SaysForm, DrivesFor, DriveFor}
+use Rattle.dh_lower.specs.KeyedPuts.{KeyedPut, puts_in, IsPut}
+use Rattle.dh_lower.specs.PortUsers.{User, HasUser, Moment, form_asks, SaysForm, DrivesFor, DriveFor}
 use Rattle.dh_lower.specs.ShownWords.{port_bound}
 use Rattle.dh_lower.specs.StepFacts.{HasPortUsers, Acts, IsMoment}
 use Rattle.dh_lower.specs.StepLaws.{PortsWriteStep}
 use Rattle.dh_lower.specs.StepPuts.{keyed, spot_puts, form_puts, operation_puts, operations_put, blocks_put, driver_puts, ports_put}
 use Rattle.dh_lower.proofs.AsksMeant.{write_asks, both}
-use Rattle.dh_lower.proofs.BoundPortFacts.{IsBound, bound_port}
+use Rattle.dh_lower.proofs.BoundPortFacts.{bound_port}
 use Rattle.dh_lower.proofs.OnePortServed.{active_asks, Served, nobody, somebody, which_served}
 use Rattle.dh_lower.proofs.OperationWrites.{IsOperationPut, from_blocks, put_leads, step_rises}
 use Rattle.dh_lower.proofs.PortWrites.{WritesRows, IsDriverPut, driver_put, driver_put_there, put_left, put_right, which_put, ports_write, ports_rise}

@@ -1,17 +1,17 @@
 -- A step of a plan does one block at least, which the plan has; and in the last clock of the longest block the values
 -- of all its blocks are there. Of steps by recursion on the nodes, of threads that go together by the first of them.
-use Rattle.std.proofs.Common.{◌≡◌, ℕ, zero, suc, ◌<◌, ◌≤◌, inl, inr, Some, None, List, length, refl, sym, ap, subst, ◌∙◌, arith}
-use Rattle.std.specs.Prelude.{[], ◌∷◌, ◌++◌, slice_get, slice_index, max, take, drop, Option}
+use Rattle.std.proofs.Common.{◌≡◌, ℕ, zero, suc, ◌≤◌, inl, inr, Some, None, List, length, refl, sym, ap, subst, ◌∙◌, arith}
+use Rattle.std.specs.Prelude.{[], ◌∷◌, ◌++◌, slice_get, slice_index, max, take, drop}
 use Rattle.std.specs.List.{AllByRecursion}
 use Rattle.std.proofs.lemmas.Bool.{cases_lt}
 use Rattle.std.proofs.lemmas.Option.{slice_get_cases}
 use Rattle.dh_plan.specs.declared.operations.Operation.{Operation}
 use Rattle.dh_plan.specs.declared.operations.PlanBlock.{PlanBlock}
 use Rattle.dh_plan.specs.declared.schedules.Limits.{Limits}
-use Rattle.dh_plan.specs.LegalSchedules.{Timing, there_at, last_clock, needed_clock, clocks_in, IsLegal}
+use Rattle.dh_plan.specs.LegalSchedules.{Timing, there_at, last_clock, clocks_in, IsLegal}
 use Rattle.dh_plan.specs.PlainPlans.{Node, block_node, turns_node, loop_node, choice_node, threads_node, Nodes, no_nodes, node_then, NodeLists, no_lists, list_then, PlainPlan, first_in, block_operations, operations_in}
 use Rattle.dh_plan.specs.PlanKinds.{Names}
-use Rattle.dh_plan.specs.PlanRuns.{Todo, Place, ended, blocks_at, blocks_at_all}
+use Rattle.dh_plan.specs.PlanRuns.{Todo, ended, blocks_at, blocks_at_all}
 use Rattle.dh_plan.specs.PlayedPlans.{longest}
 use Rattle.dh_plan.specs.SoundPlans.{Counting, IsOneOf, IsStepOf, IsStepOfNode, IsStepOfLists, blocks_of, node_blocks, list_blocks}
 use Rattle.dh_plan.specs.Ways.{Stop, Spot, rests, in_state, in_fork, Spots, no_spots, spot_then, place_of, places_of}

@@ -1,21 +1,20 @@
 -- What wires show at the end of a step. Whether an element is there is told by the table and the views, not by what
 -- memories hold, and values by a look at ports need no memories; so with all values shown as they are meant, what
 -- blocks do by these is what they do. By the forms of operations.
-use Rattle.std.proofs.Common.{◌≡◌, ℕ, inl, inr, Some, None, Bool, true, false, if◌then◌else◌, List, refl, sym, ap, ◌∙◌}
+use Rattle.std.proofs.Common.{◌≡◌, ℕ, inl, inr, Some, None, if◌then◌else◌, List, refl, ap, ◌∙◌}
 use Rattle.std.specs.Prelude.{[], ◌∷◌, ◌++◌, Option}
 use Rattle.dh_tree.specs.Elements.{Spot}
 use Rattle.dh_value.specs.declared.words.Word.{Word}
-use Rattle.dh_value.specs.Operations.{is_true}
 use Rattle.dh_plan.specs.declared.operations.Operation.{Operation}
 use Rattle.dh_plan.specs.declared.operations.OperationForm.{OperationForm}
 use Rattle.dh_plan.specs.declared.operations.OperationForm.TheVariants.{Constant, Old, Compute, Convert, Select, Check, Probe, Read, Write, Set}
 use Rattle.dh_plan.specs.declared.operations.Reach.{Reach}
-use Rattle.dh_plan.specs.Blocks.{Look, is_on, word_at, guarded, spot_in_row, spot_of_reach, form_word, AreValues, BlockEvent, fails_outside, puts_inside, form_events, operation_events, block_events, RegisterSet, block_sets}
+use Rattle.dh_plan.specs.Blocks.{Look, is_on, word_at, guarded, spot_in_row, spot_of_reach, form_word, BlockEvent, fails_outside, puts_inside, form_events, operation_events, block_events, RegisterSet, block_sets}
 use Rattle.dh_plan.specs.PlainPlans.{PlainPlan, first_in, operations_in}
 use Rattle.dh_plan.specs.PlanRuns.{start_at, block_values, events_of_block, sets_of_block, step_events, step_sets}
 use Rattle.dh_plan.specs.SoundPlans.{IsOneOf}
 use Rattle.dh_lower.specs.NetOfPlan.{events_by, sets_by}
-use Rattle.dh_lower.specs.StepLaws.{ShowsStepEnd, EndsAreShown, PortsNeedNoMemories}
+use Rattle.dh_lower.specs.StepLaws.{EndsAreShown, PortsNeedNoMemories}
 
 module _ (plan : PlainPlan) (registers : List ℕ) (memories : List (List ℕ)) where
   row_apart : (first : ℕ) (ws : List Word) (r : Reach) (row : Option ℕ) → spot_in_row (start_at plan registers []) first ws r row ≡ spot_in_row (start_at plan registers memories) first ws r row

@@ -1,10 +1,9 @@
 -- The net of one store is made of its plan. Its wires are computed from its two registers, and what they show is told
 -- by these numbers.
-use Rattle.std.proofs.Common.{◌≡◌, ℕ, zero, suc, ◌+◌, ◌<◌, ◌≤◌, inl, inr, Some, None, Bool, true, false, if◌then◌else◌, List, length, map, refl, sym, ap, subst, ◌∙◌, arith}
+use Rattle.std.proofs.Common.{◌≡◌, ℕ, zero, suc, ◌+◌, ◌<◌, ◌≤◌, inl, inr, Some, None, true, false, if◌then◌else◌, List, refl, sym, ap, subst, ◌∙◌, arith}
 use Rattle.std.specs.Prelude.{[], ◌∷◌, ◌++◌, Option, is_none, slice_get, slice_index, ◌==◌, ◌&&◌}
 use Rattle.dh_tree.specs.Elements.{Spot}
 use Rattle.dh_value.specs.declared.kinds.Kind.TheVariants as kind
-use Rattle.dh_value.specs.declared.words.Word.{Word}
 use Rattle.dh_value.specs.Words.{value_of, with_bits, word_of}
 use Rattle.dh_net.specs.BankPorts.{ports_of, port_of}
 use Rattle.dh_net.specs.Clock.{State, IsValuation, is_active}
@@ -20,7 +19,7 @@ use Rattle.dh_plan.specs.declared.operations.Operation.{Operation}
 use Rattle.dh_plan.specs.declared.operations.OperationForm.TheVariants.{Write}
 use Rattle.dh_plan.specs.declared.operations.Reach.{Reach}
 use Rattle.dh_plan.specs.Blocks.{word_at, spot_of_reach, AreValues, operation_word, first_fault, puts_inside}
-use Rattle.dh_plan.specs.ExamplePlans.{line, always, constant}
+use Rattle.dh_plan.specs.ExamplePlans.{line, always}
 use Rattle.dh_plan.specs.PlainPlans.{first_in, operations_in}
 use Rattle.dh_plan.specs.PlanRuns.{start_at}
 use Rattle.dh_plan.specs.SoundPlans.{use_in, HasUse, IsListed}

@@ -3,7 +3,7 @@
 -- values that are there, and in the last clock all.
 -- (That registers and wires of a state machine with a data path show the values of its schedule is common in
 -- high-level synthesis; the equations are this project's.)
-use Rattle.std.specs.Prelude.{◌≡◌, ℕ, ◌+◌, ◌-◌, ◌<◌, ◌≤◌, true, List, [], ◌∷◌, slice_get, slice_index, Option, Some, None}
+use Rattle.std.specs.Prelude.{◌≡◌, ℕ, ◌+◌, ◌-◌, ◌<◌, ◌≤◌, ◌==◌, ◌||◌, Bool, true, false, if◌then◌else◌, List, [], ◌∷◌, slice_get, slice_index, Option, Some, None}
 use Rattle.dh_value.specs.declared.kinds.Kind.{Kind}
 use Rattle.dh_value.specs.declared.words.Word.{Word}
 use Rattle.dh_value.specs.Words.{with_bits}
@@ -12,7 +12,7 @@ use Rattle.dh_plan.specs.declared.operations.Operation.{Operation}
 use Rattle.dh_plan.specs.declared.operations.OperationForm.TheVariants.{Read}
 use Rattle.dh_plan.specs.declared.operations.Reach.{Reach}
 use Rattle.dh_plan.specs.PlainPlans.{PlainPlan, first_in}
-use Rattle.dh_plan.specs.Blocks.{StepStart, Look, is_on, bank_picked, in_memories, AreValues}
+use Rattle.dh_plan.specs.Blocks.{StepStart, Look, is_on, first_bank, bank_picked, in_memories, AreValues}
 use Rattle.dh_plan.specs.BlockLaws.{LooksBack}
 use Rattle.dh_plan.specs.BoundPorts.{Uses, port_used}
 use Rattle.dh_plan.specs.LegalSchedules.{needed_clock}
@@ -42,10 +42,19 @@ port_or_first (Some port) = port
 abbrev pub port_bound : PlainPlan → Uses → (block i bank : ℕ) → Reach → ℕ
 port_bound plan u block i bank r = port_number plan.table r.memory bank (port_or_first (port_used plan u block i bank))
 
+-- A net chooses among the banks that are listed. Where a select shows none of them, as it may in a block that is not
+-- done or before its clock, that is the first.
+abbrev pub is_bank_listed : (bank : ℕ) → List (ℕ × ℕ) → Bool
+is_bank_listed bank [] = false
+is_bank_listed bank (b ∷ bs) = (b.0 == bank) || is_bank_listed bank bs
+
+abbrev pub bank_or_first : List (ℕ × ℕ) → (bank : ℕ) → ℕ
+bank_or_first banks bank = if is_bank_listed bank banks then bank else first_bank banks
+
 -- in a net a read shows what the port holds that it uses of the bank that it picks
 abbrev pub in_ports : PlainPlan → Uses → (held : List ℕ) → (block : ℕ) → Look
 in_ports plan u held block number r ws =
-    slice_index held (port_bound plan u block (number - first_in plan block) (bank_picked (first_in plan block) ws r.banks r.select) r)
+    slice_index held (port_bound plan u block (number - first_in plan block) (bank_or_first r.banks (bank_picked (first_in plan block) ws r.banks r.select)) r)
 
 -- each read of a block that was made before a clock, and whose guard holds, shows its element
 pub record ReadsAreMade (s : StepStart) (look : Look) (first : ℕ) (os : List Operation) (clocks : List ℕ) (vs : List Word) (clock : ℕ) : Type 0 where

@@ -1,7 +1,9 @@
 //! The net of a plan, ahead of its code: what its wires, ports and registers stand for, clock by clock.
-//! Takes a plan, its graph, schedule and binding, and is to give a net that plays the plan. So far it has the laws by
-//! which such a net is told right: wires show the values of blocks as these are there, ports serve their users one at
-//! a time and keep what was read, writes come by ports, and states follow the places of the plan.
+//! Takes a plan, its graph, schedule and binding, and is to give a net that plays the plan. So far it has what such a
+//! net is (`IsNetOf`) and that it plays the plan (`net_plays` of proofs/NetSimulates), by laws of one clock: wires show
+//! the values of blocks as these are there, ports serve their users one at a time and keep what was read, writes come
+//! by ports in the last clock, and states follow the places of the plan. `IsNetOf` speaks for each relation between
+//! registers and places, so no contract names the theorem but at an instance: the net of one store.
 //! Stands on `dh_plan` and `dh_net`. Nothing of the program stands on this crate yet.
 #![tactic(auto)]
 

@@ -1,0 +1,4 @@
+pub mod ShownValueWords
+pub mod BankTests
+pub mod BankChoices
+pub mod ListedBanks

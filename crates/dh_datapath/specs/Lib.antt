@@ -1,0 +1,2 @@
+pub mod ValueWires
+pub mod ReadWires
