@@ -1,11 +1,9 @@
 -- What a step keeps of what its commands did so far.
-use Rattle.std.specs.Prelude.{◌≡◌, ℕ, ◌<◌, ◌≤◌, ◌^◌, Vec, Bool, true, false, if◌then◌else◌, List, [], ◌∷◌, ◌++◌, length, map, slice_set, slice_index_or, Option, Some, None, Result, Ok, Err, IfOk}
+use Rattle.std.specs.Prelude.{◌≡◌, ℕ, ◌<◌, ◌≤◌, ◌^◌, Vec, Bool, true, false, if◌then◌else◌, List, [], ◌∷◌, ◌++◌, length, map, slice_set, slice_index_or, Option, Some, Result, Ok, Err, IfOk}
 use Rattle.std.specs.List.{AllByRecursion}
 use Rattle.std.specs.Global.{Global}
 use Rattle.dh_value.specs.declared.words.Word.{Word}
 use Rattle.dh_value.specs.Words.{width_of}
-use Rattle.dh_base.specs.declared.outcomes.FaultKind.TheVariants.{OutOfRange}
-use Rattle.dh_base.specs.declared.outcomes.Outcome.TheVariants.{Faulted}
 use Rattle.dh_base.specs.declared.places.Place.{Place}
 use Rattle.dh_tree.specs.declared.tables.MemEntry.{MemEntry}
 use Rattle.dh_meaning.specs.Paths.{Path}
@@ -23,9 +21,9 @@ use Rattle.dh_code.specs.declared.running.Write.{Write}
 use Rattle.dh_code.specs.declared.running.Change.{Change}
 use Rattle.dh_code.specs.declared.running.State.{State}
 use Rattle.dh_code.specs.declared.spots.Element.{Element}
-use Rattle.dh_code.specs.Banks.{HasBank, all_banks}
+use Rattle.dh_code.specs.Banks.{all_banks}
 use Rattle.dh_code.specs.Coded.{AreCoded, AreSlotsOf, IsCoded, IsFlat, IsFlatStore}
-use Rattle.dh_code.specs.Operated.{IsAccess, Sight, access_spot, sight}
+use Rattle.dh_code.specs.Operated.{IsAccess, Sight, sight}
 use Rattle.dh_code.specs.Plain.{all_plain}
 use Rattle.dh_code.specs.Ranks.{ArePaths, IsPath, ranks_of}
 use Rattle.dh_code.specs.Rows.{contents_of, spot_seen}

@@ -1,7 +1,8 @@
 //! Where an element of a memory lies.
 
-ghost use Rattle.std.specs.Prelude.{◌≡◌, ℕ, ◌<◌, ◌≤◌, ◌*◌, ◌/◌, ◌%◌, ◌^◌, Some};
+ghost use Rattle.std.specs.Prelude.{◌≡◌, ℕ, ◌<◌, ◌≤◌, ◌*◌, ◌/◌, ◌%◌, ◌^◌, Some, pos};
 ghost use Rattle.std.specs.List.{AllByRecursion};
+ghost use Rattle.dh_value.specs.Words.{IsWord, value_of};
 ghost use Rattle.dh_tree.specs.Elements.{banks_of, rows_of, position_in_bank};
 ghost use Rattle.dh_tree.specs.Tables.{elements_of};
 ghost use Rattle.dh_code.specs.Banks.{AreDims, HasRoom, IsExtent, IsSpread, Spreads, index_within, spread_behind};
@@ -10,7 +11,7 @@ ghost use Rattle.dh_code.specs.Operated.{IsOperand, index_values, view_seen};
 use crate::codes::Operand;
 use crate::operands::{View, value_at};
 use dh_tree::Dim;
-use dh_value::number;
+use dh_value::{Kind, Word, number};
 
 /// Where an element lies: its bank, its row in that bank, and its place among all elements of its
 /// memory.
@@ -57,6 +58,28 @@ pub fn index_below(index: i128, size: u64) -> Option<u64>
         Some(index as u64)
     } else {
         None
+    }
+}
+
+/// A number where it is one below a size.
+fn number_below(number: u64, size: u64) -> Option<u64>
+    ensures is { result ≡ index_within size (pos number) }
+    ensures below { (n : ℕ) → result ≡ Some n → n < size }
+{
+    if number < size { Some(number) } else { None }
+}
+
+/// The index that a word is, where it is one below a size. (Most indices have no sign, and are their
+/// bits.)
+fn index_of(word: Word, size: u64) -> Option<u64>
+    requires { IsWord word }
+    ensures is { result ≡ index_within size (value_of word) }
+    ensures below { (n : ℕ) → result ≡ Some n → n < size }
+{
+    match word.kind {
+        Kind::Bool => number_below(word.bits, size),
+        Kind::Unsigned(_) => number_below(word.bits, size),
+        Kind::Signed(_) => index_below(number(word), size),
     }
 }
 
@@ -137,7 +160,7 @@ pub fn locate(view: &View<'_>, dims: &[Dim], indices: &[Operand]) -> Option<Spre
         position: 0,
     };
     for (i, dim) in dims.iter().enumerate() {
-        let Some(index) = index_below(number(value_at(view, &indices[i])), dim.size) else {
+        let Some(index) = index_of(value_at(view, &indices[i]), dim.size) else {
             return None;
         };
         spread = next_spread(spread, dim, index);

@@ -80,7 +80,7 @@ own_small k w h = subst (λ (l : Kind). w.bits < 2 ^ width_of l) (sym h.same) h.
 in_own_kind : (k : Kind) (w : Word) → w.kind ≡ k → BitsFit w → IsInKind k w
 in_own_kind k w same small = record { same = same; small = subst (λ (l : Kind). w.bits < 2 ^ width_of l) same small }
 
-binary_fits : (o : Op) (k l : Kind) (a b : Word) → IsInKind k a → IsInKind l b → Suits o k l → IsInKind (result_of o k) (binary_of o a b)
+pub binary_fits : (o : Op) (k l : Kind) (a b : Word) → IsInKind k a → IsInKind l b → Suits o k l → IsInKind (result_of o k) (binary_of o a b)
 binary_fits o k l a b p q s =
     in_own_kind (result_of o k) (binary_of o a b) (binary_kind o a b ∙ ap (λ (x : Kind). result_of o x) p.same)
     (binary_small o a b (own_small k a p) (own_small l b q)
@@ -187,7 +187,7 @@ selected final_a final_b a b t v w same_a same_b alike p q =
     pick (IsInKind a) t v w p (subst (λ (k : Kind). IsInKind k w) (sym same_b ∙ (sym alike ∙ same_a)) q)
 
 -- The value of a form, by the values before it; `final` are the kinds of the whole block.
-form_fits : (plan : PlainPlan) (registers : List ℕ) (memories : List (List ℕ)) (look : Look) (first : ℕ) → FitKinds plan.registers registers → LooksFit plan.table look
+pub form_fits : (plan : PlainPlan) (registers : List ℕ) (memories : List (List ℕ)) (look : Look) (first : ℕ) → FitKinds plan.registers registers → LooksFit plan.table look
     → (final before : List Kind) (ws : List Word) → ArePaired before ws → (number : ℕ) (f : OperationForm) → FormSuits plan first final f
     → AllByRecursion (KindStays first final before) (form_takes f)
     → IsInKind (form_kind plan.table plan.registers first before f) (form_word (start_at plan registers memories) look first ws number f)

@@ -34,7 +34,8 @@ impl Walk {
             body: Vec::new(alloc),
         };
         let form = mem::replace(&mut command.form, blank);
-        command.form = self.form(alloc, form)?;
+        let done = self.form(alloc, form)?;
+        mem::replace(&mut command.form, done).let_go();
         Ok(())
     }
 

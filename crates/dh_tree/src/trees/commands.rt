@@ -130,6 +130,12 @@ pub enum CommandForm {
     },
 }
 
+impl CommandForm {
+    /// Drops the form. What a drop of a form does is long, and stands in the proof of each function that
+    /// drops one by itself; a call of this one stands there in its place.
+    pub fn let_go(self) {}
+}
+
 /// How a view shows its parent: a bracket for each dimension.
 #[derive(Debug, Drop)]
 pub enum ViewForm {

@@ -106,3 +106,22 @@ pub struct Tree {
     /// What names stand for; empty until names are resolved.
     pub entities: Vec<Entity>,
 }
+
+impl Tree {
+    /// Drops the tree. What a drop of a tree does is long, and stands in the proof of each function that
+    /// drops one by itself; a call of this one stands there in its place.
+    pub fn let_go(self) {
+        let Tree {
+            decls: _decls,
+            functions: _functions,
+            body,
+            entities: _entities,
+        } = self;
+        let Command {
+            id: _id,
+            place: _place,
+            form,
+        } = body;
+        form.let_go();
+    }
+}

@@ -2,6 +2,7 @@
 
 ghost use Rattle.std.specs.Prelude.{◌≡◌, ◌<◌, Some, length, IfOk};
 ghost use Rattle.dh_tree.specs.Seen.{program_seen};
+ghost use Rattle.dh_tree.specs.Collected.{AreLoopsOf, IsCollected};
 ghost use Rattle.dh_tree.specs.Counters.{counters_of, counter_in};
 ghost use Rattle.dh_tree.specs.Breaches.{KeepsNames};
 ghost use Rattle.dh_tree.specs.Resolved.{HasEntities};
@@ -17,14 +18,38 @@ use dh_base::NoMemory;
 use std::alloc::Global;
 use std::marker::Model;
 
+/// The memories of a tree, and of each of its entities the loop of which it is the iterator.
+fn tables_of(alloc: Global, tree: &Tree) -> Result<(Collected, Vec<Option<Counter>>), NoMemory>
+    ensures memories { IfOk result (λ t. IsCollected tree.now t.0) }
+    ensures loops { IfOk result (λ t.
+        AreLoopsOf tree.now.body (length tree.now.entities.items) t.1.items) }
+{
+    let memories = collect(alloc, tree)?;
+    let loops = loops_of(alloc, &tree.body, tree.entities.len())?;
+    Ok((memories, loops))
+}
+
 /// A tree whose every name has the number of what it stands for and whose every expression has its kind,
 /// and that breaks no rule on names or kinds; with the table of its memories. A contract sees its tree.
-#[derive(Debug, Drop)]
+#[derive(Debug)]
 pub struct Typed {
     tree: Tree,
     memories: Collected,
     // the loop of which it is the iterator, of each entity that is one
     loops: Vec<Option<Counter>>,
+}
+
+/// A call, and not the drop of each part where the tree is dropped: that is long, and would stand in the
+/// proof of each such function.
+impl Drop for Typed {
+    fn drop(self) {
+        let Typed {
+            tree,
+            memories: _memories,
+            loops: _loops,
+        } = self;
+        tree.let_go();
+    }
 }
 
 impl Model for Typed {
@@ -63,8 +88,10 @@ impl Typed {
         requires suits { KeepsKinds (program_seen tree) }
         ensures { IfOk result (λ t. t ≡ tree) }
     {
-        let memories = collect(alloc, &tree)?;
-        let loops = loops_of(alloc, &tree.body, tree.entities.len())?;
+        let Ok((memories, loops)) = tables_of(alloc, &tree) else {
+            tree.let_go();
+            return Err(NoMemory);
+        };
         Ok(Typed {
             tree,
             memories,
