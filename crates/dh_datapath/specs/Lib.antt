@@ -1,2 +1,4 @@
 pub mod ValueWires
 pub mod ReadWires
+pub mod RegistersShown
+pub mod BlockWires

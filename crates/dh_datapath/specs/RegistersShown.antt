@@ -22,7 +22,8 @@ pub record AreRegisterWires (d : PlainCircuit) (offset : ℕ) (kinds : List Kind
 abbrev pub ShowRegisters : PlainCircuit → (kinds : List Kind) → RegisterWires → Type 0
 ShowRegisters d kinds registers = AreRegisterWires d registers.offset kinds registers.wires (length kinds)
 
--- cells were added, and they all do
-pub record RegistersAdded (old new : PlainCircuit) (kinds : List Kind) (registers : RegisterWires) : Type 0 where
+-- cells were added, and all registers from this one on have such wires
+pub record RegistersAdded (old new : PlainCircuit) (kinds : List Kind) (offset : ℕ) (registers : RegisterWires) : Type 0 where
   pub grows : Grows old new
+  pub from : registers.offset ≡ offset
   pub show : ShowRegisters new kinds registers
