@@ -1,31 +1,30 @@
 -- The blocks of a plan, one after the other: what was known of the wires of earlier ones is still so, and in the end
 -- the wires show all blocks.
-use Rattle.std.proofs.Common.{◌≡◌, ℕ, zero, suc, ◌+◌, ◌-◌, ◌≤◌, ◌<◌, ◌⊎◌, inl, inr, Some, None, List, take, drop, length, refl, sym, ap, subst, ◌∙◌, arith}
-use Rattle.std.specs.Prelude.{[], ◌∷◌, ◌++◌, Option, slice_get, slice_index_or}
+use Rattle.std.proofs.Common.{◌≡◌, ℕ, ◌+◌, ◌-◌, ◌<◌, ◌⊎◌, inl, inr, Some, None, List, take, drop, length, get_or, refl, sym, ap, subst, ◌∙◌, arith}
+use Rattle.std.specs.Prelude.{[], ◌∷◌, ◌++◌, slice_get, slice_index_or}
 use Rattle.std.proofs.Math.Nat.{add-sub_cancel_left}
 use Rattle.std.proofs.lemmas.Bool.{cases_lt}
 use Rattle.std.proofs.lemmas.List.{length-append}
-use Rattle.std.proofs.lemmas.Option.{slice_get_within}
+use Rattle.std.proofs.lemmas.Option.{slice_get_read, slice_get_within}
 use Rattle.dh_value.specs.declared.kinds.Kind.{Kind}
 use Rattle.dh_value.specs.declared.words.Word.{Word}
-use Rattle.dh_tree.specs.declared.tables.MemEntry.{MemEntry}
 use Rattle.dh_plan.specs.declared.operations.Operation.{Operation}
 use Rattle.dh_plan.specs.declared.operations.OperationForm.{OperationForm}
+use Rattle.dh_plan.specs.declared.operations.PlanBlock.{PlanBlock}
 use Rattle.dh_plan.specs.declared.operations.OperationForm.TheVariants.{Constant, Old, Compute, Convert, Select, Check, Probe, Read, Write, Set}
-use Rattle.dh_plan.specs.declared.operations.Reach.{Reach}
-use Rattle.dh_plan.specs.Blocks.{StepStart, is_on, form_word, guarded, operation_word, AreValues}
+use Rattle.dh_plan.specs.Blocks.{StepStart, is_on, form_word, guarded, AreValues}
 use Rattle.dh_plan.specs.BoundPorts.{Uses}
-use Rattle.dh_plan.specs.PlainPlans.{PlainPlan, first_in, operations_in, operations_before, operation_count}
+use Rattle.dh_plan.specs.PlainPlans.{PlainPlan, first_in, operations_in, operations_before, block_operations}
 use Rattle.dh_plan.specs.PlanKinds.{form_kind, kinds_behind, kinds_of}
 use Rattle.dh_lower.specs.ShownWords.{in_ports}
 use Rattle.dh_cells.specs.PlainCircuits.{PlainCircuit}
-use Rattle.dh_cells.specs.Settled.{Signals, IsSettled, Grows}
+use Rattle.dh_cells.specs.Settled.{Grows}
 use Rattle.dh_cells.proofs.CellsAppended.{settled_fewer, grows_then}
 use Rattle.dh_datapath.specs.declared.blocks.PlanWires.{PlanWires}
 use Rattle.dh_datapath.specs.declared.registers.RegisterWires.{RegisterWires}
 use Rattle.dh_datapath.specs.declared.rows.RowWires.{RowWires}
-use Rattle.dh_datapath.specs.BlockWires.{start_shown, ports_look, ports_at, row_look, row_kinds, RowAdded, part_in, ShowsBlock, ShowsPlan, PlanAdded}
-use Rattle.dh_datapath.specs.RegistersShown.{ShowRegisters, RegistersAdded}
+use Rattle.dh_datapath.specs.BlockWires.{start_shown, ports_look, ports_at, row_look, row_kinds, IsFormedRow, RowAdded, part_in, ShowsBlock, PlanAdded}
+use Rattle.dh_datapath.specs.RegistersShown.{ShowRegisters}
 use Rattle.dh_datapath.specs.ValueWires.{AreValueWires, value_words}
 use Rattle.dh_datapath.proofs.PartsByBlock.{before_none, before_next, part_stays, part_added, no_operations}
 use Rattle.dh_datapath.proofs.PortsOfRows.{used_at}
@@ -65,13 +64,16 @@ values_in_block s plan u held block vs h = record {
   };
 }
 
-pub kinds_long : (plan : PlainPlan) (first : ℕ) (before : List Kind) (os : List Operation) → length (kinds_behind plan.table plan.registers first before os) ≡ length before + length os
+kinds_long : (plan : PlainPlan) (first : ℕ) (before : List Kind) (os : List Operation) → length (kinds_behind plan.table plan.registers first before os) ≡ length before + length os
 kinds_long plan first before [] = omega arith
 kinds_long plan first before (o ∷ os) =
     let k = form_kind plan.table plan.registers first before o.form in
     let rest = kinds_long plan first (before ++ k ∷ []) os in
     let more = length-append before (k ∷ []) in
     omega (arith, rest, more)
+
+pub row_kinds_long : (plan : PlainPlan) (first : ℕ) (os : List Operation) → length (row_kinds plan first os) ≡ length os
+row_kinds_long plan first os = kinds_long plan first [] os ∙ omega arith
 
 pub block_later : (d e : PlainCircuit) (plan : PlainPlan) (u : Uses) (offset block : ℕ) (ws : List ℕ) → Grows d e → ShowsBlock d plan u offset block ws → ShowsBlock e plan u offset block ws
 block_later d e plan u offset block ws g h = record {
@@ -132,7 +134,7 @@ blocks_turn start d e plan u registers n kinds values row more_kinds more_values
     (subst (λ (l : List ℕ). BlocksSoFar start e plan u registers (n + 1) (kinds ++ row.kinds) l) (sym values_is) turned)
   where
     own_kinds : length row.kinds ≡ length (operations_in plan n)
-    own_kinds = ap (λ (l : List Kind). length l) added.kinds ∙ kinds_long plan (first_in plan n) [] (operations_in plan n)
+    own_kinds = ap (λ (l : List Kind). length l) added.kinds ∙ row_kinds_long plan (first_in plan n) (operations_in plan n)
 
     own_wires : length row.wires ≡ length (operations_in plan n)
     own_wires = sym (same_length e row.kinds row.wires added.there) ∙ own_kinds
@@ -179,3 +181,24 @@ blocks_end start d plan u offset n wires all from so = record {
     ];
   };
 }
+
+-- The same by the lists of the code.
+
+pub own_operations : (plan : PlainPlan) (blocks : List PlanBlock) (n : ℕ) (b : PlanBlock) (os : List Operation) → blocks ≡ plan.blocks → n < length blocks → b ≡ get_or blocks n b → os ≡ b.operations
+    → os ≡ operations_in plan n
+own_operations plan blocks n b os same inside is own =
+    own ∙ sym (ap block_operations (subst (λ (l : List PlanBlock). slice_get l n ≡ Some b) same (slice_get_read blocks (length blocks) n b refl inside is)))
+
+pub formed_as : (plan : PlainPlan) (u : Uses) (block : ℕ) (used : List (List (ℕ × ℕ))) (first : ℕ) (os : List Operation) → used ≡ part_in plan u.ports block → first ≡ first_in plan block → os ≡ operations_in plan block
+    → IsFormedRow plan (part_in plan u.ports block) (first_in plan block) (operations_in plan block) → IsFormedRow plan used first os
+formed_as plan u block used first os used_is first_is os_is h =
+    subst (λ (l : List (List (ℕ × ℕ))). IsFormedRow plan l first os) (sym used_is)
+    (subst (λ (n : ℕ). IsFormedRow plan (part_in plan u.ports block) n os) (sym first_is)
+    (subst (λ (l : List Operation). IsFormedRow plan (part_in plan u.ports block) (first_in plan block) l) (sym os_is) h))
+
+pub added_as : (d e : PlainCircuit) (plan : PlainPlan) (u : Uses) (offset block : ℕ) (used : List (List (ℕ × ℕ))) (first : ℕ) (os : List Operation) (row : RowWires) → used ≡ part_in plan u.ports block
+    → first ≡ first_in plan block → os ≡ operations_in plan block → RowAdded d e plan offset used first os row → RowAdded d e plan offset (part_in plan u.ports block) (first_in plan block) (operations_in plan block) row
+added_as d e plan u offset block used first os row used_is first_is os_is h =
+    subst (λ (l : List Operation). RowAdded d e plan offset (part_in plan u.ports block) (first_in plan block) l row) os_is
+    (subst (λ (n : ℕ). RowAdded d e plan offset (part_in plan u.ports block) n os row) first_is
+    (subst (λ (l : List (List (ℕ × ℕ))). RowAdded d e plan offset l first os row) used_is h))

@@ -1,11 +1,9 @@
 -- What the wire of a form shows, by that of its parts; and the kind of what a form gives.
-use Rattle.std.proofs.Common.{◌≡◌, ℕ, ◌+◌, ◌-◌, ◌<◌, Some, None, Bool, true, false, if◌then◌else◌, List, drop, length, refl, sym, ap, subst, ◌∙◌}
-use Rattle.std.specs.Prelude.{[], ◌∷◌, Option, slice_index}
+use Rattle.std.proofs.Common.{◌≡◌, ℕ, ◌+◌, ◌-◌, ◌<◌, Some, None, Bool, true, false, if◌then◌else◌, List, length, refl, sym, ap, subst, ◌∙◌}
+use Rattle.std.specs.Prelude.{[], ◌∷◌, ◌++◌, Option, slice_index}
 use Rattle.std.specs.List.{AllByRecursion}
 use Rattle.std.proofs.lemmas.List.{get_or-drop}
 use Rattle.dh_value.specs.declared.kinds.Kind.{Kind}
-use Rattle.dh_value.specs.declared.kinds.Kind.TheVariants as kind
-use Rattle.dh_value.specs.declared.operators.Op.{Op}
 use Rattle.dh_value.specs.declared.words.Word.{Word}
 use Rattle.dh_value.specs.Operations.{is_true, result_of}
 use Rattle.dh_value.specs.Words.{width_of, with_bits}
@@ -16,21 +14,20 @@ use Rattle.dh_plan.specs.declared.operations.Operation.{Operation}
 use Rattle.dh_plan.specs.declared.operations.OperationForm.{OperationForm}
 use Rattle.dh_plan.specs.declared.operations.OperationForm.TheVariants.{Constant, Old, Compute, Convert, Select, Check, Probe, Read, Write, Set}
 use Rattle.dh_plan.specs.declared.operations.Reach.{Reach}
-use Rattle.dh_plan.specs.Blocks.{Look, word_at, is_on, kind_at, bank_picked, form_word, guarded, operation_word}
-use Rattle.dh_plan.specs.Ordered.{IsBetween, form_takes}
+use Rattle.dh_plan.specs.Blocks.{Look, word_at, is_on, kind_at, bank_picked, form_word, guarded}
+use Rattle.dh_plan.specs.Ordered.{IsBetween, one_or_none, offsets_taken, form_takes}
 use Rattle.dh_plan.specs.PlainPlans.{PlainPlan}
 use Rattle.dh_plan.specs.PlanKinds.{kind_of_value, form_kind}
-use Rattle.dh_plan.specs.PlanRuns.{start_at}
+use Rattle.dh_plan.proofs.ValuesAlike.{all_left, all_right}
 use Rattle.dh_lower.specs.ShownWords.{bank_or_first, if_listed, is_bank_listed}
 use Rattle.dh_cells.specs.PlainCircuits.{PlainCircuit}
-use Rattle.dh_cells.specs.Settled.{Signals, Grows, Shows, Adds, shown}
-use Rattle.dh_cells.specs.ShownValues.{number_shown, register_shown}
-use Rattle.dh_cells.proofs.CellsAppended.{grows_none}
+use Rattle.dh_cells.specs.Settled.{Signals, Adds, shown}
+use Rattle.dh_cells.specs.ShownValues.{number_shown}
 use Rattle.dh_cells.proofs.WiresMade.{adds_as, adds_behind, adds_none}
 use Rattle.dh_datapath.specs.BlockWires.{start_shown, ports_look, CanShow, read_bits, form_bits, operation_bits}
 use Rattle.dh_datapath.specs.ReadWires.{bank_held, bank_shown, selected_bank_shown}
 use Rattle.dh_datapath.specs.RegistersShown.{AreRegisterWires}
-use Rattle.dh_datapath.specs.ValueWires.{AreValueWires, value_words, guarded_value_shown}
+use Rattle.dh_datapath.specs.ValueWires.{AreValueWires, SelectIsThere, value_words, guarded_value_shown}
 use Rattle.dh_datapath.proofs.ShownValueWords.{word_is}
 
 -- Reads.
@@ -148,3 +145,16 @@ module _ (d : PlainCircuit) (plan : PlainPlan) (offset first : ℕ) (ks : List K
   form_word_kind (Read r) there suits = refl
   form_word_kind (Write r value) there suits = refl
   form_word_kind (Set register value) there suits = refl
+
+-- the value that picks a bank is one that is there
+pub read_select : (first : ℕ) (ws : List ℕ) (f : OperationForm) (r : Reach) → f ≡ Read r → AllByRecursion (IsBetween first (first + length ws)) (form_takes f) → SelectIsThere first ws r.select
+read_select first ws f r is h =
+    by r.select
+    (all_left (IsBetween first (first + length ws)) (one_or_none r.select) (one_or_none r.row)
+    (all_right (IsBetween first (first + length ws)) (offsets_taken r.steps) (one_or_none r.select ++ one_or_none r.row)
+    (all_right (IsBetween first (first + length ws)) r.indices (offsets_taken r.steps ++ (one_or_none r.select ++ one_or_none r.row))
+    (subst (λ (g : OperationForm). AllByRecursion (IsBetween first (first + length ws)) (form_takes g)) is h))))
+  where
+    by : (select : Option ℕ) → AllByRecursion (IsBetween first (first + length ws)) (one_or_none select) → SelectIsThere first ws select
+    by None h = tt
+    by (Some number) h = h.0

@@ -1,8 +1,8 @@
 -- Lists that go by the numbers of a plan's operations, block by block: the part of a block is where it was put.
-use Rattle.std.proofs.Common.{◌≡◌, ℕ, zero, suc, ◌+◌, ◌-◌, ◌≤◌, ◌<◌, Some, None, List, take, drop, length, get_or, refl, sym, ap, subst, ◌∙◌, arith}
-use Rattle.std.specs.Prelude.{[], ◌∷◌, ◌++◌, Option, slice_get}
-use Rattle.std.proofs.Math.Seq.{drop-append_seam, take-append_seam}
-use Rattle.std.proofs.lemmas.List.{length-take-le, length-drop, length-append, drop-drop, take-append-le, drop-append-le}
+use Rattle.std.proofs.Common.{◌≡◌, ℕ, zero, suc, ◌+◌, ◌-◌, ◌≤◌, ◌<◌, inl, inr, List, take, drop, length, refl, sym, ap, subst, ◌∙◌, arith}
+use Rattle.std.specs.Prelude.{[], ◌∷◌, ◌++◌, slice_get}
+use Rattle.std.proofs.Math.Seq.{drop-append_seam}
+use Rattle.std.proofs.lemmas.List.{length-drop, drop-drop, take-append-le, drop-append-le}
 use Rattle.std.proofs.lemmas.Option.{slice_get_cases}
 use Rattle.dh_plan.specs.declared.operations.Operation.{Operation}
 use Rattle.dh_plan.specs.declared.operations.PlanBlock.{PlanBlock}
@@ -28,7 +28,10 @@ before_next plan n = ap (λ (k : ℕ). operations_before plan.blocks k) (next n)
 before_rises : (bs : List PlanBlock) (n m : ℕ) → operations_before bs n ≤ operations_before bs (n + m)
 before_rises [] n m = omega arith
 before_rises (b ∷ bs) zero m = omega arith
-before_rises (b ∷ bs) (suc n) m = let f = before_rises bs n m in omega (arith, f)
+before_rises (b ∷ bs) (suc n) m =
+    let f = before_rises bs n m in
+    let more : suc (n + m) ≡ suc n + m = omega arith in
+    subst (λ (k : ℕ). length b.operations + operations_before bs n ≤ operations_before (b ∷ bs) k) more (omega (arith, f))
 
 -- a block ends where the next ones begin
 pub block_ends : (plan : PlainPlan) (b n : ℕ) → b < n → first_in plan b + length (operations_in plan b) ≤ operations_before plan.blocks n

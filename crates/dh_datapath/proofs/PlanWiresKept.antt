@@ -1,15 +1,12 @@
 -- The wires of a plan behind more cells, and the wire of one value.
-use Rattle.std.proofs.Common.{◌≡◌, ℕ, ◌+◌, ◌-◌, ◌≤◌, ◌<◌, Some, List, take, drop, length, get_or, refl, sym, ap, subst, ◌∙◌, arith}
-use Rattle.std.specs.Prelude.{[], ◌∷◌, slice_get, slice_index, slice_index_or}
+use Rattle.std.proofs.Common.{◌≡◌, ℕ, ◌+◌, ◌-◌, ◌≤◌, ◌<◌, List, drop, length, get_or, sym, ap, subst, ◌∙◌, arith}
+use Rattle.std.specs.Prelude.{slice_index, slice_index_or}
 use Rattle.std.proofs.Math.Nat.{add-sub_cancel_left}
 use Rattle.std.proofs.lemmas.List.{get_or-take, get_or-drop}
-use Rattle.std.proofs.lemmas.Option.{slice_get_within}
 use Rattle.dh_value.specs.declared.kinds.Kind.{Kind}
 use Rattle.dh_value.specs.declared.kinds.Kind.TheVariants as kind
-use Rattle.dh_value.specs.declared.words.Word.{Word}
 use Rattle.dh_value.specs.Words.{width_of, with_bits}
-use Rattle.dh_plan.specs.declared.operations.Operation.{Operation}
-use Rattle.dh_plan.specs.Blocks.{no_word, word_at}
+use Rattle.dh_plan.specs.Blocks.{word_at}
 use Rattle.dh_plan.specs.BoundPorts.{Uses}
 use Rattle.dh_plan.specs.PlainPlans.{PlainPlan, first_in, operations_in}
 use Rattle.dh_plan.specs.PlanKinds.{kind_of_value, kinds_of}
@@ -18,7 +15,7 @@ use Rattle.dh_cells.specs.PlainCircuits.{PlainCircuit}
 use Rattle.dh_cells.specs.Settled.{Signals, Grows, IsWire, shown}
 use Rattle.dh_datapath.specs.declared.blocks.PlanWires.{PlanWires}
 use Rattle.dh_datapath.specs.BlockWires.{layout_of, part_in, ShowsPlan}
-use Rattle.dh_datapath.proofs.BlocksMade.{block_later, kinds_long}
+use Rattle.dh_datapath.proofs.BlocksMade.{block_later, row_kinds_long}
 use Rattle.dh_datapath.proofs.RegistersMade.{registers_later}
 use Rattle.dh_datapath.proofs.ShownValueWords.{same_length, wire_is, word_is}
 
@@ -48,7 +45,7 @@ module _ (d : PlainCircuit) (plan : PlainPlan) (u : Uses) (wires : PlanWires) (h
       ∙ (get_or-take (length (operations_in plan block)) (drop (first_in plan block) all) i none inside ∙ get_or-drop (first_in plan block) all i none)
 
   long : length (part_in plan wires.values block) ≡ length (operations_in plan block)
-  long = sym (same_length d (kinds_of plan block) (part_in plan wires.values block) (h.blocks block).there) ∙ kinds_long plan (first_in plan block) [] (operations_in plan block)
+  long = sym (same_length d (kinds_of plan block) (part_in plan wires.values block) (h.blocks block).there) ∙ row_kinds_long plan (first_in plan block) (operations_in plan block)
 
   there : (first_in plan block ≤ own_number) × (own_number < first_in plan block + length (part_in plan wires.values block))
   there = (omega arith, omega (arith, inside, long))

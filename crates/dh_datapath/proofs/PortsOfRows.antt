@@ -1,7 +1,7 @@
 -- Each block of a plan is a row of operations that have what they need to have wires: its values are of the kinds that
 -- they need, and of the banks that a read lists it uses ports that are there.
-use Rattle.std.proofs.Common.{◌≡◌, ℕ, zero, suc, ◌+◌, ◌<◌, inl, inr, Some, None, List, take, drop, length, refl, sym, ap, subst, ◌∙◌, arith}
-use Rattle.std.specs.Prelude.{[], ◌∷◌, Option, slice_get, slice_index_or}
+use Rattle.std.proofs.Common.{◌≡◌, ℕ, zero, suc, ◌+◌, ◌<◌, inl, inr, Some, List, drop, length, refl, sym, ap, subst, ◌∙◌, arith}
+use Rattle.std.specs.Prelude.{[], ◌∷◌, slice_get, slice_index_or}
 use Rattle.std.specs.List.{AllByRecursion}
 use Rattle.std.proofs.lemmas.List.{get_or-take, get_or-drop}
 use Rattle.std.proofs.lemmas.Option.{slice_get_within}
@@ -51,14 +51,14 @@ have_ports table memory width ports (b ∷ bs) each = (each b.0 b.1 (inl (refl, 
 module _ (plan : PlainPlan) (u : Uses) (formed : IsFormed plan) (ports : ArePorts plan u) (block : ℕ) where
   used_there : (i : ℕ) (r : Reach) → HasUse plan block i r → (bank place : ℕ) → IsListed bank place r.banks
       → HasPort plan.table r.memory (width_of (kind_in plan.table r.memory)) (slice_index_or u.ports (first_in plan block + i) []) bank
-  used_there i r use bank place listed =
-      let suits = reach_suits plan formed block i r use in
+  used_there i r h bank place listed =
+      let suits = reach_suits plan formed block i r h in
       let entry = entry_there plan.table r.memory suits.memory in
       let e = entry.0 in
       let dims : dims_at plan.table r.memory ≡ e.shape.dims = ap entry_dims entry.1 in
       let many : ports_at plan.table r.memory ≡ e.shape.ports = ap entry_ports entry.1 in
       let below = listed_bank r.banks (banks_of (dims_at plan.table r.memory)) bank place suits.banks.there listed in
-      let port = ports.there block i r bank place use listed in
+      let port = ports.there block i r bank place h listed in
       let own : port_or_first (port_used plan u block i bank) ≡ port.0 = ap port_or_first port.1.0 in
       record {
         entry = e;
@@ -70,10 +70,10 @@ module _ (plan : PlainPlan) (u : Uses) (formed : IsFormed plan) (ports : ArePort
 
   read_ports : (i : ℕ) (r : Reach) → HasUse plan block i r
       → HavePorts plan.table r.memory (width_of (kind_in plan.table r.memory)) (wires.ports_at (part_in plan u.ports block) i) r.banks
-  read_ports i r use =
+  read_ports i r h =
       subst (λ (l : List (ℕ × ℕ)). HavePorts plan.table r.memory (width_of (kind_in plan.table r.memory)) l r.banks)
-      (sym (used_at plan u.ports block i (slice_get_within (operations_in plan block) i use.operation use.there)))
-      (have_ports plan.table r.memory (width_of (kind_in plan.table r.memory)) (slice_index_or u.ports (first_in plan block + i) []) r.banks (used_there i r use))
+      (sym (used_at plan u.ports block i (slice_get_within (operations_in plan block) i h.operation h.there)))
+      (have_ports plan.table r.memory (width_of (kind_in plan.table r.memory)) (slice_index_or u.ports (first_in plan block + i) []) r.banks (used_there i r h))
 
   can_show : (i : ℕ) (o : Operation) → slice_get (operations_in plan block) i ≡ Some o → (f : OperationForm) → o.form ≡ f → FormSuits plan (first_in plan block) (kinds_of plan block) f
       → CanShow plan (wires.ports_at (part_in plan u.ports block) i) (first_in plan block) (kinds_of plan block) f

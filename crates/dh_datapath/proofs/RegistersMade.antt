@@ -1,5 +1,5 @@
 -- The wires of registers, one more at a time; and behind more cells.
-use Rattle.std.proofs.Common.{◌≡◌, ℕ, ◌+◌, ◌<◌, ◌⊎◌, inl, inr, List, length, refl, sym, ap, subst, ◌∙◌, arith}
+use Rattle.std.proofs.Common.{◌≡◌, ℕ, ◌+◌, ◌<◌, ◌⊎◌, inl, inr, List, length, sym, ap, subst, ◌∙◌, arith}
 use Rattle.std.specs.Prelude.{[], ◌∷◌, ◌++◌, slice_index}
 use Rattle.std.proofs.lemmas.List.{get_or_append_left, get_or_push, length-append}
 use Rattle.dh_value.specs.declared.kinds.Kind.{Kind}

@@ -1,13 +1,13 @@
 -- Operations in a row. What the wires so far show is what the values of the row begin with, so that with the values of
 -- the rest behind them they are the values of the row; in the end nothing is left.
 use Rattle.std.proofs.Common.{◌≡◌, ℕ, zero, suc, ◌+◌, ◌-◌, ◌<◌, Some, None, List, drop, length, get_or, refl, sym, ap, subst, ◌∙◌, arith}
-use Rattle.std.specs.Prelude.{[], ◌∷◌, ◌++◌, Option, slice_get, slice_index, slice_index_or}
+use Rattle.std.specs.Prelude.{[], ◌∷◌, ◌++◌, Option, slice_get, slice_index}
 use Rattle.std.specs.List.{AllByRecursion}
 use Rattle.std.proofs.Math.Nat.{add-sub_cancel_left}
-use Rattle.std.proofs.lemmas.List.{drop_more, drop_all, get_or_append_left, length-append}
+use Rattle.std.proofs.lemmas.List.{drop_more, get_or_append_left, length-append}
+use Rattle.std.proofs.lemmas.Option.{slice_get_read}
 use Rattle.dh_value.specs.declared.kinds.Kind.{Kind}
 use Rattle.dh_value.specs.declared.kinds.Kind.TheVariants as kind
-use Rattle.dh_value.specs.declared.operators.Op.{Op}
 use Rattle.dh_value.specs.declared.words.Word.{Word}
 use Rattle.dh_value.specs.Operations.{Suits}
 use Rattle.dh_value.specs.Words.{width_of, with_bits}
@@ -15,10 +15,9 @@ use Rattle.dh_tree.specs.declared.tables.MemEntry.{MemEntry}
 use Rattle.dh_plan.specs.declared.operations.Operation.{Operation}
 use Rattle.dh_plan.specs.declared.operations.OperationForm.{OperationForm}
 use Rattle.dh_plan.specs.declared.operations.OperationForm.TheVariants.{Constant, Old, Compute, Convert, Select, Check, Probe, Read, Write, Set}
-use Rattle.dh_plan.specs.declared.operations.Reach.{Reach}
-use Rattle.dh_plan.specs.Blocks.{StepStart, Look, is_on, form_word, guarded, operation_word, values_behind, values_of, AreValues}
+use Rattle.dh_plan.specs.Blocks.{StepStart, is_on, form_word, guarded, operation_word, values_behind, values_of, AreValues}
 use Rattle.dh_plan.specs.BlockLaws.{SameAt, LooksBack}
-use Rattle.dh_plan.specs.Ordered.{one_or_none, offsets_taken, form_takes, operation_takes, IsBetween, TakesEarlier}
+use Rattle.dh_plan.specs.Ordered.{one_or_none, offsets_taken, form_takes, operation_takes, IsBetween}
 use Rattle.dh_plan.specs.PlainPlans.{PlainPlan}
 use Rattle.dh_plan.specs.PlanKinds.{kind_of_value, form_kind, kinds_behind}
 use Rattle.dh_plan.proofs.BlocksSolved.{block_solves}
@@ -139,6 +138,18 @@ row_begins d plan offset used first os ks ws none no_wires =
     (subst (λ (l : List ℕ). RowSoFar d d plan offset used first os 0 [] l) (sym no_wires)
     (record { grows = grows_none d; there = tt; long = refl; kinds = refl; words = λ x settled. refl }))
 
+operation_at : (os : List Operation) (i : ℕ) (o : Operation) → i < length os → o ≡ get_or os i o → slice_get os i ≡ Some o
+operation_at os i o inside is = slice_get_read os (length os) i o refl inside is
+
+operations_left : (os : List Operation) (i : ℕ) (o : Operation) → i < length os → o ≡ get_or os i o → drop i os ≡ o ∷ drop (i + 1) os
+operations_left os i o inside is = drop_more os i o inside ∙ ap (λ (p : Operation). p ∷ drop (i + 1) os) (sym is)
+
+-- an item by another default
+pub item_is : {A : Type 0} (xs : List A) (i : ℕ) (x none : A) → i < length xs → x ≡ get_or xs i x → x ≡ get_or xs i none
+item_is [] i x none inside is = absurd (omega (arith, inside))
+item_is (y ∷ xs) zero x none inside is = is
+item_is (y ∷ xs) (suc i) x none inside is = item_is xs i x none (omega (arith, inside)) is
+
 module _ (start d : PlainCircuit) (plan : PlainPlan) (offset : ℕ) (used : List (List (ℕ × ℕ))) (first : ℕ) (os : List Operation) (i : ℕ) (ks : List Kind) (ws : List ℕ)
     (formed : IsFormedRow plan used first os) (so : RowSoFar start d plan offset used first os i ks ws) (o : Operation) (at : slice_get os i ≡ Some o) (rest : drop i os ≡ o ∷ drop (i + 1) os) where
   own_end : first + i ≡ first + length ws
@@ -208,6 +219,34 @@ module _ (start d : PlainCircuit) (plan : PlainPlan) (offset : ℕ) (used : List
             ap (λ (l : List Word). values_behind s look first l (drop (i + 1) os)) (words_more ks ws k wire x.wires same ∙ ap (λ (w : Word). vs ++ w ∷ []) (sym (word_is x settled)))
             ∙ (sym (ap (λ (l : List Operation). values_behind s look first vs l) rest) ∙ so.words x (settled_fewer d e x added.grows settled));
       }
+
+-- what the next operation needs, by the lists of the code
+pub row_needs : (start d : PlainCircuit) (plan : PlainPlan) (offset : ℕ) (used : List (List (ℕ × ℕ))) (first : ℕ) (os : List Operation) (i : ℕ) (ks own_kinds : List Kind) (ws own_wires : List ℕ) (o : Operation) (ports : List (ℕ × ℕ))
+    → IsFormedRow plan used first os → RowSoFar start d plan offset used first os i ks ws → i < length os → o ≡ get_or os i o → own_kinds ≡ ks → own_wires ≡ ws → ports ≡ ports_at used i
+    → GuardIsThere first own_kinds own_wires o.guard × (AllByRecursion (IsBetween first (first + length own_wires)) (form_takes o.form) × CanShow plan ports first own_kinds o.form)
+row_needs start d plan offset used first os i ks own_kinds ws own_wires o ports formed so inside is kinds_same wires_same ports_same =
+    let at = operation_at os i o inside is in
+    let rest = operations_left os i o inside is in
+    subst (λ (l : List (ℕ × ℕ)). GuardIsThere first own_kinds own_wires o.guard × (AllByRecursion (IsBetween first (first + length own_wires)) (form_takes o.form) × CanShow plan l first own_kinds o.form)) (sym ports_same)
+    (subst (λ (l : List Kind). GuardIsThere first l own_wires o.guard × (AllByRecursion (IsBetween first (first + length own_wires)) (form_takes o.form) × CanShow plan (ports_at used i) first l o.form)) (sym kinds_same)
+    (subst (λ (l : List ℕ). GuardIsThere first ks l o.guard × (AllByRecursion (IsBetween first (first + length l)) (form_takes o.form) × CanShow plan (ports_at used i) first ks o.form)) (sym wires_same) (
+      row_guard start d plan offset used first os i ks ws formed so o at rest,
+      (row_earlier start d plan offset used first os i ks ws formed so o at rest, row_suits start d plan offset used first os i ks ws formed so o at rest),
+    )))
+
+-- one operation on, by the lists of the code
+pub row_goes_on : (start d e : PlainCircuit) (plan : PlainPlan) (offset : ℕ) (used : List (List (ℕ × ℕ))) (first : ℕ) (os : List Operation) (i : ℕ) (ks own_kinds : List Kind) (ws own_wires : List ℕ) (o : Operation) (ports : List (ℕ × ℕ))
+    (wire : ℕ) (kind : Kind) (kinds_then more_kinds : List Kind) (more_wires : List ℕ)
+    → IsFormedRow plan used first os → RowSoFar start d plan offset used first os i ks ws → i < length os → o ≡ get_or os i o → own_kinds ≡ ks → own_wires ≡ ws → ports ≡ ports_at used i
+    → kinds_then ≡ ks → kind ≡ form_kind plan.table plan.registers first kinds_then o.form → more_kinds ≡ ks ++ kind ∷ [] → more_wires ≡ ws ++ wire ∷ []
+    → Adds d e wire (width_of (form_kind plan.table plan.registers first own_kinds o.form)) (operation_bits plan offset ports first own_kinds own_wires o)
+    → RowSoFar start e plan offset used first os (i + 1) more_kinds more_wires
+row_goes_on start d e plan offset used first os i ks own_kinds ws own_wires o ports wire kind kinds_then more_kinds more_wires formed so inside is kinds_same wires_same ports_same then_same own kinds_are wires_are added =
+    row_turn start d plan offset used first os i ks ws formed so o (operation_at os i o inside is) (operations_left os i o inside is) e wire kind more_kinds more_wires
+    (own ∙ ap (λ (l : List Kind). form_kind plan.table plan.registers first l o.form) then_same) kinds_are wires_are
+    (subst (λ (l : List (ℕ × ℕ)). Adds d e wire (width_of (form_kind plan.table plan.registers first ks o.form)) (operation_bits plan offset l first ks ws o)) ports_same
+    (subst (λ (l : List Kind). Adds d e wire (width_of (form_kind plan.table plan.registers first l o.form)) (operation_bits plan offset ports first l ws o)) kinds_same
+    (subst (λ (l : List ℕ). Adds d e wire (width_of (form_kind plan.table plan.registers first own_kinds o.form)) (operation_bits plan offset ports first own_kinds l o)) wires_same added)))
 
 -- nothing is left
 pub row_ends : (start d : PlainCircuit) (plan : PlainPlan) (offset : ℕ) (used : List (List (ℕ × ℕ))) (first : ℕ) (os : List Operation) (i : ℕ) (row : RowWires)

@@ -18,7 +18,7 @@ use Rattle.dh_plan.specs.PlainPlans.{PlainPlan, first_in, operations_in, operati
 use Rattle.dh_plan.specs.Ordered.{one_or_none, IsOrdered}
 use Rattle.dh_plan.specs.PlanKinds.{kind_of_value, kinds_behind, kinds_of, Names}
 use Rattle.dh_plan.specs.PlanRuns.{start_at}
-use Rattle.dh_lower.specs.ShownWords.{Layout, block_shown, bank_or_first, if_listed, in_ports}
+use Rattle.dh_lower.specs.ShownWords.{Layout, bank_or_first, if_listed, in_ports}
 use Rattle.dh_cells.specs.PlainCircuits.{PlainCircuit}
 use Rattle.dh_cells.specs.Settled.{Signals, IsSettled, Grows}
 use Rattle.dh_datapath.specs.declared.blocks.PlanWires.{PlanWires}

@@ -56,14 +56,7 @@ fn result_kind(op: Op, left: Kind) -> Kind
 {
     match op {
         Op::Add | Op::Sub | Op::Mul | Op::And | Op::Or | Op::Xor | Op::Shl | Op::Shr => left,
-        Op::Lt
-        | Op::Gt
-        | Op::Le
-        | Op::Ge
-        | Op::Eq
-        | Op::Ne
-        | Op::Both
-        | Op::Either => Kind::Bool,
+        Op::Lt | Op::Gt | Op::Le | Op::Ge | Op::Eq | Op::Ne | Op::Both | Op::Either => Kind::Bool,
     }
 }
 
@@ -78,7 +71,11 @@ pub fn kind_given(plan: &Plan, first: u64, kinds: &[Kind], form: &OperationForm)
             result_kind(*op, kind_before(first, kinds, *left))
         }
         OperationForm::Convert { inner: _, to } => *to,
-        OperationForm::Select { test: _, yes, no: _ } => kind_before(first, kinds, *yes),
+        OperationForm::Select {
+            test: _,
+            yes,
+            no: _,
+        } => kind_before(first, kinds, *yes),
         OperationForm::Read { access } => element_kind(plan.table.as_slice(), access.memory),
         OperationForm::Check { ok: _, fault: _ } => Kind::Bool,
         OperationForm::Probe {
@@ -116,7 +113,7 @@ pub fn push_form(
     ensures { WireAdded result circuit.old circuit.new
         (width_of (form_kind plan.now.table plan.now.registers first kinds.now form.now))
         (form_bits (plan_seen plan.now) registers.now.offset ports.now first kinds.now wires.now
-            form.now) }
+        form.now) }
 {
     match form {
         OperationForm::Constant { word } => circuit.push_constant(width(word.kind), word.bits),
@@ -171,7 +168,7 @@ pub fn push_operation(
     ensures { WireAdded result circuit.old circuit.new
         (width_of (form_kind plan.now.table plan.now.registers first kinds.now operation.now.form))
         (operation_bits (plan_seen plan.now) registers.now.offset ports.now first kinds.now wires.now
-            operation.now) }
+        operation.now) }
 {
     let form = &operation.form;
     let of = kind_given(plan, first, kinds, form);

@@ -1,6 +1,6 @@
 //! Wires for the registers of a plan, each made once.
 
-ghost use Rattle.std.specs.Prelude.{◌≡◌, ◌×◌, IfOk};
+ghost use Rattle.std.specs.Prelude.{IfOk};
 ghost use Rattle.dh_datapath.specs.RegistersShown.{HasRegisters, RegistersAdded};
 
 use dh_base::{Items, NoMemory};

@@ -1,6 +1,5 @@
 use Rattle.dh_plan.specs.SeenPlans.{plan_seen}
 use Rattle.dh_datapath.proofs.RowsMade.{RowSoFar}
-use Rattle.dh_datapath.specs.RegistersShown.{ShowRegisters}
 use Rattle.dh_datapath.proofs.rows.push_row.Given as goal
 
 abbrev pub invariant-loop-i : goal.invariant-loop-i
