@@ -9,3 +9,4 @@ pub mod PartsByBlock
 pub mod PortsOfRows
 pub mod BlocksMade
 pub mod PlanWiresKept
+pub mod ShownAtClocks

@@ -13,6 +13,9 @@ pub before_none : (bs : List PlanBlock) → operations_before bs 0 ≡ 0
 before_none [] = refl
 before_none (b ∷ bs) = refl
 
+pub before_first : (plan : PlainPlan) → operations_before plan.blocks 0 ≡ 0
+before_first plan = before_none plan.blocks
+
 before_suc : (bs : List PlanBlock) (n : ℕ) → operations_before bs (suc n) ≡ operations_before bs n + length (block_operations (slice_get bs n))
 before_suc [] n = refl
 before_suc (b ∷ bs) zero = let none = before_none bs in omega (arith, none)
@@ -40,6 +43,12 @@ block_ends plan b n less =
     let same : (b + 1) + (n - (b + 1)) ≡ n = omega (arith, less) in
     let rises = subst (λ (k : ℕ). operations_before plan.blocks (b + 1) ≤ operations_before plan.blocks k) same (before_rises plan.blocks (b + 1) (n - (b + 1))) in
     omega (arith, next, rises)
+
+-- an operation of a block is one of all
+pub operations_inside : (bs : List PlanBlock) (b i : ℕ) → i < length (block_operations (slice_get bs b)) → operations_before bs b + i < operations_before bs (length bs)
+operations_inside [] b i h = absurd (omega (arith, h))
+operations_inside (x ∷ bs) zero i h = omega (arith, h)
+operations_inside (x ∷ bs) (suc b) i h = let f = operations_inside bs b i h in omega (arith, f)
 
 module _ {A : Type 0} (plan : PlainPlan) where
   -- the part of an earlier block stays

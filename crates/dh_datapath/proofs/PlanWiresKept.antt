@@ -1,21 +1,27 @@
 -- The wires of a plan behind more cells, and the wire of one value.
-use Rattle.std.proofs.Common.{◌≡◌, ℕ, ◌+◌, ◌-◌, ◌≤◌, ◌<◌, List, drop, length, get_or, sym, ap, subst, ◌∙◌, arith}
-use Rattle.std.specs.Prelude.{slice_index, slice_index_or}
+use Rattle.std.proofs.Common.{◌≡◌, ℕ, ◌+◌, ◌-◌, ◌<◌, List, drop, length, get_or, sym, ap, subst, ◌∙◌, arith}
+use Rattle.std.specs.Prelude.{Some, slice_get}
+use Rattle.std.specs.List.{AllByRecursion}
 use Rattle.std.proofs.Math.Nat.{add-sub_cancel_left}
 use Rattle.std.proofs.lemmas.List.{get_or-take, get_or-drop}
+use Rattle.std.proofs.lemmas.Option.{slice_get_within}
 use Rattle.dh_value.specs.declared.kinds.Kind.{Kind}
 use Rattle.dh_value.specs.declared.kinds.Kind.TheVariants as kind
 use Rattle.dh_value.specs.Words.{width_of, with_bits}
-use Rattle.dh_plan.specs.Blocks.{word_at}
 use Rattle.dh_plan.specs.BoundPorts.{Uses}
 use Rattle.dh_plan.specs.PlainPlans.{PlainPlan, first_in, operations_in}
 use Rattle.dh_plan.specs.PlanKinds.{kind_of_value, kinds_of}
-use Rattle.dh_lower.specs.ShownWords.{block_shown}
+use Rattle.dh_plan.specs.declared.operations.Operation.{Operation}
+use Rattle.dh_plan.specs.Ordered.{operation_takes, IsBetween}
+use Rattle.dh_plan.specs.SoundPlans.{IsFormed}
+use Rattle.dh_plan.proofs.ValuesAlike.{all_map}
 use Rattle.dh_cells.specs.PlainCircuits.{PlainCircuit}
-use Rattle.dh_cells.specs.Settled.{Signals, Grows, IsWire, shown}
+use Rattle.dh_cells.specs.Settled.{Grows, IsWire, shown}
 use Rattle.dh_datapath.specs.declared.blocks.PlanWires.{PlanWires}
-use Rattle.dh_datapath.specs.BlockWires.{layout_of, part_in, ShowsPlan}
+use Rattle.dh_datapath.specs.BlockWires.{part_in, ShowsPlan}
+use Rattle.dh_datapath.specs.ShownNumbers.{kind_at_number, IsShownNumber}
 use Rattle.dh_datapath.proofs.BlocksMade.{block_later, row_kinds_long}
+use Rattle.dh_datapath.proofs.PartsByBlock.{operations_inside}
 use Rattle.dh_datapath.proofs.RegistersMade.{registers_later}
 use Rattle.dh_datapath.proofs.ShownValueWords.{same_length, wire_is, word_is}
 
@@ -33,9 +39,6 @@ module _ (d : PlainCircuit) (plan : PlainPlan) (u : Uses) (wires : PlanWires) (h
   abbrev own_number : ℕ
   own_number = first_in plan block + i
 
-  abbrev own_kind : Kind
-  own_kind = kind_of_value (first_in plan block) (kinds_of plan block) own_number
-
   place : own_number - first_in plan block ≡ i
   place = add-sub_cancel_left (first_in plan block) i
 
@@ -47,18 +50,38 @@ module _ (d : PlainCircuit) (plan : PlainPlan) (u : Uses) (wires : PlanWires) (h
   long : length (part_in plan wires.values block) ≡ length (operations_in plan block)
   long = sym (same_length d (kinds_of plan block) (part_in plan wires.values block) (h.blocks block).there) ∙ row_kinds_long plan (first_in plan block) (operations_in plan block)
 
-  there : (first_in plan block ≤ own_number) × (own_number < first_in plan block + length (part_in plan wires.values block))
-  there = (omega arith, omega (arith, inside, long))
+  own_place : IsBetween (first_in plan block) (first_in plan block + length (part_in plan wires.values block)) own_number
+  own_place = (omega arith, omega (arith, inside, long))
 
-  pub kind_at_number : slice_index_or wires.kinds own_number kind.Bool ≡ own_kind
-  kind_at_number = sym (part_at wires.kinds kind.Bool) ∙ ap (λ (ks : List Kind). kind_of_value (first_in plan block) ks own_number) (h.kinds block)
+  number_inside : own_number < length wires.values
+  number_inside =
+      let most = operations_inside plan.blocks block i inside in
+      let all = h.all_values in
+      omega (arith, most, all)
 
-  pub value_wire_at : IsWire d (slice_index wires.values own_number) (width_of own_kind)
-  value_wire_at =
-      subst (λ (w : ℕ). IsWire d w (width_of own_kind)) (part_at wires.values 0)
-      (wire_is d (first_in plan block) (kinds_of plan block) (part_in plan wires.values block) (h.blocks block).there own_number there)
+  own_kind : kind_at_number wires own_number ≡ kind_of_value (first_in plan block) (kinds_of plan block) own_number
+  own_kind = sym (part_at wires.kinds kind.Bool) ∙ ap (λ (ks : List Kind). kind_of_value (first_in plan block) ks own_number) (h.kinds block)
 
-  pub bits_at_number : (x : Signals) → word_at (first_in plan block) (block_shown plan (layout_of plan wires) block x.wires) own_number ≡ with_bits own_kind (shown x (slice_index wires.values own_number))
-  bits_at_number x =
-      word_is d (first_in plan block) (kinds_of plan block) (part_in plan wires.values block) (h.blocks block).there x own_number there
-      ∙ ap (λ (w : ℕ). with_bits own_kind (shown x w)) (part_at wires.values 0)
+  pub place_is_shown : IsShownNumber d plan wires block own_number
+  place_is_shown = record {
+    there = number_inside;
+    wire =
+        subst (λ (w : ℕ). IsWire d w (width_of (kind_at_number wires own_number))) (part_at wires.values 0)
+        (subst (λ (k : Kind). IsWire d (get_or (part_in plan wires.values block) (own_number - first_in plan block) 0) (width_of k)) (sym own_kind)
+        (wire_is d (first_in plan block) (kinds_of plan block) (part_in plan wires.values block) (h.blocks block).there own_number own_place));
+    kind_is = own_kind;
+    word = λ x.
+        word_is d (first_in plan block) (kinds_of plan block) (part_in plan wires.values block) (h.blocks block).there x own_number own_place
+        ∙ (λ j. with_bits (sym own_kind j) (shown x (part_at wires.values 0 j)));
+  }
+
+-- each value that an operation of a block takes is so, and so is its own
+pub taken_are_shown : (d : PlainCircuit) (plan : PlainPlan) (u : Uses) (wires : PlanWires) → ShowsPlan d plan u wires → IsFormed plan → (block i : ℕ) (o : Operation) → slice_get (operations_in plan block) i ≡ Some o
+    → AllByRecursion (IsShownNumber d plan wires block) (operation_takes o)
+taken_are_shown d plan u wires h formed block i o at =
+    all_map (IsBetween (first_in plan block) (first_in plan block + i)) (IsShownNumber d plan wires block) (operation_takes o)
+    (λ number between.
+    let within = slice_get_within (operations_in plan block) i o at in
+    let same : first_in plan block + (number - first_in plan block) ≡ number = omega (arith, between) in
+    subst (λ (n : ℕ). IsShownNumber d plan wires block n) same (place_is_shown d plan u wires h block (number - first_in plan block) (omega (arith, between, within))))
+    ((formed.blocks block).ordered.each i o at)
