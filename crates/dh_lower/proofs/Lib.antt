@@ -19,3 +19,4 @@ pub mod SilentPorts
 pub mod NetInStep
 pub mod NetSimulates
 pub mod StoreMakeable
+pub mod ReadNetMade

@@ -10,7 +10,7 @@
 mod examples;
 mod laws;
 
-pub use examples::{a_store_has_its_net, a_store_is_played};
+pub use examples::{a_picked_read_has_its_net, a_store_has_its_net, a_store_is_played};
 pub use laws::{
     clocks_keep_fits, clocks_keep_reads, clocks_write_steps, ports_have_one_user,
     spots_follow_places, step_ends_are_shown, wires_show_values, writes_come_by_ports,
