@@ -20,3 +20,4 @@ pub mod NetInStep
 pub mod NetSimulates
 pub mod StoreMakeable
 pub mod ReadNetMade
+pub mod ReadMakeable

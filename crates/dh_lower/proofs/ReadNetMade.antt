@@ -51,14 +51,14 @@ from_place P n (y ∷ xs) all (suc i) x at =
     let there : n + 1 + i ≡ n + suc i = omega arith in
     subst (λ (k : ℕ). P k x) there (from_place P (n + 1) xs all.1 i x at)
 
-each_place : {A : Type 0} (P : ℕ → A → Type 0) (xs : List A) → AllFrom P 0 xs → (i : ℕ) (x : A) → slice_get xs i ≡ Some x → P i x
+pub each_place : {A : Type 0} (P : ℕ → A → Type 0) (xs : List A) → AllFrom P 0 xs → (i : ℕ) (x : A) → slice_get xs i ≡ Some x → P i x
 each_place P xs all i x at =
     let none : 0 + i ≡ i = omega arith in
     subst (λ (k : ℕ). P k x) none (from_place P 0 xs all i x at)
 
 -- The net is valid.
 
-two_banks_table : IsProgramTable two_banks
+pub two_banks_table : IsProgramTable two_banks
 two_banks_table =
     record {
       entries = (
@@ -81,10 +81,10 @@ two_banks_table =
       elements = (let s : 2 ≤ 1048576 = omega arith in s);
     }
 
-one_bit : IsWidth 1
+pub one_bit : IsWidth 1
 one_bit = ((let s : 1 ≤ 1 = omega arith in s), (let s : 1 ≤ 64 = omega arith in s))
 
-eight_bits : IsWidth 8
+pub eight_bits : IsWidth 8
 eight_bits = ((let s : 1 ≤ 8 = omega arith in s), (let s : 8 ≤ 64 = omega arith in s))
 
 many_bits : IsWidth 32
@@ -209,7 +209,7 @@ driver_is enable wide own p same row ds list k d at =
     (subst (λ (q : Port). IsDriver read_cells q (read_driver enable)) same (record { enable = wide; row = row; out = λ e. absurd (let f : false ≡ true = e in cc) }), tt) k d
     (subst (λ (l : List Driver). slice_get l k ≡ Some d) (sym list) at)
 
-same_item : {A : Type 0} (x y : A) → Some x ≡ Some y → x ≡ y
+pub same_item : {A : Type 0} (x y : A) → Some x ≡ Some y → x ≡ y
 same_item x y e = cc
 
 read_drivers_are : (i : ℕ) (ds : List Driver) (p : Port) → slice_get read_net.drivers i ≡ Some ds → slice_get (ports_of two_banks) i ≡ Some p → (k : ℕ) (d : Driver) → slice_get ds k ≡ Some d → IsDriver read_cells p d
@@ -265,7 +265,7 @@ abbrev OwnUse : (port : ℕ) → User → Type 0
 OwnUse port user =
     (r : Reach) × (HasUse read_plan user.block user.place r × ((place : ℕ) × (IsListed user.bank place r.banks × (port_bound read_plan read_making.uses user.block user.place user.bank r ≡ port))))
 
-the_use : HasUse read_plan 0 2 picked_row
+pub the_use : HasUse read_plan 0 2 picked_row
 the_use = record { operation = always (Read picked_row); there = refl; uses = refl }
 
 own_user : (port : ℕ) (user : User) → HasUser user (read_users port) → OwnUse port user
