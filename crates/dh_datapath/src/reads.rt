@@ -182,7 +182,8 @@ pub fn push_read(
     access: &Reach,
 ) -> Result<u64, NoMemory>
     requires width { IsWidth element }
-    requires ports { HavePorts circuit.old.table access.now.memory element ports.now access.now.banks }
+    requires ports { HavePorts circuit.old.table access.now.memory element ports.now
+        access.now.banks }
     requires values { AreValueWires circuit.old kinds.now wires.now }
     requires select { SelectIsThere first wires.now access.now.select }
     ensures { WireAdded result circuit.old circuit.new element
