@@ -1,0 +1,3 @@
+pub mod SeenLists
+pub mod Renumbered
+pub mod LiteralPlaces
