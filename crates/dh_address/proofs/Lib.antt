@@ -1,1 +1,4 @@
 pub mod PlanForms
+pub mod BlockEquations
+pub mod ImageReadings
+pub mod TestedRanges

@@ -9,6 +9,7 @@ mod addressing;
 mod aiming;
 mod copying;
 mod cutting;
+mod laws;
 mod literals;
 mod renumbering;
 mod results;
