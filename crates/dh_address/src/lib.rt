@@ -7,9 +7,12 @@
 
 mod addressing;
 mod aiming;
+mod blocks;
 mod copying;
 mod cutting;
 mod literals;
+mod probing;
+mod ranging;
 mod renumbering;
 mod results;
 
