@@ -4,3 +4,8 @@ pub mod ImageReadings
 pub mod TestedRanges
 pub mod AimedRows
 pub mod LiteralMeans
+pub mod FewElements
+pub mod RangeTurns
+pub mod PiecesGrow
+pub mod BlocksAppended
+pub mod PlanBlocks

@@ -1,5 +1,5 @@
--- What is seen of a node of a plan, and of a tree of accesses, form by form, where its parts stand in the code's lists;
--- and one turn of a loop that copies them.
+-- What is seen of a node of a plan, form by form, where its parts stand in the code's lists; and one turn of a loop
+-- that copies nodes, or trees of accesses.
 use Rattle.std.proofs.Common.{◌≡◌, ℕ, List, refl, ap, sym, ◌∙◌}
 use Rattle.std.specs.Prelude.{Vec, [], ◌∷◌, ◌++◌}
 use Rattle.std.specs.Global.{Global}
@@ -7,12 +7,10 @@ use Rattle.dh_plan.specs.declared.plans.Node.{Node}
 use Rattle.dh_plan.specs.declared.plans.Node.TheVariants.{Step, Turns, Loop, Choice, Threads}
 use Rattle.dh_plan.specs.declared.plans.Node.TheBlock as block
 use Rattle.dh_plan.specs.PlainPlans.{block_node, turns_node, loop_node, choice_node, threads_node, node_then, list_then}
-use Rattle.dh_plan.specs.SeenPlans.{meets_seen, all_seen, one_seen, node_seen, row_seen, lists_seen, nodes_seen}
+use Rattle.dh_plan.specs.SeenPlans.{meets_seen, alls, ones, node_seen, row_seen, lists_seen, nodes_seen}
 use Rattle.dh_plan.specs.declared.plans.Meets.{Meets}
-use Rattle.dh_plan.specs.declared.plans.Meets.TheVariants.{Access, All, One}
-use Rattle.dh_plan.specs.declared.plans.Meets.TheBlock as part
 use Rattle.dh_tree.specs.Meets as meets
-use Rattle.dh_address.specs.SeenLists.{threads_seen, alls_seen, ones_seen}
+use Rattle.dh_address.specs.SeenLists.{threads_seen}
 use mathlib.Core.Former.{Count}
 
 row_is : (n : Count) (k : block.Row_of-Node n) → row_seen k ≡ nodes_seen (block.items-the_row-Node n k)
@@ -55,32 +53,6 @@ threads_is lists = ap (λ s. threads_node s) (rows_are _ (block.hidden-the_row-N
 
 pub ruleset nodes_are = (step_is, turns_is, loop_is, choice_is, threads_is)
 
--- Trees of accesses.
-
-pub access_is : (access : ℕ) → meets_seen (Access access) ≡ meets.access access
-unfolding meets_seen
-access_is access = refl
-
-all_row : (n : Count) (k : part.Row_of-Meets n) → all_seen k ≡ alls_seen (part.items-the_row-Meets n k)
-unfolding meets_seen
-all_row _ part.end_of-Meets = refl
-all_row _ (part.more_of-Meets {n = n} p rest) = ap (λ (s : meets.Meets). meets.all (meets_seen p) s) (all_row n rest)
-
-one_row : (n : Count) (k : part.Row_of-Meets n) → one_seen k ≡ ones_seen (part.items-the_row-Meets n k)
-unfolding meets_seen
-one_row _ part.end_of-Meets = refl
-one_row _ (part.more_of-Meets {n = n} p rest) = ap (λ (s : meets.Meets). meets.one (meets_seen p) s) (one_row n rest)
-
-pub all_is : (parts : Vec Meets Global) → meets_seen (All parts) ≡ alls_seen parts.items
-unfolding meets_seen
-all_is parts = all_row _ (part.hidden-the_row-Meets-0 parts) ∙ ap alls_seen (part.items_hidden-the_row-Meets-0 parts)
-
-pub one_is : (parts : Vec Meets Global) → meets_seen (One parts) ≡ ones_seen parts.items
-unfolding meets_seen
-one_is parts = one_row _ (part.hidden-the_row-Meets-0 parts) ∙ ap ones_seen (part.items_hidden-the_row-Meets-0 parts)
-
-pub ruleset meets_are = (access_is, all_is, one_is)
-
 -- One more of a list is copied: what is copied, and the rest, are seen as the whole.
 
 pub nodes_turn : (copy rest : List Node) (node copied : Node) → node_seen copied ≡ node_seen node → nodes_seen ((copy ++ copied ∷ []) ++ rest) ≡ nodes_seen (copy ++ node ∷ rest)
@@ -92,10 +64,10 @@ pub threads_turn : (copy rest : List (Vec Node Global)) (list copied : Vec Node 
 threads_turn [] rest list copied e = ap (λ s. list_then s (threads_seen rest)) e
 threads_turn (c ∷ copy) rest list copied e = ap (λ s. list_then (nodes_seen c.items) s) (threads_turn copy rest list copied e)
 
-pub alls_turn : (copy rest : List Meets) (p copied : Meets) → meets_seen copied ≡ meets_seen p → alls_seen ((copy ++ copied ∷ []) ++ rest) ≡ alls_seen (copy ++ p ∷ rest)
-alls_turn [] rest p copied e = ap (λ s. meets.all s (alls_seen rest)) e
+pub alls_turn : (copy rest : List Meets) (p copied : Meets) → meets_seen copied ≡ meets_seen p → alls ((copy ++ copied ∷ []) ++ rest) ≡ alls (copy ++ p ∷ rest)
+alls_turn [] rest p copied e = ap (λ s. meets.all s (alls rest)) e
 alls_turn (c ∷ copy) rest p copied e = ap (λ s. meets.all (meets_seen c) s) (alls_turn copy rest p copied e)
 
-pub ones_turn : (copy rest : List Meets) (p copied : Meets) → meets_seen copied ≡ meets_seen p → ones_seen ((copy ++ copied ∷ []) ++ rest) ≡ ones_seen (copy ++ p ∷ rest)
-ones_turn [] rest p copied e = ap (λ s. meets.one s (ones_seen rest)) e
+pub ones_turn : (copy rest : List Meets) (p copied : Meets) → meets_seen copied ≡ meets_seen p → ones ((copy ++ copied ∷ []) ++ rest) ≡ ones (copy ++ p ∷ rest)
+ones_turn [] rest p copied e = ap (λ s. meets.one s (ones rest)) e
 ones_turn (c ∷ copy) rest p copied e = ap (λ s. meets.one (meets_seen c) s) (ones_turn copy rest p copied e)

@@ -3,3 +3,7 @@ pub mod Renumbered
 pub mod LiteralPlaces
 pub mod Pieces
 pub mod Images
+pub mod SeenAround
+pub mod SeenBlocks
+pub mod Cuts
+pub mod SeenPlan

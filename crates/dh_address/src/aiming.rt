@@ -1,168 +1,62 @@
 //! Accesses of rows of banks.
 
-use crate::literals::{constant_place, constant_within};
+ghost use Rattle.std.specs.Prelude.{◌≡◌, IfOk, length};
+ghost use Rattle.std.specs.List.{AllByRecursion};
+ghost use Rattle.dh_tree.specs.Elements.{dims_at};
+ghost use Rattle.dh_tree.specs.Shapes.{IsDim, IsProgramTable};
+ghost use Rattle.dh_rows.specs.MadeOperations.{IsSummed, constant_made};
+ghost use Rattle.dh_address.specs.Pieces.{IsAim, IsAimed, IsIndexAim, IsSpreadOut, aimed, waited};
+ghost use Rattle.dh_address.specs.SeenAround.{around_seen};
+
+use crate::literals::{LiteralPlace, constant_place};
+use crate::ranging::{OldBlock, dims_in, element_total};
 use crate::renumbering::Renumbering;
 use dh_base::{Items, NoMemory};
-use dh_plan::{Operation, Reach};
-use dh_rows::{
-    OperationList, bit_length, push_compute, push_constant, push_or_zero, push_test, spread,
-};
-use dh_tree::{Dim, MemEntry};
-use dh_value::Op;
-use std::alloc::Global;
-
-/// A block of the old plan, and what there is around it.
-#[derive(Clone, Copy, Debug)]
-pub struct OldBlock<'a> {
-    pub alloc: Global,
-    pub table: &'a [MemEntry],
-    pub first: u64,
-    pub operations: &'a [Operation],
-}
+use dh_plan::Reach;
+use dh_rows::{OperationList, bit_length, push_constant, push_convert, push_or_zero, spread};
+use dh_tree::Dim;
 
 /// The values of a row, and of its bank where there are several.
 #[derive(Clone, Copy, Debug)]
-struct Aim {
-    row: u64,
-    select: Option<u64>,
+pub struct Aim {
+    /// The row.
+    pub row: u64,
+    /// The bank.
+    pub select: Option<u64>,
 }
 
-/// The dimensions of a memory, none where there is no such memory.
-fn dims_in(table: &[MemEntry], memory: u32) -> &[Dim] {
-    match table.get(memory as usize) {
-        Some(entry) => entry.shape.dims.as_slice(),
-        None => &[],
-    }
-}
-
-/// The rows of a bank. Numbers wrap.
-fn row_count(dims: &[Dim]) -> u64 {
-    let mut count = 1u64;
-    for dim in dims {
-        if dim.banks > 0 {
-            count = count.wrapping_mul(dim.size / dim.banks);
-        }
-    }
-    count
-}
-
-/// The elements of a memory. Numbers wrap.
-fn element_total(dims: &[Dim]) -> u64 {
-    let mut count = 1u64;
-    for dim in dims {
-        count = count.wrapping_mul(dim.size);
-    }
-    count
-}
-
-/// Adds whether a value is from 0 on and below a size; None where it always is.
-fn test_value(
+/// Adds a row, and its bank where that is wanted, of an element that is known.
+fn push_place(
     list: &mut OperationList,
-    old: &OldBlock<'_>,
-    known: &Renumbering,
-    value: u64,
-    size: u64,
-) -> Result<Option<u64>, NoMemory> {
-    if constant_within(old.operations, old.first, value, size).is_some() {
-        return Ok(None);
+    width: u8,
+    place: LiteralPlace,
+    banked: bool,
+) -> Result<Aim, NoMemory>
+    ensures { IfOk result (λ a. IsAim banked (constant_made list.old width place.row)
+        (constant_made (constant_made list.old width place.row).operations width place.bank)
+        list.new a.row a.select) }
+{
+    let row = push_constant(list, width, place.row)?;
+    if !banked {
+        return Ok(Aim { row, select: None });
     }
-    push_test(list, known.kind(value), known.number(value), size)
+    let select = Some(push_constant(list, width, place.bank)?);
+    Ok(Aim { row, select })
 }
 
-/// Adds that both hold: a guard that may lack, and that a value is in range.
-fn guard_value(
+/// Adds the row of the element of these indices, and its bank where that is wanted.
+fn push_spread(
     list: &mut OperationList,
-    old: &OldBlock<'_>,
-    known: &Renumbering,
-    guard: Option<u64>,
-    value: u64,
-    size: u64,
-) -> Result<Option<u64>, NoMemory> {
-    match test_value(list, old, known, value, size)? {
-        None => Ok(guard),
-        Some(within) => match guard {
-            None => Ok(Some(within)),
-            Some(guard) => Ok(Some(push_compute(list, Op::Both, guard, within)?)),
-        },
-    }
-}
-
-/// Adds that a guard holds, which may lack, and that an access is in range.
-pub fn guard_reach(
-    list: &mut OperationList,
-    old: &OldBlock<'_>,
-    known: &Renumbering,
-    guard: Option<u64>,
-    reach: &Reach,
-) -> Result<Option<u64>, NoMemory> {
-    let dims = dims_in(old.table, reach.memory);
-    if let Some(row) = reach.row {
-        return guard_value(list, old, known, guard, row, row_count(dims));
-    }
-    let indices = reach.indices.as_slice();
-    let mut guard = guard;
-    for i in 0..dims.len().min(indices.len()) {
-        guard = guard_value(list, old, known, guard, indices[i], dims[i].size)?;
-    }
-    Ok(guard)
-}
-
-/// Adds a check that a value is in range, where it may not be.
-fn check_value(
-    list: &mut OperationList,
-    old: &OldBlock<'_>,
-    known: &Renumbering,
-    guard: Option<u64>,
-    fault: u32,
-    value: u64,
-    size: u64,
-) -> Result<(), NoMemory> {
-    if let Some(ok) = test_value(list, old, known, value, size)? {
-        list.push(guard, dh_plan::OperationForm::Check { ok, fault })?;
-    }
-    Ok(())
-}
-
-/// Adds the checks that an access is in range.
-pub fn check_reach(
-    list: &mut OperationList,
-    old: &OldBlock<'_>,
-    known: &Renumbering,
-    guard: Option<u64>,
-    fault: u32,
-    reach: &Reach,
-) -> Result<(), NoMemory> {
-    let dims = dims_in(old.table, reach.memory);
-    if let Some(row) = reach.row {
-        return check_value(list, old, known, guard, fault, row, row_count(dims));
-    }
-    let indices = reach.indices.as_slice();
-    for i in 0..dims.len().min(indices.len()) {
-        check_value(list, old, known, guard, fault, indices[i], dims[i].size)?;
-    }
-    Ok(())
-}
-
-/// Adds the row of an access by indices, and its bank where it can reach several.
-fn aim_by_indices(
-    list: &mut OperationList,
-    old: &OldBlock<'_>,
-    known: &Renumbering,
-    reach: &Reach,
-) -> Result<Aim, NoMemory> {
-    let dims = dims_in(old.table, reach.memory);
-    let width = bit_length(element_total(dims));
-    let banked = reach.banks.len() != 1;
-    if let Some(place) = constant_place(old.operations, old.first, dims, reach.indices.as_slice()) {
-        let row = push_constant(list, width, place.row)?;
-        if !banked {
-            return Ok(Aim { row, select: None });
-        }
-        let select = Some(push_constant(list, width, place.bank)?);
-        return Ok(Aim { row, select });
-    }
-    let indices = known.each(old.alloc, reach.indices.as_slice())?;
-    let values = spread(list, width, dims, indices.as_slice(), banked)?;
+    width: u8,
+    dims: &[Dim],
+    indices: &[u64],
+    banked: bool,
+) -> Result<Aim, NoMemory>
+    requires { AllByRecursion IsDim dims.now }
+    ensures { IfOk result (λ a. IsSpreadOut width dims.now indices.now banked list.old list.new
+        a.row a.select) }
+{
+    let values = spread(list, width, dims, indices, banked)?;
     let row = push_or_zero(list, width, values.row)?;
     if !banked {
         return Ok(Aim { row, select: None });
@@ -171,26 +65,51 @@ fn aim_by_indices(
     Ok(Aim { row, select })
 }
 
-/// Adds the row of an access. What it took before it still takes, so that it comes no earlier.
-pub fn aim_reach(
+/// Adds the row of an access by indices, and its bank where it can reach several.
+fn aim_by_indices(
     list: &mut OperationList,
     old: &OldBlock<'_>,
     known: &Renumbering,
     reach: &Reach,
-) -> Result<Reach, NoMemory> {
-    let mut indices = known.each(old.alloc, reach.indices.as_slice())?;
-    let aim = match reach.row {
-        Some(row) => Aim {
-            row: known.number(row),
-            select: known.maybe(reach.select),
-        },
+) -> Result<Aim, NoMemory>
+    requires { IsProgramTable old.now.table.now }
+    ensures { IfOk result (λ a. IsIndexAim (around_seen old.now known.now) reach.now
+        list.old list.new a.row a.select) }
+{
+    let dims = dims_in(old.table, reach.memory);
+    let width = bit_length(element_total(dims));
+    let banked = reach.banks.len() != 1;
+    match constant_place(old.operations, known.first, dims, reach.indices.as_slice()) {
+        Some(place) => push_place(list, width, place, banked),
         None => {
-            if let Some(select) = reach.select {
-                indices.push(known.number(select))?;
-            }
-            aim_by_indices(list, old, known, reach)?
+            let indices = known.each(old.alloc, reach.indices.as_slice())?;
+            push_spread(list, width, dims, indices.as_slice(), banked)
         }
-    };
+    }
+}
+
+/// Adds a value as a number of one bit, if there is one: it is only waited for.
+fn push_waited(
+    list: &mut OperationList,
+    value: Option<u64>,
+) -> Result<Option<u64>, NoMemory>
+    ensures { IfOk result (λ s. IsSummed list.new s (waited list.old value)) }
+{
+    match value {
+        None => Ok(None),
+        Some(value) => Ok(Some(push_convert(list, value, 1)?)),
+    }
+}
+
+/// The same access of a row of a bank, which takes these values too.
+fn aimed(
+    old: &OldBlock<'_>,
+    reach: &Reach,
+    indices: Items<u64>,
+    aim: Aim,
+) -> Result<Reach, NoMemory>
+    ensures { IfOk result (λ t. t ≡ aimed reach.now indices aim.row aim.select) }
+{
     Ok(Reach {
         access: reach.access,
         memory: reach.memory,
@@ -200,4 +119,28 @@ pub fn aim_reach(
         select: aim.select,
         row: Some(aim.row),
     })
+}
+
+/// Adds the row of an access. What it took before it still takes, so that it comes no earlier.
+pub fn aim_reach(
+    list: &mut OperationList,
+    old: &OldBlock<'_>,
+    known: &Renumbering,
+    reach: &Reach,
+) -> Result<Reach, NoMemory>
+    requires { IsProgramTable old.now.table.now }
+    ensures { IfOk result (IsAimed (around_seen old.now known.now) reach.now reach.now.row
+        list.old list.new) }
+{
+    let mut indices = known.each(old.alloc, reach.indices.as_slice())?;
+    if let Some(row) = reach.row {
+        let row = known.number(row);
+        let select = known.maybe(reach.select);
+        return aimed(old, reach, indices, Aim { row, select });
+    }
+    if let Some(select) = push_waited(list, known.maybe(reach.select))? {
+        indices.push(select)?;
+    }
+    let aim = aim_by_indices(list, old, known, reach)?;
+    aimed(old, reach, indices, aim)
 }

@@ -1,8 +1,7 @@
 //! Equal nodes, and equal trees of which accesses may meet.
 
 ghost use Rattle.std.specs.Prelude.{◌≡◌, IfOk};
-ghost use Rattle.dh_plan.specs.SeenPlans.{meets_seen, node_seen, nodes_seen};
-ghost use Rattle.dh_address.specs.SeenLists.{alls_seen, ones_seen};
+ghost use Rattle.dh_plan.specs.SeenPlans.{alls, meets_seen, node_seen, nodes_seen, ones};
 
 use dh_base::NoMemory;
 use dh_plan::{Meets, Node};
@@ -80,8 +79,8 @@ fn copy_node(alloc: Global, node: &Node) -> Result<Node, NoMemory>
 /// Equal parts, in order.
 #[cycle(copy_meets)]
 fn copy_parts(alloc: Global, parts: &[Meets]) -> Result<Vec<Meets>, NoMemory>
-    ensures all { IfOk result (λ copy. alls_seen copy.items ≡ alls_seen parts.now) }
-    ensures one { IfOk result (λ copy. ones_seen copy.items ≡ ones_seen parts.now) }
+    ensures all { IfOk result (λ copy. alls copy.items ≡ alls parts.now) }
+    ensures one { IfOk result (λ copy. ones copy.items ≡ ones parts.now) }
 {
     let mut copy = Vec::new(alloc);
     for part in parts {
@@ -92,7 +91,7 @@ fn copy_parts(alloc: Global, parts: &[Meets]) -> Result<Vec<Meets>, NoMemory>
 
 /// An equal tree of which accesses may meet.
 #[cycle(copy_meets)]
-#[tactic(auto, using(crate::proofs::PlanForms::meets_are))]
+#[tactic(auto, using(dh_plan::proofs::SeenMeets::meets_are))]
 pub fn copy_meets(alloc: Global, meets: &Meets) -> Result<Meets, NoMemory>
     ensures { IfOk result (λ copy. meets_seen copy ≡ meets_seen meets.now) }
 {

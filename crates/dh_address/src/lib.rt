@@ -7,10 +7,13 @@
 
 mod addressing;
 mod aiming;
+mod blocks;
 mod copying;
 mod cutting;
 mod laws;
 mod literals;
+mod probing;
+mod ranging;
 mod renumbering;
 mod results;
 

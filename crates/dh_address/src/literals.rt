@@ -3,6 +3,7 @@
 ghost use Rattle.std.specs.Prelude.{◌≡◌, ◌-◌, None};
 ghost use Rattle.dh_address.specs.LiteralPlaces.{natural, literal_at, literal_within, literal_places};
 
+use crate::renumbering::place_from;
 use dh_plan::{Operation, OperationForm};
 use dh_tree::Dim;
 use dh_value::{Kind, Word};
@@ -34,10 +35,10 @@ fn natural_of(word: Word) -> Option<u64>
 }
 
 /// The value of a constant without a guard at this place of a block, if it is one from 0 on.
-fn constant_at(operations: &[Operation], place: u64) -> Option<u64>
+fn constant_at(operations: &[Operation], place: usize) -> Option<u64>
     ensures { result ≡ literal_at operations.now place }
 {
-    match operations.get(place as usize) {
+    match operations.get(place) {
         Some(operation) => match operation.guard {
             Some(_) => None,
             None => match &operation.form {
@@ -52,13 +53,13 @@ fn constant_at(operations: &[Operation], place: u64) -> Option<u64>
 /// The value of a constant below a size, in a block whose first operation has the number `first`.
 pub fn constant_within(
     operations: &[Operation],
-    first: u64,
+    first: u128,
     value: u64,
     size: u64,
 ) -> Option<u64>
     ensures { result ≡ literal_within operations.now first value size }
 {
-    match constant_at(operations, value.saturating_sub(first)) {
+    match constant_at(operations, place_from(first, value)) {
         Some(number) => {
             if number < size {
                 Some(number)
@@ -73,7 +74,7 @@ pub fn constant_within(
 /// Row and bank of the element of these indices, if all are constants and in range. Numbers wrap.
 pub fn constant_place(
     operations: &[Operation],
-    first: u64,
+    first: u128,
     dims: &[Dim],
     indices: &[u64],
 ) -> Option<LiteralPlace>

@@ -8,11 +8,18 @@ use dh_base::{Items, NoMemory};
 use dh_value::Kind;
 use std::alloc::Global;
 
+/// The place of a value in a block, by its number and that of the block's first operation.
+pub fn place_from(first: u128, value: u64) -> usize
+    ensures { result ≡ value - first }
+{
+    u128::from(value).saturating_sub(first) as usize
+}
+
 /// What is known of the operations of a block so far, in order.
 #[derive(Debug, Drop)]
 pub struct Renumbering {
-    /// The number of the block's first operation in the old plan.
-    pub first: u64,
+    /// The number of the block's first operation in the old plan, whatever the plan's size.
+    pub first: u128,
     /// The new number of each.
     pub numbers: Items<u64>,
     /// The kind of each one's value.
@@ -24,7 +31,7 @@ impl Renumbering {
     pub fn number(&self, old: u64) -> u64
         ensures { result ≡ renumbered self.now.first self.now.numbers old }
     {
-        let place = old.saturating_sub(self.first) as usize;
+        let place = place_from(self.first, old);
         match self.numbers.as_slice().get(place) {
             Some(number) => *number,
             None => 0,
@@ -56,7 +63,7 @@ impl Renumbering {
     pub fn kind(&self, old: u64) -> Kind
         ensures { result ≡ kind_of_value self.now.first self.now.kinds old }
     {
-        let place = old.saturating_sub(self.first) as usize;
+        let place = place_from(self.first, old);
         match self.kinds.as_slice().get(place) {
             Some(kind) => *kind,
             None => Kind::Bool,

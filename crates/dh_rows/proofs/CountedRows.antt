@@ -12,9 +12,10 @@ use Rattle.dh_tree.specs.Shapes.{IsDim}
 use Rattle.dh_tree.specs.Tables.{elements_of}
 use Rattle.dh_tree.proofs.BankElements.{whole, quotient_below}
 use Rattle.dh_plan.specs.declared.operations.Operation.{Operation}
+use Rattle.dh_rows.specs.declared.spreading.RowAndBank.{RowAndBank}
 use Rattle.dh_rows.specs.Readings.{Readings, Obeys, Grows}
 use Rattle.dh_rows.specs.RowsShown.{AreWithin, HasWidth, IsRowMade}
-use Rattle.dh_rows.specs.MadeOperations.{Summed, Divided, Spread, converted, divided, digit_added, bank_spread, division_spread, dim_spread, all_spread}
+use Rattle.dh_rows.specs.MadeOperations.{Summed, Divided, Spread, converted, divided, digit_added, bank_spread, division_spread, dim_spread, all_spread, SpreadsEach}
 use Rattle.dh_rows.proofs.Growing.{obeys_before, grows_self, grows_on, pushed_grows}
 use Rattle.dh_rows.proofs.PutBehind.{divided_behind, digit_put_behind, bank_behind, parts_behind, dim_behind}
 use Rattle.dh_rows.proofs.PutSpread.{FitsWidth, makes_all}
@@ -96,6 +97,9 @@ all_behind (d ∷ ds) (i ∷ is) os width banked row bank =
   where
     turned : (s : Spread) → Grows os s.operations → Grows s.operations (all_spread s.operations width ds is banked s.row s.bank).operations → Grows os (all_spread s.operations width ds is banked s.row s.bank).operations
     turned s g h = grows_on os s.operations _ g h
+
+pub spread_grows : (width : ℕ) (ds : List Dim) (is : List ℕ) (banked : Bool) (os new : List Operation) (s : RowAndBank) → SpreadsEach os new width ds is banked s → Grows os new
+spread_grows width ds is banked os new s e = subst (λ (l : List Operation). Grows os l) (sym e.0) (all_behind ds is os width banked None None)
 
 module _ (x : Readings) (width : ℕ) (few : width ≤ 64) (sized : IsWidth width) where
   bank_counts : (d : Dim) (banked : Bool) (bank digit : Option ℕ) (row : Summed) → x.first ≤ length row.operations → (r b n : ℕ) → d.banks < 2 ^ 64 → b * d.banks + n < 2 ^ width → CountsOr x width row.sum r

@@ -15,7 +15,7 @@ use Rattle.dh_plan.specs.declared.operations.Operation.{Operation}
 use Rattle.dh_rows.specs.Readings.{Readings, Obeys}
 use Rattle.dh_rows.specs.RowsShown.{HoldsOrNone, IsTestMade, is_below_size}
 use Rattle.dh_rows.specs.MadeOperations.{summed, sum_of, constant_made, converted, computed_with, bounded, tested}
-use Rattle.dh_rows.proofs.Growing.{obeys_before, grows_self, pushed_grows}
+use Rattle.dh_rows.proofs.Growing.{obeys_before, grows_self, grows_on, pushed_grows}
 use Rattle.dh_rows.proofs.PutBehind.{with_behind}
 use Rattle.dh_rows.proofs.PutSpread.{makes_tested}
 use Rattle.dh_rows.proofs.CountedSums.{Counts, begun_behind, converted_shows, with_shows}
@@ -60,6 +60,16 @@ bounded_behind os width value bound = of (nat_le (2 ^ width) bound)
     of : (t : Bool) → Grows os (if t then summed os None else sum_of (computed_with op.Lt value (constant_made os width bound))).operations
     of true = grows_self os
     of false = with_behind os op.Lt value width bound
+
+pub tested_behind : (os : List Operation) (k : Kind) (value size : ℕ) → Grows os (tested os k value size).operations
+tested_behind os kind.Bool value size = grows_self os
+tested_behind os (kind.Unsigned w) value size = bounded_behind os w value size
+tested_behind os (kind.Signed w) value size =
+    grows_on os (converted os value w).operations _ (pushed_grows os None _) (bounded_behind (converted os value w).operations w (converted os value w).value (min size (2 ^ (w - 1))))
+
+pub tested_grows : (os : List Operation) (k : Kind) (value size : ℕ) (new : List Operation) (test : Option ℕ)
+    → (new ≡ (tested os k value size).operations) × (test ≡ (tested os k value size).sum) → Grows os new
+tested_grows os k value size new test e = subst (λ (l : List Operation). Grows os l) (sym e.0) (tested_behind os k value size)
 
 module _ (x : Readings) where
   bounded_holds : (os : List Operation) → x.first ≤ length os → (width value bound n : ℕ) → n < 2 ^ width → Counts x width value n → Obeys x (bounded os width value bound).operations
