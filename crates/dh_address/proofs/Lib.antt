@@ -9,3 +9,4 @@ pub mod RangeTurns
 pub mod PiecesGrow
 pub mod BlocksAppended
 pub mod PlanBlocks
+pub mod AccessesPut
