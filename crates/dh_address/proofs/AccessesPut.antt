@@ -84,7 +84,7 @@ module _ (x : Readings) (clock : ℕ) (a : Around) where
   inputs os [] h = tt
   inputs os (v ∷ vs) h = (λ o. h.0.earlier, inputs os vs h.1)
 
-  input_later : (own next v : ℕ) → own ≤ next → IsInputOf own v → IsInputOf next v
+  pub input_later : (own next v : ℕ) → own ≤ next → IsInputOf own v → IsInputOf next v
   input_later own next v l h = record { earlier = earlier_later x clock own next (new_number a v) l h.earlier; kind_is = h.kind_is }
 
   -- Ranges.

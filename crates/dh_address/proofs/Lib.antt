@@ -10,3 +10,6 @@ pub mod PiecesGrow
 pub mod BlocksAppended
 pub mod PlanBlocks
 pub mod AccessesPut
+pub mod SuitsKnown
+pub mod FalsePut
+pub mod PieceForms

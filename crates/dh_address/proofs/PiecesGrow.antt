@@ -71,7 +71,7 @@ false_made_grows os guard vs =
     grows_on os begun.operations _ (pushed_grows os None (Constant false_word))
     (grows_on begun.operations (false_behind_all begun vs).operations _ (all_false_grows begun vs) (pushed_grows (false_behind_all begun vs).operations guard _))
 
-value_grows : (probed : Bool) (a : Around) (guard : Option ℕ) (r : Reach) (old new : List Operation) (n : ℕ) → IsProbeValue probed a guard r old new n → Grows old new
+pub value_grows : (probed : Bool) (a : Around) (guard : Option ℕ) (r : Reach) (old new : List Operation) (n : ℕ) → IsProbeValue probed a guard r old new n → Grows old new
 value_grows false a guard r old new n h = grows_same old new h
 value_grows true a guard r old new n h = grows_made old new n _ (false_made_grows old guard (new_takes a r)) h
 
@@ -107,7 +107,7 @@ module _ (a : Around) where
       (but_aim_grows (literal_places a.operations a.first _ r.indices 0 0) _ _ _ (is_banked r) _ new h.row h.select h.aim)
   aimed_grows r (Some row) old new t h = grows_same old new h.0
 
-  access_grows : (guard : Option ℕ) (r : Reach) (old last : List Operation) (on : Option ℕ) (t : Reach) → IsAccessMade a guard r old last on t → Grows old last
+  pub access_grows : (guard : Option ℕ) (r : Reach) (old last : List Operation) (on : Option ℕ) (t : Reach) → IsAccessMade a guard r old last on t → Grows old last
   access_grows guard r old last on t h = grows_on old h.guarded last (guarded_grows a guard _ old h.guarded on h.guards) (aimed_grows r r.row h.guarded last t h.aims)
 
   form_grows : (g : Option ℕ) (f : OperationForm) (old new : List Operation) (n : ℕ) → IsFormMade a g f old new n → Grows old new

@@ -86,7 +86,7 @@ module _ (x : Readings) (clock : ℕ) where
     pub sized : IsInteger (known_kind a r.value)
     pub stands : IsValue x clock os (known_kind a r.value) (new_number a r.value)
 
-  testable_later : (a : Around) (old new : List Operation) → Grows old new → (rs : List Range) → AllByRecursion (IsTestable a old) rs → AllByRecursion (IsTestable a new) rs
+  pub testable_later : (a : Around) (old new : List Operation) → Grows old new → (rs : List Range) → AllByRecursion (IsTestable a old) rs → AllByRecursion (IsTestable a new) rs
   testable_later a old new g [] h = tt
   testable_later a old new g (r ∷ rs) h =
       (record { sized = h.0.sized; stands = value_later x clock old new (known_kind a r.value) (new_number a r.value) g h.0.stands }, testable_later a old new g rs h.1)
