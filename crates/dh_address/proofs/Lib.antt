@@ -13,3 +13,4 @@ pub mod AccessesPut
 pub mod SuitsKnown
 pub mod FalsePut
 pub mod PieceForms
+pub mod KnownPieces
