@@ -14,3 +14,4 @@ pub mod SuitsKnown
 pub mod FalsePut
 pub mod PieceForms
 pub mod KnownPieces
+pub mod GoodPieces
