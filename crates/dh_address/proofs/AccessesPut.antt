@@ -155,7 +155,7 @@ module _ (x : Readings) (clock : ℕ) (a : Around) where
   maybe_count os width None h = tt
   maybe_count os width (Some v) h = (λ o. (let s = h o in (s.earlier, (width, s.kind_is))), tt)
 
-  picked : (r : Reach) (select : Option ℕ) → HasSelect (is_banked r) select → IsPicked r select
+  pub picked : (r : Reach) (select : Option ℕ) → HasSelect (is_banked r) select → IsPicked r select
   picked r None h = of (length r.banks == 1) refl h
     where
       of : (t : Bool) → (length r.banks == 1) ≡ t → HasSelect (not t) None → length r.banks ≡ 1

@@ -15,3 +15,5 @@ pub mod FalsePut
 pub mod PieceForms
 pub mod KnownPieces
 pub mod GoodPieces
+pub mod AccessesLead
+pub mod WordsAlike

@@ -43,7 +43,7 @@ module _ (a : Around) where
   tested_grows : (r : Range) (old new : List Operation) (test : Option ℕ) → IsTested a r old new test → Grows old new
   tested_grows r old new test h = but_grows (literal_within a.operations a.first r.value r.size) old new _ _ _ test h
 
-  guarded_grows : (guard : Option ℕ) (rs : List Range) (old new : List Operation) (on : Option ℕ) → IsGuarded a guard rs old new on → Grows old new
+  pub guarded_grows : (guard : Option ℕ) (rs : List Range) (old new : List Operation) (on : Option ℕ) → IsGuarded a guard rs old new on → Grows old new
   guarded_grows guard [] old new on h = grows_same old new h.0
   guarded_grows guard (r ∷ rs) old new on (mid, (test, (t, g))) =
       grows_on old mid new (tested_grows r old mid test t)
@@ -96,12 +96,12 @@ but_aim_grows (Some place) width dims indices banked old new row select h =
     let first = constant_made old width place.row in
     aim_grows banked old new first (constant_made first.operations width place.bank) row select (pushed_grows old None _) (pushed_grows first.operations None _) h
 
-waited_grows : (os : List Operation) (select : Option ℕ) → Grows os (waited os select).operations
+pub waited_grows : (os : List Operation) (select : Option ℕ) → Grows os (waited os select).operations
 waited_grows os None = grows_self os
 waited_grows os (Some v) = pushed_grows os None _
 
 module _ (a : Around) where
-  aimed_grows : (r : Reach) (row : Option ℕ) (old new : List Operation) (t : Reach) → IsAimed a r row old new t → Grows old new
+  pub aimed_grows : (r : Reach) (row : Option ℕ) (old new : List Operation) (t : Reach) → IsAimed a r row old new t → Grows old new
   aimed_grows r None old new t h =
       grows_on old (waited old (new_or_none a r.select)).operations new (waited_grows old (new_or_none a r.select))
       (but_aim_grows (literal_places a.operations a.first _ r.indices 0 0) _ _ _ (is_banked r) _ new h.row h.select h.aim)
