@@ -17,3 +17,4 @@ pub mod KnownPieces
 pub mod GoodPieces
 pub mod AccessesLead
 pub mod WordsAlike
+pub mod WordsPass

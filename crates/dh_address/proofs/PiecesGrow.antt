@@ -49,7 +49,7 @@ module _ (a : Around) where
       grows_on old mid new (tested_grows r old mid test t)
       (grows_on mid (both_made mid guard test).operations new (both_grows mid guard test) (guarded_grows (both_made mid guard test).sum rs (both_made mid guard test).operations new on g))
 
-  checked_grows : (guard : Option ℕ) (fault : ℕ) (rs : List Range) (old new : List Operation) → AreChecked a guard fault rs old new → Grows old new
+  pub checked_grows : (guard : Option ℕ) (fault : ℕ) (rs : List Range) (old new : List Operation) → AreChecked a guard fault rs old new → Grows old new
   checked_grows guard fault [] old new h = grows_same old new h
   checked_grows guard fault (r ∷ rs) old new (mid, (test, (t, g))) =
       grows_on old mid new (tested_grows r old mid test t)
