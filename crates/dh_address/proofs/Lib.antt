@@ -18,3 +18,4 @@ pub mod GoodPieces
 pub mod AccessesLead
 pub mod WordsAlike
 pub mod WordsPass
+pub mod PieceShapes
