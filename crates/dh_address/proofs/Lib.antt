@@ -19,3 +19,4 @@ pub mod AccessesLead
 pub mod WordsAlike
 pub mod WordsPass
 pub mod PieceShapes
+pub mod EventsAlike

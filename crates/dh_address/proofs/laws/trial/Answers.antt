@@ -1,5 +1,4 @@
-use Rattle.dh_address.proofs.WordsPass.{words_alike}
-use Rattle.dh_address.proofs.PieceShapes.{value_quietly}
+use Rattle.dh_address.proofs.EventsAlike.{block_so}
 use Rattle.dh_address.proofs.laws.trial.Goals as goal
 
 pub returns : goal.returns
