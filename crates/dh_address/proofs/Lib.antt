@@ -20,3 +20,4 @@ pub mod WordsAlike
 pub mod WordsPass
 pub mod PieceShapes
 pub mod EventsAlike
+pub mod BlockImages
