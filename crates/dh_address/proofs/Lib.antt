@@ -21,3 +21,4 @@ pub mod WordsPass
 pub mod PieceShapes
 pub mod EventsAlike
 pub mod BlockImages
+pub mod PartsOfPieces
