@@ -22,3 +22,4 @@ pub mod PieceShapes
 pub mod EventsAlike
 pub mod BlockImages
 pub mod PartsOfPieces
+pub mod UsesAlike

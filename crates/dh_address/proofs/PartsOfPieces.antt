@@ -23,7 +23,7 @@ use Rattle.dh_rows.proofs.Growing.{grows_on, grown_length, kept_there, pushed_gr
 use Rattle.dh_address.specs.LiteralPlaces.{literal_within}
 use Rattle.dh_address.specs.Pieces.{Around, Range, new_number, new_or_none, ranges_of, IsTestBut, IsTested, check_made, AreChecked, IsProbed, IsAccessMade, IsReadMade, IsWriteMade, IsFormMade}
 use Rattle.dh_address.proofs.AccessesPut.{IsInputOf}
-use Rattle.dh_address.proofs.GoodPieces.{IsGoodPiece, AreGoodPieces, GoodPieceOf, StandsInPiece, piece_around}
+use Rattle.dh_address.proofs.GoodPieces.{AreGoodPieces, StandsInPiece, piece_around, around_rises, around_same}
 use Rattle.dh_address.proofs.ImageReadings.{timeless, FormedBelow, behind_front, in_front, was_in, at_last}
 use Rattle.dh_address.proofs.KnownPieces.{IsPieceAt}
 use Rattle.dh_address.proofs.PieceForms.{image_of, around, made_grows}
@@ -35,7 +35,10 @@ use Rattle.dh_address.proofs.TestedRanges.{IsTestable, test_grows, check_grows, 
 abbrev pub AllBetween : (ℕ → Operation → Type 0) → (old new : List Operation) → Type 0
 AllBetween P old new = (m : ℕ) (u : Operation) → length old ≤ m → slice_get new m ≡ Some u → P m u
 
-place_of : {A : Type 0} (xs : List A) (m : ℕ) (v : A) → slice_get xs m ≡ Some v → m < length xs
+pub begun_there : (a j : ℕ) → a ≤ a + j
+begun_there a j = omega arith
+
+pub place_of : {A : Type 0} (xs : List A) (m : ℕ) (v : A) → slice_get xs m ≡ Some v → m < length xs
 place_of [] m v e = absurd (cc)
 place_of (x ∷ xs) zero v e = omega arith
 place_of (x ∷ xs) (suc m) v e = (let l = place_of xs m v e in omega (arith, l))
@@ -243,22 +246,33 @@ module _ (p : PlainPlan) (none : p.views ≡ []) (tables : IsProgramTable p.tabl
 
   -- An operation of the new block.
 
-  module _ (Good : ℕ → ℕ → Type 0) where
-    pub record IsPartAt (j : ℕ) (u : Operation) : Type 0 where
-      pub place : ℕ
-      pub operation : Operation
-      pub of : GoodPieceOf p none tables bs block front begins formed Good place operation
-      pub part : IsPart (around p block of.numbers of.kinds) operation of.old all of.number (first + j) u
+  module _ (Good : ℕ → ℕ → Type 0) (h : AreGoodPieces p none tables bs block front begins formed Good [] [] 0 (operations_in p block) front) where
+    -- where it stands
+    abbrev pub stands_at : (j : ℕ) (u : Operation) → slice_get (operations_in q block) j ≡ Some u → StandsInPiece p none tables bs block front begins formed Good 0 (length front + j)
+    stands_at j u e =
+        piece_around p none tables bs block front begins formed Good (operations_in p block) [] [] 0 front h (length front + j) (begun_there (length front) j)
+        (place_of all (length front + j) u (behind_front front (operations_in q block) j ∙ e))
 
-    pub part_at : AreGoodPieces p none tables bs block front begins formed Good [] [] 0 (operations_in p block) front → (j : ℕ) (u : Operation) → slice_get (operations_in q block) j ≡ Some u → IsPartAt j u
-    part_at h j u e =
-        let there : slice_get all (length front + j) ≡ Some u = behind_front front (operations_in q block) j ∙ e in
-        let s = piece_around p none tables bs block front begins formed Good (operations_in p block) [] [] 0 front h (length front + j) (omega arith) (place_of all (length front + j) u there) in
-        let at = s.of.piece.at in
-        record {
-          place = s.place;
-          operation = s.operation;
-          of = s.of;
-          part = subst (λ (k : ℕ). IsPart (around p block s.of.numbers s.of.kinds) s.operation s.of.old all s.of.number (k + j) u) begins
-              (piece_parts s.of.numbers s.of.kinds s.place s.operation s.of.old s.of.mid s.of.number at (length front + j) u s.from (was_in s.of.mid at.grows (length front + j) u s.until there));
-        }
+    pub part_at : (j : ℕ) (u : Operation) (e : slice_get (operations_in q block) j ≡ Some u)
+        → IsPart (around p block (stands_at j u e).of.numbers (stands_at j u e).of.kinds) (stands_at j u e).operation (stands_at j u e).of.old all (stands_at j u e).of.number (length front + j) u
+    part_at j u e =
+        let s = stands_at j u e in
+        piece_parts s.of.numbers s.of.kinds s.place s.operation s.of.old s.of.mid s.of.number s.of.piece.at (length front + j) u s.from
+        (was_in s.of.mid s.of.piece.at.grows (length front + j) u s.until (behind_front front (operations_in q block) j ∙ e))
+
+    -- later ones stand in later pieces, and of one piece one alone is the old operation itself
+    pub stand_in_order : (j k : ℕ) (u v : Operation) (d : slice_get (operations_in q block) j ≡ Some u) (e : slice_get (operations_in q block) k ≡ Some v) → j ≤ k → (stands_at j u d).place ≤ (stands_at k v e).place
+    stand_in_order j k u v d e l =
+        around_rises p none tables bs block front begins formed Good (operations_in p block) [] [] 0 front h (length front + j) (length front + k) (begun_there (length front) j)
+        (place_of all (length front + j) u (behind_front front (operations_in q block) j ∙ d)) (begun_there (length front) k) (place_of all (length front + k) v (behind_front front (operations_in q block) k ∙ e)) (omega (arith, l))
+
+    pub one_itself : (j k : ℕ) (u v : Operation) (d : slice_get (operations_in q block) j ≡ Some u) (e : slice_get (operations_in q block) k ≡ Some v) → (stands_at j u d).place ≡ (stands_at k v e).place
+        → length front + j ≡ (stands_at j u d).of.number → length front + k ≡ (stands_at k v e).of.number → j ≡ k
+    one_itself j k u v d e same own other =
+        let one = around_same p none tables bs block front begins formed Good (operations_in p block) [] [] 0 front h (length front + j) (length front + k) (begun_there (length front) j)
+        (place_of all (length front + j) u (behind_front front (operations_in q block) j ∙ d)) (begun_there (length front) k) (place_of all (length front + k) v (behind_front front (operations_in q block) k ∙ e)) same
+        in
+        cancel (length front) j k (own ∙ (one ∙ sym other))
+      where
+        cancel : (a j k : ℕ) → a + j ≡ a + k → j ≡ k
+        cancel a j k e = omega (arith, e)
