@@ -23,3 +23,4 @@ pub mod EventsAlike
 pub mod BlockImages
 pub mod PartsOfPieces
 pub mod UsesAlike
+pub mod SoundImages
