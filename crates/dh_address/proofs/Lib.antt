@@ -4,3 +4,6 @@ pub mod RangeTurns
 pub mod PiecesGrow
 pub mod BlocksAppended
 pub mod PlanBlocks
+pub mod BitsPast
+pub mod IndexAims
+pub mod LiteralEnds

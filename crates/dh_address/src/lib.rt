@@ -11,6 +11,7 @@ mod blocks;
 mod copying;
 mod cutting;
 mod literals;
+mod numbers;
 mod probing;
 mod ranging;
 mod renumbering;
