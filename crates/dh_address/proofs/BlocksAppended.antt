@@ -1,6 +1,6 @@
 -- Blocks that are put down one after the other: of each the operations are those between its start and the next one.
 use Rattle.std.proofs.Common.{◌≡◌, ℕ, zero, suc, ◌+◌, ◌-◌, ◌<◌, ◌≤◌, ◌⊎◌, inl, inr, List, refl, sym, ap, ◌∙◌, subst, arith, length, drop, take, min, get_or}
-use Rattle.std.specs.Prelude.{Option, Some, None, [], ◌∷◌, ◌++◌, slice_index, reverse}
+use Rattle.std.specs.Prelude.{[], ◌∷◌, ◌++◌, slice_index, reverse}
 use Rattle.std.proofs.Math.ListN.{get_or-append}
 use Rattle.std.proofs.Math.Seq.{get_or-append_seam, take-append_seam, drop-append_seam, drop-cons, drop-length}
 use Rattle.std.proofs.lemmas.Bool.{cases_lt}

@@ -1,5 +1,5 @@
 -- Accesses by indices: constants as they are found, and the others spread out.
-use Rattle.std.proofs.Common.{◌≡◌, ℕ, ◌%◌, ◌^◌, ◌==◌, not, Bool, List, refl, sym, ap, ◌∙◌, subst, length}
+use Rattle.std.proofs.Common.{◌≡◌, ℕ, ◌%◌, ◌^◌, Bool, List, refl, sym, ap, ◌∙◌, subst}
 use Rattle.std.specs.Prelude.{Option, Some, None, map}
 use Rattle.std.proofs.Math.Nat.{mod-eq_of_lt}
 use Rattle.dh_tree.specs.declared.tables.Dim.{Dim}
@@ -42,6 +42,8 @@ module _ (a : Around) (r : Reach) (dims : List Dim) (total width : ℕ) (banked 
 pub aims_row : (a : Around) (r : Reach) (row : ℕ) (list : List Operation) (t : Reach) (taken : List ℕ) (n : ℕ) (select : Option ℕ) → r.row ≡ Some row → taken ≡ map (new_number a) r.indices
     → n ≡ new_number a row → select ≡ new_or_none a r.select → t ≡ aimed r taken n select → IsAimed a r r.row list list t
 aims_row a r row list t taken n select is taken_is n_is select_is put =
-    subst (λ (o : Option ℕ). IsAimed a r o list list t) (sym is)
-    (refl, put ∙ (ap (λ (vs : List ℕ). aimed r vs n select) taken_is ∙ (ap (λ (m : ℕ). aimed r (map (new_number a) r.indices) m select) n_is
-    ∙ ap (λ (o : Option ℕ). aimed r (map (new_number a) r.indices) (new_number a row) o) select_is)))
+    subst (λ (o : Option ℕ). IsAimed a r o list list t) (sym is) (
+      refl,
+      put ∙ (ap (λ (vs : List ℕ). aimed r vs n select) taken_is ∙ (ap (λ (m : ℕ). aimed r (map (new_number a) r.indices) m select) n_is
+          ∙ ap (λ (o : Option ℕ). aimed r (map (new_number a) r.indices) (new_number a row) o) select_is)),
+    )

@@ -1,5 +1,5 @@
 -- What is put down of an operation, or of a block, comes behind what is there.
-use Rattle.std.proofs.Common.{◌≡◌, ℕ, Bool, true, false, List, refl, sym, ap, ◌∙◌, subst}
+use Rattle.std.proofs.Common.{◌≡◌, ℕ, Bool, true, false, List, sym, subst}
 use Rattle.std.specs.Prelude.{Option, Some, None, [], ◌∷◌}
 use Rattle.dh_value.specs.declared.kinds.Kind.{Kind}
 use Rattle.dh_value.specs.declared.operators.Op.TheVariants as op
@@ -10,11 +10,11 @@ use Rattle.dh_plan.specs.declared.operations.OperationForm.TheVariants.{Constant
 use Rattle.dh_plan.specs.declared.operations.Reach.{Reach}
 use Rattle.dh_plan.specs.PlanKinds.{form_kind}
 use Rattle.dh_rows.specs.Readings.{Grows}
-use Rattle.dh_rows.specs.MadeOperations.{Made, IsMade, pushed, computed, constant_made, converted, or_zero}
+use Rattle.dh_rows.specs.MadeOperations.{Made, IsMade, pushed, computed, constant_made, or_zero}
 use Rattle.dh_rows.proofs.Growing.{grows_self, grows_on, pushed_grows}
 use Rattle.dh_address.specs.declared.literals.LiteralPlace.{LiteralPlace}
 use Rattle.dh_address.specs.LiteralPlaces.{literal_within, literal_places}
-use Rattle.dh_address.specs.Pieces.{Around, Range, IsTestBut, IsTested, both_made, IsGuarded, check_made, AreChecked, false_behind, false_behind_all, false_under, false_word, false_made, new_takes, IsProbeValue, IsProbed, IsAim, is_banked, IsSpreadOut, IsAimBut, IsIndexAim, waited, IsAimed, IsAccessMade, IsReadMade, IsWriteMade, IsFormMade, IsPiece, new_number, new_or_none}
+use Rattle.dh_address.specs.Pieces.{Around, Range, IsTestBut, IsTested, both_made, IsGuarded, check_made, AreChecked, false_behind, false_behind_all, false_word, false_made, new_takes, IsProbeValue, IsAim, is_banked, IsAimBut, waited, IsAimed, IsAccessMade, IsFormMade, IsPiece, new_or_none}
 use Rattle.dh_address.specs.Images.{and_known, ArePieces}
 
 pub grows_same : (old new : List Operation) → new ≡ old → Grows old new

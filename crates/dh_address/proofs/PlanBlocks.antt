@@ -1,6 +1,6 @@
 -- The blocks of a plan one after the other: those that are put down are what those of the plan become.
 use Rattle.std.proofs.Common.{◌≡◌, ℕ, zero, suc, ◌+◌, ◌*◌, ◌^◌, ◌<◌, ◌≤◌, ◌⊎◌, inl, inr, Bool, List, refl, sym, ap, ◌∙◌, subst, arith, length, get_or}
-use Rattle.std.specs.Prelude.{Option, Some, None, [], ◌∷◌, ◌++◌, slice_get}
+use Rattle.std.specs.Prelude.{Option, Some, [], ◌∷◌, ◌++◌}
 use Rattle.std.proofs.lemmas.Bool.{cases_lt}
 use Rattle.std.proofs.lemmas.List.{length-append}
 use Rattle.std.proofs.lemmas.Option.{slice_get-get_or, slice_get_past}

@@ -1,6 +1,6 @@
 -- Ranges one after the other: what the rest of them add from here is what all add from the start.
 use Rattle.std.proofs.Common.{◌≡◌, ℕ, zero, suc, ◌+◌, ◌%◌, ◌^◌, ◌<◌, ◌≤◌, List, refl, sym, ap, ◌∙◌, subst, arith, length, drop, min, get_or}
-use Rattle.std.specs.Prelude.{Option, Some, None, [], ◌∷◌}
+use Rattle.std.specs.Prelude.{Option, Some, [], ◌∷◌}
 use Rattle.std.proofs.Math.Nat.{mod-eq_of_lt}
 use Rattle.dh_base.proofs.ListItems.{at_item}
 use Rattle.dh_tree.specs.declared.tables.Dim.{Dim}
@@ -8,7 +8,7 @@ use Rattle.dh_tree.specs.Elements.{dims_at, rows_of}
 use Rattle.dh_tree.specs.Shapes.{IsProgramTable}
 use Rattle.dh_plan.specs.declared.operations.Reach.{Reach}
 use Rattle.dh_plan.specs.declared.operations.Operation.{Operation}
-use Rattle.dh_address.specs.Pieces.{Around, Range, IsGuarded, AreChecked, both_made, check_made, ranges_by, ranges_in, ranges_of}
+use Rattle.dh_address.specs.Pieces.{Around, Range, IsGuarded, AreChecked, both_made, ranges_by, ranges_in, ranges_of}
 use Rattle.dh_address.specs.SeenAround.{IsGuardedOne, IsCheckedOne, range_of}
 use Rattle.dh_address.proofs.FewElements.{rows_few}
 
@@ -33,9 +33,17 @@ module _ (a : Around) where
   -- Guards.
   pub guarded_then : (guard : Option ℕ) (r : Range) (rest : List Range) (old mid : List Operation) (on : Option ℕ) → IsGuardedOne a guard r old mid on
       → (new : List Operation) (last : Option ℕ) → IsGuarded a on rest mid new last → IsGuarded a guard (r ∷ rest) old new last
-  guarded_then guard r rest old mid on h new last g =
-      (h.mid, (h.test, (h.tested, subst (λ (os : List Operation). IsGuarded a (both_made h.mid guard h.test).sum rest os new last) h.both.0
-      (subst (λ (o : Option ℕ). IsGuarded a o rest mid new last) h.both.1 g))))
+  guarded_then guard r rest old mid on h new last g = (
+    h.mid,
+    (
+      h.test,
+      (
+        h.tested,
+        subst (λ (os : List Operation). IsGuarded a (both_made h.mid guard h.test).sum rest os new last) h.both.0
+            (subst (λ (o : Option ℕ). IsGuarded a o rest mid new last) h.both.1 g),
+      ),
+    ),
+  )
 
   pub guarded_row : (guard : Option ℕ) (value size rows : ℕ) (old new : List Operation) (on : Option ℕ) → size ≡ rows → IsGuardedOne a guard (range_of value size) old new on
       → IsGuarded a guard (range_of value rows ∷ []) old new on

@@ -19,7 +19,7 @@ use Rattle.dh_plan.specs.declared.operations.Reach.{Reach}
 use Rattle.dh_plan.specs.Ordered.{one_or_none, operation_takes}
 use Rattle.dh_plan.specs.PlanKinds.{kind_of_value}
 use Rattle.dh_rows.specs.declared.spreading.RowAndBank.{RowAndBank}
-use Rattle.dh_rows.specs.MadeOperations.{Made, Summed, IsMade, IsSummed, summed, sum_of, pushed, constant_made, computed, computed_with, converted, or_zero, bits_in}
+use Rattle.dh_rows.specs.MadeOperations.{Made, Summed, IsMade, summed, sum_of, pushed, constant_made, computed, computed_with, converted, or_zero, bits_in}
 use Rattle.dh_rows.specs.Readings.{Grows}
 use Rattle.dh_rows.specs.RowsShown.{MakesRow, MakesTest}
 use Rattle.dh_address.specs.declared.literals.LiteralPlace.{LiteralPlace}
@@ -190,7 +190,7 @@ IsAimBut (Some place) width dims indices banked old new row select =
 abbrev pub IsIndexAim : Around → Reach → (old new : List Operation) → (row : ℕ) → (select : Option ℕ) → Type 0
 IsIndexAim a r old new row select =
     IsAimBut (literal_places a.operations a.first (dims_at a.table r.memory) r.indices 0 0) (aim_width (dims_at a.table r.memory))
-      (dims_at a.table r.memory) (map (new_number a) r.indices) (is_banked r) old new row select
+    (dims_at a.table r.memory) (map (new_number a) r.indices) (is_banked r) old new row select
 
 -- beside indices a select means nothing, but is waited for: as a number of one bit
 abbrev pub waited : List Operation → (select : Option ℕ) → Summed

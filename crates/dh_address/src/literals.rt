@@ -59,22 +59,11 @@ fn constant_at(operations: &[Operation], place: usize) -> Option<u64>
 }
 
 /// The value of a constant below a size, in a block whose first operation has the number `first`.
-pub fn constant_within(
-    operations: &[Operation],
-    first: u128,
-    value: u64,
-    size: u64,
-) -> Option<u64>
+pub fn constant_within(operations: &[Operation], first: u128, value: u64, size: u64) -> Option<u64>
     ensures { result ≡ literal_within operations.now first value size }
 {
     match constant_at(operations, place_from(first, value)) {
-        Some(number) => {
-            if number < size {
-                Some(number)
-            } else {
-                None
-            }
-        }
+        Some(number) => { if number < size { Some(number) } else { None } }
         None => None,
     }
 }
@@ -95,8 +84,12 @@ pub fn constant_place(
         let Some(index) = constant_within(operations, first, indices[i], dim.size) else {
             return None;
         };
-        row = row.wrapping_mul(quotient(dim.size, dim.banks)).wrapping_add(quotient(index, dim.banks));
-        bank = bank.wrapping_mul(dim.banks).wrapping_add(remainder(index, dim.banks));
+        row = row
+            .wrapping_mul(quotient(dim.size, dim.banks))
+            .wrapping_add(quotient(index, dim.banks));
+        bank = bank
+            .wrapping_mul(dim.banks)
+            .wrapping_add(remainder(index, dim.banks));
     }
     Some(LiteralPlace { row, bank })
 }

@@ -218,6 +218,14 @@ pub fn check_reach(
     let dims = dims_in(old.table, reach.memory);
     match reach.row {
         Some(row) => check_value(list, old, known, guard, fault, row, row_count(dims)),
-        None => check_indices(list, old, known, guard, fault, dims, reach.indices.as_slice()),
+        None => check_indices(
+            list,
+            old,
+            known,
+            guard,
+            fault,
+            dims,
+            reach.indices.as_slice(),
+        ),
     }
 }

@@ -1,4 +1,4 @@
-use Rattle.std.proofs.Common.{length, ◌≤◌, ◌^◌, rules}
+use Rattle.std.proofs.Common.{rules}
 use Rattle.std.proofs.lemmas.Result.{IfOk-weaker}
 use Rattle.dh_plan.specs.SeenPlans.{plan_seen}
 use Rattle.dh_address.proofs.PlanBlocks.{laid_first, laid_turn, laid_end}
