@@ -68,8 +68,8 @@ fn push_probe_value(
     guard: Option<u64>,
     reach: &Reach,
 ) -> Result<u64, NoMemory>
-    ensures { IfOk result (IsProbeValue old.now.probed (around_seen old.now known.now) guard reach.now
-        list.old list.new) }
+    ensures { IfOk result (IsProbeValue old.now.probed (around_seen old.now known.now) guard
+        reach.now list.old list.new) }
 {
     if !old.probed {
         return Ok(0);
@@ -139,7 +139,8 @@ fn push_piece(
     operation: &Operation,
 ) -> Result<u64, NoMemory>
     requires { IsProgramTable old.now.table.now }
-    ensures { IfOk result (IsPiece (around_seen old.now known.now) operation.now list.old list.new) }
+    ensures { IfOk result (IsPiece (around_seen old.now known.now) operation.now
+        list.old list.new) }
 {
     let guard = known.maybe(operation.guard);
     match &operation.form {

@@ -176,8 +176,8 @@ fn check_value(
     value: u64,
     size: u64,
 ) -> Result<(), NoMemory>
-    ensures { OnOk result (IsCheckedOne (around_seen old.now known.now) guard fault (range_of value size)
-        list.old list.new) }
+    ensures { OnOk result (IsCheckedOne (around_seen old.now known.now) guard fault
+        (range_of value size) list.old list.new) }
 {
     let test = test_value(list, old, known, value, size)?;
     push_check(list, guard, fault, test)
