@@ -2,6 +2,7 @@ pub mod PlanForms
 pub mod FewElements
 pub mod RangeTurns
 pub mod PiecesGrow
+pub mod PiecesQuiet
 pub mod BlocksAppended
 pub mod PlanBlocks
 pub mod BitsPast

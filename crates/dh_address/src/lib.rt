@@ -10,6 +10,7 @@ mod aiming;
 mod blocks;
 mod copying;
 mod cutting;
+mod laws;
 mod literals;
 mod numbers;
 mod probing;
@@ -18,3 +19,4 @@ mod renumbering;
 mod results;
 
 pub use addressing::addresses;
+pub use laws::structure_trial;
