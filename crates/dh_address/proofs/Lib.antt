@@ -3,6 +3,8 @@ pub mod FewElements
 pub mod RangeTurns
 pub mod PiecesGrow
 pub mod PiecesQuiet
+pub mod PartsSeen
+pub mod PlanSeen
 pub mod BlocksAppended
 pub mod PlanBlocks
 pub mod BitsPast
