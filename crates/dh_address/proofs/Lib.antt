@@ -1,4 +1,9 @@
 pub mod PlanForms
+pub mod BlockEquations
+pub mod ImageReadings
+pub mod TestedRanges
+pub mod AimedRows
+pub mod LiteralMeans
 pub mod FewElements
 pub mod RangeTurns
 pub mod PiecesGrow
@@ -10,3 +15,12 @@ pub mod PlanBlocks
 pub mod BitsPast
 pub mod IndexAims
 pub mod LiteralEnds
+pub mod AccessesPut
+pub mod SuitsKnown
+pub mod FalsePut
+pub mod PieceForms
+pub mod KnownPieces
+pub mod GoodPieces
+pub mod AccessesLead
+pub mod WordsAlike
+pub mod WordsPass

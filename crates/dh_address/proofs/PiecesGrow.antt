@@ -43,13 +43,13 @@ module _ (a : Around) where
   tested_grows : (r : Range) (old new : List Operation) (test : Option ℕ) → IsTested a r old new test → Grows old new
   tested_grows r old new test h = but_grows (literal_within a.operations a.first r.value r.size) old new _ _ _ test h
 
-  guarded_grows : (guard : Option ℕ) (rs : List Range) (old new : List Operation) (on : Option ℕ) → IsGuarded a guard rs old new on → Grows old new
+  pub guarded_grows : (guard : Option ℕ) (rs : List Range) (old new : List Operation) (on : Option ℕ) → IsGuarded a guard rs old new on → Grows old new
   guarded_grows guard [] old new on h = grows_same old new h.0
   guarded_grows guard (r ∷ rs) old new on (mid, (test, (t, g))) =
       grows_on old mid new (tested_grows r old mid test t)
       (grows_on mid (both_made mid guard test).operations new (both_grows mid guard test) (guarded_grows (both_made mid guard test).sum rs (both_made mid guard test).operations new on g))
 
-  checked_grows : (guard : Option ℕ) (fault : ℕ) (rs : List Range) (old new : List Operation) → AreChecked a guard fault rs old new → Grows old new
+  pub checked_grows : (guard : Option ℕ) (fault : ℕ) (rs : List Range) (old new : List Operation) → AreChecked a guard fault rs old new → Grows old new
   checked_grows guard fault [] old new h = grows_same old new h
   checked_grows guard fault (r ∷ rs) old new (mid, (test, (t, g))) =
       grows_on old mid new (tested_grows r old mid test t)
@@ -71,7 +71,7 @@ false_made_grows os guard vs =
     grows_on os begun.operations _ (pushed_grows os None (Constant false_word))
     (grows_on begun.operations (false_behind_all begun vs).operations _ (all_false_grows begun vs) (pushed_grows (false_behind_all begun vs).operations guard _))
 
-value_grows : (probed : Bool) (a : Around) (guard : Option ℕ) (r : Reach) (old new : List Operation) (n : ℕ) → IsProbeValue probed a guard r old new n → Grows old new
+pub value_grows : (probed : Bool) (a : Around) (guard : Option ℕ) (r : Reach) (old new : List Operation) (n : ℕ) → IsProbeValue probed a guard r old new n → Grows old new
 value_grows false a guard r old new n h = grows_same old new h
 value_grows true a guard r old new n h = grows_made old new n _ (false_made_grows old guard (new_takes a r)) h
 
@@ -96,18 +96,18 @@ but_aim_grows (Some place) width dims indices banked old new row select h =
     let first = constant_made old width place.row in
     aim_grows banked old new first (constant_made first.operations width place.bank) row select (pushed_grows old None _) (pushed_grows first.operations None _) h
 
-waited_grows : (os : List Operation) (select : Option ℕ) → Grows os (waited os select).operations
+pub waited_grows : (os : List Operation) (select : Option ℕ) → Grows os (waited os select).operations
 waited_grows os None = grows_self os
 waited_grows os (Some v) = pushed_grows os None _
 
 module _ (a : Around) where
-  aimed_grows : (r : Reach) (row : Option ℕ) (old new : List Operation) (t : Reach) → IsAimed a r row old new t → Grows old new
+  pub aimed_grows : (r : Reach) (row : Option ℕ) (old new : List Operation) (t : Reach) → IsAimed a r row old new t → Grows old new
   aimed_grows r None old new t h =
       grows_on old (waited old (new_or_none a r.select)).operations new (waited_grows old (new_or_none a r.select))
       (but_aim_grows (literal_places a.operations a.first _ r.indices 0 0) _ _ _ (is_banked r) _ new h.row h.select h.aim)
   aimed_grows r (Some row) old new t h = grows_same old new h.0
 
-  access_grows : (guard : Option ℕ) (r : Reach) (old last : List Operation) (on : Option ℕ) (t : Reach) → IsAccessMade a guard r old last on t → Grows old last
+  pub access_grows : (guard : Option ℕ) (r : Reach) (old last : List Operation) (on : Option ℕ) (t : Reach) → IsAccessMade a guard r old last on t → Grows old last
   access_grows guard r old last on t h = grows_on old h.guarded last (guarded_grows a guard _ old h.guarded on h.guards) (aimed_grows r r.row h.guarded last t h.aims)
 
   form_grows : (g : Option ℕ) (f : OperationForm) (old new : List Operation) (n : ℕ) → IsFormMade a g f old new n → Grows old new

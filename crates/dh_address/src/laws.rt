@@ -7,3 +7,8 @@ ghost use Rattle.dh_address.specs.Images.{IsImage};
 pub fn structure_trial()
     ensures { (p q : PlainPlan) → IsImage p q → IsImage p q }
 {}
+
+/// Trial.
+pub fn trial()
+    ensures { (p : PlainPlan) → (q : PlainPlan) → IsImage p q → IsImage p q }
+{}

@@ -19,4 +19,4 @@ mod renumbering;
 mod results;
 
 pub use addressing::addresses;
-pub use laws::structure_trial;
+pub use laws::{structure_trial, trial};

@@ -1,0 +1,5 @@
+use Rattle.dh_address.proofs.WordsPass.{words_alike}
+use Rattle.dh_address.proofs.laws.trial.Goals as goal
+
+pub returns : goal.returns
+returns c p q h = h
