@@ -7,6 +7,7 @@ pub mod LiteralMeans
 pub mod FewElements
 pub mod RangeTurns
 pub mod PiecesGrow
+pub mod PiecesBy
 pub mod PiecesQuiet
 pub mod PartsSeen
 pub mod PlanSeen
