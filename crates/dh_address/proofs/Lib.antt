@@ -25,3 +25,4 @@ pub mod GoodPieces
 pub mod AccessesLead
 pub mod WordsAlike
 pub mod WordsPass
+pub mod LiteralsFound
