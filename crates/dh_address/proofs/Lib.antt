@@ -26,3 +26,4 @@ pub mod AccessesLead
 pub mod WordsAlike
 pub mod WordsPass
 pub mod LiteralsFound
+pub mod ChecksPut
