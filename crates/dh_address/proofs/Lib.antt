@@ -27,3 +27,4 @@ pub mod WordsAlike
 pub mod WordsPass
 pub mod LiteralsFound
 pub mod ChecksPut
+pub mod LiteralRows

@@ -71,7 +71,7 @@ module _ (P : Operation → Type 0) (plain : (o : Operation) → is_plain o.form
     tested_by : (r : Range) (old new : List Operation) (test : Option ℕ) → IsTested a r old new test → GrowsBy P old new
     tested_by r old new test h = but_by (literal_within a.operations a.first r.value r.size) old new _ _ _ test h
 
-    guarded_by : (guard : Option ℕ) (rs : List Range) (old new : List Operation) (on : Option ℕ) → IsGuarded a guard rs old new on → GrowsBy P old new
+    pub guarded_by : (guard : Option ℕ) (rs : List Range) (old new : List Operation) (on : Option ℕ) → IsGuarded a guard rs old new on → GrowsBy P old new
     guarded_by guard [] old new on h = by_same old new h.0
     guarded_by guard (r ∷ rs) old new on (mid, (test, (t, g))) =
         by_on old mid new (tested_by r old mid test t)
@@ -142,7 +142,7 @@ module _ (P : Operation → Type 0) (plain : (o : Operation) → is_plain o.form
       let first = constant_made old width place.row in
       aim_by banked old new first (constant_made first.operations width place.bank) row select (by_pushed old None _ refl) (by_pushed first.operations None _ refl) h
 
-  waited_by : (os : List Operation) (select : Option ℕ) → GrowsBy P os (waited os select).operations
+  pub waited_by : (os : List Operation) (select : Option ℕ) → GrowsBy P os (waited os select).operations
   waited_by os None = by_self os
   waited_by os (Some v) = by_pushed os None _ refl
 

@@ -121,7 +121,7 @@ behind f old mid new g h n grows made to same = record {
   part = record { quiet = grows.more; main = record { guard = g; form = h } ∷ []; all = grows.each; joined = refl; image = to (record { own = record { guard = g; form = h }; only = refl; same = same }) };
 }
 
-row_aimed : (a : Around) (r : Reach) (row : Option ℕ) (old new : List Operation) (t : Reach) → IsAimed a r row old new t → IsRowOf r t
+pub row_aimed : (a : Around) (r : Reach) (row : Option ℕ) (old new : List Operation) (t : Reach) → IsAimed a r row old new t → IsRowOf r t
 row_aimed a r None old new t h = subst (λ (u : Reach). IsRowOf r u) (sym h.reach) (record { access = refl; memory = refl; banks = refl; row = h.row; in_row = refl })
 row_aimed a r (Some row) old new t h = subst (λ (u : Reach). IsRowOf r u) (sym h.1) (record { access = refl; memory = refl; banks = refl; row = new_number a row; in_row = refl })
 
