@@ -14,7 +14,7 @@ use Rattle.dh_rows.specs.declared.spreading.RowAndBank.{RowAndBank}
 use Rattle.dh_rows.specs.Readings.{Readings, Obeys, IsEarlier, Grows, Adds, IsValue, IsValueOrNone}
 use Rattle.dh_rows.specs.RowsShown.{Shows, ShowsOrZero, IsInput, AreWithin, HasWidth, IsRowMade}
 use Rattle.dh_rows.specs.MadeOperations.{Made, made, pushed, constant_made, converted, or_zero}
-use Rattle.dh_rows.proofs.Growing.{grows_self, grows_on, grown_length, pushed_grows, obeys_before, pushed_word, value_later, maybe_later, adds_self, adds_on, pushed_adds, pushed_value}
+use Rattle.dh_rows.proofs.Growing.{grows_self, grows_on, grown_length, plain_grows, pushed_grows, obeys_before, pushed_word, value_later, maybe_later, adds_self, adds_on, pushed_adds, pushed_value}
 use Rattle.dh_address.specs.declared.literals.LiteralPlace.{LiteralPlace}
 use Rattle.dh_address.specs.Pieces.{IsAim, IsSpreadOut, IsAimBut, waited}
 use Rattle.dh_address.proofs.TestedRanges.{PutsMaybe, begun_later}
@@ -84,9 +84,9 @@ module _ (x : Readings) (clock : ℕ) where
   index_aim_put None width dims indices banked old new row select h wide fits begun inputs =
       let m : IsRowMade width dims indices banked old h.spread h.values.row h.values.bank = h.made wide in
       let row_made = or_zero h.spread width h.values.row in
-      let at_spread = begun_later x old h.spread h.grows begun in
+      let at_spread = begun_later x old h.spread (plain_grows old h.spread h.grows) begun in
       let r = or_zero_put h.spread width h.values.row wide.sized at_spread (m.row_stands x clock begun inputs) in
-      let grown = grows_on old h.spread row_made.operations h.grows r.adds.grows in
+      let grown = grows_on old h.spread row_made.operations (plain_grows old h.spread h.grows) r.adds.grows in
       let b = or_zero_put row_made.operations width h.values.bank wide.sized (begun_later x old row_made.operations grown begun)
       (maybe_later x clock h.spread row_made.operations (kind.Unsigned width) h.values.bank r.adds.grows (m.bank_stands x clock begun inputs)) in
       let aim = aim_put h.spread (kind.Unsigned width) banked row_made (or_zero row_made.operations width h.values.bank) new row select r b h.aim in
@@ -177,7 +177,7 @@ module _ (x : Readings) (width : ℕ) where
       let row_made = or_zero h.spread width h.values.row in
       let row_grows = or_zero_grows h.spread h.values.row in
       let bank_grows = or_zero_grows row_made.operations h.values.bank in
-      let at_spread = begun_later x old h.spread h.grows begun in
+      let at_spread = begun_later x old h.spread (plain_grows old h.spread h.grows) begun in
       let spread_obeys : Obeys x h.spread =
       obeys_before x h.spread row_made.operations row_grows (obeys_before x row_made.operations new
       (aim_grows banked row_made (or_zero row_made.operations width h.values.bank) new row select bank_grows h.aim) obeys)

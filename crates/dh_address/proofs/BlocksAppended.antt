@@ -1,6 +1,6 @@
 -- Blocks that are put down one after the other: of each the operations are those between its start and the next one.
-use Rattle.std.proofs.Common.{◌≡◌, ℕ, zero, suc, ◌+◌, ◌<◌, ◌≤◌, ◌⊎◌, inl, inr, List, refl, sym, ap, ◌∙◌, subst, arith, length, drop, take, min, get_or}
-use Rattle.std.specs.Prelude.{Option, Some, None, [], ◌∷◌, ◌++◌, slice_index, reverse}
+use Rattle.std.proofs.Common.{◌≡◌, ℕ, zero, suc, ◌+◌, ◌-◌, ◌<◌, ◌≤◌, ◌⊎◌, inl, inr, List, refl, sym, ap, ◌∙◌, subst, arith, length, drop, take, min, get_or}
+use Rattle.std.specs.Prelude.{[], ◌∷◌, ◌++◌, slice_index, reverse}
 use Rattle.std.proofs.Math.ListN.{get_or-append}
 use Rattle.std.proofs.Math.Seq.{get_or-append_seam, take-append_seam, drop-append_seam, drop-cons, drop-length}
 use Rattle.std.proofs.lemmas.Bool.{cases_lt}
@@ -72,11 +72,11 @@ pub cut_last : (blocks : List PlanBlock) (k : ℕ) (os : List Operation) (found 
 cut_last blocks zero os found l h = ap (λ (bs : List PlanBlock). reverse bs) h.right ∙ reverse-reverse blocks
 cut_last blocks (suc k) os found l h = absurd (omega (arith, l))
 
--- one block more: `start` is where the one before k begins
-pub cut_turn : (blocks : List PlanBlock) (starts : List ℕ) (k : ℕ) (os : List Operation) (found : List PlanBlock) (start at : ℕ) (rest own : List Operation) → AreStarts blocks starts
-    → k < length starts → start ≡ slice_index starts k → at ≡ min start (length os) → rest ≡ take at os → own ≡ drop at os → HasCut blocks (suc k) os found
+-- one block more
+cut_turn : (blocks : List PlanBlock) (starts : List ℕ) (k : ℕ) (os : List Operation) (found : List PlanBlock) (at : ℕ) (rest own : List Operation) → AreStarts blocks starts
+    → k < length starts → at ≡ min (slice_index starts k) (length os) → rest ≡ take at os → own ≡ drop at os → HasCut blocks (suc k) os found
     → HasCut blocks k rest (found ++ record { operations = own } ∷ [])
-cut_turn blocks starts k os found start at rest own h few is at_is rest_is own_is cut = record {
+cut_turn blocks starts k os found at rest own h few at_is rest_is own_is cut = record {
   left = rest_is ∙ (ap (λ n. take n os) place ∙ (ap (λ (l : List Operation). take (length before) l) whole ∙ take-append_seam before c.operations));
   right = ap (λ (bs : List PlanBlock). bs ++ record { operations = own } ∷ []) cut.right
       ∙ (ap (λ (l : List Operation). reverse (drop (suc k) blocks) ++ record { operations = l } ∷ []) last
@@ -103,8 +103,8 @@ cut_turn blocks starts k os found start at rest own h few is at_is rest_is own_i
         there (b ∷ bs) zero l = refl
         there (b ∷ bs) (suc n) l = there bs n (omega (arith, l))
 
-    begins : start ≡ length before
-    begins = is ∙ h.each k within
+    begins : slice_index starts k ≡ length before
+    begins = h.each k within
 
     place : at ≡ length before
     place =
@@ -113,3 +113,13 @@ cut_turn blocks starts k os found start at rest own h few is at_is rest_is own_i
 
     last : own ≡ c.operations
     last = own_is ∙ (ap (λ n. drop n os) place ∙ (ap (λ (l : List Operation). drop (length before) l) whole ∙ drop-append_seam before c.operations))
+
+pub cut_back : (blocks : List PlanBlock) (starts : List ℕ) (i : ℕ) (os : List Operation) (found more : List PlanBlock) (at : ℕ) (rest own items : List Operation) → 0 < i → i - 1 < length starts
+    → at ≡ min (slice_index starts (i - 1)) (length os) → rest ≡ take at os → own ≡ drop at os → items ≡ own → more ≡ found ++ record { operations = items } ∷ []
+    → AreStarts blocks starts → HasCut blocks i os found → HasCut blocks (i - 1) rest more
+cut_back blocks starts i os found more at rest own items some few at_is rest_is own_is same put h cut =
+    subst (λ (bs : List PlanBlock). HasCut blocks (i - 1) rest bs) (sym put)
+    (cut_turn blocks starts (i - 1) os found at rest items h few at_is rest_is (same ∙ own_is) (subst (λ n. HasCut blocks n os found) before cut))
+  where
+    before : i ≡ suc (i - 1)
+    before = omega (arith, some)

@@ -1,8 +1,9 @@
 -- The memories of a program have few elements, and so few rows in a bank; and products that wrap.
-use Rattle.std.proofs.Common.{◌≡◌, ℕ, zero, suc, ◌+◌, ◌*◌, ◌/◌, ◌%◌, ◌^◌, ◌<◌, ◌≤◌, List, refl, sym, ap, ◌∙◌, subst, arith}
-use Rattle.std.specs.Prelude.{Option, Some, None, [], ◌∷◌, slice_get}
+use Rattle.std.proofs.Common.{◌≡◌, ℕ, zero, suc, ◌+◌, ◌*◌, ◌/◌, ◌%◌, ◌^◌, ◌<◌, ◌≤◌, List, refl, sym, ap, ◌∙◌, subst, arith, add-one}
+use Rattle.std.specs.Prelude.{Option, Some, None, [], ◌∷◌, slice_get, slice_index_or, length, drop}
 use Rattle.std.specs.List.{AllByRecursion}
 use Rattle.std.proofs.Math.Nat.{mul-le-mul, div-le_self}
+use Rattle.std.proofs.Math.Seq.{drop-cons}
 use Rattle.std.proofs.lemmas.Nat.{mul-mod_first}
 use Rattle.dh_tree.specs.declared.tables.Dim.{Dim}
 use Rattle.dh_tree.specs.declared.tables.MemEntry.{MemEntry}
@@ -49,3 +50,25 @@ product_turn count next size rest whole is so =
   where
     again : count * size * rest ≡ count * (size * rest)
     again = omega arith
+
+-- one dimension more
+abbrev no_dim : Dim
+no_dim = record { size = 0; banks = 0 }
+
+module _ (dims : List Dim) (i count : ℕ) where
+  pub rows_turn : (size whole : ℕ) → i < length dims → size ≡ (slice_index_or dims i no_dim).size / (slice_index_or dims i no_dim).banks
+      → count * rows_of (drop i dims) % 2 ^ 64 ≡ whole → count * size % 2 ^ 64 * rows_of (drop (i + 1) dims) % 2 ^ 64 ≡ whole
+  rows_turn size whole within is so =
+      product_turn count _ size (rows_of (drop (i + 1) dims)) whole refl
+      (ap (λ n. count * n % 2 ^ 64) (ap (λ k. k * rows_of (drop (i + 1) dims)) is ∙ sym here) ∙ so)
+    where
+      here : rows_of (drop i dims) ≡ ((slice_index_or dims i no_dim).size / (slice_index_or dims i no_dim).banks) * rows_of (drop (i + 1) dims)
+      here = ap rows_of (drop-cons dims i no_dim within ∙ ap (λ n. slice_index_or dims i no_dim ∷ drop n dims) (sym (add-one i)))
+
+  pub elements_turn : (whole : ℕ) → i < length dims → count * elements_of (drop i dims) % 2 ^ 64 ≡ whole
+      → count * (slice_index_or dims i no_dim).size % 2 ^ 64 * elements_of (drop (i + 1) dims) % 2 ^ 64 ≡ whole
+  elements_turn whole within so =
+      product_turn count _ (slice_index_or dims i no_dim).size (elements_of (drop (i + 1) dims)) whole refl (ap (λ n. count * n % 2 ^ 64) (sym here) ∙ so)
+    where
+      here : elements_of (drop i dims) ≡ (slice_index_or dims i no_dim).size * elements_of (drop (i + 1) dims)
+      here = ap elements_of (drop-cons dims i no_dim within ∙ ap (λ n. slice_index_or dims i no_dim ∷ drop n dims) (sym (add-one i)))

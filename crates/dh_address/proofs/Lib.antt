@@ -7,8 +7,15 @@ pub mod LiteralMeans
 pub mod FewElements
 pub mod RangeTurns
 pub mod PiecesGrow
+pub mod PiecesBy
+pub mod PiecesQuiet
+pub mod PartsSeen
+pub mod PlanSeen
 pub mod BlocksAppended
 pub mod PlanBlocks
+pub mod BitsPast
+pub mod IndexAims
+pub mod LiteralEnds
 pub mod AccessesPut
 pub mod SuitsKnown
 pub mod FalsePut
@@ -24,3 +31,6 @@ pub mod BlockImages
 pub mod PartsOfPieces
 pub mod UsesAlike
 pub mod SoundImages
+pub mod LiteralsFound
+pub mod ChecksPut
+pub mod LiteralRows

@@ -1,5 +1,5 @@
 -- What is put down of an operation, or of a block, comes behind what is there.
-use Rattle.std.proofs.Common.{◌≡◌, ℕ, Bool, true, false, List, refl, sym, ap, ◌∙◌, subst}
+use Rattle.std.proofs.Common.{◌≡◌, ℕ, Bool, true, false, List, sym, subst}
 use Rattle.std.specs.Prelude.{Option, Some, None, [], ◌∷◌}
 use Rattle.dh_value.specs.declared.kinds.Kind.{Kind}
 use Rattle.dh_value.specs.declared.operators.Op.TheVariants as op
@@ -10,11 +10,11 @@ use Rattle.dh_plan.specs.declared.operations.OperationForm.TheVariants.{Constant
 use Rattle.dh_plan.specs.declared.operations.Reach.{Reach}
 use Rattle.dh_plan.specs.PlanKinds.{form_kind}
 use Rattle.dh_rows.specs.Readings.{Grows}
-use Rattle.dh_rows.specs.MadeOperations.{Made, IsMade, pushed, computed, constant_made, converted, or_zero}
-use Rattle.dh_rows.proofs.Growing.{grows_self, grows_on, pushed_grows}
+use Rattle.dh_rows.specs.MadeOperations.{Made, IsMade, pushed, computed, constant_made, or_zero}
+use Rattle.dh_rows.proofs.Growing.{grows_self, grows_on, plain_grows, pushed_grows}
 use Rattle.dh_address.specs.declared.literals.LiteralPlace.{LiteralPlace}
 use Rattle.dh_address.specs.LiteralPlaces.{literal_within, literal_places}
-use Rattle.dh_address.specs.Pieces.{Around, Range, IsTestBut, IsTested, both_made, IsGuarded, check_made, AreChecked, false_behind, false_behind_all, false_under, false_word, false_made, new_takes, IsProbeValue, IsProbed, IsAim, is_banked, IsSpreadOut, IsAimBut, IsIndexAim, waited, IsAimed, IsAccessMade, IsReadMade, IsWriteMade, IsFormMade, IsPiece, new_number, new_or_none}
+use Rattle.dh_address.specs.Pieces.{Around, Range, IsTestBut, IsTested, both_made, IsGuarded, check_made, AreChecked, false_behind, false_behind_all, false_word, false_made, new_takes, IsProbeValue, IsAim, is_banked, IsAimBut, waited, IsAimed, IsAccessMade, IsFormMade, IsPiece, new_or_none}
 use Rattle.dh_address.specs.Images.{and_known, ArePieces}
 
 pub grows_same : (old new : List Operation) → new ≡ old → Grows old new
@@ -26,7 +26,7 @@ grows_made old new n m g h = subst (λ (os : List Operation). Grows old os) (sym
 -- Tests.
 
 but_grows : (l : Option ℕ) (old new : List Operation) (k : Kind) (value size : ℕ) (test : Option ℕ) → IsTestBut l old new k value size test → Grows old new
-but_grows None old new k value size test h = h.0
+but_grows None old new k value size test h = plain_grows old new h.0
 but_grows (Some n) old new k value size test h = grows_same old new h.0
 
 both_grows : (os : List Operation) (guard test : Option ℕ) → Grows os (both_made os guard test).operations
@@ -91,7 +91,7 @@ but_aim_grows : (place : Option LiteralPlace) (width : ℕ) (dims : List Dim) (i
 but_aim_grows None width dims indices banked old new row select h =
     let first = or_zero h.spread width h.values.row in
     aim_grows banked old new first (or_zero first.operations width h.values.bank) row select
-    (grows_on old h.spread first.operations h.grows (zero_grows h.spread width h.values.row)) (zero_grows first.operations width h.values.bank) h.aim
+    (grows_on old h.spread first.operations (plain_grows old h.spread h.grows) (zero_grows h.spread width h.values.row)) (zero_grows first.operations width h.values.bank) h.aim
 but_aim_grows (Some place) width dims indices banked old new row select h =
     let first = constant_made old width place.row in
     aim_grows banked old new first (constant_made first.operations width place.bank) row select (pushed_grows old None _) (pushed_grows first.operations None _) h

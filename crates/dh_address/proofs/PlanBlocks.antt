@@ -1,6 +1,6 @@
 -- The blocks of a plan one after the other: those that are put down are what those of the plan become.
 use Rattle.std.proofs.Common.{◌≡◌, ℕ, zero, suc, ◌+◌, ◌*◌, ◌^◌, ◌<◌, ◌≤◌, ◌⊎◌, inl, inr, Bool, List, refl, sym, ap, ◌∙◌, subst, arith, length, get_or}
-use Rattle.std.specs.Prelude.{Option, Some, None, [], ◌∷◌, ◌++◌, slice_get}
+use Rattle.std.specs.Prelude.{Option, Some, [], ◌∷◌, ◌++◌}
 use Rattle.std.proofs.lemmas.Bool.{cases_lt}
 use Rattle.std.proofs.lemmas.List.{length-append}
 use Rattle.std.proofs.lemmas.Option.{slice_get-get_or, slice_get_past}
@@ -12,7 +12,7 @@ use Rattle.dh_plan.specs.PlainPlans.{PlainPlan, first_in, operations_in, operati
 use Rattle.dh_rows.specs.Readings.{Grows}
 use Rattle.dh_address.specs.Pieces.{Around, any_takes_probe}
 use Rattle.dh_address.specs.Images.{ArePieces, around_block, operations_until, IsBlockImage}
-use Rattle.dh_address.specs.Cuts.{AreStarts}
+use Rattle.dh_address.specs.Cuts.{AreStarts, IsCut}
 use Rattle.dh_address.specs.SeenBlocks.{HasPieces}
 use Rattle.dh_address.specs.SeenPlan.{AreImages}
 use Rattle.dh_address.proofs.BlocksAppended.{until_before, until_more, until_past, no_starts, starts_more}
@@ -154,3 +154,27 @@ module _ (p : PlainPlan) where
 
       images : AreImages p h.blocks
       images = record { as_many = many; each = λ block. each block (cases_lt block i) }
+
+  -- The same as the code has them: lists of the plan's blocks, kinds and memories, and starts that were pushed.
+
+  pub laid_first : (list : List Operation) (starts : List ℕ) → list ≡ [] → starts ≡ [] → Laid 0 list starts 0
+  laid_first list starts none no_start = subst (λ (os : List Operation). Laid 0 os starts 0) (sym none) (subst (λ (ns : List ℕ). Laid 0 [] ns 0) (sym no_start) none_laid)
+
+  pub laid_turn : (items : List PlanBlock) (i : ℕ) (b : PlanBlock) (list new : List Operation) (starts more : List ℕ) (start first : ℕ) (probed : Bool) (table : List MemEntry) (os : List Operation)
+      (registers : List Kind) → items ≡ p.blocks → i < length items → b ≡ get_or items i b → Laid i list starts first → table ≡ p.table → os ≡ b.operations → registers ≡ p.registers
+      → probed ≡ any_takes_probe os first → start ≡ length list → more ≡ starts ++ start ∷ [] → length os ≤ 2 ^ 64
+      → HasPieces registers (record { table = table; operations = os; first = first; probed = probed; numbers = []; kinds = [] }) list new → Laid (i + 1) new more (first + length os)
+  laid_turn items i b list new starts more start first probed table os registers all within is h table_is own registers_is taken begins put small pieces =
+      subst (λ (ns : List ℕ). Laid (i + 1) new ns (first + length os)) (sym put)
+      (laid_more i b list new starts start first (first + length os) probed (subst (λ (bs : List PlanBlock). i < length bs) all within) (subst (λ (bs : List PlanBlock). b ≡ get_or bs i b) all is) h
+      (subst (λ (l : List Operation). probed ≡ any_takes_probe l first) own taken) begins
+      (subst (λ (l : List Operation). HasPieces p.registers (begun_with l first probed) list new) own
+      (subst (λ (ks : List Kind). HasPieces ks (begun_with os first probed) list new) registers_is
+      (subst (λ (t : List MemEntry). HasPieces registers (record { table = t; operations = os; first = first; probed = probed; numbers = []; kinds = [] }) list new) table_is pieces)))
+      (ap (λ (l : List Operation). first + length l) own) (subst (λ (l : List Operation). length l ≤ 2 ^ 64) own small))
+
+  pub laid_end : (items : List PlanBlock) (i : ℕ) (list os : List Operation) (starts found_starts : List ℕ) (first : ℕ) (found : List PlanBlock) → items ≡ p.blocks → length items ≤ i → i ≤ length items
+      → Laid i list starts first → os ≡ list → found_starts ≡ starts → IsCut os found_starts found → AreImages p found
+  laid_end items i list os starts found_starts first found all l m h os_is starts_is cut =
+      all_laid i list starts first found (subst (λ (bs : List PlanBlock). length bs ≤ i) all l) (subst (λ (bs : List PlanBlock). i ≤ length bs) all m) h
+      (subst (λ (ns : List ℕ). IsCut list ns found) starts_is (subst (λ (o : List Operation). IsCut o found_starts found) os_is cut))

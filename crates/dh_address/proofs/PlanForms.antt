@@ -1,7 +1,10 @@
 -- What is seen of a node of a plan, form by form, where its parts stand in the code's lists; and one turn of a loop
 -- that copies nodes, or trees of accesses.
-use Rattle.std.proofs.Common.{◌≡◌, ℕ, List, refl, ap, sym, ◌∙◌}
+use Rattle.std.proofs.Common.{◌≡◌, ℕ, ◌+◌, ◌<◌, ◌≤◌, List, refl, ap, sym, ◌∙◌, length, drop, get_or}
 use Rattle.std.specs.Prelude.{Vec, [], ◌∷◌, ◌++◌}
+use Rattle.std.proofs.Math.ListN.{drop_of_length-le}
+use Rattle.std.proofs.lemmas.List.{append-nil}
+use Rattle.dh_base.proofs.ListItems.{at_item}
 use Rattle.std.specs.Global.{Global}
 use Rattle.dh_plan.specs.declared.plans.Node.{Node}
 use Rattle.dh_plan.specs.declared.plans.Node.TheVariants.{Step, Turns, Loop, Choice, Threads}
@@ -55,19 +58,61 @@ pub ruleset nodes_are = (step_is, turns_is, loop_is, choice_is, threads_is)
 
 -- One more of a list is copied: what is copied, and the rest, are seen as the whole.
 
-pub nodes_turn : (copy rest : List Node) (node copied : Node) → node_seen copied ≡ node_seen node → nodes_seen ((copy ++ copied ∷ []) ++ rest) ≡ nodes_seen (copy ++ node ∷ rest)
+nodes_turn : (copy rest : List Node) (node copied : Node) → node_seen copied ≡ node_seen node → nodes_seen ((copy ++ copied ∷ []) ++ rest) ≡ nodes_seen (copy ++ node ∷ rest)
 nodes_turn [] rest node copied e = ap (λ s. node_then s (nodes_seen rest)) e
 nodes_turn (c ∷ copy) rest node copied e = ap (λ s. node_then (node_seen c) s) (nodes_turn copy rest node copied e)
 
-pub threads_turn : (copy rest : List (Vec Node Global)) (list copied : Vec Node Global) → nodes_seen copied.items ≡ nodes_seen list.items
+threads_turn : (copy rest : List (Vec Node Global)) (list copied : Vec Node Global) → nodes_seen copied.items ≡ nodes_seen list.items
     → threads_seen ((copy ++ copied ∷ []) ++ rest) ≡ threads_seen (copy ++ list ∷ rest)
 threads_turn [] rest list copied e = ap (λ s. list_then s (threads_seen rest)) e
 threads_turn (c ∷ copy) rest list copied e = ap (λ s. list_then (nodes_seen c.items) s) (threads_turn copy rest list copied e)
 
-pub alls_turn : (copy rest : List Meets) (p copied : Meets) → meets_seen copied ≡ meets_seen p → alls ((copy ++ copied ∷ []) ++ rest) ≡ alls (copy ++ p ∷ rest)
+alls_turn : (copy rest : List Meets) (p copied : Meets) → meets_seen copied ≡ meets_seen p → alls ((copy ++ copied ∷ []) ++ rest) ≡ alls (copy ++ p ∷ rest)
 alls_turn [] rest p copied e = ap (λ s. meets.all s (alls rest)) e
 alls_turn (c ∷ copy) rest p copied e = ap (λ s. meets.all (meets_seen c) s) (alls_turn copy rest p copied e)
 
-pub ones_turn : (copy rest : List Meets) (p copied : Meets) → meets_seen copied ≡ meets_seen p → ones ((copy ++ copied ∷ []) ++ rest) ≡ ones (copy ++ p ∷ rest)
+ones_turn : (copy rest : List Meets) (p copied : Meets) → meets_seen copied ≡ meets_seen p → ones ((copy ++ copied ∷ []) ++ rest) ≡ ones (copy ++ p ∷ rest)
 ones_turn [] rest p copied e = ap (λ s. meets.one s (ones rest)) e
 ones_turn (c ∷ copy) rest p copied e = ap (λ s. meets.one (meets_seen c) s) (ones_turn copy rest p copied e)
+
+pub nodes_copied : (all copy new : List Node) (i : ℕ) (node copied : Node) → i < length all → node ≡ get_or all i node → new ≡ copy ++ copied ∷ [] → node_seen copied ≡ node_seen node
+    → nodes_seen (copy ++ drop i all) ≡ nodes_seen all → nodes_seen (new ++ drop (i + 1) all) ≡ nodes_seen all
+nodes_copied all copy new i node copied within is put same so =
+    ap (λ (ns : List Node). nodes_seen (ns ++ drop (i + 1) all)) put
+    ∙ (nodes_turn copy (drop (i + 1) all) node copied same ∙ (ap (λ (ns : List Node). nodes_seen (copy ++ ns)) (sym (at_item all i node within is)) ∙ so))
+
+pub threads_copied : (all copy new : List (Vec Node Global)) (i : ℕ) (list copied : Vec Node Global) → i < length all → list ≡ get_or all i list → new ≡ copy ++ copied ∷ []
+    → nodes_seen copied.items ≡ nodes_seen list.items → threads_seen (copy ++ drop i all) ≡ threads_seen all → threads_seen (new ++ drop (i + 1) all) ≡ threads_seen all
+threads_copied all copy new i list copied within is put same so =
+    ap (λ (ls : List (Vec Node Global)). threads_seen (ls ++ drop (i + 1) all)) put
+    ∙ (threads_turn copy (drop (i + 1) all) list copied same ∙ (ap (λ (ls : List (Vec Node Global)). threads_seen (copy ++ ls)) (sym (at_item all i list within is)) ∙ so))
+
+module _ (all copy new : List Meets) (i : ℕ) (p copied : Meets) (within : i < length all) (is : p ≡ get_or all i p) (put : new ≡ copy ++ copied ∷ []) (same : meets_seen copied ≡ meets_seen p) where
+  pub alls_copied : alls (copy ++ drop i all) ≡ alls all → alls (new ++ drop (i + 1) all) ≡ alls all
+  alls_copied so =
+      ap (λ (ps : List Meets). alls (ps ++ drop (i + 1) all)) put
+      ∙ (alls_turn copy (drop (i + 1) all) p copied same ∙ (ap (λ (ps : List Meets). alls (copy ++ ps)) (sym (at_item all i p within is)) ∙ so))
+
+  pub ones_copied : ones (copy ++ drop i all) ≡ ones all → ones (new ++ drop (i + 1) all) ≡ ones all
+  ones_copied so =
+      ap (λ (ps : List Meets). ones (ps ++ drop (i + 1) all)) put
+      ∙ (ones_turn copy (drop (i + 1) all) p copied same ∙ (ap (λ (ps : List Meets). ones (copy ++ ps)) (sym (at_item all i p within is)) ∙ so))
+
+-- The end of a loop.
+
+nodes_all : (all copy : List Node) (i : ℕ) → length all ≤ i → nodes_seen (copy ++ drop i all) ≡ nodes_seen all → nodes_seen copy ≡ nodes_seen all
+nodes_all all copy i past so = ap nodes_seen (sym (ap (λ (ns : List Node). copy ++ ns) (drop_of_length-le all past) ∙ append-nil copy)) ∙ so
+
+-- the list that was copied, behind the others
+pub list_copied : (all copies new : List (Vec Node Global)) (i : ℕ) (list copied : Vec Node Global) (items : List Node) (j : ℕ) → i < length all → list ≡ get_or all i list
+    → new ≡ copies ++ copied ∷ [] → items ≡ list.items → length items ≤ j → nodes_seen (copied.items ++ drop j items) ≡ nodes_seen items
+    → threads_seen (copies ++ drop i all) ≡ threads_seen all → threads_seen (new ++ drop (i + 1) all) ≡ threads_seen all
+list_copied all copies new i list copied items j within is put own past so outer =
+    threads_copied all copies new i list copied within is put (nodes_all items copied.items j past so ∙ ap nodes_seen own) outer
+
+pub threads_done : (node : Node) (lists copies : Vec (Vec Node Global) Global) (items : List (Vec Node Global)) (i : ℕ) → node ≡ Threads lists → items ≡ lists.items → length items ≤ i
+    → threads_seen (copies.items ++ drop i items) ≡ threads_seen items → node_seen (Threads copies) ≡ node_seen node
+threads_done node lists copies items i is own past so =
+    threads_is copies
+    ∙ (ap (λ s. threads_node s) (ap threads_seen (sym (ap (λ (ls : List (Vec Node Global)). copies.items ++ ls) (drop_of_length-le items past) ∙ append-nil copies.items)) ∙ (so ∙ ap threads_seen own))
+    ∙ (sym (threads_is lists) ∙ ap node_seen (sym is)))

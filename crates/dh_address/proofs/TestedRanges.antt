@@ -14,7 +14,7 @@ use Rattle.dh_plan.specs.declared.operations.OperationForm.TheVariants.{Compute}
 use Rattle.dh_rows.specs.Readings.{Readings, Obeys, IsEarlier, Grows, Adds, IsValue, IsValueOrNone}
 use Rattle.dh_rows.specs.RowsShown.{HoldsOrNone, IsTestMade, is_below_size}
 use Rattle.dh_rows.specs.MadeOperations.{pushed}
-use Rattle.dh_rows.proofs.Growing.{grows_self, grows_on, grown_length, kept_there, pushed_grows, obeys_before, pushed_word, value_later, maybe_later, adds_self, adds_on, pushed_adds, pushed_value}
+use Rattle.dh_rows.proofs.Growing.{grows_self, grows_on, grown_length, plain_grows, kept_there, pushed_grows, obeys_before, pushed_word, value_later, maybe_later, adds_self, adds_on, pushed_adds, pushed_value}
 use Rattle.dh_address.specs.LiteralPlaces.{literal_within}
 use Rattle.dh_address.proofs.ImageReadings.{at_last}
 use Rattle.dh_address.specs.Pieces.{Around, Range, new_number, known_kind, IsTestBut, IsTested, both_made, IsGuarded, check_made, AreChecked}
@@ -22,7 +22,7 @@ use Rattle.dh_address.specs.Pieces.{Around, Range, new_number, known_kind, IsTes
 -- Lists grow.
 
 pub test_grows : (literal : Option ℕ) (old new : List Operation) (k : Kind) (value size : ℕ) (test : Option ℕ) → IsTestBut literal old new k value size test → Grows old new
-test_grows None old new k value size test h = h.0
+test_grows None old new k value size test h = plain_grows old new h.0
 test_grows (Some n) old new k value size test h = subst (λ (os : List Operation). Grows old os) (sym h.0) (grows_self old)
 
 pub both_grows : (os : List Operation) (guard test : Option ℕ) → Grows os (both_made os guard test).operations

@@ -1,5 +1,5 @@
 -- What the pass makes of a plan: each block is what its operations become, one after the other; all else stays.
-use Rattle.std.specs.Prelude.{◌≡◌, ℕ, zero, suc, ◌+◌, List, [], ◌∷◌, ◌++◌, length}
+use Rattle.std.specs.Prelude.{◌≡◌, ℕ, zero, suc, List, [], ◌∷◌, ◌++◌, length}
 use Rattle.dh_value.specs.declared.kinds.Kind.{Kind}
 use Rattle.dh_plan.specs.declared.operations.Operation.{Operation}
 use Rattle.dh_plan.specs.declared.operations.PlanBlock.{PlanBlock}
@@ -24,7 +24,7 @@ abbrev pub ArePieces : (registers : List Kind) → Around → (rest : List Opera
 ArePieces registers a [] old new numbers = (new ≡ old) × (numbers ≡ a.numbers)
 ArePieces registers a (o ∷ os) old new numbers =
     PieceThen (λ mid n. IsPiece a o old mid n)
-      (λ mid n. ArePieces registers (and_known a n (form_kind a.table registers a.first a.kinds o.form)) os mid new numbers)
+    (λ mid n. ArePieces registers (and_known a n (form_kind a.table registers a.first a.kinds o.form)) os mid new numbers)
 
 -- all operations of the first n blocks
 abbrev pub operations_until : List PlanBlock → (n : ℕ) → List Operation

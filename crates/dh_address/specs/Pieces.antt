@@ -19,8 +19,8 @@ use Rattle.dh_plan.specs.declared.operations.Reach.{Reach}
 use Rattle.dh_plan.specs.Ordered.{one_or_none, operation_takes}
 use Rattle.dh_plan.specs.PlanKinds.{kind_of_value}
 use Rattle.dh_rows.specs.declared.spreading.RowAndBank.{RowAndBank}
-use Rattle.dh_rows.specs.MadeOperations.{Made, Summed, IsMade, IsSummed, summed, sum_of, pushed, constant_made, computed, computed_with, converted, or_zero, bits_in}
-use Rattle.dh_rows.specs.Readings.{Grows}
+use Rattle.dh_rows.specs.MadeOperations.{Made, Summed, IsMade, summed, sum_of, pushed, constant_made, computed, computed_with, converted, or_zero, bits_in}
+use Rattle.dh_rows.specs.Readings.{GrowsPlain}
 use Rattle.dh_rows.specs.RowsShown.{MakesRow, MakesTest}
 use Rattle.dh_address.specs.declared.literals.LiteralPlace.{LiteralPlace}
 use Rattle.dh_address.specs.Renumbered.{renumbered, maybe_renumbered}
@@ -88,7 +88,7 @@ ranges_of a r = ranges_in (dims_at a.table r.memory) r.row r.indices
 
 -- the test of a value of this kind; of a constant that is in range there is none, and nothing is put down
 abbrev pub IsTestBut : (literal : Option ℕ) → (old new : List Operation) → Kind → (value size : ℕ) → (test : Option ℕ) → Type 0
-IsTestBut None old new k value size test = Grows old new × MakesTest old new k value size test
+IsTestBut None old new k value size test = GrowsPlain old new × MakesTest old new k value size test
 IsTestBut (Some n) old new k value size test = (new ≡ old) × (test ≡ None)
 
 abbrev pub IsTested : Around → Range → (old new : List Operation) → (test : Option ℕ) → Type 0
@@ -176,7 +176,7 @@ aim_width dims = bits_in (elements_of dims)
 pub record IsSpreadOut (width : ℕ) (dims : List Dim) (indices : List ℕ) (banked : Bool) (old new : List Operation) (row : ℕ) (select : Option ℕ) : Type 0 where
   pub spread : List Operation
   pub values : RowAndBank
-  pub grows : Grows old spread
+  pub grows : GrowsPlain old spread
   pub made : MakesRow old spread width dims indices banked values
   pub aim : IsAim banked (or_zero spread width values.row) (or_zero (or_zero spread width values.row).operations width values.bank) new row select
 
@@ -190,7 +190,7 @@ IsAimBut (Some place) width dims indices banked old new row select =
 abbrev pub IsIndexAim : Around → Reach → (old new : List Operation) → (row : ℕ) → (select : Option ℕ) → Type 0
 IsIndexAim a r old new row select =
     IsAimBut (literal_places a.operations a.first (dims_at a.table r.memory) r.indices 0 0) (aim_width (dims_at a.table r.memory))
-      (dims_at a.table r.memory) (map (new_number a) r.indices) (is_banked r) old new row select
+    (dims_at a.table r.memory) (map (new_number a) r.indices) (is_banked r) old new row select
 
 -- beside indices a select means nothing, but is waited for: as a number of one bit
 abbrev pub waited : List Operation → (select : Option ℕ) → Summed

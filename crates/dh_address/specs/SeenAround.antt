@@ -1,7 +1,6 @@
 -- What the code's functions promise one another of a single test, and what they know around a block, as the pieces
 -- have it.
-use Rattle.std.specs.Prelude.{◌≡◌, ℕ, List, [], Option, Some, None}
-use Rattle.dh_tree.specs.declared.tables.MemEntry.{MemEntry}
+use Rattle.std.specs.Prelude.{◌≡◌, ℕ, List, [], Option}
 use Rattle.dh_plan.specs.declared.operations.Operation.{Operation}
 use Rattle.dh_rows.specs.MadeOperations.{IsSummed}
 use Rattle.dh_address.specs.declared.ranging.OldBlock.{OldBlock}

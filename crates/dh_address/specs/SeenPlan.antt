@@ -1,6 +1,5 @@
 -- What the code's functions promise one another of the blocks of a plan.
 use Rattle.std.specs.Prelude.{◌≡◌, ℕ, List, length}
-use Rattle.dh_plan.specs.declared.plans.Plan.{Plan}
 use Rattle.dh_plan.specs.declared.operations.PlanBlock.{PlanBlock}
 use Rattle.dh_plan.specs.PlainPlans.{PlainPlan}
 use Rattle.dh_address.specs.Images.{IsBlockImage}

@@ -89,10 +89,7 @@ fn aim_by_indices(
 }
 
 /// Adds a value as a number of one bit, if there is one: it is only waited for.
-fn push_waited(
-    list: &mut OperationList,
-    value: Option<u64>,
-) -> Result<Option<u64>, NoMemory>
+fn push_waited(list: &mut OperationList, value: Option<u64>) -> Result<Option<u64>, NoMemory>
     ensures { IfOk result (λ s. IsSummed list.new s (waited list.old value)) }
 {
     match value {

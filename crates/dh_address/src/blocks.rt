@@ -17,11 +17,7 @@ use dh_rows::{OperationList, push_compute};
 use dh_value::{Kind, Op, Word};
 
 /// The values that an access without views takes, at their new numbers.
-fn new_takes(
-    old: &OldBlock<'_>,
-    known: &Renumbering,
-    reach: &Reach,
-) -> Result<Items<u64>, NoMemory>
+fn new_takes(old: &OldBlock<'_>, known: &Renumbering, reach: &Reach) -> Result<Items<u64>, NoMemory>
     ensures { IfOk result (λ v. v ≡ new_takes (around_seen old.now known.now) reach.now) }
 {
     let mut values = known.each(old.alloc, reach.indices.as_slice())?;
@@ -35,11 +31,7 @@ fn new_takes(
 }
 
 /// Adds a value that is false as this one is, but not there before another value is.
-fn push_false_behind(
-    list: &mut OperationList,
-    so_far: u64,
-    value: u64,
-) -> Result<u64, NoMemory>
+fn push_false_behind(list: &mut OperationList, so_far: u64, value: u64) -> Result<u64, NoMemory>
     ensures { IfOk result (λ n. IsMade list.new n (false_behind list.old so_far value)) }
 {
     let differs = push_compute(list, Op::Ne, value, value)?;
@@ -47,11 +39,7 @@ fn push_false_behind(
 }
 
 /// Adds a value that is false, and there once all these values are.
-fn push_false(
-    list: &mut OperationList,
-    guard: Option<u64>,
-    values: &[u64],
-) -> Result<u64, NoMemory>
+fn push_false(list: &mut OperationList, guard: Option<u64>, values: &[u64]) -> Result<u64, NoMemory>
     ensures { IfOk result (λ n. IsMade list.new n (false_made list.old guard values.now)) }
 {
     let word = Word {
@@ -80,8 +68,8 @@ fn push_probe_value(
     guard: Option<u64>,
     reach: &Reach,
 ) -> Result<u64, NoMemory>
-    ensures { IfOk result (IsProbeValue old.now.probed (around_seen old.now known.now) guard reach.now
-        list.old list.new) }
+    ensures { IfOk result (IsProbeValue old.now.probed (around_seen old.now known.now) guard
+        reach.now list.old list.new) }
 {
     if !old.probed {
         return Ok(0);
@@ -151,18 +139,34 @@ fn push_piece(
     operation: &Operation,
 ) -> Result<u64, NoMemory>
     requires { IsProgramTable old.now.table.now }
-    ensures { IfOk result (IsPiece (around_seen old.now known.now) operation.now list.old list.new) }
+    ensures { IfOk result (IsPiece (around_seen old.now known.now) operation.now
+        list.old list.new) }
 {
     let guard = known.maybe(operation.guard);
     match &operation.form {
-        OperationForm::Constant { word } => list.push(guard, OperationForm::Constant { word: *word }),
+        OperationForm::Constant { word } => list.push(
+            guard,
+            OperationForm::Constant { word: *word },
+        ),
         OperationForm::Old { register } => {
-            list.push(guard, OperationForm::Old { register: *register })
+            list.push(
+                guard,
+                OperationForm::Old {
+                    register: *register,
+                },
+            )
         }
         OperationForm::Compute { op, left, right } => {
             let left = known.number(*left);
             let right = known.number(*right);
-            list.push(guard, OperationForm::Compute { op: *op, left, right })
+            list.push(
+                guard,
+                OperationForm::Compute {
+                    op: *op,
+                    left,
+                    right,
+                },
+            )
         }
         OperationForm::Convert { inner, to } => {
             let inner = known.number(*inner);
@@ -178,12 +182,22 @@ fn push_piece(
             let ok = known.number(*ok);
             list.push(guard, OperationForm::Check { ok, fault: *fault })
         }
-        OperationForm::Probe { access, fault } => push_probe(list, old, known, guard, access, *fault),
+        OperationForm::Probe { access, fault } => push_probe(
+            list, old, known, guard, access, *fault,
+        ),
         OperationForm::Read { access } => push_read(list, old, known, guard, access),
-        OperationForm::Write { access, value } => push_write(list, old, known, guard, access, *value),
+        OperationForm::Write { access, value } => push_write(
+            list, old, known, guard, access, *value,
+        ),
         OperationForm::Set { register, value } => {
             let value = known.number(*value);
-            list.push(guard, OperationForm::Set { register: *register, value })
+            list.push(
+                guard,
+                OperationForm::Set {
+                    register: *register,
+                    value,
+                },
+            )
         }
     }
 }

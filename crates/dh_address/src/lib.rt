@@ -12,9 +12,11 @@ mod copying;
 mod cutting;
 mod laws;
 mod literals;
+mod numbers;
 mod probing;
 mod ranging;
 mod renumbering;
 mod results;
 
 pub use addressing::addresses;
+pub use laws::{structure_trial, trial};

@@ -1,8 +1,9 @@
 //! Indices that are constants of the plan.
 
-ghost use Rattle.std.specs.Prelude.{◌≡◌, ◌-◌, None};
+ghost use Rattle.std.specs.Prelude.{◌≡◌, ◌-◌, ◌^◌, None, nat_lt};
 ghost use Rattle.dh_address.specs.LiteralPlaces.{natural, literal_at, literal_within, literal_places};
 
+use crate::numbers::{quotient, remainder};
 use crate::renumbering::place_from;
 use dh_plan::{Operation, OperationForm};
 use dh_tree::Dim;
@@ -17,6 +18,13 @@ pub struct LiteralPlace {
     pub bank: u64,
 }
 
+/// Whether a number is one of so many bits.
+fn has_bits(number: u64, bits: u8) -> bool
+    ensures { result ≡ nat_lt number (2 ^ bits) }
+{
+    bits >= 64 || number < 1u64 << bits
+}
+
 /// A word's value, if it is a number from 0 on.
 fn natural_of(word: Word) -> Option<u64>
     ensures { result ≡ natural word }
@@ -25,7 +33,7 @@ fn natural_of(word: Word) -> Option<u64>
         Kind::Bool => None,
         Kind::Unsigned(_) => Some(word.bits),
         Kind::Signed(width) => {
-            if word.bits >> width.saturating_sub(1).min(63) == 0 {
+            if has_bits(word.bits, width.saturating_sub(1)) {
                 Some(word.bits)
             } else {
                 None
@@ -51,22 +59,11 @@ fn constant_at(operations: &[Operation], place: usize) -> Option<u64>
 }
 
 /// The value of a constant below a size, in a block whose first operation has the number `first`.
-pub fn constant_within(
-    operations: &[Operation],
-    first: u128,
-    value: u64,
-    size: u64,
-) -> Option<u64>
+pub fn constant_within(operations: &[Operation], first: u128, value: u64, size: u64) -> Option<u64>
     ensures { result ≡ literal_within operations.now first value size }
 {
     match constant_at(operations, place_from(first, value)) {
-        Some(number) => {
-            if number < size {
-                Some(number)
-            } else {
-                None
-            }
-        }
+        Some(number) => { if number < size { Some(number) } else { None } }
         None => None,
     }
 }
@@ -87,11 +84,12 @@ pub fn constant_place(
         let Some(index) = constant_within(operations, first, indices[i], dim.size) else {
             return None;
         };
-        if dim.banks == 0 {
-            return None;
-        }
-        row = row.wrapping_mul(dim.size / dim.banks).wrapping_add(index / dim.banks);
-        bank = bank.wrapping_mul(dim.banks).wrapping_add(index % dim.banks);
+        row = row
+            .wrapping_mul(quotient(dim.size, dim.banks))
+            .wrapping_add(quotient(index, dim.banks));
+        bank = bank
+            .wrapping_mul(dim.banks)
+            .wrapping_add(remainder(index, dim.banks));
     }
     Some(LiteralPlace { row, bank })
 }

@@ -1,6 +1,6 @@
 //! Tests whether accesses are in range: as a guard, or as checks.
 
-ghost use Rattle.std.specs.Prelude.{◌≡◌, ◌/◌, ◌%◌, ◌^◌, IfOk, OnOk};
+ghost use Rattle.std.specs.Prelude.{◌≡◌, ◌%◌, ◌^◌, IfOk, OnOk};
 ghost use Rattle.dh_tree.specs.Elements.{dims_at, rows_of};
 ghost use Rattle.dh_tree.specs.Shapes.{IsProgramTable};
 ghost use Rattle.dh_tree.specs.Tables.{elements_of};
@@ -9,6 +9,7 @@ ghost use Rattle.dh_address.specs.Pieces.{AreChecked, IsGuarded, IsTested, both_
 ghost use Rattle.dh_address.specs.SeenAround.{IsCheckedOne, IsGuardedOne, around_seen, range_of};
 
 use crate::literals::constant_within;
+use crate::numbers::quotient;
 use crate::renumbering::Renumbering;
 use dh_base::NoMemory;
 use dh_plan::{Operation, OperationForm, Reach};
@@ -40,23 +41,13 @@ pub fn dims_in(table: &[MemEntry], memory: u32) -> &[Dim]
     }
 }
 
-/// The elements of a dimension in each of its banks.
-fn share_of(dim: Dim) -> u64
-    ensures { result ≡ dim.size / dim.banks }
-{
-    if dim.banks == 0 {
-        return 0;
-    }
-    dim.size / dim.banks
-}
-
 /// The rows of a bank. Numbers wrap.
 fn row_count(dims: &[Dim]) -> u64
     ensures { result ≡ rows_of dims.now % 2 ^ 64 }
 {
     let mut count = 1u64;
     for dim in dims {
-        count = count.wrapping_mul(share_of(*dim));
+        count = count.wrapping_mul(quotient(dim.size, dim.banks));
     }
     count
 }
@@ -185,8 +176,8 @@ fn check_value(
     value: u64,
     size: u64,
 ) -> Result<(), NoMemory>
-    ensures { OnOk result (IsCheckedOne (around_seen old.now known.now) guard fault (range_of value size)
-        list.old list.new) }
+    ensures { OnOk result (IsCheckedOne (around_seen old.now known.now) guard fault
+        (range_of value size) list.old list.new) }
 {
     let test = test_value(list, old, known, value, size)?;
     push_check(list, guard, fault, test)
@@ -227,6 +218,14 @@ pub fn check_reach(
     let dims = dims_in(old.table, reach.memory);
     match reach.row {
         Some(row) => check_value(list, old, known, guard, fault, row, row_count(dims)),
-        None => check_indices(list, old, known, guard, fault, dims, reach.indices.as_slice()),
+        None => check_indices(
+            list,
+            old,
+            known,
+            guard,
+            fault,
+            dims,
+            reach.indices.as_slice(),
+        ),
     }
 }

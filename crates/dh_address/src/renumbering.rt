@@ -50,7 +50,8 @@ impl Renumbering {
 
     /// The new numbers of values.
     pub fn each(&self, alloc: Global, old: &[u64]) -> Result<Items<u64>, NoMemory>
-        ensures { IfOk result (λ new. new ≡ map (λ v. renumbered self.now.first self.now.numbers v) old.now) }
+        ensures { IfOk result (λ new. new
+            ≡ map (λ v. renumbered self.now.first self.now.numbers v) old.now) }
     {
         let mut new = Items::new(alloc);
         for value in old {

@@ -48,7 +48,8 @@ pub fn kind_given(
     known: &Renumbering,
     form: &OperationForm,
 ) -> Kind
-    ensures { result ≡ form_kind table.now registers.now known.now.first known.now.kinds form.now }
+    ensures { result
+        ≡ form_kind table.now registers.now known.now.first known.now.kinds form.now }
 {
     match form {
         OperationForm::Constant { word } => word.kind,

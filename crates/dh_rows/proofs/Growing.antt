@@ -11,7 +11,7 @@ use Rattle.dh_plan.specs.declared.operations.Operation.{Operation}
 use Rattle.dh_plan.specs.declared.operations.OperationForm.{OperationForm}
 use Rattle.dh_plan.specs.Ordered.{form_takes}
 use Rattle.dh_plan.proofs.Appends.{there_in_front}
-use Rattle.dh_rows.specs.Readings.{Readings, Obeys, HasPlain, IsEarlier, IsAdded, Grows, Adds, IsValue, IsValueOrNone, is_plain, plain_kind, plain_word, PlainSuits}
+use Rattle.dh_rows.specs.Readings.{Readings, Obeys, HasPlain, IsEarlier, IsAdded, Grows, GrowsPlain, IsPlain, Adds, IsValue, IsValueOrNone, is_plain, plain_kind, plain_word, PlainSuits}
 use Rattle.dh_rows.specs.MadeOperations.{pushed}
 
 pub grows_self : (os : List Operation) → Grows os os
@@ -19,6 +19,28 @@ grows_self os = record { more = []; appended = sym (append-nil os) }
 
 pub grows_on : (a b c : List Operation) → Grows a b → Grows b c → Grows a c
 grows_on a b c g h = record { more = g.more ++ h.more; appended = h.appended ∙ (ap (λ (os : List Operation). os ++ h.more) g.appended ∙ append_assoc a g.more h.more) }
+
+-- The same of plain operations.
+
+pub plain_grows : (a b : List Operation) → GrowsPlain a b → Grows a b
+plain_grows a b g = record { more = g.more; appended = g.appended }
+
+pub plain_self : (os : List Operation) → GrowsPlain os os
+plain_self os = record { more = []; appended = sym (append-nil os); plain = tt }
+
+plain_append : (xs ys : List Operation) → AllByRecursion IsPlain xs → AllByRecursion IsPlain ys → AllByRecursion IsPlain (xs ++ ys)
+plain_append [] ys h k = k
+plain_append (x ∷ xs) ys h k = (h.0, plain_append xs ys h.1 k)
+
+pub plain_on : (a b c : List Operation) → GrowsPlain a b → GrowsPlain b c → GrowsPlain a c
+plain_on a b c g h = record {
+  more = g.more ++ h.more;
+  appended = h.appended ∙ (ap (λ (os : List Operation). os ++ h.more) g.appended ∙ append_assoc a g.more h.more);
+  plain = plain_append g.more h.more g.plain h.plain;
+}
+
+pub plain_pushed : (os : List Operation) (f : OperationForm) → is_plain f ≡ true → GrowsPlain os (pushed os None f).operations
+plain_pushed os f e = record { more = record { guard = None; form = f } ∷ []; appended = refl; plain = (record { guard = refl; form = e }, tt) }
 
 pub grown_length : (a b : List Operation) → Grows a b → length a ≤ length b
 grown_length a b g = let l : length b ≡ length a + length g.more = ap (λ (os : List Operation). length os) g.appended ∙ length-append a g.more in omega (arith, l)
@@ -62,6 +84,9 @@ module _ (x : Readings) where
     where
       later : (n : ℕ) (f : OperationForm) → HasPlain a n f → HasPlain b n f
       later n f p = record { there = kept_there a b g n _ p.there; plain = p.plain }
+
+  pub obeys_plain : (a b : List Operation) → GrowsPlain a b → Obeys x b → Obeys x a
+  obeys_plain a b g h = obeys_before a b (plain_grows a b g) h
 
   -- the equations of an operation that was just put down
   module _ (os : List Operation) (f : OperationForm) (plain : is_plain f ≡ true) (begun : x.first ≤ length os) where

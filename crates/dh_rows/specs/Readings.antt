@@ -88,6 +88,17 @@ pub record Grows (old new : List Operation) : Type 0 where
   pub more : List Operation
   pub appended : new ≡ old ++ more
 
+-- of a plain form, and without a guard
+pub record IsPlain (o : Operation) : Type 0 where
+  pub guard : o.guard ≡ None
+  pub form : is_plain o.form ≡ true
+
+-- plain operations come behind
+pub record GrowsPlain (old new : List Operation) : Type 0 where
+  pub more : List Operation
+  pub appended : new ≡ old ++ more
+  pub plain : AllByRecursion IsPlain more
+
 -- and all are such: each one where the signals obey those before it, so that order and kinds follow one by one
 pub record Adds (x : Readings) (clock : ℕ) (old new : List Operation) : Type 0 where
   pub grows : Grows old new

@@ -1,5 +1,5 @@
 -- Whatever the rest of the indices add from here, all add from the start.
-use Rattle.std.specs.Prelude.{ℕ, Option, List, drop}
+use Rattle.std.specs.Prelude.{List, drop}
 use Rattle.dh_plan.specs.declared.operations.Operation.{Operation}
 use Rattle.dh_address.specs.Pieces.{AreChecked, ranges_by}
 use Rattle.dh_address.specs.SeenAround.{around_seen}

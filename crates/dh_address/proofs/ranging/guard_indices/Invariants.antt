@@ -8,4 +8,4 @@ use Rattle.dh_address.proofs.ranging.guard_indices.Given as goal
 abbrev pub invariant-loop-i : goal.invariant-loop-i
 invariant-loop-i l =
     (new : List Operation) (last : Option ℕ) → IsGuarded (around_seen l.old l.known) l.on (ranges_by (drop l.i l.dims) (drop l.i l.indices)) l.list new last
-    → IsGuarded (around_seen l.old l.known) l.guard (ranges_by l.dims l.indices) l.fn.list new last
+    → IsGuarded (around_seen l.old l.known) l.fn.guard (ranges_by l.dims l.indices) l.fn.list new last
