@@ -34,3 +34,4 @@ pub mod SoundImages
 pub mod LiteralsFound
 pub mod ChecksPut
 pub mod LiteralRows
+pub mod FormedImages
