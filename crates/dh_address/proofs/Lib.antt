@@ -35,3 +35,4 @@ pub mod LiteralsFound
 pub mod ChecksPut
 pub mod LiteralRows
 pub mod FormedImages
+pub mod ClocksAlike
