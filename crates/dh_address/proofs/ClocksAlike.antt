@@ -194,6 +194,8 @@ module _ (p : PlainPlan) (none : p.views ≡ []) (tables : IsProgramTable p.tabl
     -- What holds of the piece.
     pub record IsInTime (gives : Type 0) : Type 0 where
       pub own : gives → x.clock n ≡ old_clock (old_first + i)
+      pub begun : gives → first ≤ n
+      pub within : gives → n < length all
       pub each : AllBetween (λ m u. x.clock m ≤ old_clock (old_first + i)) old mid
 
     by_then : (a b : List Operation) → AllBetween (λ m u. x.clock m ≤ needed) a b → AllBetween (λ m u. x.clock m ≤ old_clock (old_first + i)) a b
@@ -209,10 +211,12 @@ module _ (p : PlainPlan) (none : p.views ≡ []) (tables : IsProgramTable p.tabl
     made_clock ps g f h begun = new_clock n (record { guard = g; form = f }) (subst (λ (m : ℕ). first ≤ m) (sym h.1) begun) (made_there ps g f h)
 
     -- the last of a piece
-    last_in_time : (gives : Type 0) (ps : List Operation) (g : Option ℕ) (f : OperationForm) → IsMade mid n (pushed ps g f) → Grows ps mid → AllBetween (λ m u. x.clock m ≤ needed) old ps
+    last_in_time : (gives : Type 0) (ps : List Operation) (g : Option ℕ) (f : OperationForm) → first ≤ length ps → IsMade mid n (pushed ps g f) → Grows ps mid → AllBetween (λ m u. x.clock m ≤ needed) old ps
         → x.clock n ≡ old_clock (old_first + i) → IsInTime gives
-    last_in_time gives ps g f h grows before own = record {
+    last_in_time gives ps g f begun h grows before own = record {
       own = λ _. own;
+      begun = λ _. subst (λ (m : ℕ). first ≤ m) (sym h.1) begun;
+      within = λ _. slice_get_within all n _ (made_there ps g f h);
       each = between_on (λ m u. x.clock m ≤ old_clock (old_first + i)) old ps mid grows (by_then old ps before)
           (made_between (λ m u. x.clock m ≤ old_clock (old_first + i)) ps mid n g f h (omega (arith, own)));
     }
@@ -223,7 +227,7 @@ module _ (p : PlainPlan) (none : p.views ≡ []) (tables : IsProgramTable p.tabl
     same_in_time : (gives : Type 0) (f f' : OperationForm) → o.form ≡ f → IsMade mid n (pushed old (new_or_none a o.guard) f') → form_takes f' ≡ map (new_number a) (form_takes f)
         → ((clock : ℕ) → there_at f' clock ≡ there_at f clock) → IsInTime gives
     same_in_time gives f f' e h mapped form_same =
-        last_in_time gives old (new_or_none a o.guard) f' h (made_all old (new_or_none a o.guard) f' h) (nothing_between (λ m u. x.clock m ≤ needed) old old refl)
+        last_in_time gives old (new_or_none a o.guard) f' at.begun h (made_all old (new_or_none a o.guard) f' h) (nothing_between (λ m u. x.clock m ≤ needed) old old refl)
         (made_clock old (new_or_none a o.guard) f' h at.begun
         ∙ (ap (λ (vs : List ℕ). there_at f' (greatest_of (map x.clock (one_or_none (new_or_none a o.guard) ++ vs)))) mapped
         ∙ (ap (λ (vs : List ℕ). there_at f' (greatest_of (map x.clock vs))) (new_list a o.guard (form_takes f))
@@ -360,7 +364,7 @@ module _ (p : PlainPlan) (none : p.views ≡ []) (tables : IsProgramTable p.tabl
         (all_join R (one_or_none o.guard) (reach_takes r) (u.guard_back new (all_left Q (one_or_none h.on) _ below)) (u.takes_back new (all_right Q (one_or_none h.on) _ below)))
         in
         let same : new ≡ needed = both_ways new needed most (subst (λ (c : ℕ). c ≤ new) (sym (needed_of (Read r) e)) least) in
-        last_in_time gives h.last h.on (Read h.reach) h.read to_mid u.before
+        last_in_time gives h.last h.on (Read h.reach) begun h.read to_mid u.before
         (made_clock h.last h.on (Read h.reach) h.read begun ∙ (ap suc same ∙ sym (time_of (Read r) e)))
 
     write_in_time : (gives : Type 0) (r : Reach) (value : ℕ) → o.form ≡ Write r value → IsWriteMade a (new_or_none a o.guard) r value old mid n → IsInTime gives
@@ -385,7 +389,7 @@ module _ (p : PlainPlan) (none : p.views ≡ []) (tables : IsProgramTable p.tabl
         (let c = timed.0 in let l = rest.0 in omega (arith, c, l), u.takes_back new rest.1))
         in
         let same : new ≡ needed = both_ways new needed most (subst (λ (c : ℕ). c ≤ new) (sym (needed_of (Write r value) e)) least) in
-        last_in_time gives h.last h.on (Write h.reach (new_number a value)) h.write to_mid u.before
+        last_in_time gives h.last h.on (Write h.reach (new_number a value)) begun h.write to_mid u.before
         (made_clock h.last h.on (Write h.reach (new_number a value)) h.write begun ∙ (same ∙ sym (time_of (Write r value) e)))
 
     -- Probes.
@@ -455,11 +459,11 @@ module _ (p : PlainPlan) (none : p.views ≡ []) (tables : IsProgramTable p.tabl
           (maybe_back bound r.row (all_right Timed (one_or_none r.select) (one_or_none r.row) t) (all_right P (one_or_none (new_or_none a r.select)) _ rest))
 
       value_in_time : (probed : Bool) → IsProbeValue probed a (new_or_none a o.guard) r checked mid n → IsInTime ((probed ≡ true) ⊎ (true ≡ false))
-      value_in_time false h = record { own = never; each = by_then old mid (between_on (λ m u. x.clock m ≤ needed) old checked mid same_grows before (nothing_between (λ m u. x.clock m ≤ needed) checked mid h)) }
+      value_in_time false h = record { own = λ g. absurd (never g); begun = λ g. absurd (never g); within = λ g. absurd (never g); each = by_then old mid (between_on (λ m u. x.clock m ≤ needed) old checked mid same_grows before (nothing_between (λ m u. x.clock m ≤ needed) checked mid h)) }
         where
-          never : (false ≡ true) ⊎ (true ≡ false) → x.clock n ≡ old_clock (old_first + i)
-          never (inl c) = absurd (cc)
-          never (inr c) = absurd (cc)
+          never : (false ≡ true) ⊎ (true ≡ false) → ⊥
+          never (inl c) = cc
+          never (inr c) = cc
 
           same_grows : Grows checked mid
           same_grows = subst (λ (ps : List Operation). Grows checked ps) (sym h) (grows_self checked)
@@ -490,7 +494,7 @@ module _ (p : PlainPlan) (none : p.views ≡ []) (tables : IsProgramTable p.tabl
           (chain_back new (all_map (λ v. x.clock v ≤ x.clock m.value) Q (new_takes a r) (λ v l. (omega (arith, l, value_below))) late_values)))
           in
           let same : new ≡ needed = both_ways new needed most (subst (λ (c : ℕ). c ≤ new) (sym (needed_of (Probe r fault) e)) least) in
-          last_in_time ((true ≡ true) ⊎ (true ≡ false)) m.operations g (Compute op.Either m.value m.value) h to_mid
+          last_in_time ((true ≡ true) ⊎ (true ≡ false)) m.operations g (Compute op.Either m.value m.value) (begun_later x checked m.operations adds.grows begun_checked) h to_mid
           (between_on (λ m u. x.clock m ≤ needed) old checked m.operations adds.grows before (added_by needed checked m.operations adds to_all begun_checked))
           (made_clock m.operations g (Compute op.Either m.value m.value) h (begun_later x checked m.operations adds.grows begun_checked) ∙ (same ∙ sym (time_of (Probe r fault) e)))
 

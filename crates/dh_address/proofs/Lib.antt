@@ -36,3 +36,4 @@ pub mod ChecksPut
 pub mod LiteralRows
 pub mod FormedImages
 pub mod ClocksAlike
+pub mod LengthsAlike

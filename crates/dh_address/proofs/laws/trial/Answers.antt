@@ -1,4 +1,4 @@
-use Rattle.dh_address.proofs.ClocksAlike.{greatest_least, clocks_step}
+use Rattle.dh_address.proofs.LengthsAlike.{lengths_same}
 use Rattle.dh_address.proofs.FormedImages.{image_sound}
 use Rattle.dh_address.proofs.laws.trial.Goals as goal
 
