@@ -28,3 +28,4 @@ pub mod WordsPass
 pub mod LiteralsFound
 pub mod ChecksPut
 pub mod LiteralRows
+pub mod LiteralsKept
