@@ -7,7 +7,6 @@ use Rattle.std.proofs.lemmas.List.{append-nil, length-append}
 use Rattle.dh_value.specs.declared.kinds.Kind.TheVariants as kind
 use Rattle.dh_value.specs.declared.words.Word.{Word}
 use Rattle.dh_value.specs.Words.{with_bits}
-use Rattle.dh_tree.specs.declared.tables.Dim.{Dim}
 use Rattle.dh_tree.specs.declared.tables.MemEntry.{MemEntry}
 use Rattle.dh_tree.specs.Elements.{dims_at}
 use Rattle.dh_plan.specs.declared.operations.Operation.{Operation}
@@ -20,12 +19,12 @@ use Rattle.dh_plan.specs.Ordered.{IsBetween, one_or_none, offsets_taken, operati
 use Rattle.dh_plan.specs.PlainPlans.{PlainPlan, first_in, operations_before, operations_in}
 use Rattle.dh_plan.specs.PlanKinds.{FormSuits, IsFormedBlock, ReachSuits, kinds_of}
 use Rattle.dh_plan.specs.SoundPlans.{HasUse, access_in, use_in}
-use Rattle.dh_rows.specs.Readings.{Grows, is_plain}
+use Rattle.dh_rows.specs.Readings.{Grows}
 use Rattle.dh_rows.specs.MadeOperations.{constant_made}
 use Rattle.dh_rows.proofs.Growing.{grown_length, grows_on, grows_self, kept_there}
 use Rattle.dh_address.specs.declared.literals.LiteralPlace.{LiteralPlace}
 use Rattle.dh_address.specs.LiteralPlaces.{literal_places}
-use Rattle.dh_address.specs.Pieces.{Around, IsAim, IsAimBut, IsAimed, IsAimedByIndices, aimed, aim_width, is_banked, new_number, new_or_none, ranges_in, ranges_of, waited}
+use Rattle.dh_address.specs.Pieces.{Around, IsAim, IsAimBut, IsAimed, IsAimedByIndices, aim_width, is_banked, new_number, new_or_none, ranges_in, ranges_of, waited}
 use Rattle.dh_address.specs.Images.{IsImage, around_block, operations_until}
 use Rattle.dh_address.proofs.PiecesGrow.{access_grows, guarded_grows, waited_grows}
 use Rattle.dh_address.proofs.PiecesQuiet.{IsRowOf, row_aimed}
@@ -148,20 +147,22 @@ module _ (p q : PlainPlan) (h : IsImage p q) (formed : (block : ℕ) → IsForme
   -- Of an access by indices they are put down.
   made_constant : (old new : List Operation) (width number : ℕ) → Grows base old → Grows (constant_made old width number).operations new → Grows new whole → IsConstantAt q c (length old)
   made_constant old new width number begun put grows = kept_constant (length old) (with_bits (kind.Unsigned width) number) (record {
-      begun = grown_length base old begun;
-      there = kept_there new whole grows (length old) _ (kept_there _ new put (length old) _ (at_end old _));
-    })
+    begun = grown_length base old begun;
+    there = kept_there new whole grows (length old) _ (kept_there _ new put (length old) _ (at_end old _));
+  })
 
   aim_constants : (banked : Bool) (width row bank : ℕ) (old new : List Operation) (n : ℕ) (select : Option ℕ) → Grows base old → Grows new whole
       → IsAim banked (constant_made old width row) (constant_made (constant_made old width row).operations width bank) new n select → IsConstantAt q c n × IsConstantOr q c select
-  aim_constants false width row bank old new n select begun grows e =
-      (subst (IsConstantAt q c) (sym e.1.0) (made_constant old new width row begun (record { more = []; appended = e.0 ∙ sym (append-nil (constant_made old width row).operations) }) grows),
-      subst (IsConstantOr q c) (sym e.1.1) tt)
-  aim_constants true width row bank old new n select begun grows e =
-      (subst (IsConstantAt q c) (sym e.1.0) (made_constant old new width row begun (record { more = _; appended = e.0 }) grows),
-      subst (IsConstantOr q c) (sym e.1.1)
-      (made_constant (constant_made old width row).operations new width bank (grows_on base old _ begun (record { more = _; appended = refl }))
-      (record { more = []; appended = e.0 ∙ sym (append-nil (constant_made (constant_made old width row).operations width bank).operations) }) grows))
+  aim_constants false width row bank old new n select begun grows e = (
+    subst (IsConstantAt q c) (sym e.1.0) (made_constant old new width row begun (record { more = []; appended = e.0 ∙ sym (append-nil (constant_made old width row).operations) }) grows),
+    subst (IsConstantOr q c) (sym e.1.1) tt,
+  )
+  aim_constants true width row bank old new n select begun grows e = (
+    subst (IsConstantAt q c) (sym e.1.0) (made_constant old new width row begun (record { more = _; appended = e.0 }) grows),
+    subst (IsConstantOr q c) (sym e.1.1)
+        (made_constant (constant_made old width row).operations new width bank (grows_on base old _ begun (record { more = _; appended = refl }))
+        (record { more = []; appended = e.0 ∙ sym (append-nil (constant_made (constant_made old width row).operations width bank).operations) }) grows),
+  )
 
   -- A read or write of the new block.
   rows_of_use : (number : ℕ) (t : Reach) → IsLiteralAccess p number → t.access ≡ number → HasUsePut base (around_block p c) (operations_in p c) whole t → IsConstantOr q c t.row × IsConstantOr q c t.select
@@ -210,9 +211,10 @@ module _ (p q : PlainPlan) (h : IsImage p q) (formed : (block : ℕ) → IsForme
           let Between = IsBetween (first_in p c) (first_in p c + u.place) in
           let behind = all_back Between (offsets_taken r.steps) (one_or_none r.select ++ one_or_none r.row) (all_back Between r.indices (offsets_taken r.steps ++ (one_or_none r.select ++ one_or_none r.row)) takes) in
           let select = all_front Between (one_or_none r.select) (one_or_none r.row) behind in
-          let own = subst (λ (o : Option ℕ). AllByRecursion Between (one_or_none o)) is (all_back Between (one_or_none r.select) (one_or_none r.row) behind) in
-          (or_as t.row (Some (new_number a row)) (ap (λ (v : Reach). v.row) aims.1) (known_constant a u.before u.place u.keeps behind_before u.operations_are u.first_is known row named.0 own.0),
-          or_as t.select (new_or_none a r.select) (ap (λ (v : Reach). v.select) aims.1) (known_or a u.before u.place u.keeps behind_before u.operations_are u.first_is known r.select named.1 select))
+          let own = subst (λ (o : Option ℕ). AllByRecursion Between (one_or_none o)) is (all_back Between (one_or_none r.select) (one_or_none r.row) behind) in (
+            or_as t.row (Some (new_number a row)) (ap (λ (v : Reach). v.row) aims.1) (known_constant a u.before u.place u.keeps behind_before u.operations_are u.first_is known row named.0 own.0),
+            or_as t.select (new_or_none a r.select) (ap (λ (v : Reach). v.select) aims.1) (known_or a u.before u.place u.keeps behind_before u.operations_are u.first_is known r.select named.1 select),
+          )
 
       by_indices : r.row ≡ None → IsConstantOr q c t.row × IsConstantOr q c t.select
       by_indices is =
@@ -220,13 +222,13 @@ module _ (p q : PlainPlan) (h : IsImage p q) (formed : (block : ℕ) → IsForme
           let ranges = subst (λ (o : Option ℕ). AllByRecursion (IsLiteral (operations_in p c) (first_in p c)) (ranges_in (dims_at p.table r.memory) o r.indices)) is (literal_ranges p c (formed c) r none suits literals) in
           let found = places_found (operations_in p c) (first_in p c) (dims_at p.table r.memory) r.indices 0 0 ranges in
           let as_seen : literal_places a.operations a.first (dims_at a.table r.memory) r.indices 0 0 ≡ Some found.0
-              = ap (λ (os : List Operation). literal_places os a.first (dims_at a.table r.memory) r.indices 0 0) u.operations_are
-              ∙ (ap (λ n. literal_places (operations_in p c) n (dims_at a.table r.memory) r.indices 0 0) u.first_is
-              ∙ (ap (λ (table : List MemEntry). literal_places (operations_in p c) (first_in p c) (dims_at table r.memory) r.indices 0 0) u.table_is ∙ found.1)) in
+          = ap (λ (os : List Operation). literal_places os a.first (dims_at a.table r.memory) r.indices 0 0) u.operations_are
+          ∙ (ap (λ n. literal_places (operations_in p c) n (dims_at a.table r.memory) r.indices 0 0) u.first_is
+          ∙ (ap (λ (table : List MemEntry). literal_places (operations_in p c) (first_in p c) (dims_at table r.memory) r.indices 0 0) u.table_is ∙ found.1)) in
           let aim = subst (λ (o : Option LiteralPlace). IsAimBut o (aim_width (dims_at a.table r.memory)) (dims_at a.table r.memory) (map (new_number a) r.indices) (is_banked r)
-              (waited put.made.guarded (new_or_none a r.select)).operations put.last aims.row aims.select) as_seen aims.aim in
+          (waited put.made.guarded (new_or_none a r.select)).operations put.last aims.row aims.select) as_seen aims.aim in
           let two = aim_constants (is_banked r) (aim_width (dims_at a.table r.memory)) found.0.row found.0.bank (waited put.made.guarded (new_or_none a r.select)).operations put.last aims.row aims.select
-              (grows_on base put.made.guarded _ begun_guarded (waited_grows put.made.guarded (new_or_none a r.select))) behind_last aim in
+          (grows_on base put.made.guarded _ begun_guarded (waited_grows put.made.guarded (new_or_none a r.select))) behind_last aim in
           (or_as t.row (Some aims.row) (ap (λ (v : Reach). v.row) aims.reach) two.0, or_as t.select aims.select (ap (λ (v : Reach). v.select) aims.reach) two.1)
 
       by_row : (row : Option ℕ) → r.row ≡ row → IsConstantOr q c t.row × IsConstantOr q c t.select

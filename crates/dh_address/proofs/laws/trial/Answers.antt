@@ -1,4 +1,3 @@
-use Rattle.dh_address.proofs.WordsPass.{words_alike}
 use Rattle.dh_address.proofs.laws.trial.Goals as goal
 
 pub returns : goal.returns
