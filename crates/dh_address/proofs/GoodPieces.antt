@@ -153,22 +153,89 @@ module _ (p : PlainPlan) (none : p.views ≡ []) (tables : IsProgramTable p.tabl
         nothing : (i : ℕ) → 0 + i ≡ i
         nothing i = omega arith
 
-    -- an operation of the new block stands in some piece
-    pub record StandsInPiece (n : ℕ) : Type 0 where
+    -- an operation of the new block stands in some piece, from this place on
+    pub record StandsInPiece (i n : ℕ) : Type 0 where
       pub place : ℕ
+      pub least : i ≤ place
       pub operation : Operation
       pub of : GoodPieceOf place operation
       pub from : length of.old ≤ n
       pub until : n < length of.mid
 
-    pub piece_around : (rest : List Operation) (ns : List ℕ) (ks : List Kind) (i : ℕ) (old : List Operation) → AreGoodPieces ns ks i rest old → (n : ℕ) → length old ≤ n → n < length all → StandsInPiece n
+    -- here, or behind
+    stands_or : (ns : List ℕ) (ks : List Kind) (i : ℕ) (o : Operation) (old mid : List Operation) (number : ℕ) → IsGoodPiece ns ks i o old mid number → (n : ℕ) → length old ≤ n
+        → (length mid ≤ n → StandsInPiece (suc i) n) → (n < length mid) ⊎ (length mid ≤ n) → StandsInPiece i n
+    stands_or ns ks i o old mid number piece n l more (inl k) =
+        record { place = i; least = omega arith; operation = o; of = record { numbers = ns; kinds = ks; old = old; mid = mid; number = number; piece = piece }; from = l; until = k }
+    stands_or ns ks i o old mid number piece n l more (inr k) =
+        let m = more k in
+        record { place = m.place; least = (let b = m.least in omega (arith, b)); operation = m.operation; of = m.of; from = m.from; until = m.until }
+
+    pub piece_around : (rest : List Operation) (ns : List ℕ) (ks : List Kind) (i : ℕ) (old : List Operation) → AreGoodPieces ns ks i rest old → (n : ℕ) → length old ≤ n → n < length all → StandsInPiece i n
     piece_around [] ns ks i old h n l m = absurd (past (ap (λ (ps : List Operation). length ps) h))
       where
         past : length all ≡ length old → ⊥
         past e = omega (arith, l, m, e)
     piece_around (r ∷ rest) ns ks i old h n l m =
-        either (cases_lt n (length h.mid)) (λ k. piece_around rest (ns ++ h.number ∷ []) (ks ++ form_kind p.table p.registers old_first ks r.form ∷ []) (suc i) h.mid h.rest n k m)
+        stands_or ns ks i r old h.mid h.number h.piece n l
+        (λ k. piece_around rest (ns ++ h.number ∷ []) (ks ++ form_kind p.table p.registers old_first ks r.form ∷ []) (suc i) h.mid h.rest n k m) (cases_lt n (length h.mid))
+
+    -- later operations stand in later pieces
+
+    both_rise : (ns : List ℕ) (ks : List Kind) (i : ℕ) (o : Operation) (old mid : List Operation) (number : ℕ) (piece : IsGoodPiece ns ks i o old mid number) (n m : ℕ) (l : length old ≤ n) (k : length old ≤ m)
+        (f : length mid ≤ n → StandsInPiece (suc i) n) (g : length mid ≤ m → StandsInPiece (suc i) m) → n ≤ m → ((a : length mid ≤ n) (b : length mid ≤ m) → (f a).place ≤ (g b).place)
+        → (c : (n < length mid) ⊎ (length mid ≤ n)) (d : (m < length mid) ⊎ (length mid ≤ m))
+        → (stands_or ns ks i o old mid number piece n l f c).place ≤ (stands_or ns ks i o old mid number piece m k g d).place
+    unfolding stands_or
+    both_rise ns ks i o old mid number piece n m l k f g less more (inl a) (inl b) = omega arith
+    both_rise ns ks i o old mid number piece n m l k f g less more (inl a) (inr b) = (let r = (g b).least in omega (arith, r))
+    both_rise ns ks i o old mid number piece n m l k f g less more (inr a) (inl b) = absurd (omega (arith, a, b, less))
+    both_rise ns ks i o old mid number piece n m l k f g less more (inr a) (inr b) = more a b
+
+    pub around_rises : (rest : List Operation) (ns : List ℕ) (ks : List Kind) (i : ℕ) (old : List Operation) (h : AreGoodPieces ns ks i rest old) (n m : ℕ) (l : length old ≤ n) (a : n < length all)
+        (k : length old ≤ m) (b : m < length all) → n ≤ m → (piece_around rest ns ks i old h n l a).place ≤ (piece_around rest ns ks i old h m k b).place
+    unfolding piece_around
+    around_rises [] ns ks i old h n m l a k b less = absurd (past (ap (λ (ps : List Operation). length ps) h))
       where
-        either : (n < length h.mid) ⊎ (length h.mid ≤ n) → (length h.mid ≤ n → StandsInPiece n) → StandsInPiece n
-        either (inl k) more = record { place = i; operation = r; of = record { numbers = ns; kinds = ks; old = old; mid = h.mid; number = h.number; piece = h.piece }; from = l; until = k }
-        either (inr k) more = more k
+        past : length all ≡ length old → ⊥
+        past e = omega (arith, l, a, e)
+    around_rises (r ∷ rest) ns ks i old h n m l a k b less =
+        let next_ns = ns ++ h.number ∷ [] in
+        let next_ks = ks ++ form_kind p.table p.registers old_first ks r.form ∷ [] in
+        both_rise ns ks i r old h.mid h.number h.piece n m l k (λ c. piece_around rest next_ns next_ks (suc i) h.mid h.rest n c a) (λ c. piece_around rest next_ns next_ks (suc i) h.mid h.rest m c b) less
+        (λ c d. around_rises rest next_ns next_ks (suc i) h.mid h.rest n m c a d b less) (cases_lt n (length h.mid)) (cases_lt m (length h.mid))
+
+    -- in one piece they have one number
+
+    both_same : (ns : List ℕ) (ks : List Kind) (i : ℕ) (o : Operation) (old mid : List Operation) (number : ℕ) (piece : IsGoodPiece ns ks i o old mid number) (n m : ℕ) (l : length old ≤ n) (k : length old ≤ m)
+        (f : length mid ≤ n → StandsInPiece (suc i) n) (g : length mid ≤ m → StandsInPiece (suc i) m)
+        → ((a : length mid ≤ n) (b : length mid ≤ m) → (f a).place ≡ (g b).place → (f a).of.number ≡ (g b).of.number)
+        → (c : (n < length mid) ⊎ (length mid ≤ n)) (d : (m < length mid) ⊎ (length mid ≤ m))
+        → (stands_or ns ks i o old mid number piece n l f c).place ≡ (stands_or ns ks i o old mid number piece m k g d).place
+        → (stands_or ns ks i o old mid number piece n l f c).of.number ≡ (stands_or ns ks i o old mid number piece m k g d).of.number
+    unfolding stands_or
+    both_same ns ks i o old mid number piece n m l k f g more (inl a) (inl b) e = refl
+    both_same ns ks i o old mid number piece n m l k f g more (inl a) (inr b) e = (let r = (g b).least in absurd (omega (arith, r, e)))
+    both_same ns ks i o old mid number piece n m l k f g more (inr a) (inl b) e = (let r = (f a).least in absurd (omega (arith, r, e)))
+    both_same ns ks i o old mid number piece n m l k f g more (inr a) (inr b) e = more a b e
+
+    pub around_same : (rest : List Operation) (ns : List ℕ) (ks : List Kind) (i : ℕ) (old : List Operation) (h : AreGoodPieces ns ks i rest old) (n m : ℕ) (l : length old ≤ n) (a : n < length all)
+        (k : length old ≤ m) (b : m < length all) → (piece_around rest ns ks i old h n l a).place ≡ (piece_around rest ns ks i old h m k b).place
+        → (piece_around rest ns ks i old h n l a).of.number ≡ (piece_around rest ns ks i old h m k b).of.number
+    unfolding piece_around
+    around_same [] ns ks i old h n m l a k b e = absurd (past (ap (λ (ps : List Operation). length ps) h))
+      where
+        past : length all ≡ length old → ⊥
+        past e = omega (arith, l, a, e)
+    around_same (r ∷ rest) ns ks i old h n m l a k b e =
+        let next_ns = ns ++ h.number ∷ [] in
+        let next_ks = ks ++ form_kind p.table p.registers old_first ks r.form ∷ [] in
+        both_same ns ks i r old h.mid h.number h.piece n m l k (λ c. piece_around rest next_ns next_ks (suc i) h.mid h.rest n c a) (λ c. piece_around rest next_ns next_ks (suc i) h.mid h.rest m c b)
+        (λ c d s. around_same rest next_ns next_ks (suc i) h.mid h.rest n m c a d b s) (cases_lt n (length h.mid)) (cases_lt m (length h.mid)) e
+
+  -- nothing is asked of values
+  abbrev pub Anything : ℕ → ℕ → Type 0
+  Anything v m = Unit {0}
+
+  pub plain_pieces : (numbers : List ℕ) → AreKnownPieces p none tables bs block front begins formed [] [] 0 os front numbers → AreGoodPieces Anything [] [] 0 os front
+  plain_pieces numbers h = good_pieces Anything (λ ns ks i o old mid n at takes m. tt) os [] [] 0 front numbers h refl (λ v l m k. tt)

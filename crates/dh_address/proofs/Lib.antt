@@ -25,7 +25,14 @@ pub mod GoodPieces
 pub mod AccessesLead
 pub mod WordsAlike
 pub mod WordsPass
+pub mod PieceShapes
+pub mod EventsAlike
+pub mod BlockImages
+pub mod PartsOfPieces
+pub mod UsesAlike
+pub mod SoundImages
 pub mod LiteralsFound
 pub mod ChecksPut
 pub mod LiteralRows
 pub mod LiteralsKept
+pub mod FormedImages

@@ -132,7 +132,7 @@ module _ (p : PlainPlan) (none : p.views ≡ []) (tables : IsProgramTable p.tabl
   adds_formed : (old mid : List Operation) → Adds x 0 old mid → Grows mid all → Formed (length old) → Formed (length mid)
   adds_formed old mid adds grows formed = added_below q block front begins (start_at q [] []) 0 old mid adds grows formed
 
-  formed_obeys : (os : List Operation) → Grows os all → Formed (length os) → Obeys x os
+  pub formed_obeys : (os : List Operation) → Grows os all → Formed (length os) → Obeys x os
   formed_obeys os grows formed =
       subst (λ (ps : List Operation). Obeys x ps) (taken_whole os grows)
       (timeless_below q block front begins (start_at q [] []) (length os) (λ n o l m there. (formed n o l m there).0))
@@ -145,6 +145,7 @@ module _ (p : PlainPlan) (none : p.views ≡ []) (tables : IsProgramTable p.tabl
       taken_whole os g = ap (λ (ps : List Operation). take (length os) ps) g.appended ∙ take_whole os g.more
 
   pub record PutsUse (r : Reach) (old last : List Operation) (on : Option ℕ) (t : Reach) : Type 0 where
+    pub adds : Adds x 0 old last
     pub formed : Formed (length last)
     pub begun : first ≤ length last
     pub on_between : AllByRecursion (IsBetween first (length last)) (one_or_none on)
@@ -193,18 +194,18 @@ module _ (p : PlainPlan) (none : p.views ≡ []) (tables : IsProgramTable p.tabl
       given None k = k
       given (Some v) k = tt
 
-  made_grows : (os mid : List Operation) (n : ℕ) (g : Option ℕ) (f : OperationForm) → IsMade mid n (pushed os g f) → Grows os mid
+  pub made_grows : (os mid : List Operation) (n : ℕ) (g : Option ℕ) (f : OperationForm) → IsMade mid n (pushed os g f) → Grows os mid
   made_grows os mid n g f h = subst (λ (ps : List Operation). Grows os ps) (sym h.0) (pushed_grows os g f)
 
   -- the access is of the same memory
-  memory_is : (g : Option ℕ) (r : Reach) (old last : List Operation) (on : Option ℕ) (t : Reach) → IsAccessMade a (new_or_none a g) r old last on t → t.memory ≡ r.memory
+  pub memory_is : (g : Option ℕ) (r : Reach) (old last : List Operation) (on : Option ℕ) (t : Reach) → IsAccessMade a (new_or_none a g) r old last on t → t.memory ≡ r.memory
   memory_is g r old last on t h = of r.row h.aims
     where
       of : (row : Option ℕ) → IsAimed a r row h.guarded last t → t.memory ≡ r.memory
       of None k = ap (λ (u : Reach). u.memory) k.reach
       of (Some row) k = ap (λ (u : Reach). u.memory) k.1
 
-  use_put : (g : Option ℕ) (r : Reach) (old last : List Operation) (on : Option ℕ) (t : Reach) → IsAccessMade a (new_or_none a g) r old last on t → Grows last all → first ≤ length old → Formed (length old)
+  pub use_put : (g : Option ℕ) (r : Reach) (old last : List Operation) (on : Option ℕ) (t : Reach) → IsAccessMade a (new_or_none a g) r old last on t → Grows last all → first ≤ length old → Formed (length old)
       → AllByRecursion (λ v. known_kind a v ≡ kind.Bool) (one_or_none g) → AllByRecursion (Input (length old)) (one_or_none g)
       → ReachSuits p (first_in p block) ks r → PicksBank p (first_in p block) ks r r.row r.select → AllByRecursion (Input (length old)) (reach_takes r) → PutsUse r old last on t
   use_put g r old last on t h grows begun formed gk gi suits picks taken =
@@ -215,8 +216,9 @@ module _ (p : PlainPlan) (none : p.views ≡ []) (tables : IsProgramTable p.tabl
       let all_formed = adds_formed old last adds grows formed in
       let obeys = formed_obeys last grows all_formed in
       let facts = on_facts last on obeys (maybe_later x 0 h.guarded last kind.Bool on access.adds.grows guards.stands) in
-      subst (λ (u : Reach). PutsUse r old last on u) (sym access.reach)
+      subst (λ (u : Reach). PutsUse r old last on u) (sym {b = aimed r access.taken access.row access.select} access.reach)
       (record {
+        adds = adds;
         formed = all_formed;
         begun = begun_later x old last adds.grows begun;
         on_between = facts.0;
@@ -273,7 +275,7 @@ module _ (p : PlainPlan) (none : p.views ≡ []) (tables : IsProgramTable p.tabl
         record { guard = maybe_truth (length mid) g gk gi; form = (s.kind_is, named) },
       )
 
-  inputs_later : (old mid : List Operation) → Grows old mid → (vs : List ℕ) → AllByRecursion (Input (length old)) vs → AllByRecursion (Input (length mid)) vs
+  pub inputs_later : (old mid : List Operation) → Grows old mid → (vs : List ℕ) → AllByRecursion (Input (length old)) vs → AllByRecursion (Input (length mid)) vs
   inputs_later old mid g vs h = all_map (Input (length old)) (Input (length mid)) vs (λ v i. input_later x 0 a (length old) (length mid) v (grown_length old mid g) i) h
 
   checks_put : (g : Option ℕ) (fault : ℕ) (rs : List Range) (old new : List Operation) → AreChecked a (new_or_none a g) fault rs old new → Grows new all → first ≤ length old → Formed (length old)
@@ -292,7 +294,7 @@ module _ (p : PlainPlan) (none : p.views ≡ []) (tables : IsProgramTable p.tabl
       (guard_put old mid g fault test to_all begun_mid formed_mid gk (inputs_later old mid one.adds.grows (one_or_none g) gi) one.stands named)
       (testable_later x 0 a old _ far rs testable.1) gk (inputs_later old _ far (one_or_none g) gi) named
 
-  new_inputs : (os : List Operation) (vs : List ℕ) → AllByRecursion (Input (length os)) vs → AllByRecursion (λ v. IsInput x 0 os v) (map (new_number a) vs)
+  pub new_inputs : (os : List Operation) (vs : List ℕ) → AllByRecursion (Input (length os)) vs → AllByRecursion (λ v. IsInput x 0 os v) (map (new_number a) vs)
   new_inputs os [] h = tt
   new_inputs os (v ∷ vs) h = (λ o. h.0.earlier, new_inputs os vs h.1)
 
@@ -300,7 +302,7 @@ module _ (p : PlainPlan) (none : p.views ≡ []) (tables : IsProgramTable p.tabl
   maybe_inputs os None h = tt
   maybe_inputs os (Some v) h = (λ o. h.0.earlier, tt)
 
-  takes_inputs : (os : List Operation) (r : Reach) → AllByRecursion (Input (length os)) (reach_takes r) → AllByRecursion (λ v. IsInput x 0 os v) (new_takes a r)
+  pub takes_inputs : (os : List Operation) (r : Reach) → AllByRecursion (Input (length os)) (reach_takes r) → AllByRecursion (λ v. IsInput x 0 os v) (new_takes a r)
   takes_inputs os r h =
       let P = Input (length os) in
       let last = all_right P (offsets_taken r.steps) _ (all_right P r.indices _ h) in

@@ -121,7 +121,7 @@ module _ (p : PlainPlan) (none : p.views ≡ []) (tables : IsProgramTable p.tabl
   shown_by (d ∷ ds) [] h = tt
   shown_by (d ∷ ds) (i ∷ is) h = (shown i d.size h.0.begun h.0.sized h.0.good, shown_by ds is h.1)
 
-  shown_in : (dims : List Dim) (row : Option ℕ) (indices : List ℕ) → AllByRecursion IsGoodNumber indices → AllByRecursion IsGoodNumber (one_or_none row) → AllByRecursion (IsShown x a) (ranges_in dims row indices)
+  pub shown_in : (dims : List Dim) (row : Option ℕ) (indices : List ℕ) → AllByRecursion IsGoodNumber indices → AllByRecursion IsGoodNumber (one_or_none row) → AllByRecursion (IsShown x a) (ranges_in dims row indices)
   shown_in dims None indices h g = shown_by dims indices h
   shown_in dims (Some row) indices h g = (shown row (rows_of dims) g.0.begun g.0.sized g.0.good, tt)
 
@@ -264,7 +264,7 @@ module _ (p : PlainPlan) (none : p.views ≡ []) (tables : IsProgramTable p.tabl
 
   module _ (r : Reach) (suits : ReachSuits p old_first ks r) (indices : AllByRecursion IsGoodNumber r.indices) (row_good : AllByRecursion IsGoodNumber (one_or_none r.row))
       (select_good : AllByRecursion IsSame (one_or_none r.select)) where
-    plain_of : (row : Option ℕ) → r.row ≡ row → row ≡ None → IsPlainAccess p r
+    pub plain_of : (row : Option ℕ) → r.row ≡ row → row ≡ None → IsPlainAccess p r
     plain_of row e none_is = element_plain p old_first ks none r (subst (λ (o : Option ℕ). NamesElement p old_first ks r o) (e ∙ none_is) suits.element)
 
     aimed_leads : (row : Option ℕ) → r.row ≡ row → (old last : List Operation) (u : Reach) → IsAimed a r row old last u → first ≤ length old → Obeys x last → LeadsAlike r u

@@ -108,13 +108,13 @@ module _ (p : PlainPlan) (none : p.views ≡ []) (tables : IsProgramTable p.tabl
           (IsSameInKind p none tables bs block ns ks registers memories) (operation_takes o)
           (λ v w e. record { same = w; in_kind = subst (λ (k : Kind). IsInKind k (word_at old_first ws v)) (sym e) (fits v) }) takes at.kinds_same
 
-      guard_good : AllByRecursion (IsSameInKind p none tables bs block ns ks registers memories) (one_or_none o.guard)
+      pub guard_good : AllByRecursion (IsSameInKind p none tables bs block ns ks registers memories) (one_or_none o.guard)
       guard_good = all_left (IsSameInKind p none tables bs block ns ks registers memories) (one_or_none o.guard) (form_takes o.form) in_kinds
 
-      form_good : AllByRecursion (IsSameInKind p none tables bs block ns ks registers memories) (form_takes o.form)
+      pub form_good : AllByRecursion (IsSameInKind p none tables bs block ns ks registers memories) (form_takes o.form)
       form_good = all_right (IsSameInKind p none tables bs block ns ks registers memories) (one_or_none o.guard) (form_takes o.form) in_kinds
 
-      form_begun : AllByRecursion (IsBetween old_first (old_first + i)) (form_takes o.form)
+      pub form_begun : AllByRecursion (IsBetween old_first (old_first + i)) (form_takes o.form)
       form_begun = all_right (IsBetween old_first (old_first + i)) (one_or_none o.guard) (form_takes o.form) at.early
 
       pub guard_same : (g : Option ℕ) → AllByRecursion (IsSameInKind p none tables bs block ns ks registers memories) (one_or_none g) → is_on first vs (new_or_none a g) ≡ is_on old_first ws g
@@ -148,7 +148,7 @@ module _ (p : PlainPlan) (none : p.views ≡ []) (tables : IsProgramTable p.tabl
 
       -- What an access means.
 
-      numbers_good : (us : List ℕ) → AllByRecursion (λ v. IsInteger (kind_of_value old_first ks v)) us → AllByRecursion (IsSameInKind p none tables bs block ns ks registers memories) us
+      pub numbers_good : (us : List ℕ) → AllByRecursion (λ v. IsInteger (kind_of_value old_first ks v)) us → AllByRecursion (IsSameInKind p none tables bs block ns ks registers memories) us
           → AllByRecursion (IsBetween old_first (old_first + i)) us → AllByRecursion (IsGoodNumber p none tables bs block ns ks registers memories) us
       numbers_good [] k h b = tt
       numbers_good (u ∷ us) k h b = (record { begun = b.0.0; sized = k.0; good = h.0 }, numbers_good us k.1 h.1 b.1)

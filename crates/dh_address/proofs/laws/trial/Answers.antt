@@ -1,3 +1,4 @@
+use Rattle.dh_address.proofs.FormedImages.{image_sound}
 use Rattle.dh_address.proofs.laws.trial.Goals as goal
 
 pub returns : goal.returns
