@@ -1,35 +1,26 @@
 -- Where an access in a row leads in a step: where its guard holds the old one was made and in range, and it leads to the
 -- old one's element.
-use Rattle.std.proofs.Common.{◌≡◌, ℕ, zero, suc, ◌+◌, ◌-◌, ◌<◌, ◌≤◌, ◌^◌, ◌&&◌, ◌⊎◌, inl, inr, Some, None, List, Bool, true, false, length, get_or, map, refl, sym, ap, subst, ◌∙◌, arith, pos, int_le, int_lt, unsigned_abs, nat_le, ◌==◌}
-use Rattle.std.specs.Prelude.{[], ◌∷◌, ◌++◌, Option, slice_get, if◌then◌else◌, ℤ, nat_lt}
+use Rattle.std.proofs.Common.{◌≡◌, ℕ, zero, suc, ◌<◌, ◌^◌, ◌&&◌, inl, inr, Some, None, List, Bool, true, false, length, map, refl, sym, ap, subst, ◌∙◌, arith, pos, int_le, int_lt, unsigned_abs, nat_le, ◌==◌}
+use Rattle.std.specs.Prelude.{[], ◌∷◌, Option, if◌then◌else◌, ℤ, nat_lt}
 use Rattle.std.specs.List.{AllByRecursion}
-use Rattle.std.specs.Option.{is_some}
 use Rattle.std.proofs.lemmas.Bool.Decides.{nat_tests}
 use Rattle.std.proofs.lemmas.Int.{ints}
 use Rattle.dh_value.specs.declared.kinds.Kind.{Kind}
 use Rattle.dh_value.specs.declared.kinds.Kind.TheVariants as kind
 use Rattle.dh_value.specs.declared.words.Word.{Word}
-use Rattle.dh_value.specs.Words.{IsInteger, IsKind, IsWord, value_of, with_bits, width_of}
+use Rattle.dh_value.specs.Words.{IsInteger, IsKind, IsWord, with_bits, width_of}
 use Rattle.dh_value.specs.Operations.{truth, is_true}
 use Rattle.dh_tree.specs.declared.tables.Dim.{Dim}
 use Rattle.dh_tree.specs.declared.tables.MemEntry.{MemEntry}
-use Rattle.dh_tree.specs.Elements.{Spot, bank_of, row_of, rows_of, position_of, position_in_bank, is_within, spot_of, spot_in_bank, dims_at}
-use Rattle.dh_tree.specs.Shapes.{IsDim, IsProgramTable}
+use Rattle.dh_tree.specs.Elements.{Spot, bank_of, row_of, rows_of, is_within, spot_of, spot_in_bank, dims_at}
+use Rattle.dh_tree.specs.Shapes.{IsDim}
 use Rattle.dh_tree.proofs.BankElements.{row_within, position_told}
-use Rattle.dh_meaning.specs.Effects.{is_inside, is_row, spot_by_indices, spot_by_row}
-use Rattle.dh_plan.specs.declared.operations.Operation.{Operation}
-use Rattle.dh_plan.specs.declared.operations.Reach.{Reach}
-use Rattle.dh_plan.specs.declared.operations.ReachStep.{ReachStep}
-use Rattle.dh_plan.specs.Blocks.{StepStart, word_at, is_on, numbers_at, passages, first_bank, bank_picked, spot_if_inside, spot_in_row, spot_of_reach}
+use Rattle.dh_meaning.specs.Effects.{is_inside, is_row, spot_by_row}
+use Rattle.dh_plan.specs.Blocks.{word_at, is_on, first_bank}
 use Rattle.dh_plan.specs.SoundPlans.{IsListed}
 use Rattle.dh_plan.specs.SoundRuns.{IsInKind}
-use Rattle.dh_plan.specs.ViewElements.{indices_behind}
 use Rattle.dh_rows.specs.Readings.{Readings}
-use Rattle.dh_rows.specs.RowsShown.{AreWithin, HoldsOrNone, Shows, is_below_size}
-use Rattle.dh_address.specs.Pieces.{Around, Range, new_number, new_or_none, known_kind, ranges_by, ranges_of, aimed}
-use Rattle.dh_address.proofs.AimedRows.{ShowsAim, ShowsSelect}
-use Rattle.dh_address.proofs.LiteralMeans.{AreLiterals, within_means, literal_means}
-use Rattle.dh_address.proofs.TestedRanges.{all_in, IsShown}
+use Rattle.dh_rows.specs.RowsShown.{HoldsOrNone, is_below_size}
 
 -- Words.
 

@@ -1,6 +1,6 @@
 -- What is put down of an access: tests, a guard, row and bank, of values that stand; and the access in a row, which takes
 -- all that the old one took.
-use Rattle.std.proofs.Common.{◌≡◌, ℕ, zero, suc, ◌+◌, ◌-◌, ◌<◌, ◌≤◌, ◌^◌, ◌==◌, Some, None, List, Bool, true, false, not, length, map, refl, sym, ap, subst, ◌∙◌, arith}
+use Rattle.std.proofs.Common.{◌≡◌, ℕ, zero, suc, ◌<◌, ◌≤◌, ◌==◌, Some, None, List, Bool, true, false, not, length, map, refl, sym, ap, subst, ◌∙◌, arith}
 use Rattle.std.specs.Prelude.{[], ◌∷◌, ◌++◌, Option, slice_get}
 use Rattle.std.specs.List.{AllByRecursion}
 use Rattle.std.proofs.lemmas.Bool.Decides.{nat_tests}
@@ -8,26 +8,24 @@ use Rattle.dh_value.specs.declared.kinds.Kind.{Kind}
 use Rattle.dh_value.specs.declared.kinds.Kind.TheVariants as kind
 use Rattle.dh_value.specs.Words.{IsInteger}
 use Rattle.dh_tree.specs.declared.tables.Dim.{Dim}
-use Rattle.dh_tree.specs.Elements.{dims_at, rows_of}
+use Rattle.dh_tree.specs.Elements.{dims_at}
 use Rattle.dh_tree.specs.Shapes.{IsProgramTable}
 use Rattle.dh_plan.specs.declared.operations.Operation.{Operation}
-use Rattle.dh_plan.specs.declared.operations.OperationForm.{OperationForm}
 use Rattle.dh_plan.specs.declared.operations.Reach.{Reach}
 use Rattle.dh_plan.specs.declared.operations.ReachStep.{ReachStep}
 use Rattle.dh_plan.specs.declared.viewing.ViewMap.{ViewMap}
 use Rattle.dh_plan.specs.Ordered.{one_or_none, offsets_taken, reach_takes}
 use Rattle.dh_plan.specs.PlainPlans.{PlainPlan}
-use Rattle.dh_plan.specs.PlanKinds.{kind_of_value, IsCount, ReachSuits, NamesElement, StepFits, AreSteps, PicksBank}
+use Rattle.dh_plan.specs.PlanKinds.{ReachSuits, NamesElement, StepFits, AreSteps}
 use Rattle.dh_plan.proofs.ValuesAlike.{all_left, all_right, all_map}
 use Rattle.dh_rows.specs.Readings.{Readings, Obeys, IsEarlier, Grows, Adds, IsValue, IsValueOrNone}
 use Rattle.dh_rows.specs.RowsShown.{IsInput}
-use Rattle.dh_rows.proofs.Growing.{grows_self, grows_on, grown_length, obeys_before, value_later, maybe_later, adds_self, adds_on, earlier_later}
+use Rattle.dh_rows.proofs.Growing.{grows_self, grows_on, grown_length, value_later, maybe_later, adds_self, adds_on, earlier_later}
 use Rattle.dh_address.specs.declared.literals.LiteralPlace.{LiteralPlace}
 use Rattle.dh_address.specs.LiteralPlaces.{literal_places}
-use Rattle.dh_address.specs.Pieces.{Around, Range, new_number, new_or_none, known_kind, ranges_by, ranges_in, ranges_of, IsGuarded, aimed, is_banked, aim_width, IsIndexAim, waited, IsAimedByIndices, IsAimed}
-use Rattle.dh_address.proofs.ImageReadings.{all_of_map}
-use Rattle.dh_address.proofs.TestedRanges.{PutsMaybe, IsTestable, begun_later}
-use Rattle.dh_address.proofs.AimedRows.{HasSelect, PutsAim, PlaceFits, index_aim_put, waited_put, IsInputOrNone}
+use Rattle.dh_address.specs.Pieces.{Around, new_number, new_or_none, known_kind, ranges_by, ranges_in, ranges_of, aimed, is_banked, aim_width, waited, IsAimed}
+use Rattle.dh_address.proofs.TestedRanges.{IsTestable, begun_later}
+use Rattle.dh_address.proofs.AimedRows.{HasSelect, PlaceFits, index_aim_put, waited_put, IsInputOrNone}
 use Rattle.dh_address.proofs.LiteralMeans.{dims_formed, elements_below, width_suffices, literal_place_is}
 
 pub all_join : {A : Type 0} (P : A → Type 0) (xs ys : List A) → AllByRecursion P xs → AllByRecursion P ys → AllByRecursion P (xs ++ ys)

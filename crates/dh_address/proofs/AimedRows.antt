@@ -1,22 +1,21 @@
 -- What is put down for the row and the bank of an access by indices, and what both show.
-use Rattle.std.proofs.Common.{◌≡◌, ℕ, ◌+◌, ◌<◌, ◌≤◌, ◌^◌, Some, None, List, Bool, true, false, length, refl, sym, ap, subst, ◌∙◌, arith, pos}
-use Rattle.std.specs.Prelude.{[], ◌∷◌, ◌++◌, Option, slice_get}
+use Rattle.std.proofs.Common.{◌≡◌, ℕ, ◌<◌, ◌≤◌, ◌^◌, Some, None, List, Bool, true, false, length, refl, sym, ap, subst, ◌∙◌, arith}
+use Rattle.std.specs.Prelude.{[], ◌∷◌, Option}
 use Rattle.std.specs.List.{AllByRecursion}
 use Rattle.std.proofs.lemmas.Nat.{pow_pos}
 use Rattle.dh_value.specs.declared.kinds.Kind.{Kind}
 use Rattle.dh_value.specs.declared.kinds.Kind.TheVariants as kind
-use Rattle.dh_value.specs.Words.{IsInteger, IsWidth, IsWord, value_of, with_bits}
+use Rattle.dh_value.specs.Words.{IsWidth, IsWord, with_bits}
 use Rattle.dh_tree.specs.declared.tables.Dim.{Dim}
 use Rattle.dh_tree.specs.Elements.{bank_of, row_of}
 use Rattle.dh_plan.specs.declared.operations.Operation.{Operation}
 use Rattle.dh_plan.specs.declared.operations.OperationForm.TheVariants.{Constant, Convert}
-use Rattle.dh_rows.specs.declared.spreading.RowAndBank.{RowAndBank}
 use Rattle.dh_rows.specs.Readings.{Readings, Obeys, IsEarlier, Grows, Adds, IsValue, IsValueOrNone}
 use Rattle.dh_rows.specs.RowsShown.{Shows, ShowsOrZero, IsInput, AreWithin, HasWidth, IsRowMade}
-use Rattle.dh_rows.specs.MadeOperations.{Made, made, pushed, constant_made, converted, or_zero}
-use Rattle.dh_rows.proofs.Growing.{grows_self, grows_on, grown_length, plain_grows, pushed_grows, obeys_before, pushed_word, value_later, maybe_later, adds_self, adds_on, pushed_adds, pushed_value}
+use Rattle.dh_rows.specs.MadeOperations.{Made, constant_made, or_zero}
+use Rattle.dh_rows.proofs.Growing.{grows_self, grows_on, plain_grows, pushed_grows, obeys_before, pushed_word, value_later, maybe_later, adds_self, adds_on, pushed_adds, pushed_value}
 use Rattle.dh_address.specs.declared.literals.LiteralPlace.{LiteralPlace}
-use Rattle.dh_address.specs.Pieces.{IsAim, IsSpreadOut, IsAimBut, waited}
+use Rattle.dh_address.specs.Pieces.{IsAim, IsAimBut, waited}
 use Rattle.dh_address.proofs.TestedRanges.{PutsMaybe, begun_later}
 
 -- a select is there if the bank is wanted

@@ -17,7 +17,7 @@ use Rattle.dh_plan.specs.declared.operations.OperationForm.TheVariants.{Constant
 use Rattle.dh_plan.specs.Blocks.{StepStart, Look, no_word, word_at, operation_word, values_behind, values_of}
 use Rattle.dh_plan.specs.BlockLaws.{LooksBack}
 use Rattle.dh_plan.specs.LegalSchedules.{needed_clock, least_clocks, value_clock, there_at, there_from}
-use Rattle.dh_plan.specs.Ordered.{form_takes, operation_takes, IsBetween, TakesEarlier, one_or_none}
+use Rattle.dh_plan.specs.Ordered.{form_takes, IsBetween, TakesEarlier, one_or_none}
 use Rattle.dh_plan.specs.PlanKinds.{kind_of_value, form_kind, kinds_behind}
 use Rattle.dh_plan.proofs.BlocksSolved.{length_more, solved_here}
 use Rattle.dh_plan.proofs.LeastLegal.{length_one_more, needed_here}

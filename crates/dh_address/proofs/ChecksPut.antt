@@ -1,7 +1,7 @@
 -- Why a check is put down: the old operation is a check of the same fault, or a probe of it of which some value is no
 -- literal in range. So no check has a fault of literals alone.
-use Rattle.std.proofs.Common.{◌≡◌, ℕ, zero, suc, Bool, true, false, List, refl, sym, ap, ◌∙◌, subst}
-use Rattle.std.specs.Prelude.{Option, Some, None, [], ◌∷◌, ◌++◌, slice_get}
+use Rattle.std.proofs.Common.{◌≡◌, ℕ, zero, suc, true, false, List, refl, sym, ap, ◌∙◌, subst}
+use Rattle.std.specs.Prelude.{Option, Some, None, [], ◌∷◌, slice_get}
 use Rattle.std.specs.List.{AllByRecursion}
 use Rattle.std.proofs.lemmas.List.{append_cancel_left}
 use Rattle.dh_value.specs.declared.kinds.Kind.{Kind}
@@ -12,10 +12,10 @@ use Rattle.dh_plan.specs.declared.operations.OperationForm.{OperationForm}
 use Rattle.dh_plan.specs.declared.operations.OperationForm.TheVariants.{Constant, Old, Compute, Convert, Select, Check, Probe, Read, Write, Set}
 use Rattle.dh_plan.specs.DoneProgram.{IsOfLiterals}
 use Rattle.dh_plan.specs.PlainPlans.{PlainPlan, first_in, operations_in}
-use Rattle.dh_plan.specs.PlanKinds.{FormSuits, IsFormedBlock, form_kind, kinds_of}
+use Rattle.dh_plan.specs.PlanKinds.{IsFormedBlock, form_kind}
 use Rattle.dh_rows.specs.Readings.{is_plain}
 use Rattle.dh_rows.specs.MadeOperations.{IsMade, pushed}
-use Rattle.dh_address.specs.Pieces.{Around, Range, IsFormMade, IsPiece, new_number, new_or_none, ranges_in, ranges_of}
+use Rattle.dh_address.specs.Pieces.{Around, Range, IsFormMade, new_number, new_or_none, ranges_in, ranges_of}
 use Rattle.dh_address.specs.Images.{IsImage, ArePieces, and_known, around_block, operations_until}
 use Rattle.dh_address.proofs.PiecesBy.{GrowsBy, AllowsCheck, by_on, by_self, checked_by, value_by, access_by, range_literal}
 use Rattle.dh_address.proofs.PartsSeen.{until_block}

@@ -1,6 +1,6 @@
 -- The value of a probe that something takes: false, and there when all is there that the probe takes.
-use Rattle.std.proofs.Common.{◌≡◌, ℕ, ◌+◌, ◌<◌, ◌≤◌, Some, None, List, Bool, true, false, ◌||◌, not, length, refl, sym, ap, subst, ◌∙◌, arith, pos}
-use Rattle.std.specs.Prelude.{[], ◌∷◌, ◌++◌, Option, slice_get, ℤ}
+use Rattle.std.proofs.Common.{◌≡◌, ℕ, ◌≤◌, Some, None, List, Bool, true, false, ◌||◌, not, length, refl, sym, ap, subst, ◌∙◌, arith}
+use Rattle.std.specs.Prelude.{[], ◌∷◌, slice_get, ℤ}
 use Rattle.std.specs.List.{AllByRecursion}
 use Rattle.std.specs.Ordering.{int_eq}
 use Rattle.std.proofs.lemmas.Cmp.{int_eq_equiv}
@@ -8,16 +8,16 @@ use Rattle.dh_value.specs.declared.kinds.Kind.{Kind}
 use Rattle.dh_value.specs.declared.kinds.Kind.TheVariants as kind
 use Rattle.dh_value.specs.declared.operators.Op.TheVariants as op
 use Rattle.dh_value.specs.Words.{value_of}
-use Rattle.dh_value.specs.Operations.{AreAlike, AreTruths, truth, is_true, are_equal}
+use Rattle.dh_value.specs.Operations.{AreAlike, AreTruths, truth, is_true}
 use Rattle.dh_plan.specs.declared.operations.Operation.{Operation}
 use Rattle.dh_plan.specs.declared.operations.OperationForm.{OperationForm}
-use Rattle.dh_plan.specs.declared.operations.OperationForm.TheVariants.{Constant, Compute}
+use Rattle.dh_plan.specs.declared.operations.OperationForm.TheVariants.{Compute}
 use Rattle.dh_plan.specs.Ordered.{form_takes}
-use Rattle.dh_rows.specs.Readings.{Readings, Obeys, IsEarlier, Grows, Adds, IsValue}
+use Rattle.dh_rows.specs.Readings.{Readings, Obeys, IsEarlier, Grows, IsValue}
 use Rattle.dh_rows.specs.RowsShown.{IsInput}
-use Rattle.dh_rows.specs.MadeOperations.{Made, made, pushed, computed}
+use Rattle.dh_rows.specs.MadeOperations.{Made, computed}
 use Rattle.dh_rows.proofs.Growing.{grows_self, grows_on, grown_length, kept_there, pushed_grows, obeys_before, pushed_word, value_later, adds_self, adds_on, pushed_adds, pushed_value, earlier_later}
-use Rattle.dh_address.specs.Pieces.{false_behind, false_behind_all, false_word}
+use Rattle.dh_address.specs.Pieces.{false_behind, false_behind_all}
 use Rattle.dh_address.proofs.AimedRows.{PutsMade}
 use Rattle.dh_address.proofs.ImageReadings.{at_last}
 use Rattle.dh_address.proofs.TestedRanges.{begun_later}

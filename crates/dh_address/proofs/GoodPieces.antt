@@ -1,6 +1,6 @@
 -- What holds of each value and its new number, if it holds of what an operation takes, and then of the operation: shown
 -- piece by piece, for all values of a block that mean something.
-use Rattle.std.proofs.Common.{◌≡◌, ℕ, zero, suc, ◌+◌, ◌-◌, ◌<◌, ◌≤◌, ◌⊎◌, inl, inr, Some, None, List, length, get_or, refl, sym, ap, subst, ◌∙◌, arith}
+use Rattle.std.proofs.Common.{◌≡◌, ℕ, zero, suc, ◌+◌, ◌-◌, ◌<◌, ◌≤◌, ◌⊎◌, inl, inr, Some, List, length, get_or, refl, sym, ap, subst, ◌∙◌, arith}
 use Rattle.std.specs.Prelude.{[], ◌∷◌, ◌++◌, slice_get, take}
 use Rattle.std.specs.List.{AllByRecursion}
 use Rattle.std.proofs.Math.Seq.{get_or-append_seam}
@@ -13,7 +13,7 @@ use Rattle.dh_plan.specs.Blocks.{StepStart}
 use Rattle.dh_plan.specs.Ordered.{operation_takes, IsBetween}
 use Rattle.dh_plan.specs.PlainPlans.{PlainPlan, first_in, operations_in}
 use Rattle.dh_plan.specs.PlanKinds.{form_kind, IsFormedBlock}
-use Rattle.dh_rows.specs.Readings.{Obeys, Grows}
+use Rattle.dh_rows.specs.Readings.{Obeys}
 use Rattle.dh_address.specs.Renumbered.{renumbered}
 use Rattle.dh_address.proofs.ImageReadings.{block_readings, obeys_below, FormedBelow}
 use Rattle.dh_address.proofs.KnownPieces.{HasMeaning, number_kept, IsPieceAt, AreKnownPieces}

@@ -1,11 +1,9 @@
 -- What a block that the pass makes shows: its values, kinds and clocks obey the plain operations below each place up to
 -- which operations take earlier values; so order and kinds follow one operation after the other.
-use Rattle.std.proofs.Common.{◌≡◌, ℕ, zero, suc, ◌+◌, ◌-◌, ◌<◌, ◌≤◌, ◌⊎◌, inl, inr, Some, None, List, true, false, length, get_or, map, refl, sym, ap, subst, ◌∙◌, arith}
-use Rattle.std.specs.Prelude.{[], ◌∷◌, ◌++◌, take, slice_get, max, Option}
+use Rattle.std.proofs.Common.{◌≡◌, ℕ, zero, suc, ◌+◌, ◌-◌, ◌<◌, ◌≤◌, ◌⊎◌, inl, inr, Some, None, List, true, length, map, refl, sym, ap, subst, ◌∙◌, arith}
+use Rattle.std.specs.Prelude.{[], ◌∷◌, ◌++◌, take, slice_get, Option}
 use Rattle.std.specs.List.{AllByRecursion}
 use Rattle.std.proofs.lemmas.Bool.{cases_lt}
-use Rattle.std.proofs.lemmas.List.{length-append}
-use Rattle.std.proofs.lemmas.Option.{slice_get_within, slice_get_cases}
 use Rattle.dh_value.specs.declared.kinds.Kind.{Kind}
 use Rattle.dh_value.specs.declared.kinds.Kind.TheVariants as kind
 use Rattle.dh_value.specs.declared.words.Word.{Word}
@@ -13,8 +11,8 @@ use Rattle.dh_plan.specs.declared.operations.Operation.{Operation}
 use Rattle.dh_plan.specs.declared.operations.OperationForm.{OperationForm}
 use Rattle.dh_plan.specs.declared.operations.OperationForm.TheVariants.{Constant, Old, Compute, Convert, Select, Check, Probe, Read, Write, Set}
 use Rattle.dh_plan.specs.Blocks.{StepStart, Look, word_at, in_memories, form_word, operation_word}
-use Rattle.dh_plan.specs.LegalSchedules.{greatest_of, needed_clock, least_clocks, value_clock, there_at}
-use Rattle.dh_plan.specs.Ordered.{form_takes, operation_takes, one_or_none, IsBetween, TakesEarlier, IsOrdered}
+use Rattle.dh_plan.specs.LegalSchedules.{greatest_of, least_clocks, value_clock, there_at}
+use Rattle.dh_plan.specs.Ordered.{form_takes, operation_takes, one_or_none, IsBetween, TakesEarlier}
 use Rattle.dh_plan.specs.PlainPlans.{PlainPlan, first_in, operations_in}
 use Rattle.dh_plan.specs.PlanKinds.{kind_of_value, form_kind, kinds_of, OperationSuits, FormSuits}
 use Rattle.dh_plan.specs.PlanRuns.{block_values}
@@ -23,7 +21,7 @@ use Rattle.dh_plan.proofs.LeastLegal.{length_one_more}
 use Rattle.dh_plan.proofs.ValuesAlike.{memories_look_back}
 use Rattle.dh_rows.specs.Readings.{Readings, Obeys, HasPlain, IsEarlier, IsAdded, Grows, Adds, is_plain, plain_kind, plain_word, PlainSuits}
 use Rattle.dh_rows.specs.MadeOperations.{pushed}
-use Rattle.dh_rows.proofs.Growing.{grown_length, kept_there, pushed_grows}
+use Rattle.dh_rows.proofs.Growing.{kept_there}
 use Rattle.dh_address.proofs.BlockEquations.{word_solved, kind_solved, clock_solved}
 
 -- Lists.
@@ -190,7 +188,6 @@ module _ (q : PlainPlan) (block : ℕ) (front : List Operation) (begins : length
         subst (λ (k : ℕ). (block_readings q block s).clock k ≡ there_at o.form (greatest_of (map (block_readings q block s).clock (operation_takes o)))) (place_in n l)
         (clock_solved (first_in q block) (operations_in q block) (n - first_in q block) o (in_block n o l there) at_own)
 
-
   module _ (s : StepStart) where
     pub word_given : (n : ℕ) (o : Operation) → first_in q block ≤ n → slice_get all_operations n ≡ Some o → TakesEarlier (first_in q block) n o
         → word_at (first_in q block) (block_values q s block) n
@@ -246,12 +243,13 @@ module _ (q : PlainPlan) (block : ℕ) (front : List Operation) (begins : length
   all_between end s clock (v ∷ vs) h = ((h.0.begun, h.0.before), all_between end s clock vs h.1)
 
   added_formed : (s : StepStart) (clock n : ℕ) (o : Operation) → IsAdded (timeless q block s) clock n o → FormedAt n o
-  added_formed s clock n o h =
-      ( subst (λ (g : Option ℕ). AllByRecursion (IsBetween (first_in q block) n) (one_or_none g ++ form_takes o.form)) (sym h.guard) (all_between n s clock (form_takes o.form) h.takes)
-      , record {
-          guard = subst (λ (g : Option ℕ). AllByRecursion (λ (v : ℕ). kind_of_value (first_in q block) (kinds_of q block) v ≡ kind.Bool) (one_or_none g)) (sym h.guard) tt;
-          form = plain_suits q (first_in q block) (kinds_of q block) o.form h.suits;
-        })
+  added_formed s clock n o h = (
+    subst (λ (g : Option ℕ). AllByRecursion (IsBetween (first_in q block) n) (one_or_none g ++ form_takes o.form)) (sym h.guard) (all_between n s clock (form_takes o.form) h.takes),
+    record {
+      guard = subst (λ (g : Option ℕ). AllByRecursion (λ (v : ℕ). kind_of_value (first_in q block) (kinds_of q block) v ≡ kind.Bool) (one_or_none g)) (sym h.guard) tt;
+      form = plain_suits q (first_in q block) (kinds_of q block) o.form h.suits;
+    },
+  )
 
   -- of operations that were added behind others in order
   module _ (s : StepStart) (clock : ℕ) (old new : List Operation) (adds : Adds (timeless q block s) clock old new) (grows : Grows new all_operations) (formed : FormedBelow (length old)) where

@@ -1,10 +1,10 @@
 -- The pieces of a block one after the other: what is known of each as it is put down. All that is put down is formed as
 -- it must be, and each value that an operation takes has a number, of an earlier value of its kind.
-use Rattle.std.proofs.Common.{◌≡◌, ℕ, zero, suc, ◌+◌, ◌-◌, ◌<◌, ◌≤◌, ◌⊎◌, inl, inr, Some, None, List, Bool, true, false, ◌||◌, length, get_or, map, refl, sym, ap, subst, ◌∙◌, arith}
-use Rattle.std.specs.Prelude.{[], ◌∷◌, ◌++◌, Option, slice_get}
+use Rattle.std.proofs.Common.{◌≡◌, ℕ, zero, suc, ◌+◌, ◌-◌, ◌<◌, ◌≤◌, ◌⊎◌, inl, inr, Some, List, Bool, true, false, ◌||◌, length, get_or, refl, sym, ap, subst, ◌∙◌, arith}
+use Rattle.std.specs.Prelude.{[], ◌∷◌, ◌++◌, slice_get}
 use Rattle.std.specs.List.{AllByRecursion, list_any}
 use Rattle.std.proofs.Math.Seq.{get_or-append_seam}
-use Rattle.std.proofs.lemmas.List.{get_or_append_left, append_assoc, length-append}
+use Rattle.std.proofs.lemmas.List.{get_or_append_left}
 use Rattle.dh_value.specs.declared.kinds.Kind.{Kind}
 use Rattle.dh_value.specs.declared.kinds.Kind.TheVariants as kind
 use Rattle.dh_tree.specs.Shapes.{IsProgramTable}
@@ -16,14 +16,14 @@ use Rattle.dh_plan.specs.PlanKinds.{kind_of_value, form_kind, kinds_behind, kind
 use Rattle.dh_plan.specs.PlanRuns.{start_at}
 use Rattle.dh_plan.proofs.ValuesAlike.{all_map}
 use Rattle.dh_rows.specs.Readings.{Grows}
-use Rattle.dh_rows.proofs.Growing.{grows_self, grows_on, grown_length}
-use Rattle.dh_address.specs.Pieces.{any_takes_probe, takes_probe, is_of_probe, is_probe, is_probe_form, new_number, known_kind, IsPiece}
-use Rattle.dh_address.specs.Images.{and_known, ArePieces}
+use Rattle.dh_rows.proofs.Growing.{grown_length}
+use Rattle.dh_address.specs.Pieces.{any_takes_probe, takes_probe, is_of_probe, is_probe, is_probe_form, IsPiece}
+use Rattle.dh_address.specs.Images.{ArePieces}
 use Rattle.dh_address.specs.Renumbered.{renumbered}
 use Rattle.dh_address.proofs.AccessesPut.{IsInputOf}
-use Rattle.dh_address.proofs.BlockEquations.{kind_kept, kinds_longer, kind_solved, form_kind_same}
+use Rattle.dh_address.proofs.BlockEquations.{kind_kept, kinds_longer}
 use Rattle.dh_address.proofs.ImageReadings.{timeless, FormedBelow}
-use Rattle.dh_address.proofs.PieceForms.{image_of, around, IsGiven, PutsPiece, piece_put}
+use Rattle.dh_address.proofs.PieceForms.{image_of, around, PutsPiece, piece_put}
 use Rattle.dh_address.proofs.PiecesGrow.{piece_grows, pieces_grow}
 use Rattle.dh_address.proofs.SuitsKnown.{suits_known, all_two}
 

@@ -34,6 +34,7 @@ pub mod SoundImages
 pub mod LiteralsFound
 pub mod ChecksPut
 pub mod LiteralRows
+pub mod LiteralsKept
 pub mod FormedImages
 pub mod ClocksAlike
 pub mod LengthsAlike

@@ -1,6 +1,6 @@
 -- What constants of a block mean: a literal below a size is what its value shows, and the place that is made of literals is
 -- row and bank of their element. And what the sizes of a program's memories say of widths.
-use Rattle.std.proofs.Common.{◌≡◌, ℕ, zero, suc, ◌+◌, ◌-◌, ◌*◌, ◌/◌, ◌%◌, ◌^◌, ◌<◌, ◌≤◌, ◌&&◌, nat_le, nat_lt, Some, None, List, Bool, true, false, length, refl, sym, ap, subst, ◌∙◌, arith, pos, ◌-ℤ◌, int_le, int_lt}
+use Rattle.std.proofs.Common.{◌≡◌, ℕ, zero, suc, ◌+◌, ◌-◌, ◌*◌, ◌/◌, ◌%◌, ◌^◌, ◌<◌, ◌≤◌, ◌&&◌, nat_le, nat_lt, Some, None, List, Bool, true, false, length, refl, sym, ap, subst, ◌∙◌, arith, pos, ◌-ℤ◌}
 use Rattle.std.specs.Prelude.{[], ◌∷◌, Option, slice_get, if◌then◌else◌, max}
 use Rattle.std.specs.List.{AllByRecursion}
 use Rattle.std.proofs.lemmas.Bool.Decides.{nat_tests}
@@ -9,7 +9,7 @@ use Rattle.std.proofs.lemmas.Nat.{pow_pos, mul-mod_first}
 use Rattle.dh_value.specs.declared.kinds.Kind.{Kind}
 use Rattle.dh_value.specs.declared.kinds.Kind.TheVariants as kind
 use Rattle.dh_value.specs.declared.words.Word.{Word}
-use Rattle.dh_value.specs.Words.{IsWidth, value_of, value_in}
+use Rattle.dh_value.specs.Words.{value_of, value_in}
 use Rattle.dh_tree.specs.declared.tables.Dim.{Dim}
 use Rattle.dh_tree.specs.declared.tables.MemEntry.{MemEntry}
 use Rattle.dh_tree.specs.Elements.{banks_of, rows_of, bank_of, row_of, is_within, dims_at}
@@ -23,7 +23,7 @@ use Rattle.dh_rows.specs.RowsShown.{HasWidth, is_below_size}
 use Rattle.dh_rows.specs.MadeOperations.{bits_in}
 use Rattle.dh_rows.proofs.BitsOfNumbers.{bits_above, bits_most}
 use Rattle.dh_address.specs.declared.literals.LiteralPlace.{LiteralPlace}
-use Rattle.dh_address.specs.LiteralPlaces.{natural_in, natural, literal_form, literal_guarded, literal_in, literal_at, below_size, literal_within, and_then, literal_places}
+use Rattle.dh_address.specs.LiteralPlaces.{natural_in, literal_form, literal_guarded, literal_in, literal_at, below_size, literal_within, and_then, literal_places}
 use Rattle.dh_address.specs.Pieces.{aim_width}
 
 -- Literals.
@@ -150,12 +150,12 @@ module _ (os : List Operation) (first : ℕ) where
   places_are (d ∷ ds) (i ∷ is) row bank place long r b e =
       of (literal_within os first i d.size) refl e
       (λ n e'. places_are ds is ((row * (d.size / d.banks) % 2 ^ 64 + n / d.banks) % 2 ^ 64) ((bank * d.banks % 2 ^ 64 + n % d.banks) % 2 ^ 64) place (omega (arith, long))
-          (below_word (row * (d.size / d.banks) % 2 ^ 64 + n / d.banks)) (below_word (bank * d.banks % 2 ^ 64 + n % d.banks)) e')
+      (below_word (row * (d.size / d.banks) % 2 ^ 64 + n / d.banks)) (below_word (bank * d.banks % 2 ^ 64 + n % d.banks)) e')
     where
       of : (o : Option ℕ) → literal_within os first i d.size ≡ o
           → and_then o (λ n. literal_places os first ds is ((row * (d.size / d.banks) % 2 ^ 64 + n / d.banks) % 2 ^ 64) ((bank * d.banks % 2 ^ 64 + n % d.banks) % 2 ^ 64)) ≡ Some place
           → ((n : ℕ) → literal_places os first ds is ((row * (d.size / d.banks) % 2 ^ 64 + n / d.banks) % 2 ^ 64) ((bank * d.banks % 2 ^ 64 + n % d.banks) % 2 ^ 64) ≡ Some place
-              → IsPlaceOf os first ds is place ((row * (d.size / d.banks) % 2 ^ 64 + n / d.banks) % 2 ^ 64) ((bank * d.banks % 2 ^ 64 + n % d.banks) % 2 ^ 64))
+          → IsPlaceOf os first ds is place ((row * (d.size / d.banks) % 2 ^ 64 + n / d.banks) % 2 ^ 64) ((bank * d.banks % 2 ^ 64 + n % d.banks) % 2 ^ 64))
           → IsPlaceOf os first (d ∷ ds) (i ∷ is) place row bank
       of None there e rest = absurd (cc)
       of (Some n) there e rest =

@@ -1,30 +1,24 @@
 -- Rows and banks of literals are constants: each read and write of the new plan is put down for one of the old plan;
 -- where that one's indices, or its row and bank, are constants, so are row and bank of the new one.
-use Rattle.std.proofs.Common.{◌≡◌, ℕ, zero, suc, ◌+◌, ◌-◌, ◌<◌, ◌≤◌, ◌⊎◌, inl, inr, not, Bool, true, false, List, refl, sym, ap, ◌∙◌, subst, arith, length, map}
+use Rattle.std.proofs.Common.{◌≡◌, ℕ, zero, suc, ◌+◌, ◌<◌, ◌≤◌, ◌⊎◌, inl, inr, true, List, refl, sym, ap, ◌∙◌, subst, arith, length}
 use Rattle.std.specs.Prelude.{Option, Some, None, [], ◌∷◌, ◌++◌, slice_get, slice_index}
 use Rattle.std.specs.List.{AllByRecursion}
-use Rattle.std.proofs.Math.Nat.{add-sub_cancel_left}
 use Rattle.std.proofs.Math.ListN.{get_or-append}
 use Rattle.std.proofs.Math.Seq.{get_or-append_seam}
 use Rattle.std.proofs.lemmas.Bool.{cases_lt}
 use Rattle.std.proofs.lemmas.List.{length-append}
 use Rattle.std.proofs.lemmas.Option.{slice_get_within}
 use Rattle.dh_value.specs.declared.kinds.Kind.{Kind}
-use Rattle.dh_value.specs.declared.kinds.Kind.TheVariants as kind
 use Rattle.dh_value.specs.declared.words.Word.{Word}
-use Rattle.dh_value.specs.Words.{with_bits}
-use Rattle.dh_tree.specs.declared.tables.Dim.{Dim}
-use Rattle.dh_tree.specs.Elements.{dims_at}
 use Rattle.dh_plan.specs.declared.operations.Operation.{Operation}
 use Rattle.dh_plan.specs.declared.operations.OperationForm.{OperationForm}
 use Rattle.dh_plan.specs.declared.operations.OperationForm.TheVariants.{Constant, Old, Compute, Convert, Select, Check, Probe, Read, Write, Set}
 use Rattle.dh_plan.specs.declared.operations.Reach.{Reach}
 use Rattle.dh_plan.specs.PlanKinds.{form_kind}
 use Rattle.dh_plan.specs.SoundPlans.{use_in}
-use Rattle.dh_plan.proofs.Appends.{there_in_front}
 use Rattle.dh_rows.specs.Readings.{Grows, is_plain}
 use Rattle.dh_rows.specs.MadeOperations.{IsMade, pushed}
-use Rattle.dh_rows.proofs.Growing.{grown_length, grows_on, grows_self, kept_there, was_there}
+use Rattle.dh_rows.proofs.Growing.{grown_length, grows_on, kept_there, was_there}
 use Rattle.dh_address.specs.Pieces.{Around, IsAccessMade, IsFormMade, IsPiece, new_number, new_or_none, ranges_of}
 use Rattle.dh_address.specs.Images.{ArePieces, and_known}
 use Rattle.dh_address.proofs.PiecesBy.{GrowsBy, AllowsCheck, by_on, checked_by, value_by, access_by}
@@ -109,7 +103,7 @@ module _ (a : Around) where
           let long : length new ≡ length last + 1 = ap (λ (os : List Operation). length os) made.0 ∙ length-append last _ in
           let at : j ≡ length last = omega (arith, within, long, m) in
           let two : Some x ≡ Some (record { guard = on; form = h })
-              = sym e ∙ (ap (λ k. slice_get new k) at ∙ (ap (λ (os : List Operation). slice_get os (length last)) made.0 ∙ at_end last _)) in
+          = sym e ∙ (ap (λ k. slice_get new k) at ∙ (ap (λ (os : List Operation). slice_get os (length last)) made.0 ∙ at_end last _)) in
           let same : x ≡ record { guard = on; form = h } = cc in
           let given : Some u ≡ Some t = sym own ∙ (sym (ap (λ (y : Operation). use_in y.form) same) ∙ used) in
           here cc

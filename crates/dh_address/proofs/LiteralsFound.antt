@@ -1,23 +1,22 @@
 -- Constants that are in range are literals: of an access that is named by constants and is always inside, each value is
 -- a literal below its size.
-use Rattle.std.proofs.Common.{◌≡◌, ℕ, zero, suc, ◌+◌, ◌-◌, ◌*◌, ◌/◌, ◌%◌, ◌^◌, ◌<◌, ◌&&◌, nat_lt, Bool, true, false, List, refl, sym, ap, ◌∙◌, subst, arith, pos, ◌-ℤ◌, int_le, int_lt}
-use Rattle.std.specs.Prelude.{Option, Some, None, [], ◌∷◌, ◌++◌, map, slice_get, if◌then◌else◌, ℤ}
+use Rattle.std.proofs.Common.{◌≡◌, ℕ, ◌+◌, ◌-◌, ◌*◌, ◌/◌, ◌%◌, ◌^◌, ◌<◌, nat_lt, Bool, true, false, List, refl, sym, ap, ◌∙◌, subst, arith, pos, ◌-ℤ◌, int_le, int_lt}
+use Rattle.std.specs.Prelude.{Option, Some, None, [], ◌∷◌, ◌++◌, if◌then◌else◌, ℤ}
 use Rattle.std.specs.List.{AllByRecursion}
 use Rattle.std.proofs.Math.Nat.{add-sub_cancel_left}
-use Rattle.std.proofs.lemmas.Bool.Decides.{nat_tests}
 use Rattle.std.proofs.lemmas.Int.{ints}
 use Rattle.dh_value.specs.declared.kinds.Kind.{Kind}
 use Rattle.dh_value.specs.declared.kinds.Kind.TheVariants as kind
 use Rattle.dh_value.specs.declared.words.Word.{Word}
 use Rattle.dh_value.specs.Words.{IsInteger, IsWord, value_in, value_of, width_of}
 use Rattle.dh_tree.specs.declared.tables.Dim.{Dim}
-use Rattle.dh_tree.specs.Elements.{Spot, dims_at, rows_of, spot_of, spot_in_bank}
-use Rattle.dh_meaning.specs.Effects.{is_inside, is_row, spot_by_indices, spot_by_row}
+use Rattle.dh_tree.specs.Elements.{Spot, dims_at, rows_of}
+use Rattle.dh_meaning.specs.Effects.{is_inside, is_row, spot_by_indices}
 use Rattle.dh_plan.specs.declared.operations.Operation.{Operation}
 use Rattle.dh_plan.specs.declared.operations.OperationForm.TheVariants.{Constant}
 use Rattle.dh_plan.specs.declared.operations.Reach.{Reach}
 use Rattle.dh_plan.specs.declared.operations.ReachStep.{ReachStep}
-use Rattle.dh_plan.specs.Blocks.{StepStart, in_memories, numbers_at, passages, spot_if_inside, spot_in_row, spot_of_reach, bank_picked, word_at}
+use Rattle.dh_plan.specs.Blocks.{StepStart, in_memories, numbers_at, passages, spot_if_inside, spot_in_row, word_at}
 use Rattle.dh_plan.specs.DoneProgram.{IsConstantAt, NamedByConstants, HasLiterals}
 use Rattle.dh_plan.specs.Ordered.{one_or_none}
 use Rattle.dh_plan.specs.PlainPlans.{PlainPlan, first_in, operations_in}
@@ -158,7 +157,7 @@ module _ (p : PlainPlan) (block : ℕ) (formed : IsFormedBlock p block) where
           let plain = element_plain p first (kinds_of p block) none r element in
           let at : spot_in_row start first ws r None ≡ Some spot = subst (λ (o : Option ℕ). spot_in_row start first ws r o ≡ Some spot) is leads in
           let direct : spot_by_indices p.table r.memory (numbers_at first ws r.indices) ≡ Some spot
-              = subst (λ (steps : List ReachStep). spot_if_inside p.table r.memory (indices_behind p.views (passages first ws steps) (numbers_at first ws r.indices)) ≡ Some spot) plain.steps at in
+          = subst (λ (steps : List ReachStep). spot_if_inside p.table r.memory (indices_behind p.views (passages first ws steps) (numbers_at first ws r.indices)) ≡ Some spot) plain.steps at in
           let named = subst (λ (o : Option ℕ). NamedByConstants p block r o) is has.constants in
           let inside = some_if (is_inside (dims_at p.table r.memory) (numbers_at first ws r.indices)) _ spot direct in
           inside_literals (dims_at p.table r.memory) r.indices named.0 (numbers r.indices _ suits.indices) [] [] inside

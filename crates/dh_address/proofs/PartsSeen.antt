@@ -1,16 +1,15 @@
 -- What stands in a block that the pass makes: quiet operations, and the images of those of the old block.
-use Rattle.std.proofs.Common.{◌≡◌, ℕ, zero, suc, ◌+◌, ◌<◌, ◌≤◌, ◌==◌, ◌&&◌, ◌⊎◌, ◌↔◌, inl, inr, max, Bool, true, false, List, refl, sym, ap, ◌∙◌, subst, arith, length}
-use Rattle.std.specs.Prelude.{Option, Some, None, [], ◌∷◌, ◌++◌, slice_get, if◌then◌else◌}
+use Rattle.std.proofs.Common.{◌≡◌, ℕ, zero, suc, ◌⊎◌, inl, inr, List, refl, sym, ap, ◌∙◌, subst}
+use Rattle.std.specs.Prelude.{Some, [], ◌∷◌, ◌++◌, slice_get}
 use Rattle.std.specs.List.{AllByRecursion}
 use Rattle.std.proofs.lemmas.List.{append_assoc, append-nil, append_cancel_left}
 use Rattle.dh_plan.specs.declared.operations.Operation.{Operation}
 use Rattle.dh_plan.specs.declared.operations.OperationForm.{OperationForm}
 use Rattle.dh_plan.specs.declared.operations.OperationForm.TheVariants.{Constant, Old, Compute, Convert, Select, Check, Probe, Read, Write, Set}
 use Rattle.dh_plan.specs.declared.operations.PlanBlock.{PlanBlock}
-use Rattle.dh_plan.specs.declared.operations.Reach.{Reach}
 use Rattle.dh_plan.specs.PlainPlans.{PlainPlan, operations_in, block_operations}
 use Rattle.dh_address.specs.Images.{IsImage, around_block, operations_until}
-use Rattle.dh_address.proofs.PiecesQuiet.{IsQuiet, is_quiet, IsRowOf, SameForm, HasMain, IsMain, IsPart, PartThen, AreParts, PutsParts, pieces_parts}
+use Rattle.dh_address.proofs.PiecesQuiet.{IsQuiet, SameForm, HasMain, IsMain, AreParts, PutsParts, pieces_parts}
 
 -- a block's operations lie between its start and the next one
 pub until_block : (bs : List PlanBlock) (n : ℕ) → operations_until bs (suc n) ≡ operations_until bs n ++ block_operations (slice_get bs n)

@@ -1,7 +1,7 @@
 -- What becomes of one operation is formed as it must be: all that is put down takes earlier values of suiting kinds, and
 -- the value that stands for the operation's is of its kind.
-use Rattle.std.proofs.Common.{◌≡◌, ℕ, zero, suc, ◌+◌, ◌-◌, ◌<◌, ◌≤◌, ◌⊎◌, inl, inr, Some, None, List, Bool, true, false, length, map, refl, sym, ap, subst, ◌∙◌, arith}
-use Rattle.std.specs.Prelude.{[], ◌∷◌, ◌++◌, Option, slice_get, take}
+use Rattle.std.proofs.Common.{◌≡◌, ℕ, ◌<◌, ◌≤◌, ◌⊎◌, inl, inr, Some, None, List, Bool, true, false, length, map, refl, sym, ap, subst, ◌∙◌, arith}
+use Rattle.std.specs.Prelude.{[], ◌∷◌, ◌++◌, Option, take}
 use Rattle.std.proofs.lemmas.List.{length-append}
 use Rattle.std.specs.List.{AllByRecursion}
 use Rattle.dh_value.specs.declared.kinds.Kind.{Kind}
@@ -16,13 +16,12 @@ use Rattle.dh_plan.specs.declared.operations.OperationForm.{OperationForm}
 use Rattle.dh_plan.specs.declared.operations.OperationForm.TheVariants.{Constant, Old, Compute, Convert, Select, Check, Probe, Read, Write, Set}
 use Rattle.dh_plan.specs.declared.operations.PlanBlock.{PlanBlock}
 use Rattle.dh_plan.specs.declared.operations.Reach.{Reach}
-use Rattle.dh_plan.specs.Blocks.{kind_at}
-use Rattle.dh_plan.specs.Ordered.{one_or_none, offsets_taken, reach_takes, form_takes, operation_takes, IsBetween, TakesEarlier}
+use Rattle.dh_plan.specs.Ordered.{one_or_none, offsets_taken, reach_takes, form_takes, operation_takes, IsBetween}
 use Rattle.dh_plan.specs.PlainPlans.{PlainPlan, first_in, operations_in}
 use Rattle.dh_plan.specs.PlanKinds.{kind_of_value, form_kind, kinds_of, Names, ReachSuits, PicksBank, FormSuits, OperationSuits}
 use Rattle.dh_plan.specs.PlanRuns.{start_at}
 use Rattle.dh_plan.proofs.ValuesAlike.{all_left, all_right, all_map}
-use Rattle.dh_rows.specs.Readings.{Readings, Obeys, IsEarlier, Grows, Adds, IsValueOrNone}
+use Rattle.dh_rows.specs.Readings.{Readings, Obeys, Grows, Adds, IsValueOrNone}
 use Rattle.dh_rows.specs.MadeOperations.{pushed, IsMade}
 use Rattle.dh_rows.specs.RowsShown.{IsInput}
 use Rattle.dh_rows.proofs.Growing.{grows_on, grown_length, kept_there, pushed_grows, adds_on, maybe_later, pushed_adds, pushed_value}
@@ -122,9 +121,10 @@ module _ (p : PlainPlan) (none : p.views ≡ []) (tables : IsProgramTable p.tabl
       → Formed (length old) → AllByRecursion (λ v. known_kind a v ≡ kind.Bool) (one_or_none g) → AllByRecursion (Input (length old)) (one_or_none g)
       → AllByRecursion (IsBetween first (length old)) (form_takes f) → FormSuits q first kinds f → form_kind q.table q.registers first kinds f ≡ k → PutsPiece mid n gives k
   same_put old mid n g f k gives made grows begun formed gk gi takes suits same =
-      last_put old mid n (new_or_none a g) f k gives made grows begun formed
-      ( all_join (IsBetween first (length old)) (one_or_none (new_or_none a g)) (form_takes f) (maybe_between (length old) g gi) takes
-      , record { guard = maybe_truth (length old) g gk gi; form = suits })
+      last_put old mid n (new_or_none a g) f k gives made grows begun formed (
+        all_join (IsBetween first (length old)) (one_or_none (new_or_none a g)) (form_takes f) (maybe_between (length old) g gi) takes,
+        record { guard = maybe_truth (length old) g gk gi; form = suits },
+      )
       same
 
   -- Reads and writes.
@@ -252,12 +252,13 @@ module _ (p : PlainPlan) (none : p.views ≡ []) (tables : IsProgramTable p.tabl
       let last_grows = grows_on h.last mid all (made_grows h.last mid n h.on (Write h.reach (new_number a value)) h.write) grows in
       let u = use_put g r old h.last h.on h.reach h.access last_grows begun formed gk gi suits.0 suits.1.0 taken in
       let later = input_later x 0 a (length old) (length h.last) value (grown_length old h.last (access_grows a (new_or_none a g) r old h.last h.on h.reach h.access)) input in
-      last_put h.last mid n h.on (Write h.reach (new_number a value)) k gives h.write grows u.begun u.formed
-      ( all_join (IsBetween first (length h.last)) (one_or_none h.on) _ u.on_between (between (length h.last) value later, u.takes)
-      , record {
+      last_put h.last mid n h.on (Write h.reach (new_number a value)) k gives h.write grows u.begun u.formed (
+        all_join (IsBetween first (length h.last)) (one_or_none h.on) _ u.on_between (between (length h.last) value later, u.takes),
+        record {
           guard = u.on_truth;
           form = (u.suits, (u.picks, input.kind_is ∙ (suits.1.1 ∙ ap (λ (m : ℕ). kind_in p.table m) (sym (memory_is g r old h.last h.on h.reach h.access)))));
-        })
+        },
+      )
       same
 
   -- Checks and probes.
@@ -269,9 +270,10 @@ module _ (p : PlainPlan) (none : p.views ≡ []) (tables : IsProgramTable p.tabl
   guard_put old mid g fault (Some test) grows begun formed gk gi stands named =
       let obeys = formed_obeys mid (grows_on mid _ all (pushed_grows mid (new_or_none a g) (Check test fault)) grows) formed in
       let s = stands obeys in
-      pushed_below q block front begins mid (new_or_none a g) (Check test fault) grows formed
-      ( all_join (IsBetween first (length mid)) (one_or_none (new_or_none a g)) _ (maybe_between (length mid) g gi) ((s.earlier.begun, s.earlier.before), tt)
-      , record { guard = maybe_truth (length mid) g gk gi; form = (s.kind_is, named) })
+      pushed_below q block front begins mid (new_or_none a g) (Check test fault) grows formed (
+        all_join (IsBetween first (length mid)) (one_or_none (new_or_none a g)) _ (maybe_between (length mid) g gi) ((s.earlier.begun, s.earlier.before), tt),
+        record { guard = maybe_truth (length mid) g gk gi; form = (s.kind_is, named) },
+      )
 
   pub inputs_later : (old mid : List Operation) → Grows old mid → (vs : List ℕ) → AllByRecursion (Input (length old)) vs → AllByRecursion (Input (length mid)) vs
   inputs_later old mid g vs h = all_map (Input (length old)) (Input (length mid)) vs (λ v i. input_later x 0 a (length old) (length mid) v (grown_length old mid g) i) h
@@ -330,10 +332,11 @@ module _ (p : PlainPlan) (none : p.views ≡ []) (tables : IsProgramTable p.tabl
       let formed_m = adds_formed old m.operations adds to_all formed in
       let s = chain.stands (formed_obeys m.operations to_all formed_m) in
       let gi_m = inputs_later old m.operations adds.grows (one_or_none g) gi in
-      last_put m.operations mid n (new_or_none a g) (Compute op.Either m.value m.value) kind.Bool ((true ≡ true) ⊎ (true ≡ false)) h grows (begun_later x old m.operations adds.grows begun) formed_m
-      ( all_join (IsBetween first (length m.operations)) (one_or_none (new_or_none a g)) _ (maybe_between (length m.operations) g gi_m)
-        ((s.earlier.begun, s.earlier.before), ((s.earlier.begun, s.earlier.before), tt))
-      , record { guard = maybe_truth (length m.operations) g gk gi_m; form = truths (kind_of_value first kinds m.value) s.kind_is })
+      last_put m.operations mid n (new_or_none a g) (Compute op.Either m.value m.value) kind.Bool ((true ≡ true) ⊎ (true ≡ false)) h grows (begun_later x old m.operations adds.grows begun) formed_m (
+        all_join (IsBetween first (length m.operations)) (one_or_none (new_or_none a g)) _ (maybe_between (length m.operations) g gi_m)
+            ((s.earlier.begun, s.earlier.before), ((s.earlier.begun, s.earlier.before), tt)),
+        record { guard = maybe_truth (length m.operations) g gk gi_m; form = truths (kind_of_value first kinds m.value) s.kind_is },
+      )
       refl
     where
       truths : (k : Kind) → k ≡ kind.Bool → AreTruths k k

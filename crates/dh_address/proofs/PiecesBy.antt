@@ -155,4 +155,3 @@ module _ (P : Operation → Type 0) (plain : (o : Operation) → is_plain o.form
 
     pub access_by : (guard : Option ℕ) (r : Reach) (old last : List Operation) (on : Option ℕ) (t : Reach) → IsAccessMade a guard r old last on t → GrowsBy P old last
     access_by guard r old last on t h = by_on old h.guarded last (guarded_by a guard _ old h.guarded on h.guards) (aimed_by r r.row h.guarded last t h.aims)
-

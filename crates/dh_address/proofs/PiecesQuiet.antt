@@ -135,7 +135,7 @@ module _ (a : Around) where
   form_part g (Check ok fault) old new n h = alone (Check ok fault) old new g _ n h (λ m. m) (_, refl)
   form_part g (Probe r fault) old new n h =
       let grows = by_on IsQuiet plain_ones old h.checked new (checked_by IsQuiet plain_ones a g fault (ranges_of a r) old h.checked (all_checks a g fault (ranges_of a r)) h.checks)
-          (value_by IsQuiet plain_ones a.probed a g r h.checked new n h.value) in
+      (value_by IsQuiet plain_ones a.probed a g r h.checked new n h.value) in
       record { more = grows.more; appended = grows.appended; part = record { quiet = grows.more; main = []; all = grows.each; joined = sym (append-nil grows.more); image = refl } }
   form_part g (Read r) old new n h =
       behind (Read r) old h.last new h.on (Read h.reach) n (access_by IsQuiet plain_ones a g r old h.last h.on h.reach h.access) h.read (λ m. m)

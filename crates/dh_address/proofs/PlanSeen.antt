@@ -1,6 +1,6 @@
 -- What a plan sees, sets, reaches and multiplies is told by the images of its operations alone, so of the plan that the
 -- pass makes it is as of the old one. And all its accesses are of rows.
-use Rattle.std.proofs.Common.{◌≡◌, ℕ, zero, suc, ◌+◌, ◌<◌, ◌≤◌, ◌==◌, ◌&&◌, ◌⊎◌, ◌↔◌, inl, inr, max, Bool, true, false, List, refl, sym, ap, ◌∙◌, subst, arith, length}
+use Rattle.std.proofs.Common.{◌≡◌, ℕ, suc, ◌+◌, ◌==◌, ◌&&◌, ◌⊎◌, ◌↔◌, inl, inr, max, Bool, true, false, List, refl, sym, ap, ◌∙◌, subst, arith, length}
 use Rattle.std.specs.Prelude.{Option, Some, None, [], ◌∷◌, ◌++◌, slice_get, if◌then◌else◌}
 use Rattle.std.specs.List.{AllByRecursion}
 use Rattle.dh_value.specs.declared.operators.Op.{Op}
@@ -16,8 +16,8 @@ use Rattle.dh_plan.specs.PlainPlans.{PlainPlan, operations_in, block_operations}
 use Rattle.dh_plan.specs.SoundPlans.{FormAddressed, use_in, use_charge, place_charge, operations_charge, blocks_charge, plan_charge}
 use Rattle.dh_rows.specs.Readings.{is_cheap}
 use Rattle.dh_address.specs.Images.{IsImage}
-use Rattle.dh_address.proofs.PiecesQuiet.{IsQuiet, is_quiet, IsRowOf, SameForm, HasMain, IsMain, IsPart, AreParts}
-use Rattle.dh_address.proofs.PartsSeen.{block_parts, IsImageOf, part_seen, HasImage, main_seen}
+use Rattle.dh_address.proofs.PiecesQuiet.{IsQuiet, is_quiet, IsRowOf, SameForm, HasMain, IsMain, AreParts}
+use Rattle.dh_address.proofs.PartsSeen.{block_parts, IsImageOf, part_seen, main_seen}
 
 -- Forms.
 

@@ -1,5 +1,5 @@
 -- That an operation suits the kinds of what it takes depends on these kinds alone.
-use Rattle.std.proofs.Common.{◌≡◌, ℕ, Some, None, List, refl, sym, ap, subst, ◌∙◌}
+use Rattle.std.proofs.Common.{◌≡◌, ℕ, Some, None, List, sym, subst, ◌∙◌}
 use Rattle.std.specs.Prelude.{[], ◌∷◌, ◌++◌, Option, slice_get}
 use Rattle.std.specs.List.{AllByRecursion}
 use Rattle.dh_value.specs.declared.kinds.Kind.{Kind}
@@ -7,17 +7,15 @@ use Rattle.dh_value.specs.declared.kinds.Kind.TheVariants as kind
 use Rattle.dh_value.specs.Words.{IsInteger}
 use Rattle.dh_value.specs.Operations.{Suits}
 use Rattle.dh_tree.specs.declared.tables.Dim.{Dim}
-use Rattle.dh_meaning.specs.Effects.{kind_in}
 use Rattle.dh_plan.specs.declared.operations.Operation.{Operation}
 use Rattle.dh_plan.specs.declared.operations.OperationForm.{OperationForm}
 use Rattle.dh_plan.specs.declared.operations.OperationForm.TheVariants.{Constant, Old, Compute, Convert, Select, Check, Probe, Read, Write, Set}
 use Rattle.dh_plan.specs.declared.operations.Reach.{Reach}
 use Rattle.dh_plan.specs.declared.operations.ReachStep.{ReachStep}
 use Rattle.dh_plan.specs.declared.viewing.ViewMap.{ViewMap}
-use Rattle.dh_plan.specs.Blocks.{kind_at}
 use Rattle.dh_plan.specs.Ordered.{one_or_none, offsets_taken, reach_takes, form_takes, operation_takes}
 use Rattle.dh_plan.specs.PlainPlans.{PlainPlan}
-use Rattle.dh_plan.specs.PlanKinds.{kind_of_value, IsCount, AreBanks, StepFits, AreSteps, NamesElement, ReachSuits, PicksBank, FormSuits, OperationSuits}
+use Rattle.dh_plan.specs.PlanKinds.{kind_of_value, IsCount, StepFits, AreSteps, NamesElement, ReachSuits, PicksBank, FormSuits, OperationSuits}
 use Rattle.dh_plan.proofs.ValuesAlike.{all_left, all_right}
 
 -- of each one, what follows from two facts

@@ -1,7 +1,7 @@
 -- What tests of ranges put down, and what guards show that hold them: plain operations of the values that are tested, and
 -- of a guard; and the guard that is given holds where the old one does and all is in range.
-use Rattle.std.proofs.Common.{◌≡◌, ℕ, ◌+◌, ◌<◌, ◌≤◌, Some, None, List, Bool, true, false, ◌&&◌, length, refl, sym, ap, subst, ◌∙◌, arith, pos}
-use Rattle.std.specs.Prelude.{[], ◌∷◌, ◌++◌, Option, slice_get}
+use Rattle.std.proofs.Common.{◌≡◌, ℕ, ◌≤◌, Some, None, List, Bool, true, false, ◌&&◌, length, refl, sym, ap, subst, ◌∙◌, arith}
+use Rattle.std.specs.Prelude.{[], ◌∷◌, Option, slice_get}
 use Rattle.std.specs.List.{AllByRecursion}
 use Rattle.dh_value.specs.declared.kinds.Kind.{Kind}
 use Rattle.dh_value.specs.declared.kinds.Kind.TheVariants as kind
@@ -9,11 +9,9 @@ use Rattle.dh_value.specs.declared.operators.Op.TheVariants as op
 use Rattle.dh_value.specs.Words.{IsInteger, IsWord, value_of}
 use Rattle.dh_value.specs.Operations.{AreTruths, truth, is_true}
 use Rattle.dh_plan.specs.declared.operations.Operation.{Operation}
-use Rattle.dh_plan.specs.declared.operations.OperationForm.{OperationForm}
 use Rattle.dh_plan.specs.declared.operations.OperationForm.TheVariants.{Compute}
 use Rattle.dh_rows.specs.Readings.{Readings, Obeys, IsEarlier, Grows, Adds, IsValue, IsValueOrNone}
-use Rattle.dh_rows.specs.RowsShown.{HoldsOrNone, IsTestMade, is_below_size}
-use Rattle.dh_rows.specs.MadeOperations.{pushed}
+use Rattle.dh_rows.specs.RowsShown.{HoldsOrNone, is_below_size}
 use Rattle.dh_rows.proofs.Growing.{grows_self, grows_on, grown_length, plain_grows, kept_there, pushed_grows, obeys_before, pushed_word, value_later, maybe_later, adds_self, adds_on, pushed_adds, pushed_value}
 use Rattle.dh_address.specs.LiteralPlaces.{literal_within}
 use Rattle.dh_address.proofs.ImageReadings.{at_last}

@@ -1,50 +1,45 @@
 -- The values of a block and of what it becomes: in a step in which each access that is made and in range reaches a bank of
 -- its list, each value of the old block is that of its new number in the new block.
-use Rattle.std.proofs.Common.{◌≡◌, ℕ, zero, suc, ◌+◌, ◌-◌, ◌<◌, ◌≤◌, ◌^◌, ◌&&◌, ◌==◌, not, ◌⊎◌, inl, inr, Some, None, List, Bool, true, false, length, get_or, map, refl, sym, ap, subst, ◌∙◌, arith, pos, unsigned_abs}
-use Rattle.std.specs.Prelude.{[], ◌∷◌, ◌++◌, Option, slice_get, if◌then◌else◌, ℤ}
+use Rattle.std.proofs.Common.{◌≡◌, ℕ, ◌+◌, ◌-◌, ◌<◌, ◌≤◌, ◌&&◌, Some, None, List, Bool, true, false, length, map, refl, sym, ap, subst, ◌∙◌, arith, pos, unsigned_abs}
+use Rattle.std.specs.Prelude.{[], ◌∷◌, ◌++◌, Option, if◌then◌else◌, ℤ}
 use Rattle.std.specs.List.{AllByRecursion}
 use Rattle.std.specs.Option.{is_some}
 use Rattle.dh_value.specs.declared.kinds.Kind.{Kind}
 use Rattle.dh_value.specs.declared.kinds.Kind.TheVariants as kind
 use Rattle.dh_value.specs.declared.words.Word.{Word}
-use Rattle.dh_value.specs.Words.{IsInteger, IsWord, value_of, with_bits, word_of}
-use Rattle.dh_value.specs.Operations.{truth, is_true, binary_of}
+use Rattle.dh_value.specs.Words.{IsInteger, IsWord, value_of}
 use Rattle.dh_tree.specs.declared.tables.Dim.{Dim}
-use Rattle.dh_tree.specs.declared.tables.MemEntry.{MemEntry}
-use Rattle.dh_tree.specs.Elements.{Spot, bank_of, row_of, rows_of, spot_of, dims_at, is_within}
-use Rattle.dh_tree.specs.Shapes.{IsDim, IsProgramTable}
-use Rattle.dh_meaning.specs.Effects.{kind_in, bits_at, is_inside, is_row, spot_by_indices, spot_by_row}
+use Rattle.dh_tree.specs.Elements.{Spot, bank_of, row_of, rows_of, spot_of, dims_at}
+use Rattle.dh_tree.specs.Shapes.{IsProgramTable}
+use Rattle.dh_meaning.specs.Effects.{is_inside, is_row, spot_by_indices, spot_by_row}
 use Rattle.dh_plan.specs.declared.operations.Operation.{Operation}
-use Rattle.dh_plan.specs.declared.operations.OperationForm.{OperationForm}
-use Rattle.dh_plan.specs.declared.operations.OperationForm.TheVariants.{Constant, Old, Compute, Convert, Select, Check, Probe, Read, Write, Set}
+use Rattle.dh_plan.specs.declared.operations.OperationForm.TheVariants.{Constant}
 use Rattle.dh_plan.specs.declared.operations.PlanBlock.{PlanBlock}
 use Rattle.dh_plan.specs.declared.operations.Reach.{Reach}
-use Rattle.dh_plan.specs.Blocks.{StepStart, no_word, word_at, is_on, numbers_at, passages, first_bank, bank_picked, spot_if_inside, spot_in_row, spot_of_reach, in_memories, form_word, guarded, operation_word}
-use Rattle.dh_plan.specs.Ordered.{one_or_none, offsets_taken, reach_takes, form_takes, operation_takes, TakesEarlier}
+use Rattle.dh_plan.specs.Blocks.{StepStart, word_at, is_on, numbers_at, passages, bank_picked, spot_if_inside, spot_in_row, spot_of_reach, in_memories}
+use Rattle.dh_plan.specs.Ordered.{one_or_none}
 use Rattle.dh_plan.specs.PlainPlans.{PlainPlan, first_in, operations_in}
-use Rattle.dh_plan.specs.PlanKinds.{kind_of_value, kinds_of, ReachSuits, NamesElement, OperationSuits, IsFormedBlock}
+use Rattle.dh_plan.specs.PlanKinds.{ReachSuits, NamesElement}
 use Rattle.dh_plan.specs.PlanRuns.{start_at, block_values}
-use Rattle.dh_plan.specs.SoundPlans.{use_in, IsListed}
-use Rattle.dh_plan.specs.SoundRuns.{IsInKind, AreInKinds}
+use Rattle.dh_plan.specs.SoundPlans.{IsListed}
+use Rattle.dh_plan.specs.SoundRuns.{IsInKind}
 use Rattle.dh_plan.specs.ViewElements.{indices_behind}
-use Rattle.dh_plan.proofs.ValuesAlike.{all_left, all_right, all_map, memories_look_back}
-use Rattle.dh_rows.specs.Readings.{Readings, Obeys, Grows}
+use Rattle.dh_plan.proofs.ValuesAlike.{memories_look_back}
+use Rattle.dh_rows.specs.Readings.{Readings, Obeys}
 use Rattle.dh_rows.specs.RowsShown.{AreWithin, HoldsOrNone, is_below_size}
 use Rattle.dh_rows.specs.MadeOperations.{Made, constant_made}
-use Rattle.dh_rows.proofs.Growing.{grows_self, grows_on, grown_length, kept_there, pushed_grows, obeys_before}
+use Rattle.dh_rows.proofs.Growing.{obeys_before}
 use Rattle.dh_address.specs.declared.literals.LiteralPlace.{LiteralPlace}
 use Rattle.dh_address.specs.LiteralPlaces.{literal_within, literal_places}
-use Rattle.dh_address.specs.Pieces.{Around, Range, new_number, new_or_none, known_kind, ranges_by, ranges_in, ranges_of, aimed, aim_width, waited, is_banked, IsAim, IsAimBut, IsAimed, IsAccessMade}
-use Rattle.dh_address.specs.Renumbered.{renumbered}
+use Rattle.dh_address.specs.Pieces.{Around, new_number, new_or_none, known_kind, ranges_by, ranges_in, ranges_of, aimed, aim_width, waited, is_banked, IsAim, IsAimBut, IsAimed, IsAccessMade}
 use Rattle.dh_address.proofs.AccessesLead.{truth_word, word_in_kind, both_true, in_range, abs_of, inside_within, place_leads, only_bank, holds_on}
 use Rattle.dh_address.proofs.AccessesPut.{element_plain, IsPlainAccess, picked}
 use Rattle.dh_address.proofs.AimedRows.{ShowsAim, ShowsSelect, PlaceIs, index_aim_shows, HasSelect}
 use Rattle.dh_address.proofs.BlockEquations.{word_solved}
-use Rattle.dh_address.proofs.ImageReadings.{block_readings, word_given}
-use Rattle.dh_address.proofs.LiteralMeans.{AreLiterals, IsConstantOf, within_means, literal_means, literal_in_range, dims_formed, elements_below, width_suffices, literal_place_is}
+use Rattle.dh_address.proofs.ImageReadings.{block_readings}
+use Rattle.dh_address.proofs.LiteralMeans.{AreLiterals, within_means, literal_means, literal_in_range, dims_formed, elements_below, width_suffices, literal_place_is}
 use Rattle.dh_address.proofs.PieceForms.{image_of, around}
 use Rattle.dh_address.proofs.PiecesGrow.{guarded_grows, aimed_grows, waited_grows}
-use Rattle.dh_address.proofs.SuitsKnown.{all_two}
 use Rattle.dh_address.proofs.TestedRanges.{all_in, IsShown, guards_hold, begun_later, and_true}
 
 module _ (p : PlainPlan) (none : p.views ≡ []) (tables : IsProgramTable p.table) (bs : List PlanBlock) (block : ℕ) (ns : List ℕ) (ks : List Kind)
@@ -228,7 +223,7 @@ module _ (p : PlainPlan) (none : p.views ≡ []) (tables : IsProgramTable p.tabl
 
   indices_lead : (r : Reach) (taken : List ℕ) (row : ℕ) (select : Option ℕ) → IsPlainAccess p r → r.row ≡ None → AllByRecursion IsGoodNumber r.indices
       → (is_inside (dims_at p.table r.memory) (numbers_at old_first ws r.indices) ≡ true
-        → ShowsAim x (aim_width (dims_at p.table r.memory)) row select (row_of (dims_at p.table r.memory) (abs_of (numbers_at old_first ws r.indices))) (bank_of (dims_at p.table r.memory) (abs_of (numbers_at old_first ws r.indices))))
+      → ShowsAim x (aim_width (dims_at p.table r.memory)) row select (row_of (dims_at p.table r.memory) (abs_of (numbers_at old_first ws r.indices))) (bank_of (dims_at p.table r.memory) (abs_of (numbers_at old_first ws r.indices))))
       → IsPickedBank r select
       → (spot : Spot) → spot_of_reach s old_first ws r ≡ Some spot → ((place : ℕ) × IsListed spot.bank place r.banks) → spot_of_reach t first vs (aimed r taken row select) ≡ Some spot
   indices_lead r taken row select plain e good aim picked spot leads listed =
@@ -286,7 +281,7 @@ module _ (p : PlainPlan) (none : p.views ≡ []) (tables : IsProgramTable p.tabl
           memory = refl;
           leads = indices_lead r taken h.row h.select plain e indices
               (λ within. index_aim_shows x (aim_width dims) (literal_places a.operations a.first dims r.indices 0 0) dims (map (new_number a) r.indices) (is_banked r) mid last h.row h.select (abs_of zs) h.aim
-                  (width_suffices p.table r.memory tables) (place_is r (literal_places a.operations a.first dims r.indices 0 0) refl plain.long indices) at_mid obeys (all_within dims r.indices indices within))
+              (width_suffices p.table r.memory tables) (place_is r (literal_places a.operations a.first dims r.indices 0 0) refl plain.long indices) at_mid obeys (all_within dims r.indices indices within))
               picks;
         })
     aimed_leads (Some row) e old last u h begun obeys =

@@ -1,11 +1,10 @@
 -- Piece by piece each value of a block is that of its new number in the new block.
-use Rattle.std.proofs.Common.{◌≡◌, ℕ, zero, suc, ◌+◌, ◌-◌, ◌<◌, ◌≤◌, ◌&&◌, ◌||◌, ◌⊎◌, inl, inr, Some, None, List, Bool, true, false, length, map, refl, sym, ap, subst, ◌∙◌, arith}
+use Rattle.std.proofs.Common.{◌≡◌, ℕ, ◌+◌, ◌-◌, ◌<◌, ◌≤◌, ◌&&◌, ◌||◌, inl, inr, Some, None, List, Bool, true, false, length, refl, sym, ap, subst, ◌∙◌, arith}
 use Rattle.std.specs.Prelude.{[], ◌∷◌, ◌++◌, Option, slice_get, if◌then◌else◌}
 use Rattle.std.specs.List.{AllByRecursion}
 use Rattle.std.specs.Option.{is_some}
 use Rattle.std.proofs.lemmas.Option.{slice_get_within}
 use Rattle.dh_value.specs.declared.kinds.Kind.{Kind}
-use Rattle.dh_value.specs.declared.kinds.Kind.TheVariants as kind
 use Rattle.dh_value.specs.declared.operators.Op.TheVariants as op
 use Rattle.dh_value.specs.declared.words.Word.{Word}
 use Rattle.dh_value.specs.Words.{IsInteger, value_of, with_bits, word_of}
@@ -19,17 +18,17 @@ use Rattle.dh_plan.specs.declared.operations.OperationForm.TheVariants.{Constant
 use Rattle.dh_plan.specs.declared.operations.PlanBlock.{PlanBlock}
 use Rattle.dh_plan.specs.declared.operations.Reach.{Reach}
 use Rattle.dh_plan.specs.Blocks.{StepStart, no_word, word_at, is_on, spot_of_reach, in_memories, form_word, guarded, operation_word}
-use Rattle.dh_plan.specs.Ordered.{one_or_none, offsets_taken, reach_takes, form_takes, operation_takes, IsBetween, TakesEarlier}
+use Rattle.dh_plan.specs.Ordered.{one_or_none, offsets_taken, reach_takes, form_takes, operation_takes, IsBetween}
 use Rattle.dh_plan.specs.PlainPlans.{PlainPlan, first_in, operations_in}
 use Rattle.dh_plan.specs.PlanKinds.{kind_of_value, kinds_of, ReachSuits, FormSuits, IsFormedBlock}
 use Rattle.dh_plan.specs.PlanRuns.{start_at, block_values}
 use Rattle.dh_plan.specs.SoundPlans.{use_in, IsListed}
 use Rattle.dh_plan.specs.SoundRuns.{IsInKind, AreInKinds}
 use Rattle.dh_plan.proofs.ValuesAlike.{all_left, all_right, all_map, memories_look_back}
-use Rattle.dh_rows.specs.Readings.{Readings, Obeys, Grows}
+use Rattle.dh_rows.specs.Readings.{Readings, Grows}
 use Rattle.dh_rows.specs.MadeOperations.{pushed, IsMade}
 use Rattle.dh_rows.proofs.Growing.{grows_on, kept_there, pushed_grows, obeys_before, pushed_word}
-use Rattle.dh_address.specs.Pieces.{Around, any_takes_probe, is_of_probe, is_probe, is_probe_form, new_number, new_or_none, known_kind, ranges_of, false_behind_all, false_word, new_takes, IsProbeValue, IsAccessMade, IsReadMade, IsWriteMade, IsProbed, IsFormMade}
+use Rattle.dh_address.specs.Pieces.{Around, is_probe, is_probe_form, new_number, new_or_none, ranges_of, false_behind_all, false_word, new_takes, IsProbeValue, IsAccessMade, IsReadMade, IsWriteMade, IsProbed, IsFormMade}
 use Rattle.dh_address.specs.Renumbered.{renumbered}
 use Rattle.dh_address.proofs.BlockEquations.{word_solved}
 use Rattle.dh_address.proofs.FalsePut.{many_false, many_false_grow}
@@ -186,7 +185,7 @@ module _ (p : PlainPlan) (none : p.views ≡ []) (tables : IsProgramTable p.tabl
           ∙ (ap (λ (b : Bool). guarded b (form_word t (in_memories t first) first vs n (Read h.reach))) m.on_is
           ∙ (ap (λ (j : ℕ). guarded (is_on old_first ws o.guard && is_some spot) (with_bits (kind_in p.table j) (bits_at memories (spot_of_reach t first vs h.reach)))) m.leads.memory
           ∙ (read_same (kind_in p.table r.memory) memories (is_on old_first ws o.guard) spot (spot_of_reach t first vs h.reach)
-            (λ sp on leads. m.leads.leads sp leads (listed i o r sp at.there (ap use_in e) on leads))
+          (λ sp on leads. m.leads.leads sp leads (listed i o r sp at.there (ap use_in e) on leads))
           ∙ sym (old_word ∙ ap (λ (f : OperationForm). guarded (is_on old_first ws o.guard) (form_word s (in_memories s old_first) old_first ws (old_first + i) f)) e))))
 
       write_word : (r : Reach) (value : ℕ) → o.form ≡ Write r value → IsWriteMade a (new_or_none a o.guard) r value old mid n → SameWord (old_first + i) n
