@@ -38,3 +38,4 @@ pub mod LiteralsKept
 pub mod FormedImages
 pub mod ClocksAlike
 pub mod LengthsAlike
+pub mod Addressed
