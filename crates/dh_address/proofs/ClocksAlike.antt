@@ -1,6 +1,6 @@
 -- When values are there: in the new block the value that stands for an old one is there at the clock at which the old one
 -- is, and all that is put down with it no later. So both blocks have one length.
-use Rattle.std.proofs.Common.{◌≡◌, ℕ, zero, suc, ◌+◌, ◌-◌, ◌<◌, ◌≤◌, ◌⊎◌, inl, inr, Some, None, List, Bool, true, false, length, get_or, map, refl, sym, ap, subst, ◌∙◌, arith}
+use Rattle.std.proofs.Common.{◌≡◌, ℕ, suc, ◌+◌, ◌-◌, ◌<◌, ◌≤◌, ◌⊎◌, inl, inr, Some, None, List, Bool, true, false, length, map, refl, sym, ap, subst, ◌∙◌, arith}
 use Rattle.std.specs.Prelude.{[], ◌∷◌, ◌++◌, Option, slice_get, max, take, drop, if◌then◌else◌}
 use Rattle.std.proofs.lemmas.List.{take-append-drop}
 use Rattle.std.specs.List.{AllByRecursion}
@@ -16,30 +16,30 @@ use Rattle.dh_plan.specs.declared.operations.OperationForm.{OperationForm}
 use Rattle.dh_plan.specs.declared.operations.OperationForm.TheVariants.{Constant, Old, Compute, Convert, Select, Check, Probe, Read, Write, Set}
 use Rattle.dh_plan.specs.declared.operations.PlanBlock.{PlanBlock}
 use Rattle.dh_plan.specs.declared.operations.Reach.{Reach}
-use Rattle.dh_plan.specs.LegalSchedules.{is_read, there_at, there_from, value_clock, greatest_of, needed_clock, last_clock, least_clocks}
-use Rattle.dh_plan.specs.Ordered.{one_or_none, offsets_taken, reach_takes, form_takes, operation_takes, IsBetween, TakesEarlier}
+use Rattle.dh_plan.specs.LegalSchedules.{is_read, there_at, value_clock, greatest_of, least_clocks}
+use Rattle.dh_plan.specs.Ordered.{one_or_none, offsets_taken, reach_takes, form_takes, operation_takes}
 use Rattle.dh_plan.specs.PlainPlans.{PlainPlan, first_in, operations_in}
 use Rattle.dh_plan.specs.PlanKinds.{kind_of_value, kinds_of, NamesElement, ReachSuits, PicksBank, FormSuits, IsFormedBlock}
 use Rattle.dh_plan.specs.PlanRuns.{start_at}
 use Rattle.dh_plan.proofs.ValuesAlike.{all_left, all_right, all_map}
-use Rattle.dh_rows.specs.Readings.{Readings, Obeys, HasPlain, IsEarlier, IsAdded, Grows, Adds, IsValueOrNone}
+use Rattle.dh_rows.specs.Readings.{Readings, Obeys, IsEarlier, Grows, Adds, IsValueOrNone}
 use Rattle.dh_rows.specs.MadeOperations.{pushed, IsMade}
 use Rattle.dh_rows.proofs.Growing.{grows_self, grows_on, grown_length, kept_there, pushed_grows, obeys_before, maybe_later, adds_on, pushed_adds, pushed_value}
-use Rattle.dh_address.specs.Pieces.{Around, Range, any_takes_probe, is_probe, is_probe_form, new_number, new_or_none, known_kind, ranges_of, check_made, AreChecked, false_behind_all, false_word, new_takes, waited, is_banked, aimed, IsProbeValue, IsAimed, IsAccessMade, IsReadMade, IsWriteMade, IsProbed, IsFormMade}
-use Rattle.dh_address.specs.LiteralPlaces.{literal_within, literal_places}
+use Rattle.dh_address.specs.Pieces.{Around, Range, is_probe, is_probe_form, new_number, new_or_none, ranges_of, check_made, AreChecked, false_behind_all, false_word, new_takes, waited, is_banked, IsProbeValue, IsAimed, IsAccessMade, IsReadMade, IsWriteMade, IsProbed, IsFormMade}
+use Rattle.dh_address.specs.LiteralPlaces.{literal_places}
 use Rattle.dh_address.specs.Renumbered.{renumbered}
 use Rattle.dh_rows.specs.RowsShown.{IsInput}
 use Rattle.dh_address.proofs.AccessesPut.{IsInputOf, input_later, maybe_value, testables, aims_put, all_join, element_plain, IsPicked, IsPicksGiven, IsNumberThere, IsCountThere}
 use Rattle.dh_address.proofs.BlockEquations.{clock_solved}
-use Rattle.dh_address.proofs.FalsePut.{many_false_put, many_false_grow, many_late}
-use Rattle.dh_address.proofs.GoodPieces.{obeys_all, IsGoodStep, AreGoodPieces}
-use Rattle.dh_address.proofs.ImageReadings.{block_readings, FormedBelow, clock_given, greatest_most, behind_front, in_taken, at_last}
+use Rattle.dh_address.proofs.FalsePut.{many_false_put, many_late}
+use Rattle.dh_address.proofs.GoodPieces.{obeys_all, IsGoodStep}
+use Rattle.dh_address.proofs.ImageReadings.{block_readings, FormedBelow, clock_given, at_last}
 use Rattle.dh_address.proofs.KnownPieces.{HasMeaning, IsKnownValue, IsPieceAt}
 use Rattle.dh_address.proofs.PartsOfPieces.{AllBetween, place_of, between_on, made_between, nothing_between}
 use Rattle.dh_address.proofs.PieceForms.{image_of, around}
-use Rattle.dh_address.proofs.PiecesGrow.{access_grows, aimed_grows, guarded_grows, checked_grows, value_grows, but_aim_grows}
+use Rattle.dh_address.proofs.PiecesGrow.{access_grows, aimed_grows, checked_grows, value_grows, but_aim_grows}
 use Rattle.dh_address.proofs.SuitsKnown.{all_two}
-use Rattle.dh_address.proofs.TestedRanges.{IsTestable, tested_put, testable_later, test_grows, check_grows, checks_grow, begun_later, guards_put, guards_come, ComesFrom}
+use Rattle.dh_address.proofs.TestedRanges.{IsTestable, tested_put, testable_later, check_grows, checks_grow, begun_later, guards_put, guards_come, ComesFrom}
 
 -- Greatest numbers.
 
