@@ -25,11 +25,11 @@ use Rattle.dh_plan.proofs.ValuesAlike.{all_left, all_right, all_map}
 use Rattle.dh_rows.specs.Readings.{Readings, Obeys, IsEarlier, Grows, Adds, IsValueOrNone}
 use Rattle.dh_rows.specs.MadeOperations.{pushed, IsMade}
 use Rattle.dh_rows.proofs.Growing.{grows_self, grows_on, grown_length, kept_there, pushed_grows, obeys_before, maybe_later, adds_on, pushed_adds, pushed_value}
-use Rattle.dh_address.specs.Pieces.{Around, Range, is_probe, is_probe_form, new_number, new_or_none, ranges_of, check_made, AreChecked, false_behind_all, false_word, new_takes, waited, is_banked, IsProbeValue, IsAimed, IsAccessMade, IsReadMade, IsWriteMade, IsProbed, IsFormMade}
+use Rattle.dh_address.specs.Pieces.{Around, Range, aimed, is_probe, is_probe_form, new_number, new_or_none, ranges_of, check_made, AreChecked, false_behind_all, false_word, new_takes, waited, is_banked, IsProbeValue, IsAimed, IsAccessMade, IsReadMade, IsWriteMade, IsProbed, IsFormMade}
 use Rattle.dh_address.specs.LiteralPlaces.{literal_places}
 use Rattle.dh_address.specs.Renumbered.{renumbered}
 use Rattle.dh_rows.specs.RowsShown.{IsInput}
-use Rattle.dh_address.proofs.AccessesPut.{IsInputOf, input_later, maybe_value, testables, aims_put, all_join, element_plain, IsPicked, IsPicksGiven, IsNumberThere, IsCountThere}
+use Rattle.dh_address.proofs.AccessesPut.{IsInputOf, input_later, maybe_value, testables, aims_put, all_join, element_plain, IsPicked, IsPicksGiven, PutsAccess, IsNumberThere, IsCountThere}
 use Rattle.dh_address.proofs.BlockEquations.{clock_solved}
 use Rattle.dh_address.proofs.FalsePut.{many_false_put, many_late}
 use Rattle.dh_address.proofs.GoodPieces.{obeys_all, IsGoodStep}
@@ -39,7 +39,7 @@ use Rattle.dh_address.proofs.PartsOfPieces.{AllBetween, place_of, between_on, ma
 use Rattle.dh_address.proofs.PieceForms.{image_of, around}
 use Rattle.dh_address.proofs.PiecesGrow.{access_grows, aimed_grows, checked_grows, value_grows, but_aim_grows}
 use Rattle.dh_address.proofs.SuitsKnown.{all_two}
-use Rattle.dh_address.proofs.TestedRanges.{IsTestable, tested_put, testable_later, check_grows, checks_grow, begun_later, guards_put, guards_come, ComesFrom}
+use Rattle.dh_address.proofs.TestedRanges.{PutsMaybe, IsTestable, tested_put, testable_later, check_grows, checks_grow, begun_later, guards_put, guards_come, ComesFrom}
 
 -- Greatest numbers.
 
@@ -316,28 +316,44 @@ module _ (p : PlainPlan) (none : p.views ≡ []) (tables : IsProgramTable p.tabl
       on_bound last None h v = tt
       on_bound last (Some g) h v = ((v h).earlier.there, tt)
 
-      use_timed : PicksBank p old_first ks r r.row r.select → AllByRecursion Input (reach_takes r) → (last : List Operation) (on : Option ℕ) (t : Reach) → IsAccessMade a (new_or_none a o.guard) r old last on t
-          → Grows last all → IsTimedUse last on t
-      use_timed picks input last on t h grows =
-          let guards = guards_put x needed a (new_or_none a o.guard) (ranges_of a r) old h.guarded on h.guards at.begun (testables x needed a p r suits old input)
-          (maybe_value x needed a old kind.Bool o.guard at.suits.guard guard_inputs)
-          in
+      -- what is there by then, once row and bank are put down
+      of_access : (here last : List Operation) (on : Option ℕ) (t : Reach) → PutsMaybe x needed old here kind.Bool on → PutsAccess x needed a r here last t → Grows last all
+          → AllBetween (λ m u. x.clock m ≤ needed) old last × (AllByRecursion (λ v. x.clock v ≤ needed) (one_or_none on) × AllByRecursion (λ v. x.clock v ≤ needed) (reach_takes t))
+      of_access here last on t guards access grows =
+          let whole = obeys_before x last all grows obeys in
+          let P = λ (v : ℕ). x.clock v ≤ needed in
+          ( added_by needed old last (adds_on x needed old here last guards.adds access.adds) grows at.begun
+          , ( on_bound last on whole (maybe_later x needed here last kind.Bool on access.adds.grows guards.stands)
+            , aimed_bound access.taken access.row access.select access.reach
+              (all_join P access.taken _ (all_map (IsNumberThere x needed a last) P access.taken (λ v k. (k whole).0.there) access.taken_there)
+              (all_join P (one_or_none access.select) _ (all_map (IsCountThere x needed a last) P (one_or_none access.select) (λ v k. (k whole).0.there) access.select_there) ((access.row_there whole).0.there, tt)))))
+        where
+          aimed_bound : (vs : List ℕ) (row : ℕ) (select : Option ℕ) → t ≡ aimed r vs row select → AllByRecursion (λ v. x.clock v ≤ needed) (reach_takes (aimed r vs row select))
+              → AllByRecursion (λ v. x.clock v ≤ needed) (reach_takes t)
+          aimed_bound vs row select e h = subst (λ (u : Reach). AllByRecursion (λ v. x.clock v ≤ needed) (reach_takes u)) (sym e) h
+
+      of_guards : (last : List Operation) (on : Option ℕ) (t : Reach) (h : IsAccessMade a (new_or_none a o.guard) r old last on t) → Grows last all → PutsMaybe x needed old h.guarded kind.Bool on
+          → AllByRecursion Input (reach_takes r) → IsPicksGiven x needed a r r.row → IsTimedUse last on t
+      of_guards last on t h grows guards input picks =
           let begun = begun_later x old h.guarded guards.adds.grows at.begun in
           let later = all_map Input (IsInputOf x needed a (length h.guarded)) (reach_takes r) (λ v k. input_later x needed a (length old) (length h.guarded) v (grown_length old h.guarded guards.adds.grows) k) input in
-          let access = aims_put x needed a p none refl tables r suits r.row refl (given r.row picks) h.guarded last t h.aims begun later in
-          let adds = adds_on x needed old h.guarded last guards.adds access.adds in
-          let here = obeys_before x last all grows obeys in
-          let P = λ (v : ℕ). x.clock v ≤ needed in
+          let so = of_access h.guarded last on t guards (aims_put x needed a p none refl tables r suits r.row refl picks h.guarded last t h.aims begun later) grows in
           record {
-            before = added_by needed old last adds grows at.begun;
-            on_by_then = on_bound last on here (maybe_later x needed h.guarded last kind.Bool on access.adds.grows guards.stands);
-            takes_by_then = subst (λ (u : Reach). AllByRecursion P (reach_takes u)) (sym access.reach)
-                (all_join P access.taken _ (all_map (IsNumberThere x needed a last) P access.taken (λ v k. (k here).0.there) access.taken_there)
-                (all_join P (one_or_none access.select) _ (all_map (IsCountThere x needed a last) P (one_or_none access.select) (λ v k. (k here).0.there) access.select_there) ((access.row_there here).0.there, tt)));
+            before = so.0;
+            on_by_then = so.1.0;
+            takes_by_then = so.1.1;
             guard_back = λ bound below. from_guard last on o.guard guard_timed
                 (λ b c. guards_come x all both_late a (new_or_none a o.guard) (ranges_of a r) old h.guarded on b h.guards at.begun (grows_on h.guarded last all (aimed_grows a r r.row h.guarded last t h.aims) grows) c) bound below;
             takes_back = λ bound below. aims_back r.row refl h.guarded last t h.aims begun grows bound below;
           }
+
+      use_timed : PicksBank p old_first ks r r.row r.select → AllByRecursion Input (reach_takes r) → (last : List Operation) (on : Option ℕ) (t : Reach) → IsAccessMade a (new_or_none a o.guard) r old last on t
+          → Grows last all → IsTimedUse last on t
+      use_timed picks input last on t h grows =
+          of_guards last on t h grows
+          (guards_put x needed a (new_or_none a o.guard) (ranges_of a r) old h.guarded on h.guards at.begun (testables x needed a p r suits old input)
+          (maybe_value x needed a old kind.Bool o.guard at.suits.guard guard_inputs))
+          input (given r.row picks)
         where
           given : (row : Option ℕ) → PicksBank p old_first ks r row r.select → IsPicksGiven x needed a r row
           given None h = tt

@@ -30,7 +30,7 @@ use Rattle.dh_address.proofs.AccessesPut.{IsInputOf, PutsAccess, IsPicked, IsPic
 use Rattle.dh_address.proofs.FalsePut.{many_false_put}
 use Rattle.dh_address.proofs.ImageReadings.{timeless, timeless_below, FormedAt, FormedBelow, kind_given, added_below, pushed_below, at_last}
 use Rattle.dh_address.proofs.PiecesGrow.{access_grows, value_grows}
-use Rattle.dh_address.proofs.TestedRanges.{IsTestable, check_grows, checks_grow, tested_put, testable_later, begun_later, guards_put}
+use Rattle.dh_address.proofs.TestedRanges.{PutsMaybe, IsTestable, check_grows, checks_grow, tested_put, testable_later, begun_later, guards_put}
 
 -- the plan that the pass makes, of these blocks
 abbrev pub image_of : PlainPlan → List PlanBlock → PlainPlan
@@ -205,19 +205,15 @@ module _ (p : PlainPlan) (none : p.views ≡ []) (tables : IsProgramTable p.tabl
       of None k = ap (λ (u : Reach). u.memory) k.reach
       of (Some row) k = ap (λ (u : Reach). u.memory) k.1
 
-  pub use_put : (g : Option ℕ) (r : Reach) (old last : List Operation) (on : Option ℕ) (t : Reach) → IsAccessMade a (new_or_none a g) r old last on t → Grows last all → first ≤ length old → Formed (length old)
-      → AllByRecursion (λ v. known_kind a v ≡ kind.Bool) (one_or_none g) → AllByRecursion (Input (length old)) (one_or_none g)
-      → ReachSuits p (first_in p block) ks r → PicksBank p (first_in p block) ks r r.row r.select → AllByRecursion (Input (length old)) (reach_takes r) → PutsUse r old last on t
-  use_put g r old last on t h grows begun formed gk gi suits picks taken =
-      let guards = guards_put x 0 a (new_or_none a g) (ranges_of a r) old h.guarded on h.guards begun (testables x 0 a p r suits old taken) (maybe_value x 0 a old kind.Bool g gk gi) in
-      let later = all_map (Input (length old)) (Input (length h.guarded)) (reach_takes r) (λ v i. input_later x 0 a (length old) (length h.guarded) v (grown_length old h.guarded guards.adds.grows) i) taken in
-      let access = aims_put x 0 a p none refl tables r suits r.row refl (picks_of r r.row picks) h.guarded last t h.aims (begun_later x old h.guarded guards.adds.grows begun) later in
-      let adds = adds_on x 0 old h.guarded last guards.adds access.adds in
+  -- once row and bank are put down
+  with_access : (r : Reach) (old guarded last : List Operation) (on : Option ℕ) (t : Reach) → PutsMaybe x 0 old guarded kind.Bool on → (access : PutsAccess x 0 a r guarded last t) → Grows last all
+      → first ≤ length old → Formed (length old) → ReachSuits p (first_in p block) ks r → PutsUse r old last on (aimed r access.taken access.row access.select)
+  with_access r old guarded last on t guards access grows begun formed suits =
+      let adds = adds_on x 0 old guarded last guards.adds access.adds in
       let all_formed = adds_formed old last adds grows formed in
       let obeys = formed_obeys last grows all_formed in
-      let facts = on_facts last on obeys (maybe_later x 0 h.guarded last kind.Bool on access.adds.grows guards.stands) in
-      subst (λ (u : Reach). PutsUse r old last on u) (sym {b = aimed r access.taken access.row access.select} access.reach)
-      (record {
+      let facts = on_facts last on obeys (maybe_later x 0 guarded last kind.Bool on access.adds.grows guards.stands) in
+      record {
         adds = adds;
         formed = all_formed;
         begun = begun_later x old last adds.grows begun;
@@ -227,9 +223,30 @@ module _ (p : PlainPlan) (none : p.views ≡ []) (tables : IsProgramTable p.tabl
             all_join (IsBetween first (length last)) access.taken _ (there_between last obeys access.taken access.taken_there)
             (all_join (IsBetween first (length last)) (one_or_none access.select) _ (count_between last obeys (one_or_none access.select) access.select_there)
             (there_between last obeys (access.row ∷ []) (access.row_there, tt)));
-        suits = aimed_suits r suits h.guarded last t access obeys;
+        suits = aimed_suits r suits guarded last t access obeys;
         picks = picks_bank r access.taken access.row access.select access.picks;
-      })
+      }
+
+  as_aimed : (r : Reach) (old guarded last : List Operation) (on : Option ℕ) (t : Reach) → PutsMaybe x 0 old guarded kind.Bool on → PutsAccess x 0 a r guarded last t → Grows last all
+      → first ≤ length old → Formed (length old) → ReachSuits p (first_in p block) ks r → PutsUse r old last on t
+  as_aimed r old guarded last on t guards access grows begun formed suits =
+      subst (λ (u : Reach). PutsUse r old last on u) (sym access.reach) (with_access r old guarded last on t guards access grows begun formed suits)
+
+  -- once the tests are put down
+  with_guards : (g : Option ℕ) (r : Reach) (old guarded last : List Operation) (on : Option ℕ) (t : Reach) → PutsMaybe x 0 old guarded kind.Bool on → IsAimed a r r.row guarded last t → Grows last all
+      → first ≤ length old → Formed (length old) → ReachSuits p (first_in p block) ks r → PicksBank p (first_in p block) ks r r.row r.select → AllByRecursion (Input (length old)) (reach_takes r) → PutsUse r old last on t
+  with_guards g r old guarded last on t guards aims grows begun formed suits picks taken =
+      let later = all_map (Input (length old)) (Input (length guarded)) (reach_takes r) (λ v i. input_later x 0 a (length old) (length guarded) v (grown_length old guarded guards.adds.grows) i) taken in
+      as_aimed r old guarded last on t guards
+      (aims_put x 0 a p none refl tables r suits r.row refl (picks_of r r.row picks) guarded last t aims (begun_later x old guarded guards.adds.grows begun) later) grows begun formed suits
+
+  pub use_put : (g : Option ℕ) (r : Reach) (old last : List Operation) (on : Option ℕ) (t : Reach) → IsAccessMade a (new_or_none a g) r old last on t → Grows last all → first ≤ length old → Formed (length old)
+      → AllByRecursion (λ v. known_kind a v ≡ kind.Bool) (one_or_none g) → AllByRecursion (Input (length old)) (one_or_none g)
+      → ReachSuits p (first_in p block) ks r → PicksBank p (first_in p block) ks r r.row r.select → AllByRecursion (Input (length old)) (reach_takes r) → PutsUse r old last on t
+  use_put g r old last on t h grows begun formed gk gi suits picks taken =
+      with_guards g r old h.guarded last on t
+      (guards_put x 0 a (new_or_none a g) (ranges_of a r) old h.guarded on h.guards begun (testables x 0 a p r suits old taken) (maybe_value x 0 a old kind.Bool g gk gi))
+      h.aims grows begun formed suits picks taken
 
   -- the reads and writes themselves
   read_put : (g : Option ℕ) (r : Reach) (old mid : List Operation) (n : ℕ) (k : Kind) (gives : Type 0) → IsReadMade a (new_or_none a g) r old mid n → Grows mid all → first ≤ length old → Formed (length old)
