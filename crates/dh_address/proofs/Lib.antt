@@ -36,3 +36,6 @@ pub mod ChecksPut
 pub mod LiteralRows
 pub mod LiteralsKept
 pub mod FormedImages
+pub mod ClocksAlike
+pub mod LengthsAlike
+pub mod Addressed

@@ -48,7 +48,7 @@ item_all P [] m u h e = absurd (cc)
 item_all P (o ∷ os) zero u h e = let same : o ≡ u = cc in subst P same h.0
 item_all P (o ∷ os) (suc m) u h e = item_all P os m u h.1 e
 
-nothing_between : (P : ℕ → Operation → Type 0) (old new : List Operation) → new ≡ old → AllBetween P old new
+pub nothing_between : (P : ℕ → Operation → Type 0) (old new : List Operation) → new ≡ old → AllBetween P old new
 nothing_between P old new same m u l e = absurd (past (place_of old m u (subst (λ (os : List Operation). slice_get os m ≡ Some u) same e)) l)
   where
     past : m < length old → length old ≤ m → ⊥
@@ -61,7 +61,7 @@ between_on P a b c g h k m u l e = either (cases_lt m (length b))
     either (inl s) = h m u l (was_in b g m u s e)
     either (inr s) = k m u s e
 
-quiet_between : (P : ℕ → Operation → Type 0) → ((m : ℕ) (u : Operation) → IsQuiet u → P m u) → (old new : List Operation) → GrowsQuietly old new → AllBetween P old new
+pub quiet_between : (P : ℕ → Operation → Type 0) → ((m : ℕ) (u : Operation) → IsQuiet u → P m u) → (old new : List Operation) → GrowsQuietly old new → AllBetween P old new
 quiet_between P f old new g m u l e =
     f m u (item_all IsQuiet g.more (m - length old) u g.quiet
     (sym (behind_front old g.more (m - length old)) ∙ (ap (λ (k : ℕ). slice_get (old ++ g.more) k) (place (length old) m l) ∙ subst (λ (os : List Operation). slice_get os m ≡ Some u) g.appended e)))
@@ -69,7 +69,7 @@ quiet_between P f old new g m u l e =
     place : (a m : ℕ) → a ≤ m → a + (m - a) ≡ m
     place a m l = omega (arith, l)
 
-made_between : (P : ℕ → Operation → Type 0) (old mid : List Operation) (n : ℕ) (g : Option ℕ) (f : OperationForm) → IsMade mid n (pushed old g f) → P n (record { guard = g; form = f }) → AllBetween P old mid
+pub made_between : (P : ℕ → Operation → Type 0) (old mid : List Operation) (n : ℕ) (g : Option ℕ) (f : OperationForm) → IsMade mid n (pushed old g f) → P n (record { guard = g; form = f }) → AllBetween P old mid
 made_between P old mid n g f h own m u l e =
     let there = subst (λ (os : List Operation). slice_get os m ≡ Some u) h.0 e in
     let within = place_of (pushed old g f).operations m u there in

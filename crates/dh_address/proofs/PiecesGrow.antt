@@ -86,7 +86,7 @@ zero_grows : (os : List Operation) (width : ℕ) (v : Option ℕ) → Grows os (
 zero_grows os width None = pushed_grows os None _
 zero_grows os width (Some v) = grows_self os
 
-but_aim_grows : (place : Option LiteralPlace) (width : ℕ) (dims : List Dim) (indices : List ℕ) (banked : Bool) (old new : List Operation) (row : ℕ) (select : Option ℕ)
+pub but_aim_grows : (place : Option LiteralPlace) (width : ℕ) (dims : List Dim) (indices : List ℕ) (banked : Bool) (old new : List Operation) (row : ℕ) (select : Option ℕ)
     → IsAimBut place width dims indices banked old new row select → Grows old new
 but_aim_grows None width dims indices banked old new row select h =
     let first = or_zero h.spread width h.values.row in

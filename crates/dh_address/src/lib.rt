@@ -19,4 +19,3 @@ mod renumbering;
 mod results;
 
 pub use addressing::addresses;
-pub use laws::{structure_trial, trial};
