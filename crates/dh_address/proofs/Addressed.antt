@@ -1,5 +1,5 @@
 -- What the pass makes of a sound plan without views is that plan with rows of banks in place of indices.
-use Rattle.std.proofs.Common.{◌≡◌, ℕ, List, sym, subst}
+use Rattle.std.proofs.Common.{◌≡◌, sym, subst}
 use Rattle.std.specs.Prelude.{[]}
 use Rattle.dh_plan.specs.DoneProgram.{BlocksDoTheSame, RunTheSame, IsAddressingOf}
 use Rattle.dh_plan.specs.PlainPlans.{PlainPlan}
@@ -9,7 +9,6 @@ use Rattle.dh_address.proofs.BlockImages.{image_is, blocks_do_the_same, runs_the
 use Rattle.dh_address.proofs.FormedImages.{image_sound}
 use Rattle.dh_address.proofs.LengthsAlike.{lengths_same}
 use Rattle.dh_address.proofs.LiteralsKept.{literals_kept}
-use Rattle.dh_address.proofs.PieceForms.{image_of}
 use Rattle.dh_address.proofs.PlanSeen.{sees_same, sets_same, charges_same, products_same}
 use Rattle.dh_address.proofs.SoundImages.{is_addressed}
 

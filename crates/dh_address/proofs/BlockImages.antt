@@ -1,7 +1,7 @@
 -- Each block that the pass makes, in front of which all blocks before stand, is known piece by piece; and it does in a step
 -- of the plan what the old one does.
-use Rattle.std.proofs.Common.{◌≡◌, ℕ, zero, suc, ◌+◌, ◌<◌, ◌≤◌, ◌⊎◌, inl, inr, Some, None, List, length, refl, sym, ap, subst, ◌∙◌, arith}
-use Rattle.std.specs.Prelude.{[], ◌∷◌, ◌++◌, Option, slice_get, slice_index}
+use Rattle.std.proofs.Common.{◌≡◌, ℕ, zero, suc, ◌+◌, ◌<◌, ◌≤◌, inl, Some, List, length, refl, sym, ap, subst, ◌∙◌, arith}
+use Rattle.std.specs.Prelude.{[], ◌∷◌, ◌++◌, slice_get, slice_index}
 use Rattle.std.specs.List.{AllByRecursion}
 use Rattle.std.proofs.lemmas.List.{append_assoc, length-append}
 use Rattle.dh_tree.specs.Tables.{Fits}
@@ -10,9 +10,8 @@ use Rattle.dh_plan.specs.declared.operations.PlanBlock.{PlanBlock}
 use Rattle.dh_plan.specs.AlikeRuns.{DoesAlike, BlocksDoAlike}
 use Rattle.dh_plan.specs.Blocks.{all_set}
 use Rattle.dh_plan.specs.Correspondence.{FitKinds}
-use Rattle.dh_plan.specs.DoneProgram.{DoesTheSame, BlocksDoTheSame, RunTheSame}
+use Rattle.dh_plan.specs.DoneProgram.{BlocksDoTheSame, RunTheSame}
 use Rattle.dh_plan.specs.PlainPlans.{PlainPlan, operations_before, block_operations, first_in, operations_in}
-use Rattle.dh_plan.specs.PlanRuns.{start_at}
 use Rattle.dh_plan.specs.SoundPlans.{Counting, IsStepOf, IsSound, IsFormed}
 use Rattle.dh_plan.proofs.FittingValues.{plan_values_fit}
 use Rattle.dh_plan.proofs.SameStates.{plans_run_alike}

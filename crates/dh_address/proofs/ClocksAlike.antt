@@ -1,6 +1,6 @@
 -- When values are there: in the new block the value that stands for an old one is there at the clock at which the old one
 -- is, and all that is put down with it no later. So both blocks have one length.
-use Rattle.std.proofs.Common.{◌≡◌, ℕ, zero, suc, ◌+◌, ◌-◌, ◌<◌, ◌≤◌, ◌⊎◌, inl, inr, Some, None, List, Bool, true, false, length, get_or, map, refl, sym, ap, subst, ◌∙◌, arith}
+use Rattle.std.proofs.Common.{◌≡◌, ℕ, suc, ◌+◌, ◌-◌, ◌<◌, ◌≤◌, ◌⊎◌, inl, inr, Some, None, List, Bool, true, false, length, map, refl, sym, ap, subst, ◌∙◌, arith}
 use Rattle.std.specs.Prelude.{[], ◌∷◌, ◌++◌, Option, slice_get, max, take, drop, if◌then◌else◌}
 use Rattle.std.proofs.lemmas.List.{take-append-drop}
 use Rattle.std.specs.List.{AllByRecursion}
@@ -16,30 +16,30 @@ use Rattle.dh_plan.specs.declared.operations.OperationForm.{OperationForm}
 use Rattle.dh_plan.specs.declared.operations.OperationForm.TheVariants.{Constant, Old, Compute, Convert, Select, Check, Probe, Read, Write, Set}
 use Rattle.dh_plan.specs.declared.operations.PlanBlock.{PlanBlock}
 use Rattle.dh_plan.specs.declared.operations.Reach.{Reach}
-use Rattle.dh_plan.specs.LegalSchedules.{is_read, there_at, there_from, value_clock, greatest_of, needed_clock, last_clock, least_clocks}
-use Rattle.dh_plan.specs.Ordered.{one_or_none, offsets_taken, reach_takes, form_takes, operation_takes, IsBetween, TakesEarlier}
+use Rattle.dh_plan.specs.LegalSchedules.{is_read, there_at, value_clock, greatest_of, least_clocks}
+use Rattle.dh_plan.specs.Ordered.{one_or_none, offsets_taken, reach_takes, form_takes, operation_takes}
 use Rattle.dh_plan.specs.PlainPlans.{PlainPlan, first_in, operations_in}
 use Rattle.dh_plan.specs.PlanKinds.{kind_of_value, kinds_of, NamesElement, ReachSuits, PicksBank, FormSuits, IsFormedBlock}
 use Rattle.dh_plan.specs.PlanRuns.{start_at}
 use Rattle.dh_plan.proofs.ValuesAlike.{all_left, all_right, all_map}
-use Rattle.dh_rows.specs.Readings.{Readings, Obeys, HasPlain, IsEarlier, IsAdded, Grows, Adds, IsValueOrNone}
+use Rattle.dh_rows.specs.Readings.{Readings, Obeys, IsEarlier, Grows, Adds, IsValueOrNone}
 use Rattle.dh_rows.specs.MadeOperations.{pushed, IsMade}
 use Rattle.dh_rows.proofs.Growing.{grows_self, grows_on, grown_length, kept_there, pushed_grows, obeys_before, maybe_later, adds_on, pushed_adds, pushed_value}
-use Rattle.dh_address.specs.Pieces.{Around, Range, any_takes_probe, is_probe, is_probe_form, new_number, new_or_none, known_kind, ranges_of, check_made, AreChecked, false_behind_all, false_word, new_takes, waited, is_banked, aimed, IsProbeValue, IsAimed, IsAccessMade, IsReadMade, IsWriteMade, IsProbed, IsFormMade}
-use Rattle.dh_address.specs.LiteralPlaces.{literal_within, literal_places}
+use Rattle.dh_address.specs.Pieces.{Around, Range, is_probe, is_probe_form, new_number, new_or_none, ranges_of, check_made, AreChecked, false_behind_all, false_word, new_takes, waited, is_banked, IsProbeValue, IsAimed, IsAccessMade, IsReadMade, IsWriteMade, IsProbed, IsFormMade}
+use Rattle.dh_address.specs.LiteralPlaces.{literal_places}
 use Rattle.dh_address.specs.Renumbered.{renumbered}
 use Rattle.dh_rows.specs.RowsShown.{IsInput}
 use Rattle.dh_address.proofs.AccessesPut.{IsInputOf, input_later, maybe_value, testables, aims_put, all_join, element_plain, IsPicked, IsPicksGiven, IsNumberThere, IsCountThere}
 use Rattle.dh_address.proofs.BlockEquations.{clock_solved}
-use Rattle.dh_address.proofs.FalsePut.{many_false_put, many_false_grow, many_late}
-use Rattle.dh_address.proofs.GoodPieces.{obeys_all, IsGoodStep, AreGoodPieces}
-use Rattle.dh_address.proofs.ImageReadings.{block_readings, FormedBelow, clock_given, greatest_most, behind_front, in_taken, at_last}
+use Rattle.dh_address.proofs.FalsePut.{many_false_put, many_late}
+use Rattle.dh_address.proofs.GoodPieces.{obeys_all, IsGoodStep}
+use Rattle.dh_address.proofs.ImageReadings.{block_readings, FormedBelow, clock_given, at_last}
 use Rattle.dh_address.proofs.KnownPieces.{HasMeaning, IsKnownValue, IsPieceAt}
 use Rattle.dh_address.proofs.PartsOfPieces.{AllBetween, place_of, between_on, made_between, nothing_between}
 use Rattle.dh_address.proofs.PieceForms.{image_of, around}
-use Rattle.dh_address.proofs.PiecesGrow.{access_grows, aimed_grows, guarded_grows, checked_grows, value_grows, but_aim_grows}
+use Rattle.dh_address.proofs.PiecesGrow.{access_grows, aimed_grows, checked_grows, value_grows, but_aim_grows}
 use Rattle.dh_address.proofs.SuitsKnown.{all_two}
-use Rattle.dh_address.proofs.TestedRanges.{IsTestable, tested_put, testable_later, test_grows, check_grows, checks_grow, begun_later, guards_put, guards_come, ComesFrom}
+use Rattle.dh_address.proofs.TestedRanges.{IsTestable, tested_put, testable_later, check_grows, checks_grow, begun_later, guards_put, guards_come, ComesFrom}
 
 -- Greatest numbers.
 
@@ -168,8 +168,8 @@ module _ (p : PlainPlan) (none : p.views ≡ []) (tables : IsProgramTable p.tabl
     inputs =
         all_two IsKnownInTime (λ v. (SameClock v (renumbered old_first ns v)) × (old_clock v ≤ needed)) Input (operation_takes o)
         (λ v h t. record {
-            earlier = record { begun = h.known.begun; before = h.known.before; there = (let c = t.0 in let l = t.1 in omega (arith, c, l)) };
-            kind_is = h.known.kind_is ∙ sym h.kind_same;
+          earlier = record { begun = h.known.begun; before = h.known.before; there = (let c = t.0 in let l = t.1 in omega (arith, c, l)) };
+          kind_is = h.known.kind_is ∙ sym h.kind_same;
         })
         (all_two (λ v. IsKnownValue p none tables bs block front begins formed (length old) v (renumbered old_first ns v)) (λ v. kind_of_value old_first ks v ≡ kind_of_value old_first (kinds_of p block) v)
         IsKnownInTime (operation_takes o) (λ v h e. record { known = h; kind_same = e }) at.known at.kinds_same)
@@ -232,7 +232,7 @@ module _ (p : PlainPlan) (none : p.views ≡ []) (tables : IsProgramTable p.tabl
         ∙ (ap (λ (vs : List ℕ). there_at f' (greatest_of (map x.clock (one_or_none (new_or_none a o.guard) ++ vs)))) mapped
         ∙ (ap (λ (vs : List ℕ). there_at f' (greatest_of (map x.clock vs))) (new_list a o.guard (form_takes f))
         ∙ (ap (λ (cs : List ℕ). there_at f' (greatest_of cs))
-          (clocks_mapped x.clock old_clock (new_number a) (one_or_none o.guard ++ form_takes f) (all_join Timed (one_or_none o.guard) (form_takes f) guard_timed (form_timed f e)))
+        (clocks_mapped x.clock old_clock (new_number a) (one_or_none o.guard ++ form_takes f) (all_join Timed (one_or_none o.guard) (form_takes f) guard_timed (form_timed f e)))
         ∙ (form_same (greatest_of (map old_clock (one_or_none o.guard ++ form_takes f)))
         ∙ (ap (λ (c : ℕ). there_at f c) (sym (needed_of f e)) ∙ sym (time_of f e)))))))
 

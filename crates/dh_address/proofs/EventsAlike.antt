@@ -1,14 +1,13 @@
 -- What a block does in a step, and what it becomes: the same first fault, the same writes and the same sets, piece by piece.
-use Rattle.std.proofs.Common.{◌≡◌, ℕ, zero, suc, ◌+◌, ◌-◌, ◌<◌, ◌≤◌, ◌&&◌, ◌⊎◌, inl, inr, Some, None, List, Bool, true, false, length, map, refl, sym, ap, subst, ◌∙◌, arith}
-use Rattle.std.specs.Prelude.{[], ◌∷◌, ◌++◌, Option, slice_get, if◌then◌else◌}
+use Rattle.std.proofs.Common.{◌≡◌, ℕ, suc, ◌+◌, ◌≤◌, ◌&&◌, Some, None, List, Bool, true, false, length, refl, sym, ap, subst, ◌∙◌}
+use Rattle.std.specs.Prelude.{[], ◌∷◌, ◌++◌, Option, if◌then◌else◌}
 use Rattle.std.specs.List.{AllByRecursion}
 use Rattle.std.specs.Option.{is_some}
 use Rattle.std.proofs.lemmas.List.{append_assoc, append_cancel_left}
 use Rattle.dh_value.specs.declared.kinds.Kind.{Kind}
-use Rattle.dh_value.specs.declared.kinds.Kind.TheVariants as kind
 use Rattle.dh_value.specs.declared.words.Word.{Word}
 use Rattle.dh_value.specs.Words.{IsInteger, value_of}
-use Rattle.dh_value.specs.Operations.{truth, is_true}
+use Rattle.dh_value.specs.Operations.{is_true}
 use Rattle.dh_tree.specs.Elements.{Spot, dims_at}
 use Rattle.dh_tree.specs.Shapes.{IsProgramTable}
 use Rattle.dh_plan.specs.declared.operations.Operation.{Operation}
@@ -16,9 +15,9 @@ use Rattle.dh_plan.specs.declared.operations.OperationForm.{OperationForm}
 use Rattle.dh_plan.specs.declared.operations.OperationForm.TheVariants.{Constant, Old, Compute, Convert, Select, Check, Probe, Read, Write, Set}
 use Rattle.dh_plan.specs.declared.operations.PlanBlock.{PlanBlock}
 use Rattle.dh_plan.specs.declared.operations.Reach.{Reach}
-use Rattle.dh_plan.specs.Blocks.{StepStart, word_at, is_on, spot_of_reach, BlockEvent, fails, puts, fails_unless, fails_outside, puts_inside, form_events, operation_events, block_events, RegisterSet, form_sets, operation_sets, block_sets, first_fault, Put, puts_of}
+use Rattle.dh_plan.specs.Blocks.{StepStart, word_at, is_on, spot_of_reach, BlockEvent, fails_unless, fails_outside, puts_inside, form_events, operation_events, block_events, RegisterSet, form_sets, operation_sets, block_sets, first_fault, Put, puts_of}
 use Rattle.dh_plan.specs.BlockLaws.{fault_or}
-use Rattle.dh_plan.specs.Ordered.{one_or_none, offsets_taken, reach_takes, form_takes, operation_takes, IsBetween}
+use Rattle.dh_plan.specs.Ordered.{one_or_none, offsets_taken, form_takes, operation_takes, IsBetween}
 use Rattle.dh_plan.specs.PlainPlans.{PlainPlan, first_in, operations_in}
 use Rattle.dh_plan.specs.PlanKinds.{kind_of_value, form_kind, FormSuits, IsFormedBlock}
 use Rattle.dh_plan.specs.PlanRuns.{start_at, block_values}
@@ -26,24 +25,24 @@ use Rattle.dh_plan.specs.SoundPlans.{use_in}
 use Rattle.dh_plan.specs.SoundRuns.{AreInKinds}
 use Rattle.dh_plan.proofs.Appends.{events_behind, sets_behind, fault_behind, puts_behind}
 use Rattle.dh_plan.proofs.ValuesAlike.{all_left, all_right, all_map}
-use Rattle.dh_rows.specs.Readings.{Readings, Obeys, Grows}
+use Rattle.dh_rows.specs.Readings.{Readings, Grows}
 use Rattle.dh_rows.specs.RowsShown.{HoldsOrNone, is_below_size}
 use Rattle.dh_rows.specs.MadeOperations.{pushed, IsMade}
-use Rattle.dh_rows.proofs.Growing.{grows_on, grown_length, obeys_before}
+use Rattle.dh_rows.proofs.Growing.{grows_on, obeys_before}
 use Rattle.dh_address.specs.LiteralPlaces.{literal_within}
-use Rattle.dh_address.specs.Pieces.{Around, Range, new_number, new_or_none, known_kind, ranges_of, IsTested, check_made, AreChecked, IsProbed, IsReadMade, IsWriteMade, IsFormMade}
+use Rattle.dh_address.specs.Pieces.{Around, Range, new_number, new_or_none, ranges_of, check_made, AreChecked, IsProbed, IsReadMade, IsWriteMade, IsFormMade}
 use Rattle.dh_address.specs.Renumbered.{renumbered}
 use Rattle.dh_address.proofs.AccessesLead.{holds_on}
 use Rattle.dh_address.proofs.AccessesPut.{IsInputOf}
-use Rattle.dh_address.proofs.GoodPieces.{obeys_all, IsGoodPiece, AreGoodPieces}
+use Rattle.dh_address.proofs.GoodPieces.{obeys_all, AreGoodPieces}
 use Rattle.dh_address.proofs.ImageReadings.{block_readings, timeless, FormedBelow}
 use Rattle.dh_address.proofs.KnownPieces.{IsPieceAt}
 use Rattle.dh_address.proofs.PieceForms.{image_of, around}
-use Rattle.dh_address.proofs.PieceShapes.{GrowsQuietly, quietly_same, quietly_on, events_quiet, sets_quiet, access_quietly, test_quietly, testables_at, value_quietly, inputs_at}
+use Rattle.dh_address.proofs.PieceShapes.{GrowsQuietly, quietly_same, events_quiet, sets_quiet, access_quietly, test_quietly, testables_at, value_quietly, inputs_at}
 use Rattle.dh_address.proofs.PiecesGrow.{access_grows, checked_grows, value_grows}
 use Rattle.dh_address.proofs.TestedRanges.{IsTestable, IsShown, all_in, tested_holds, test_grows, check_grows, checks_grow, begun_later, testable_later}
 use Rattle.dh_address.proofs.WordsAlike.{IsSame, IsSameInKind, all_in_reach, shown_in, plain_of}
-use Rattle.dh_address.proofs.WordsPass.{ReachesListed, SameWord, in_kinds, guard_same, guard_good, form_good, form_begun, means, put_grows, numbers_good}
+use Rattle.dh_address.proofs.WordsPass.{ReachesListed, SameWord, guard_same, guard_good, form_good, form_begun, means, put_grows, numbers_good}
 
 -- The fault of a check under a guard.
 abbrev pub missing : (on ok : Bool) → (fault : ℕ) → Option ℕ
@@ -121,7 +120,7 @@ grows_both s first ws a b c f g v w k l x y = record {
 
 made_so : (s : StepStart) (first : ℕ) (ws : List Word) (old mid : List Operation) (n : ℕ) (g : Option ℕ) (f : OperationForm) → IsMade mid n (pushed old g f)
     → GrowsSo s first ws old mid (first_fault (operation_events s first ws (record { guard = g; form = f }))) (puts_of (operation_events s first ws (record { guard = g; form = f })))
-      (operation_sets first ws (record { guard = g; form = f }))
+    (operation_sets first ws (record { guard = g; form = f }))
 made_so s first ws old mid n g f h = record { more = record { guard = g; form = f } ∷ []; appended = h.0; does = one_so s first ws (record { guard = g; form = f }) }
 
 -- a write where it is made and in range
@@ -287,7 +286,7 @@ module _ (p : PlainPlan) (none : p.views ≡ []) (tables : IsProgramTable p.tabl
           ap (λ (b : Bool). if b then puts_inside (word_at first vs (new_number a value)).bits (spot_of_reach t first vs h.reach) else []) m.on_is
           ∙ (ap (λ (es : List BlockEvent). if is_on old_first ws o.guard && is_some spot then es else []) bits_same
           ∙ (write_same (word_at old_first ws value).bits (is_on old_first ws o.guard) spot (spot_of_reach t first vs h.reach)
-            (λ sp on leads. m.leads.leads sp leads (listed i o r sp at.there (ap use_in e) on leads))
+          (λ sp on leads. m.leads.leads sp leads (listed i o r sp at.there (ap use_in e) on leads))
           ∙ ap (λ (f : OperationForm). if is_on old_first ws o.guard then form_events s old_first ws f else []) (sym e)))
           in
           let no_old_sets = ap (λ (f : OperationForm). if is_on old_first ws o.guard then form_sets old_first ws f else []) e ∙ no_set_chosen (is_on old_first ws o.guard) [] refl in
@@ -399,9 +398,9 @@ module _ (p : PlainPlan) (none : p.views ≡ []) (tables : IsProgramTable p.tabl
     -- the block does what it did
     pub block_so : AreGoodPieces p none tables bs block front begins formed Words [] [] 0 (operations_in p block) front
         → DoesSo t first vs (operations_in q block) (first_fault (block_events s old_first ws (operations_in p block))) (puts_of (block_events s old_first ws (operations_in p block)))
-          (block_sets old_first ws (operations_in p block))
+        (block_sets old_first ws (operations_in p block))
     block_so h =
         let g = pieces_so (operations_in p block) [] [] 0 front h in
         let same : g.more ≡ operations_in q block = append_cancel_left front g.more (operations_in q block) (sym g.appended) in
         subst (λ (os : List Operation). DoesSo t first vs os (first_fault (block_events s old_first ws (operations_in p block))) (puts_of (block_events s old_first ws (operations_in p block)))
-          (block_sets old_first ws (operations_in p block))) same g.does
+        (block_sets old_first ws (operations_in p block))) same g.does

@@ -1,7 +1,6 @@
 -- The plan that is made of a sound one is sound: formed as it must be, and each step keeps the banks.
-use Rattle.std.proofs.Common.{◌≡◌, ℕ, zero, suc, ◌+◌, ◌<◌, ◌≤◌, ◌⊎◌, inl, inr, Some, None, List, true, false, length, refl, sym, ap, subst, ◌∙◌, arith}
-use Rattle.std.specs.Prelude.{[], ◌∷◌, ◌++◌, Option, slice_get}
-use Rattle.std.specs.List.{AllByRecursion}
+use Rattle.std.proofs.Common.{◌≡◌, ℕ, ◌+◌, ◌⊎◌, inl, inr, Some, None, List, true, length, refl, sym, ap, subst, ◌∙◌, arith}
+use Rattle.std.specs.Prelude.{[], slice_get}
 use Rattle.dh_tree.specs.Meets.{In, Apart, Before}
 use Rattle.dh_plan.specs.declared.operations.Operation.{Operation}
 use Rattle.dh_plan.specs.declared.operations.OperationForm.{OperationForm}
@@ -11,7 +10,7 @@ use Rattle.dh_plan.specs.declared.operations.Reach.{Reach}
 use Rattle.dh_plan.specs.DoneProgram.{SetsRegister}
 use Rattle.dh_plan.specs.PlainPlans.{Node, block_node, turns_node, loop_node, choice_node, threads_node, Nodes, no_nodes, node_then, NodeLists, no_lists, list_then, PlainPlan, first_in, operations_in}
 use Rattle.dh_plan.specs.PlanKinds.{Names, IsFormedBlock}
-use Rattle.dh_plan.specs.SoundPlans.{access_in, HasAccess, Counting, countings, blocks_of, list_blocks, IsOneOf, GoSideBySide, ThreadsMeet, NodeThreadsMeet, ListsMeet, IsNeverSet, KeepsCounter, IsFormed, IsSound}
+use Rattle.dh_plan.specs.SoundPlans.{access_in, HasAccess, countings, blocks_of, list_blocks, GoSideBySide, ThreadsMeet, NodeThreadsMeet, ListsMeet, IsNeverSet, KeepsCounter, IsFormed, IsSound}
 use Rattle.dh_plan.proofs.ValuesAlike.{all_map}
 use Rattle.dh_address.specs.Images.{IsImage}
 use Rattle.dh_address.proofs.BlockImages.{front, begins, block_known}
@@ -121,9 +120,10 @@ module _ (p : PlainPlan) (none : p.views ≡ []) (sound : IsSound p) (bs : List 
   side_kept first second g b c i j r t one other x y =
       let a = old_access p q h b i r x in
       let d = old_access p q h c j t y in
-      let s = g b c a.place d.place a.reach d.reach one other a.has d.has in
-      ( λ apart. s.0 (subst (λ (n : ℕ). Apart p.meets n d.reach.access) a.access (subst (λ (n : ℕ). Apart p.meets r.access n) d.access apart))
-      , subst (λ (n : ℕ). Before p.meets n t.access) (sym a.access) (subst (λ (n : ℕ). Before p.meets a.reach.access n) (sym d.access) s.1))
+      let s = g b c a.place d.place a.reach d.reach one other a.has d.has in (
+        λ apart. s.0 (subst (λ (n : ℕ). Apart p.meets n d.reach.access) a.access (subst (λ (n : ℕ). Apart p.meets r.access n) d.access apart)),
+        subst (λ (n : ℕ). Before p.meets n t.access) (sym a.access) (subst (λ (n : ℕ). Before p.meets a.reach.access n) (sym d.access) s.1),
+      )
 
   never_set : (register : ℕ) → IsNeverSet p register → IsNeverSet q register
   never_set register kept block i guard value there =

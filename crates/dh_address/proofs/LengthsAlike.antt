@@ -1,9 +1,9 @@
 -- A block and what it becomes have one length: the last value of the one is there when the last value of the other is.
-use Rattle.std.proofs.Common.{◌≡◌, ℕ, zero, suc, ◌+◌, ◌-◌, ◌<◌, ◌≤◌, ◌⊎◌, inl, inr, Some, None, List, Bool, true, false, length, get_or, map, refl, sym, ap, subst, ◌∙◌, arith}
+use Rattle.std.proofs.Common.{◌≡◌, ℕ, zero, suc, ◌+◌, ◌-◌, ◌<◌, ◌≤◌, inl, inr, Some, List, Bool, true, false, length, get_or, map, refl, sym, ap, subst, ◌∙◌, arith}
 use Rattle.std.specs.Prelude.{[], ◌∷◌, ◌++◌, Option, slice_get, max}
 use Rattle.std.specs.List.{AllByRecursion}
 use Rattle.std.proofs.lemmas.List.{length-append}
-use Rattle.std.proofs.lemmas.Option.{slice_get_cases, slice_get_within}
+use Rattle.std.proofs.lemmas.Option.{slice_get_cases}
 use Rattle.dh_tree.specs.Shapes.{IsProgramTable}
 use Rattle.dh_plan.specs.declared.operations.Operation.{Operation}
 use Rattle.dh_plan.specs.declared.operations.OperationForm.{OperationForm}
@@ -25,7 +25,7 @@ use Rattle.dh_address.proofs.BlockImages.{front, begins, block_known}
 use Rattle.dh_address.proofs.BlockEquations.{clock_solved}
 use Rattle.dh_address.proofs.ClocksAlike.{SameClock, clocks_step, in_time}
 use Rattle.dh_address.proofs.GoodPieces.{AreGoodPieces, good_pieces, GoodPieceOf, good_piece_of}
-use Rattle.dh_address.proofs.ImageReadings.{block_readings, FormedBelow, behind_front, was_in}
+use Rattle.dh_address.proofs.ImageReadings.{block_readings, behind_front, was_in}
 use Rattle.dh_address.proofs.KnownPieces.{AllKnown, IsKnownValue}
 use Rattle.dh_address.proofs.PartsOfPieces.{stands_at}
 use Rattle.dh_address.proofs.PieceForms.{image_of, around}

@@ -1,6 +1,6 @@
 -- Of which old operation an operation of the new block is part, and as what: a plain one, the check of a probe, or the old
 -- operation itself at new numbers.
-use Rattle.std.proofs.Common.{◌≡◌, ℕ, zero, suc, ◌+◌, ◌-◌, ◌<◌, ◌≤◌, ◌⊎◌, inl, inr, Some, None, List, Bool, true, false, length, map, refl, sym, ap, subst, ◌∙◌, arith}
+use Rattle.std.proofs.Common.{◌≡◌, ℕ, zero, suc, ◌+◌, ◌-◌, ◌<◌, ◌≤◌, ◌⊎◌, inl, inr, Some, None, List, length, refl, sym, ap, subst, ◌∙◌, arith}
 use Rattle.std.specs.Prelude.{[], ◌∷◌, ◌++◌, Option, slice_get}
 use Rattle.std.specs.List.{AllByRecursion}
 use Rattle.std.proofs.lemmas.Bool.{cases_lt}
@@ -12,19 +12,19 @@ use Rattle.dh_plan.specs.declared.operations.OperationForm.{OperationForm}
 use Rattle.dh_plan.specs.declared.operations.OperationForm.TheVariants.{Constant, Old, Compute, Convert, Select, Check, Probe, Read, Write, Set}
 use Rattle.dh_plan.specs.declared.operations.PlanBlock.{PlanBlock}
 use Rattle.dh_plan.specs.declared.operations.Reach.{Reach}
-use Rattle.dh_plan.specs.Ordered.{one_or_none, reach_takes, form_takes}
+use Rattle.dh_plan.specs.Ordered.{one_or_none, form_takes}
 use Rattle.dh_plan.specs.PlainPlans.{PlainPlan, first_in, operations_in}
 use Rattle.dh_plan.specs.PlanKinds.{FormSuits, IsFormedBlock}
 use Rattle.dh_plan.specs.PlanRuns.{start_at}
 use Rattle.dh_plan.proofs.ValuesAlike.{all_right}
 use Rattle.dh_rows.specs.Readings.{Readings, Grows}
 use Rattle.dh_rows.specs.MadeOperations.{pushed, IsMade}
-use Rattle.dh_rows.proofs.Growing.{grows_on, grown_length, kept_there, pushed_grows}
+use Rattle.dh_rows.proofs.Growing.{grows_on}
 use Rattle.dh_address.specs.LiteralPlaces.{literal_within}
-use Rattle.dh_address.specs.Pieces.{Around, Range, new_number, new_or_none, ranges_of, IsTestBut, IsTested, check_made, AreChecked, IsProbed, IsAccessMade, IsReadMade, IsWriteMade, IsFormMade}
+use Rattle.dh_address.specs.Pieces.{Around, Range, new_number, new_or_none, ranges_of, IsTestBut, check_made, AreChecked, IsProbed, IsAccessMade, IsReadMade, IsWriteMade, IsFormMade}
 use Rattle.dh_address.proofs.AccessesPut.{IsInputOf}
 use Rattle.dh_address.proofs.GoodPieces.{AreGoodPieces, StandsInPiece, piece_around, around_rises, around_same}
-use Rattle.dh_address.proofs.ImageReadings.{timeless, FormedBelow, behind_front, in_front, was_in, at_last}
+use Rattle.dh_address.proofs.ImageReadings.{timeless, FormedBelow, behind_front, was_in, at_last}
 use Rattle.dh_address.proofs.KnownPieces.{IsPieceAt}
 use Rattle.dh_address.proofs.PieceForms.{image_of, around, made_grows}
 use Rattle.dh_address.proofs.PieceShapes.{IsQuiet, GrowsQuietly, access_quietly, test_quietly, testables_at, value_quietly, inputs_at}

@@ -1,8 +1,8 @@
 -- What is put down of an operation besides itself is plain: it has no effect on memories, registers or faults.
-use Rattle.std.proofs.Common.{◌≡◌, ℕ, zero, suc, ◌+◌, ◌-◌, ◌<◌, ◌≤◌, ◌⊎◌, inl, inr, Some, None, List, Bool, true, false, length, map, refl, sym, ap, subst, ◌∙◌, arith}
+use Rattle.std.proofs.Common.{◌≡◌, ℕ, suc, ◌+◌, ◌<◌, ◌≤◌, Some, None, List, Bool, true, false, length, refl, sym, ap, subst, ◌∙◌, arith}
 use Rattle.std.specs.Prelude.{[], ◌∷◌, ◌++◌, Option, slice_get, take, if◌then◌else◌}
 use Rattle.std.specs.List.{AllByRecursion}
-use Rattle.std.proofs.lemmas.List.{append_assoc, length-append}
+use Rattle.std.proofs.lemmas.List.{append_assoc}
 use Rattle.std.proofs.lemmas.Option.{slice_get_within}
 use Rattle.dh_value.specs.declared.kinds.Kind.{Kind}
 use Rattle.dh_value.specs.declared.kinds.Kind.TheVariants as kind
@@ -18,19 +18,19 @@ use Rattle.dh_plan.specs.declared.operations.Reach.{Reach}
 use Rattle.dh_plan.specs.Blocks.{StepStart, is_on, BlockEvent, form_events, block_events, RegisterSet, form_sets, block_sets}
 use Rattle.dh_plan.specs.Ordered.{one_or_none, reach_takes, form_takes, operation_takes, TakesEarlier}
 use Rattle.dh_plan.specs.PlainPlans.{PlainPlan, first_in, operations_in}
-use Rattle.dh_plan.specs.PlanKinds.{kind_of_value, kinds_of, ReachSuits, PicksBank, FormSuits, IsFormedBlock}
+use Rattle.dh_plan.specs.PlanKinds.{kind_of_value, kinds_of, ReachSuits, PicksBank, IsFormedBlock}
 use Rattle.dh_plan.specs.PlanRuns.{start_at}
-use Rattle.dh_plan.proofs.ValuesAlike.{all_left, all_right, all_map}
+use Rattle.dh_plan.proofs.ValuesAlike.{all_left, all_right}
 use Rattle.dh_rows.specs.Readings.{Readings, Obeys, Grows, Adds, is_plain}
-use Rattle.dh_rows.specs.MadeOperations.{pushed, IsMade}
-use Rattle.dh_rows.proofs.Growing.{grows_self, grows_on, grown_length, pushed_grows, obeys_before, adds_on, pushed_adds, pushed_value}
-use Rattle.dh_address.specs.Pieces.{Around, Range, new_number, new_or_none, known_kind, ranges_of, IsTested, false_behind_all, false_word, new_takes, IsProbeValue, IsAccessMade}
+use Rattle.dh_rows.specs.MadeOperations.{pushed}
+use Rattle.dh_rows.proofs.Growing.{grows_on, grown_length, adds_on, pushed_adds, pushed_value}
+use Rattle.dh_address.specs.Pieces.{Around, Range, new_or_none, ranges_of, IsTested, false_behind_all, false_word, new_takes, IsProbeValue, IsAccessMade}
 use Rattle.dh_address.specs.Renumbered.{renumbered}
 use Rattle.dh_address.proofs.AccessesPut.{IsInputOf, testables}
 use Rattle.dh_address.proofs.FalsePut.{many_false_put}
 use Rattle.dh_address.proofs.ImageReadings.{timeless, timeless_below, FormedBelow, behind_front, taken_front}
 use Rattle.dh_address.proofs.KnownPieces.{IsKnownValue, IsPieceAt}
-use Rattle.dh_address.proofs.PieceForms.{image_of, around, use_put, formed_obeys, inputs_later, takes_inputs, made_grows}
+use Rattle.dh_address.proofs.PieceForms.{image_of, around, use_put, inputs_later, takes_inputs, made_grows}
 use Rattle.dh_address.proofs.SuitsKnown.{all_two}
 use Rattle.dh_address.proofs.TestedRanges.{IsTestable, tested_put, begun_later}
 

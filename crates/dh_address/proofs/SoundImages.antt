@@ -1,6 +1,6 @@
 -- The plan that is made of a sound one keeps its banks in each step, and each access whose guard holds is in range.
-use Rattle.std.proofs.Common.{◌≡◌, ℕ, zero, suc, ◌+◌, ◌-◌, ◌<◌, ◌≤◌, ◌⊎◌, inl, inr, Some, None, List, true, length, refl, sym, ap, subst, ◌∙◌, arith}
-use Rattle.std.specs.Prelude.{[], ◌∷◌, ◌++◌, Option, slice_get, slice_index}
+use Rattle.std.proofs.Common.{◌≡◌, ℕ, ◌+◌, ◌<◌, ◌≤◌, ◌⊎◌, inl, inr, Some, List, true, length, refl, sym, ap, subst, ◌∙◌, arith}
+use Rattle.std.specs.Prelude.{[], ◌∷◌, slice_get, slice_index}
 use Rattle.std.specs.List.{AllByRecursion}
 use Rattle.std.proofs.lemmas.Bool.{cases_lt}
 use Rattle.dh_tree.specs.Elements.{Spot}
@@ -9,11 +9,11 @@ use Rattle.dh_tree.specs.Tables.{Fits}
 use Rattle.dh_plan.specs.declared.operations.Operation.{Operation}
 use Rattle.dh_plan.specs.declared.operations.PlanBlock.{PlanBlock}
 use Rattle.dh_plan.specs.declared.operations.Reach.{Reach}
-use Rattle.dh_plan.specs.Blocks.{StepStart, is_on, spot_of_reach}
+use Rattle.dh_plan.specs.Blocks.{StepStart, is_on}
 use Rattle.dh_plan.specs.Correspondence.{FitKinds}
 use Rattle.dh_plan.specs.PlainPlans.{PlainPlan, first_in, operations_in}
 use Rattle.dh_plan.specs.PlanRuns.{start_at, block_values}
-use Rattle.dh_plan.specs.SoundPlans.{use_in, Counting, IsOneOf, IsStepOf, Reaches, ComesBefore, OperationBefore, WritesAt, writes_memory, IsListed, RisesIn, InOneBank, KeepsBanks, StepsKeepBanks, IsSound, IsInRange, IsAddressed}
+use Rattle.dh_plan.specs.SoundPlans.{use_in, Counting, IsOneOf, IsStepOf, Reaches, OperationBefore, WritesAt, writes_memory, IsListed, RisesIn, InOneBank, KeepsBanks, StepsKeepBanks, IsSound, IsInRange, IsAddressed}
 use Rattle.dh_plan.specs.SoundRuns.{IsStepInTurns}
 use Rattle.dh_plan.proofs.FittingValues.{plan_values_fit}
 use Rattle.dh_plan.proofs.StepsAlone.{blocks_step_alone}
@@ -21,7 +21,7 @@ use Rattle.dh_address.specs.Images.{IsBlockImage}
 use Rattle.dh_address.proofs.BlockImages.{front, begins, IsKnownBlock, block_known, listed_in_step, words_in_step}
 use Rattle.dh_address.proofs.GoodPieces.{AreGoodPieces, StandsInPiece, Anything, plain_pieces}
 use Rattle.dh_address.proofs.PartsOfPieces.{stands_at, part_at, stand_in_order, one_itself}
-use Rattle.dh_address.proofs.PieceForms.{image_of, around}
+use Rattle.dh_address.proofs.PieceForms.{image_of}
 use Rattle.dh_address.proofs.UsesAlike.{IsSameAccess, IsLed, use_led, part_addressed}
 use Rattle.dh_address.proofs.WordsPass.{SameWord, ReachesListed}
 
@@ -86,7 +86,7 @@ module _ (p : PlainPlan) (none : p.views ≡ []) (sound : IsSound p) (bs : List 
 
       led : (j : ℕ) (u : Operation) (e : slice_get (operations_in q b) j ≡ Some u) (v : Reach) → use_in u.form ≡ Some v → is_on (first_in q b) (block_values q t b) u.guard ≡ true
           → IsLed p none sound.formed.table bs b start starts (sound.formed.blocks b) (known b).known.all_formed registers memories
-            (plan_values_fit p b registers memories (sound.formed.blocks b) fit fits) reaches_listed words j u e v
+          (plan_values_fit p b registers memories (sound.formed.blocks b) fit fits) reaches_listed words j u e v
       led j u e v uses on = use_led p none sound.formed.table bs b start starts (sound.formed.blocks b) (known b).known.all_formed registers memories
           (plan_values_fit p b registers memories (sound.formed.blocks b) fit fits) reaches_listed words j u e v uses on
 

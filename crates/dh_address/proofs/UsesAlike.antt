@@ -1,7 +1,7 @@
 -- Each read or write of the new block is an old one, of the same access, memory and banks; and in a step where its guard
 -- holds the old one was made, and both lead to one element.
-use Rattle.std.proofs.Common.{◌≡◌, ℕ, zero, suc, ◌+◌, ◌-◌, ◌<◌, ◌≤◌, ◌&&◌, ◌⊎◌, inl, inr, Some, None, List, Bool, true, false, length, map, refl, sym, ap, subst, ◌∙◌, arith}
-use Rattle.std.specs.Prelude.{[], ◌∷◌, ◌++◌, Option, slice_get}
+use Rattle.std.proofs.Common.{◌≡◌, ℕ, ◌+◌, inl, inr, Some, None, List, true, length, refl, sym, ap, subst, ◌∙◌}
+use Rattle.std.specs.Prelude.{[], ◌++◌, Option, slice_get}
 use Rattle.std.specs.List.{AllByRecursion}
 use Rattle.std.specs.Option.{is_some}
 use Rattle.dh_value.specs.declared.kinds.Kind.{Kind}
@@ -14,20 +14,19 @@ use Rattle.dh_plan.specs.declared.operations.OperationForm.TheVariants.{Constant
 use Rattle.dh_plan.specs.declared.operations.PlanBlock.{PlanBlock}
 use Rattle.dh_plan.specs.declared.operations.Reach.{Reach}
 use Rattle.dh_plan.specs.Blocks.{StepStart, is_on, spot_of_reach}
-use Rattle.dh_plan.specs.Ordered.{one_or_none, reach_takes, form_takes, IsBetween}
+use Rattle.dh_plan.specs.Ordered.{reach_takes, form_takes, IsBetween}
 use Rattle.dh_plan.specs.PlainPlans.{PlainPlan, first_in, operations_in}
 use Rattle.dh_plan.specs.PlanKinds.{ReachSuits, FormSuits, IsFormedBlock}
 use Rattle.dh_plan.specs.PlanRuns.{start_at, block_values}
-use Rattle.dh_plan.specs.SoundPlans.{access_in, use_in, writes_memory, IsListed, FormAddressed}
+use Rattle.dh_plan.specs.SoundPlans.{access_in, use_in, writes_memory, FormAddressed}
 use Rattle.dh_plan.specs.SoundRuns.{AreInKinds}
-use Rattle.dh_rows.specs.Readings.{Grows, is_plain}
-use Rattle.dh_address.specs.Pieces.{Around, new_or_none, aimed, IsAimed, IsAccessMade}
+use Rattle.dh_rows.specs.Readings.{is_plain}
+use Rattle.dh_address.specs.Pieces.{Around, IsAimed}
 use Rattle.dh_address.proofs.AccessesLead.{both_true}
 use Rattle.dh_address.proofs.GoodPieces.{AreGoodPieces, StandsInPiece}
 use Rattle.dh_address.proofs.ImageReadings.{FormedBelow}
-use Rattle.dh_address.proofs.PartsOfPieces.{IsProbeCheck, IsUseOf, IsOwnForm, IsPart, stands_at, part_at}
+use Rattle.dh_address.proofs.PartsOfPieces.{IsUseOf, IsOwnForm, IsPart, stands_at, part_at}
 use Rattle.dh_address.proofs.PieceForms.{image_of, around}
-use Rattle.dh_address.proofs.PieceShapes.{IsQuiet}
 use Rattle.dh_address.proofs.WordsPass.{ReachesListed, SameWord, means, form_good, form_begun}
 use Rattle.dh_address.proofs.WordsAlike.{IsSameInKind, AccessMeans}
 
