@@ -120,7 +120,7 @@ grows_both s first ws a b c f g v w k l x y = record {
 
 made_so : (s : StepStart) (first : ℕ) (ws : List Word) (old mid : List Operation) (n : ℕ) (g : Option ℕ) (f : OperationForm) → IsMade mid n (pushed old g f)
     → GrowsSo s first ws old mid (first_fault (operation_events s first ws (record { guard = g; form = f }))) (puts_of (operation_events s first ws (record { guard = g; form = f })))
-      (operation_sets first ws (record { guard = g; form = f }))
+    (operation_sets first ws (record { guard = g; form = f }))
 made_so s first ws old mid n g f h = record { more = record { guard = g; form = f } ∷ []; appended = h.0; does = one_so s first ws (record { guard = g; form = f }) }
 
 -- a write where it is made and in range
@@ -286,7 +286,7 @@ module _ (p : PlainPlan) (none : p.views ≡ []) (tables : IsProgramTable p.tabl
           ap (λ (b : Bool). if b then puts_inside (word_at first vs (new_number a value)).bits (spot_of_reach t first vs h.reach) else []) m.on_is
           ∙ (ap (λ (es : List BlockEvent). if is_on old_first ws o.guard && is_some spot then es else []) bits_same
           ∙ (write_same (word_at old_first ws value).bits (is_on old_first ws o.guard) spot (spot_of_reach t first vs h.reach)
-            (λ sp on leads. m.leads.leads sp leads (listed i o r sp at.there (ap use_in e) on leads))
+          (λ sp on leads. m.leads.leads sp leads (listed i o r sp at.there (ap use_in e) on leads))
           ∙ ap (λ (f : OperationForm). if is_on old_first ws o.guard then form_events s old_first ws f else []) (sym e)))
           in
           let no_old_sets = ap (λ (f : OperationForm). if is_on old_first ws o.guard then form_sets old_first ws f else []) e ∙ no_set_chosen (is_on old_first ws o.guard) [] refl in
@@ -398,9 +398,9 @@ module _ (p : PlainPlan) (none : p.views ≡ []) (tables : IsProgramTable p.tabl
     -- the block does what it did
     pub block_so : AreGoodPieces p none tables bs block front begins formed Words [] [] 0 (operations_in p block) front
         → DoesSo t first vs (operations_in q block) (first_fault (block_events s old_first ws (operations_in p block))) (puts_of (block_events s old_first ws (operations_in p block)))
-          (block_sets old_first ws (operations_in p block))
+        (block_sets old_first ws (operations_in p block))
     block_so h =
         let g = pieces_so (operations_in p block) [] [] 0 front h in
         let same : g.more ≡ operations_in q block = append_cancel_left front g.more (operations_in q block) (sym g.appended) in
         subst (λ (os : List Operation). DoesSo t first vs os (first_fault (block_events s old_first ws (operations_in p block))) (puts_of (block_events s old_first ws (operations_in p block)))
-          (block_sets old_first ws (operations_in p block))) same g.does
+        (block_sets old_first ws (operations_in p block))) same g.does

@@ -120,9 +120,10 @@ module _ (p : PlainPlan) (none : p.views ≡ []) (sound : IsSound p) (bs : List 
   side_kept first second g b c i j r t one other x y =
       let a = old_access p q h b i r x in
       let d = old_access p q h c j t y in
-      let s = g b c a.place d.place a.reach d.reach one other a.has d.has in
-      ( λ apart. s.0 (subst (λ (n : ℕ). Apart p.meets n d.reach.access) a.access (subst (λ (n : ℕ). Apart p.meets r.access n) d.access apart))
-      , subst (λ (n : ℕ). Before p.meets n t.access) (sym a.access) (subst (λ (n : ℕ). Before p.meets a.reach.access n) (sym d.access) s.1))
+      let s = g b c a.place d.place a.reach d.reach one other a.has d.has in (
+        λ apart. s.0 (subst (λ (n : ℕ). Apart p.meets n d.reach.access) a.access (subst (λ (n : ℕ). Apart p.meets r.access n) d.access apart)),
+        subst (λ (n : ℕ). Before p.meets n t.access) (sym a.access) (subst (λ (n : ℕ). Before p.meets a.reach.access n) (sym d.access) s.1),
+      )
 
   never_set : (register : ℕ) → IsNeverSet p register → IsNeverSet q register
   never_set register kept block i guard value there =

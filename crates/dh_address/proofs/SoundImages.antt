@@ -86,7 +86,7 @@ module _ (p : PlainPlan) (none : p.views ≡ []) (sound : IsSound p) (bs : List 
 
       led : (j : ℕ) (u : Operation) (e : slice_get (operations_in q b) j ≡ Some u) (v : Reach) → use_in u.form ≡ Some v → is_on (first_in q b) (block_values q t b) u.guard ≡ true
           → IsLed p none sound.formed.table bs b start starts (sound.formed.blocks b) (known b).known.all_formed registers memories
-            (plan_values_fit p b registers memories (sound.formed.blocks b) fit fits) reaches_listed words j u e v
+          (plan_values_fit p b registers memories (sound.formed.blocks b) fit fits) reaches_listed words j u e v
       led j u e v uses on = use_led p none sound.formed.table bs b start starts (sound.formed.blocks b) (known b).known.all_formed registers memories
           (plan_values_fit p b registers memories (sound.formed.blocks b) fit fits) reaches_listed words j u e v uses on
 

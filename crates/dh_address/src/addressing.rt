@@ -1,8 +1,10 @@
 //! The pass as a whole.
 
-ghost use Rattle.std.specs.Prelude.{IfOk};
+ghost use Rattle.std.specs.Prelude.{◌≡◌, [], IfOk};
 ghost use Rattle.dh_tree.specs.Shapes.{IsProgramTable};
+ghost use Rattle.dh_plan.specs.DoneProgram.{IsAddressingOf};
 ghost use Rattle.dh_plan.specs.SeenPlans.{plan_seen};
+ghost use Rattle.dh_plan.specs.SoundPlans.{IsSound};
 ghost use Rattle.dh_address.specs.Images.{IsImage};
 ghost use Rattle.dh_address.specs.SeenPlan.{AreImages};
 
@@ -40,12 +42,8 @@ fn address_blocks(alloc: Global, plan: &Plan) -> Result<Items<PlanBlock>, NoMemo
     cut_blocks(alloc, list.into_vec(), starts.as_slice())
 }
 
-/// The plan with banks and rows in place of indices.
-///
-/// # Errors
-///
-/// `NoMemory` where an allocation was refused.
-pub fn addresses(alloc: Global, plan: &Plan) -> Result<Plan, NoMemory>
+/// The plan with banks and rows in place of indices, made block by block.
+fn made_of_pieces(alloc: Global, plan: &Plan) -> Result<Plan, NoMemory>
     requires { IsProgramTable plan.now.table }
     ensures { IfOk result (λ q. IsImage (plan_seen plan.now) (plan_seen q)) }
 {
@@ -58,4 +56,18 @@ pub fn addresses(alloc: Global, plan: &Plan) -> Result<Plan, NoMemory>
         meets: copy_meets(alloc, &plan.meets)?,
         faults: Items::from_vec(Vec::from_slice(alloc, plan.faults.as_slice())?),
     })
+}
+
+/// The plan with banks and rows in place of indices: it does the same, and each read or write is done only where it is
+/// in range.
+///
+/// # Errors
+///
+/// `NoMemory` where an allocation was refused.
+pub fn addresses(alloc: Global, plan: &Plan) -> Result<Plan, NoMemory>
+    requires sound { IsSound (plan_seen plan.now) }
+    requires views { plan.now.views ≡ [] }
+    ensures { IfOk result (λ q. IsAddressingOf (plan_seen plan.now) (plan_seen q)) }
+{
+    made_of_pieces(alloc, plan)
 }

@@ -10,7 +10,6 @@ mod aiming;
 mod blocks;
 mod copying;
 mod cutting;
-mod laws;
 mod literals;
 mod numbers;
 mod probing;
