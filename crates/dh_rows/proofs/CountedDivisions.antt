@@ -15,7 +15,7 @@ use Rattle.dh_plan.specs.declared.operations.Operation.{Operation}
 use Rattle.dh_plan.specs.declared.operations.OperationForm.TheVariants.{Select}
 use Rattle.dh_rows.specs.Readings.{Readings, Obeys}
 use Rattle.dh_rows.specs.MadeOperations.{Made, Summed, Taken, Divided, constant_made, computed, converted, selected, computed_with, bits_in, power_in, twice, taken, taken_last, taken_bit, taken_rest, taken_less, taken_held, taken_part, taken_below, division, divided_long, low_made, divided_by_power, divided_some, divided}
-use Rattle.dh_rows.proofs.Growing.{obeys_before, pushed_word, pushed_grows}
+use Rattle.dh_rows.proofs.Growing.{obeys_before, obeys_plain, plain_grows, pushed_word, pushed_grows}
 use Rattle.dh_rows.proofs.PutBehind.{with_behind, twice_behind, last_behind, bit_taken_behind, rest_behind, less_behind, held_behind, part_behind, taken_behind, long_behind, low_behind}
 use Rattle.dh_rows.proofs.PutSpread.{FitsWidth}
 use Rattle.dh_rows.proofs.CountWords.{number_word, number_cut, less_count, cut_count}
@@ -53,8 +53,8 @@ module _ (x : Readings) (width : ℕ) where
   bit_taken_counts : (quotient : Option ℕ) (rest : ℕ) (bit : Made) → x.first ≤ length bit.operations → (q b r : ℕ) → q * 2 + b < 2 ^ width → CountsOr x width quotient q → Counts x width bit.value b → Counts x width rest r
       → Obeys x (taken_bit quotient rest bit).operations → CountsTaken x width (taken_bit quotient rest bit) (q * 2 + b) r
   bit_taken_counts quotient rest bit begun q b r fits s is r_is h =
-      last_counts rest bit.value (twice bit.operations quotient) (begun_behind x bit.operations _ (twice_behind bit.operations quotient) begun) (q * 2) b r fits
-      (twice_counts bit.operations begun quotient q (omega (arith, fits)) s (obeys_before x _ _ (last_behind rest bit.value (twice bit.operations quotient)) h)) is r_is h
+      last_counts rest bit.value (twice bit.operations quotient) (begun_behind x bit.operations _ (plain_grows _ _ (twice_behind bit.operations quotient)) begun) (q * 2) b r fits
+      (twice_counts bit.operations begun quotient q (omega (arith, fits)) s (obeys_plain x _ _ (last_behind rest bit.value (twice bit.operations quotient)) h)) is r_is h
 
   bit_small : (t : Bool) → bit_number t ≤ 1
   bit_small true = omega arith
@@ -69,7 +69,7 @@ module _ (x : Readings) (width : ℕ) where
   rest_counts quotient held rest begun t q r fits s t_is r_is h =
       let few = bit_small t in
       bit_taken_counts quotient rest.value (converted rest.operations held width) (begun_behind x rest.operations _ (pushed_grows rest.operations None _) begun) q (bit_number t) r (omega (arith, few, fits)) s
-      (converted_shows x rest.operations begun held width (obeys_before x _ _ (bit_taken_behind quotient rest.value (converted rest.operations held width)) h)
+      (converted_shows x rest.operations begun held width (obeys_plain x _ _ (bit_taken_behind quotient rest.value (converted rest.operations held width)) h)
       ∙ (ap (λ w. word_of (kind.Unsigned width) (value_of w)) t_is ∙ (ap (λ z. word_of (kind.Unsigned width) z) (truth_value t) ∙ number_word width (bit_number t) (omega (arith, few, fits)))))
       r_is h
 
@@ -78,7 +78,7 @@ module _ (x : Readings) (width : ℕ) where
       → CountsTaken x width (taken_less width quotient rest held less) (q * 2 + bit_number t) (left_number t r p)
   less_counts quotient rest held less begun t q r p fits s t_is r_is l_is h =
       rest_counts quotient held (selected less.operations held less.value rest) (begun_behind x less.operations _ (pushed_grows less.operations None _) begun) t q (left_number t r p) fits s t_is
-      (pushed_word x less.operations (Select held less.value rest) refl begun (obeys_before x _ _ (rest_behind width quotient held (selected less.operations held less.value rest)) h) ∙ chosen t t_is l_is) h
+      (pushed_word x less.operations (Select held less.value rest) refl begun (obeys_plain x _ _ (rest_behind width quotient held (selected less.operations held less.value rest)) h) ∙ chosen t t_is l_is) h
     where
       chosen : (t : Bool) → x.word held ≡ truth t → (t ≡ true → Counts x width less.value (r - p))
           → (if is_true (x.word held) then x.word less.value else x.word rest) ≡ with_bits (kind.Unsigned width) (left_number t r p)
@@ -90,7 +90,7 @@ module _ (x : Readings) (width : ℕ) where
       → CountsTaken x width (taken_held width quotient rest part held) (q * 2 + bit_number (nat_le p r)) (left_number (nat_le p r) r p)
   held_counts quotient rest part held begun q r p fits small s t_is r_is p_is h =
       less_counts quotient rest held.value (computed held.operations op.Sub rest part) (begun_behind x held.operations _ (pushed_grows held.operations None _) begun) (nat_le p r) q r p fits s t_is r_is
-      (λ e. computed_shows x held.operations begun op.Sub rest part refl (obeys_before x _ _ (less_behind width quotient rest held.value (computed held.operations op.Sub rest part)) h)
+      (λ e. computed_shows x held.operations begun op.Sub rest part refl (obeys_plain x _ _ (less_behind width quotient rest held.value (computed held.operations op.Sub rest part)) h)
       ∙ (ap (λ w. binary_of op.Sub w (x.word part)) r_is ∙ (ap (λ w. binary_of op.Sub (with_bits (kind.Unsigned width) r) w) p_is ∙ less_count width r p (holds p r e) small))) h
 
   part_counts : (quotient : Option ℕ) (rest : ℕ) (part : Made) → x.first ≤ length part.operations → (q r p : ℕ) → q * 2 + 1 < 2 ^ width → r < 2 ^ width → CountsOr x width quotient q → Counts x width rest r
@@ -98,7 +98,7 @@ module _ (x : Readings) (width : ℕ) where
       → CountsTaken x width (taken_part width quotient rest part) (q * 2 + bit_number (nat_le p r)) (left_number (nat_le p r) r p)
   part_counts quotient rest part begun q r p fits small s r_is p_is h =
       held_counts quotient rest part.value (computed part.operations op.Ge rest part.value) (begun_behind x part.operations _ (pushed_grows part.operations None _) begun) q r p fits small s
-      (computed_shows x part.operations begun op.Ge rest part.value refl (obeys_before x _ _ (held_behind width quotient rest part.value (computed part.operations op.Ge rest part.value)) h)
+      (computed_shows x part.operations begun op.Ge rest part.value refl (obeys_plain x _ _ (held_behind width quotient rest part.value (computed part.operations op.Ge rest part.value)) h)
       ∙ (ap (λ w. binary_of op.Ge w (x.word part.value)) r_is ∙ ap (λ w. binary_of op.Ge (with_bits (kind.Unsigned width) r) w) p_is)) r_is p_is h
 
   taken_counts : (os : List Operation) → x.first ≤ length os → (quotient : Option ℕ) (rest part q r : ℕ) → q * 2 + 1 < 2 ^ width → r < 2 ^ width → CountsOr x width quotient q → Counts x width rest r
@@ -106,7 +106,7 @@ module _ (x : Readings) (width : ℕ) where
       → CountsTaken x width (taken os width quotient rest part) (q * 2 + bit_number (nat_le part r)) (left_number (nat_le part r) r part)
   taken_counts os begun quotient rest part q r fits small s r_is h =
       part_counts quotient rest (constant_made os width part) (begun_behind x os _ (pushed_grows os None _) begun) q r part fits small s r_is
-      (constant_shows x os begun width part (obeys_before x _ _ (part_behind width quotient rest (constant_made os width part)) h)) h
+      (constant_shows x os begun width part (obeys_plain x _ _ (part_behind width quotient rest (constant_made os width part)) h)) h
 
   -- Bit by bit, of what is still to divide and the quotient so far.
 
@@ -143,7 +143,7 @@ module _ (x : Readings) (width : ℕ) where
         one : (b : ℕ) → b * 2 ^ 0 ≡ b
         one b = omega arith
     long_counts (suc by) os begun quotient rest q r v fits e l small s r_is h =
-        long_counts by (taken os width quotient rest part).operations (begun_behind x os _ (taken_behind os width quotient rest part) begun) (taken os width quotient rest part).quotient (taken os width quotient rest part).rest
+        long_counts by (taken os width quotient rest part).operations (begun_behind x os _ (plain_grows _ _ (taken_behind os width quotient rest part)) begun) (taken os width quotient rest part).quotient (taken os width quotient rest part).rest
         (q * 2 + bit_number (nat_le p r)) (left_number (nat_le p r) r p) v (λ i m. fits i (omega (arith, m))) (e2 ∙ sym (left_same (nat_le p r) q p r refl)) (left_small (nat_le p r) p r refl l2) small told.quotient_is told.rest_is h
       where
         part : ℕ
@@ -163,7 +163,7 @@ module _ (x : Readings) (width : ℕ) where
             let m = doubled q (banks * 2 ^ by) r v (part_some banks by some) e2 in
             let n : r ≤ v = omega (arith, e2) in
             taken_counts os begun quotient rest (banks * 2 ^ by % 2 ^ 64) q r (omega (arith, m, small)) (omega (arith, n, small)) s r_is
-            (obeys_before x _ _ (long_behind (taken os width quotient rest (banks * 2 ^ by % 2 ^ 64)).operations width banks by (taken os width quotient rest (banks * 2 ^ by % 2 ^ 64)).quotient (taken os width quotient rest (banks * 2 ^ by % 2 ^ 64)).rest) h)
+            (obeys_plain x _ _ (long_behind (taken os width quotient rest (banks * 2 ^ by % 2 ^ 64)).operations width banks by (taken os width quotient rest (banks * 2 ^ by % 2 ^ 64)).quotient (taken os width quotient rest (banks * 2 ^ by % 2 ^ 64)).rest) h)
 
         told : CountsTaken x width (taken os width quotient rest (banks * 2 ^ by % 2 ^ 64)) (q * 2 + bit_number (nat_le (banks * 2 ^ by) r)) (left_number (nat_le (banks * 2 ^ by) r) r (banks * 2 ^ by))
         told =
@@ -225,8 +225,8 @@ module _ (x : Readings) (width : ℕ) where
         false_true : ◌≡◌ {A = Bool} false true → ⊥
         false_true b = cc
     by_power bits e true h = record {
-      quotient_is = quotient_by bits (obeys_before x _ _ (low_behind _ width value bits true) h) ∙ ap (λ m. with_bits (kind.Unsigned width) (v / m)) (sym e);
-      remainder_is = λ b. low_counts (computed_with op.Shr value (constant_made os 6 bits)).operations (begun_behind x os _ (with_behind os op.Shr value 6 bits) begun) bits h ∙ ap (λ m. with_bits (kind.Unsigned width) (v % m)) (sym e);
+      quotient_is = quotient_by bits (obeys_plain x _ _ (low_behind _ width value bits true) h) ∙ ap (λ m. with_bits (kind.Unsigned width) (v / m)) (sym e);
+      remainder_is = λ b. low_counts (computed_with op.Shr value (constant_made os 6 bits)).operations (begun_behind x os _ (plain_grows _ _ (with_behind os op.Shr value 6 bits refl)) begun) bits h ∙ ap (λ m. with_bits (kind.Unsigned width) (v % m)) (sym e);
     }
 
     equal : (a b : ℕ) → (a == b) ≡ true → a ≡ b

@@ -12,10 +12,11 @@ use Rattle.dh_tree.specs.Shapes.{IsDim}
 use Rattle.dh_tree.specs.Tables.{elements_of}
 use Rattle.dh_tree.proofs.BankElements.{whole, quotient_below}
 use Rattle.dh_plan.specs.declared.operations.Operation.{Operation}
-use Rattle.dh_rows.specs.Readings.{Readings, Obeys, Grows}
+use Rattle.dh_rows.specs.declared.spreading.RowAndBank.{RowAndBank}
+use Rattle.dh_rows.specs.Readings.{Readings, Obeys, GrowsPlain}
 use Rattle.dh_rows.specs.RowsShown.{AreWithin, HasWidth, IsRowMade}
-use Rattle.dh_rows.specs.MadeOperations.{Summed, Divided, Spread, converted, divided, digit_added, bank_spread, division_spread, dim_spread, all_spread}
-use Rattle.dh_rows.proofs.Growing.{obeys_before, grows_self, grows_on, pushed_grows}
+use Rattle.dh_rows.specs.MadeOperations.{Summed, Divided, Spread, converted, divided, digit_added, bank_spread, division_spread, dim_spread, all_spread, SpreadsEach}
+use Rattle.dh_rows.proofs.Growing.{obeys_plain, plain_grows, plain_self, plain_on, pushed_grows}
 use Rattle.dh_rows.proofs.PutBehind.{divided_behind, digit_put_behind, bank_behind, parts_behind, dim_behind}
 use Rattle.dh_rows.proofs.PutSpread.{FitsWidth, makes_all}
 use Rattle.dh_rows.proofs.CountWords.{number_word}
@@ -86,16 +87,19 @@ all_fit width (d ∷ ds) h l =
     let rest = rest_least d.size (elements_of ds) h.0.size in
     (record { dim = h.0; small = omega (arith, own, l) }, all_fit width ds h.1 (omega (arith, rest, l)))
 
-all_behind : (ds : List Dim) (is : List ℕ) (os : List Operation) (width : ℕ) (banked : Bool) (row bank : Option ℕ) → Grows os (all_spread os width ds is banked row bank).operations
-all_behind [] [] os width banked row bank = grows_self os
-all_behind [] (i ∷ is) os width banked row bank = grows_self os
-all_behind (d ∷ ds) [] os width banked row bank = grows_self os
+all_behind : (ds : List Dim) (is : List ℕ) (os : List Operation) (width : ℕ) (banked : Bool) (row bank : Option ℕ) → GrowsPlain os (all_spread os width ds is banked row bank).operations
+all_behind [] [] os width banked row bank = plain_self os
+all_behind [] (i ∷ is) os width banked row bank = plain_self os
+all_behind (d ∷ ds) [] os width banked row bank = plain_self os
 all_behind (d ∷ ds) (i ∷ is) os width banked row bank =
     turned (dim_spread os width d i banked row bank) (dim_behind os width d i banked row bank)
     (all_behind ds is (dim_spread os width d i banked row bank).operations width banked (dim_spread os width d i banked row bank).row (dim_spread os width d i banked row bank).bank)
   where
-    turned : (s : Spread) → Grows os s.operations → Grows s.operations (all_spread s.operations width ds is banked s.row s.bank).operations → Grows os (all_spread s.operations width ds is banked s.row s.bank).operations
-    turned s g h = grows_on os s.operations _ g h
+    turned : (s : Spread) → GrowsPlain os s.operations → GrowsPlain s.operations (all_spread s.operations width ds is banked s.row s.bank).operations → GrowsPlain os (all_spread s.operations width ds is banked s.row s.bank).operations
+    turned s g h = plain_on os s.operations _ g h
+
+pub spread_grows : (width : ℕ) (ds : List Dim) (is : List ℕ) (banked : Bool) (os new : List Operation) (s : RowAndBank) → SpreadsEach os new width ds is banked s → GrowsPlain os new
+spread_grows width ds is banked os new s e = subst (λ (l : List Operation). GrowsPlain os l) (sym e.0) (all_behind ds is os width banked None None)
 
 module _ (x : Readings) (width : ℕ) (few : width ≤ 64) (sized : IsWidth width) where
   bank_counts : (d : Dim) (banked : Bool) (bank digit : Option ℕ) (row : Summed) → x.first ≤ length row.operations → (r b n : ℕ) → d.banks < 2 ^ 64 → b * d.banks + n < 2 ^ width → CountsOr x width row.sum r
@@ -111,10 +115,10 @@ module _ (x : Readings) (width : ℕ) (few : width ≤ 64) (sized : IsWidth widt
       → r * (d.size / d.banks) + q < 2 ^ width → b * d.banks + n < 2 ^ width → CountsOr x width row r → (banked ≡ true → CountsOr x width bank b) → CountsDivided x width m banked q n
       → Obeys x (division_spread d banked row bank m).operations → CountsSpread x width (division_spread d banked row bank m) banked (r * (d.size / d.banks) + q) (b * d.banks + n)
   parts_counts d banked row bank m begun r b q n few_rows few_banks row_fits bank_fits r_is b_is c h =
-      bank_counts d banked bank m.remainder (digit_added m.operations row (d.size / d.banks) m.quotient) (begun_behind x m.operations _ (digit_put_behind m.operations row (d.size / d.banks) m.quotient) begun)
+      bank_counts d banked bank m.remainder (digit_added m.operations row (d.size / d.banks) m.quotient) (begun_behind x m.operations _ (plain_grows _ _ (digit_put_behind m.operations row (d.size / d.banks) m.quotient)) begun)
       (r * (d.size / d.banks) + q) b n few_banks bank_fits
       (digit_counts x width m.operations begun row (d.size / d.banks) m.quotient r q few_rows row_fits r_is c.quotient_is
-      (obeys_before x _ _ (bank_behind d banked bank m.remainder (digit_added m.operations row (d.size / d.banks) m.quotient)) h))
+      (obeys_plain x _ _ (bank_behind d banked bank m.remainder (digit_added m.operations row (d.size / d.banks) m.quotient)) h))
       b_is c.remainder_is h
 
   dim_counts : (os : List Operation) → x.first ≤ length os → (d : Dim) (index : ℕ) (banked : Bool) (row bank : Option ℕ) (r b v : ℕ) → FitsWidth width d → value_of (x.word index) ≡ pos v → v < d.size
@@ -122,7 +126,7 @@ module _ (x : Readings) (width : ℕ) (few : width ≤ 64) (sized : IsWidth widt
       → Obeys x (dim_spread os width d index banked row bank).operations
       → CountsSpread x width (dim_spread os width d index banked row bank) banked (r * (d.size / d.banks) + v / d.banks) (b * d.banks + v % d.banks)
   dim_counts os begun d index banked row bank r b v fits is inside row_fits bank_fits r_is b_is h =
-      parts_counts d banked row bank (divided at width index_made d banked) (begun_behind x at _ behind begun_at) r b (v / d.banks) (v % d.banks) (omega (arith, rows, small, most)) (omega (arith, banks, small, most)) row_fits bank_fits r_is b_is
+      parts_counts d banked row bank (divided at width index_made d banked) (begun_behind x at _ (plain_grows _ _ behind) begun_at) r b (v / d.banks) (v % d.banks) (omega (arith, rows, small, most)) (omega (arith, banks, small, most)) row_fits bank_fits r_is b_is
       (divided_counts x width few at begun_at index_made d banked fits v inside shown divided_obeyed) h
     where
       at : List Operation
@@ -131,14 +135,14 @@ module _ (x : Readings) (width : ℕ) (few : width ≤ 64) (sized : IsWidth widt
       index_made : ℕ
       index_made = (converted os index width).value
 
-      behind : Grows (converted os index width).operations (divided (converted os index width).operations width (converted os index width).value d banked).operations
+      behind : GrowsPlain (converted os index width).operations (divided (converted os index width).operations width (converted os index width).value d banked).operations
       behind = divided_behind (converted os index width).operations width (converted os index width).value d banked
 
       begun_at : x.first ≤ length (converted os index width).operations
       begun_at = begun_behind x os _ (pushed_grows os None _) begun
 
       divided_obeyed : Obeys x (divided (converted os index width).operations width (converted os index width).value d banked).operations
-      divided_obeyed = obeys_before x _ _ (parts_behind d banked row bank (divided (converted os index width).operations width (converted os index width).value d banked)) h
+      divided_obeyed = obeys_plain x _ _ (parts_behind d banked row bank (divided (converted os index width).operations width (converted os index width).value d banked)) h
 
       small : d.size < 2 ^ width
       small = fits.small
@@ -154,7 +158,7 @@ module _ (x : Readings) (width : ℕ) (few : width ≤ 64) (sized : IsWidth widt
 
       shown : Counts x width (converted os index width).value v
       shown =
-          converted_shows x os begun index width (obeys_before x _ _ behind divided_obeyed)
+          converted_shows x os begun index width (obeys_plain x _ _ behind divided_obeyed)
           ∙ (ap (λ z. word_of (kind.Unsigned width) z) is ∙ number_word width v (omega (arith, inside, small)))
 
   within_some : (d : Dim) (ds : List Dim) (indices : List ℕ) (numbers : List ℕ) → AreWithin x (d ∷ ds) [] numbers → ⊥
@@ -182,7 +186,7 @@ module _ (x : Readings) (width : ℕ) (few : width ≤ 64) (sized : IsWidth widt
   all_counts (d ∷ ds) (i ∷ is) [] os begun banked row bank r b dims fits w rows banks r_is b_is h = elim w [ ]
   all_counts (d ∷ ds) (i ∷ is) (v ∷ vs) os begun banked row bank r b dims fits w rows banks r_is b_is h =
       joined (all_spread s.operations width ds is banked s.row s.bank)
-      (all_counts ds is vs s.operations (begun_behind x os _ (dim_behind os width d i banked row bank) begun) banked s.row s.bank (r * (d.size / d.banks) + v / d.banks) (b * d.banks + v % d.banks) dims.1 fits.1 w.1
+      (all_counts ds is vs s.operations (begun_behind x os _ (plain_grows _ _ (dim_behind os width d i banked row bank)) begun) banked s.row s.bank (r * (d.size / d.banks) + v / d.banks) (b * d.banks + v % d.banks) dims.1 fits.1 w.1
       rows_on banks_on told.row_is told.bank_is h)
     where
       s : Spread
@@ -197,7 +201,7 @@ module _ (x : Readings) (width : ℕ) (few : width ≤ 64) (sized : IsWidth widt
       told : CountsSpread x width (dim_spread os width d i banked row bank) banked (r * (d.size / d.banks) + v / d.banks) (b * d.banks + v % d.banks)
       told =
           dim_counts os begun d i banked row bank r b v fits.0 w.0.0 w.0.1 (within_less _ (rows_of ds) (2 ^ width) (all_rows_some ds dims.1) rows_on) (within_less _ (banks_of ds) (2 ^ width) (all_banks_some ds dims.1) banks_on) r_is b_is
-          (obeys_before x _ _ (all_behind ds is (dim_spread os width d i banked row bank).operations width banked (dim_spread os width d i banked row bank).row (dim_spread os width d i banked row bank).bank) h)
+          (obeys_plain x _ _ (all_behind ds is (dim_spread os width d i banked row bank).operations width banked (dim_spread os width d i banked row bank).row (dim_spread os width d i banked row bank).bank) h)
 
       joined : (t : Spread) → CountsSpread x width t banked ((r * (d.size / d.banks) + v / d.banks) * rows_of ds + row_of ds vs) ((b * d.banks + v % d.banks) * banks_of ds + bank_of ds vs)
           → CountsSpread x width t banked (r * rows_of (d ∷ ds) + row_of (d ∷ ds) (v ∷ vs)) (b * banks_of (d ∷ ds) + bank_of (d ∷ ds) (v ∷ vs))

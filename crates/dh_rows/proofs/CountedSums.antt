@@ -12,7 +12,7 @@ use Rattle.dh_plan.specs.declared.operations.Operation.{Operation}
 use Rattle.dh_plan.specs.declared.operations.OperationForm.TheVariants.{Compute}
 use Rattle.dh_rows.specs.Readings.{Readings, Obeys, Grows, is_cheap}
 use Rattle.dh_rows.specs.MadeOperations.{Summed, made, summed, sum_of, constant_made, computed, converted, computed_with, bits_in, shifted, added, added_with, bit_scaled, scaled_below, scaled, times, digit_behind, digit_added, or_zero}
-use Rattle.dh_rows.proofs.Growing.{grown_length, obeys_before, pushed_word, pushed_grows}
+use Rattle.dh_rows.proofs.Growing.{grown_length, obeys_before, obeys_plain, plain_grows, pushed_word, pushed_grows}
 use Rattle.dh_rows.proofs.PutBehind.{shifted_behind, added_behind, bit_behind, below_behind, times_behind, behind_behind}
 use Rattle.dh_rows.proofs.CountWords.{add_count, shift_count}
 use Rattle.dh_rows.proofs.DigitNumbers.{high, high_on, high_off, high_most}
@@ -102,10 +102,10 @@ module _ (x : Readings) (width : ℕ) where
           let l = most in
           let both : n * high factor (suc by) + n * 2 ^ by < 2 ^ width = omega (arith, two, l, fits) in
           let one : n * 2 ^ by < 2 ^ width = omega (arith, both) in
-          let behind = shifted_behind os value by in
+          let behind = plain_grows _ _ (shifted_behind os value by) in
           counts_as (Some _) _ _ (sym two)
           (added_counts (shifted os value by).operations (begun_behind x os _ behind begun) sum (shifted os value by).value (n * high factor (suc by)) (n * 2 ^ by) both s
-          (shifted_counts os begun value by n one is (obeys_before x _ _ (added_behind _ sum _) g)) g)
+          (shifted_counts os begun value by n one is (obeys_plain x _ _ (added_behind _ sum _) g)) g)
       of false e g = counts_as sum _ _ (ap (λ m. n * m) (sym (high_off factor by (unset _ (mod-lt _ (omega arith)) e)))) s
 
   below_counts : (os : List Operation) → x.first ≤ length os → (value factor bits n : ℕ) (sum : Option ℕ) → n * factor < 2 ^ width → Counts value n → CountsOr sum (n * high factor bits)
@@ -115,8 +115,8 @@ module _ (x : Readings) (width : ℕ) where
       one : (factor : ℕ) → high factor 0 ≡ factor
       one factor = omega arith
   below_counts os begun value factor (suc by) n sum fits is s h =
-      let behind = bit_behind os value factor by sum in
-      let more = below_behind (bit_scaled os value factor by sum).operations value factor by (bit_scaled os value factor by sum).sum in
+      let behind = plain_grows _ _ (bit_behind os value factor by sum) in
+      let more = plain_grows _ _ (below_behind (bit_scaled os value factor by sum).operations value factor by (bit_scaled os value factor by sum).sum) in
       below_counts (bit_scaled os value factor by sum).operations (begun_behind x os _ behind begun) value factor by n (bit_scaled os value factor by sum).sum fits is
       (bit_counts os begun value factor by n sum fits is s (obeys_before x _ _ more h)) h
 
@@ -141,8 +141,8 @@ module _ (x : Readings) (width : ℕ) where
   pub digit_counts : (os : List Operation) → x.first ≤ length os → (sum : Option ℕ) (factor : ℕ) (digit : Option ℕ) (s n : ℕ) → factor < 2 ^ 64 → s * factor + n < 2 ^ width → CountsOr sum s → CountsOr digit n
       → Obeys x (digit_added os sum factor digit).operations → CountsOr (digit_added os sum factor digit).sum (s * factor + n)
   digit_counts os begun sum factor digit s n small fits is d h =
-      behind_counts (times os sum factor) (begun_behind x os _ (times_behind os sum factor) begun) digit (s * factor) n fits
-      (times_counts os begun sum factor s small (omega (arith, fits)) is (obeys_before x _ _ (behind_behind (times os sum factor) digit) h)) d h
+      behind_counts (times os sum factor) (begun_behind x os _ (plain_grows _ _ (times_behind os sum factor)) begun) digit (s * factor) n fits
+      (times_counts os begun sum factor s small (omega (arith, fits)) is (obeys_plain x _ _ (behind_behind (times os sum factor) digit) h)) d h
 
   pub or_zero_counts : (os : List Operation) → x.first ≤ length os → (value : Option ℕ) (n : ℕ) → CountsOr value n → Obeys x (or_zero os width value).operations → Counts (or_zero os width value).value n
   or_zero_counts os begun None n is h = constant_shows x os begun width 0 h ∙ ap (λ i. with_bits (kind.Unsigned width) i) (sym is)

@@ -15,11 +15,11 @@ use Rattle.dh_plan.specs.declared.operations.Operation.{Operation}
 use Rattle.dh_rows.specs.Readings.{Readings, Obeys}
 use Rattle.dh_rows.specs.RowsShown.{HoldsOrNone, IsTestMade, is_below_size}
 use Rattle.dh_rows.specs.MadeOperations.{summed, sum_of, constant_made, converted, computed_with, bounded, tested}
-use Rattle.dh_rows.proofs.Growing.{obeys_before, grows_self, pushed_grows}
+use Rattle.dh_rows.proofs.Growing.{obeys_plain, plain_self, plain_on, plain_pushed, pushed_grows}
 use Rattle.dh_rows.proofs.PutBehind.{with_behind}
 use Rattle.dh_rows.proofs.PutSpread.{makes_tested}
 use Rattle.dh_rows.proofs.CountedSums.{Counts, begun_behind, converted_shows, with_shows}
-use Rattle.dh_rows.specs.Readings.{Grows}
+use Rattle.dh_rows.specs.Readings.{GrowsPlain}
 
 less_as : (n m bound : ℕ) → n < m → nat_le m bound ≡ true → nat_lt n bound ≡ true
 less_as n m bound l e = grind (arith, nat_tests)
@@ -54,12 +54,22 @@ signed_range w n size some small = of (nat_lt n (2 ^ (w - 1))) refl
     of true e = natural_range n size ∙ near e
     of false e = negative n (2 ^ w) small ∙ far e
 
-bounded_behind : (os : List Operation) (width value bound : ℕ) → Grows os (bounded os width value bound).operations
+bounded_behind : (os : List Operation) (width value bound : ℕ) → GrowsPlain os (bounded os width value bound).operations
 bounded_behind os width value bound = of (nat_le (2 ^ width) bound)
   where
-    of : (t : Bool) → Grows os (if t then summed os None else sum_of (computed_with op.Lt value (constant_made os width bound))).operations
-    of true = grows_self os
-    of false = with_behind os op.Lt value width bound
+    of : (t : Bool) → GrowsPlain os (if t then summed os None else sum_of (computed_with op.Lt value (constant_made os width bound))).operations
+    of true = plain_self os
+    of false = with_behind os op.Lt value width bound refl
+
+pub tested_behind : (os : List Operation) (k : Kind) (value size : ℕ) → GrowsPlain os (tested os k value size).operations
+tested_behind os kind.Bool value size = plain_self os
+tested_behind os (kind.Unsigned w) value size = bounded_behind os w value size
+tested_behind os (kind.Signed w) value size =
+    plain_on os (converted os value w).operations _ (plain_pushed os _ refl) (bounded_behind (converted os value w).operations w (converted os value w).value (min size (2 ^ (w - 1))))
+
+pub tested_grows : (os : List Operation) (k : Kind) (value size : ℕ) (new : List Operation) (test : Option ℕ)
+    → (new ≡ (tested os k value size).operations) × (test ≡ (tested os k value size).sum) → GrowsPlain os new
+tested_grows os k value size new test e = subst (λ (l : List Operation). GrowsPlain os l) (sym e.0) (tested_behind os k value size)
 
 module _ (x : Readings) where
   bounded_holds : (os : List Operation) → x.first ≤ length os → (width value bound n : ℕ) → n < 2 ^ width → Counts x width value n → Obeys x (bounded os width value bound).operations
@@ -98,7 +108,7 @@ module _ (x : Readings) where
     where
       shown : Counts x w (converted os value w).value (x.word value).bits
       shown =
-          converted_shows x os begun value w (obeys_before x _ _ (bounded_behind (converted os value w).operations w (converted os value w).value (min size (2 ^ (w - 1)))) h)
+          converted_shows x os begun value w (obeys_plain x _ _ (bounded_behind (converted os value w).operations w (converted os value w).value (min size (2 ^ (w - 1)))) h)
           ∙ ap (λ b. with_bits (kind.Unsigned w) b)
           (ap (λ z. residue (2 ^ w) z) (sym (value_kind (x.word value) (kind.Signed w) e)) ∙ value_residue (kind.Signed w) (x.word value).bits (fits_kind (x.word value) (kind.Signed w) word e))
 

@@ -1,7 +1,7 @@
 -- Operations that come behind others. Readings that obey all obey those in front, so what is known of a value stays
 -- known; and of the operation at the end its own equation says what it gives. All else is put together of these.
 use Rattle.std.proofs.Common.{◌≡◌, ℕ, zero, suc, ◌+◌, ◌<◌, ◌≤◌, ◌⊎◌, inl, inr, true, List, Some, None, refl, sym, ap, ◌∙◌, subst, arith, length}
-use Rattle.std.specs.Prelude.{Option, [], ◌∷◌, ◌++◌, slice_get}
+use Rattle.std.specs.Prelude.{Option, [], ◌∷◌, ◌++◌, take, slice_get}
 use Rattle.std.specs.List.{AllByRecursion}
 use Rattle.std.proofs.lemmas.Bool.{cases_lt}
 use Rattle.std.proofs.lemmas.List.{append_assoc, append-nil, length-append}
@@ -11,7 +11,7 @@ use Rattle.dh_plan.specs.declared.operations.Operation.{Operation}
 use Rattle.dh_plan.specs.declared.operations.OperationForm.{OperationForm}
 use Rattle.dh_plan.specs.Ordered.{form_takes}
 use Rattle.dh_plan.proofs.Appends.{there_in_front}
-use Rattle.dh_rows.specs.Readings.{Readings, Obeys, HasPlain, IsEarlier, IsAdded, Grows, Adds, IsValue, IsValueOrNone, is_plain, plain_kind, plain_word, PlainSuits}
+use Rattle.dh_rows.specs.Readings.{Readings, Obeys, HasPlain, IsEarlier, IsAdded, Grows, GrowsPlain, IsPlain, Adds, IsValue, IsValueOrNone, is_plain, plain_kind, plain_word, PlainSuits}
 use Rattle.dh_rows.specs.MadeOperations.{pushed}
 
 pub grows_self : (os : List Operation) → Grows os os
@@ -19,6 +19,28 @@ grows_self os = record { more = []; appended = sym (append-nil os) }
 
 pub grows_on : (a b c : List Operation) → Grows a b → Grows b c → Grows a c
 grows_on a b c g h = record { more = g.more ++ h.more; appended = h.appended ∙ (ap (λ (os : List Operation). os ++ h.more) g.appended ∙ append_assoc a g.more h.more) }
+
+-- The same of plain operations.
+
+pub plain_grows : (a b : List Operation) → GrowsPlain a b → Grows a b
+plain_grows a b g = record { more = g.more; appended = g.appended }
+
+pub plain_self : (os : List Operation) → GrowsPlain os os
+plain_self os = record { more = []; appended = sym (append-nil os); plain = tt }
+
+plain_append : (xs ys : List Operation) → AllByRecursion IsPlain xs → AllByRecursion IsPlain ys → AllByRecursion IsPlain (xs ++ ys)
+plain_append [] ys h k = k
+plain_append (x ∷ xs) ys h k = (h.0, plain_append xs ys h.1 k)
+
+pub plain_on : (a b c : List Operation) → GrowsPlain a b → GrowsPlain b c → GrowsPlain a c
+plain_on a b c g h = record {
+  more = g.more ++ h.more;
+  appended = h.appended ∙ (ap (λ (os : List Operation). os ++ h.more) g.appended ∙ append_assoc a g.more h.more);
+  plain = plain_append g.more h.more g.plain h.plain;
+}
+
+pub plain_pushed : (os : List Operation) (f : OperationForm) → is_plain f ≡ true → GrowsPlain os (pushed os None f).operations
+plain_pushed os f e = record { more = record { guard = None; form = f } ∷ []; appended = refl; plain = (record { guard = refl; form = e }, tt) }
 
 pub grown_length : (a b : List Operation) → Grows a b → length a ≤ length b
 grown_length a b g = let l : length b ≡ length a + length g.more = ap (λ (os : List Operation). length os) g.appended ∙ length-append a g.more in omega (arith, l)
@@ -35,6 +57,19 @@ front_there (p ∷ a) more (suc n) o l e = front_there a more n o (omega (arith,
 pub was_there : (a b : List Operation) → Grows a b → (n : ℕ) (o : Operation) → n < length a → slice_get b n ≡ Some o → slice_get a n ≡ Some o
 was_there a b g n o l e = front_there a g.more n o l (subst (λ (os : List Operation). slice_get os n ≡ Some o) g.appended e)
 
+-- the operations before a place, where others come behind
+take_front : (a more : List Operation) (n : ℕ) → n < length a → take n (a ++ more) ≡ take n a
+take_front [] more n l = absurd (omega (arith, l))
+take_front (p ∷ a) more zero l = refl
+take_front (p ∷ a) more (suc n) l = ap (λ (os : List Operation). p ∷ os) (take_front a more n (omega (arith, l)))
+
+taken_front : (a b : List Operation) → Grows a b → (n : ℕ) → n < length a → take n b ≡ take n a
+taken_front a b g n l = ap (λ (os : List Operation). take n os) g.appended ∙ take_front a g.more n l
+
+taken_all : (a more : List Operation) → take (length a) (a ++ more) ≡ a
+taken_all [] more = refl
+taken_all (p ∷ a) more = ap (λ (os : List Operation). p ∷ os) (taken_all a more)
+
 at_end : (os : List Operation) (o : Operation) → slice_get (os ++ o ∷ []) (length os) ≡ Some o
 at_end [] o = refl
 at_end (p ∷ os) o = at_end os o
@@ -49,6 +84,9 @@ module _ (x : Readings) where
     where
       later : (n : ℕ) (f : OperationForm) → HasPlain a n f → HasPlain b n f
       later n f p = record { there = kept_there a b g n _ p.there; plain = p.plain }
+
+  pub obeys_plain : (a b : List Operation) → GrowsPlain a b → Obeys x b → Obeys x a
+  obeys_plain a b g h = obeys_before a b (plain_grows a b g) h
 
   -- the equations of an operation that was just put down
   module _ (os : List Operation) (f : OperationForm) (plain : is_plain f ≡ true) (begun : x.first ≤ length os) where
@@ -78,14 +116,14 @@ module _ (x : Readings) (clock : ℕ) where
   maybe_later a b k (Some v) g h = value_later a b k v g h
 
   pub adds_self : (os : List Operation) → Adds x clock os os
-  adds_self os = record { grows = grows_self os; each = λ h n o l e. let m = slice_get_within os n o e in absurd (omega (arith, l, m)) }
+  adds_self os = record { grows = grows_self os; each = λ n o l e h. let m = slice_get_within os n o e in absurd (omega (arith, l, m)) }
 
   pub adds_on : (a b c : List Operation) → Adds x clock a b → Adds x clock b c → Adds x clock a c
-  adds_on a b c g h = record { grows = grows_on a b c g.grows h.grows; each = λ o n p l e. either o n p l e (cases_lt n (length b)) }
+  adds_on a b c g h = record { grows = grows_on a b c g.grows h.grows; each = λ n p l e o. either n o p l e (cases_lt n (length b)) }
     where
-      either : Obeys x c → (n : ℕ) (p : Operation) → length a ≤ n → slice_get c n ≡ Some p → (n < length b) ⊎ (length b ≤ n) → IsAdded x clock n p
-      either o n p l e (inl m) = g.each (obeys_before x b c h.grows o) n p l (was_there b c h.grows n p m e)
-      either o n p l e (inr m) = h.each o n p m e
+      either : (n : ℕ) → Obeys x (take n c) → (p : Operation) → length a ≤ n → slice_get c n ≡ Some p → (n < length b) ⊎ (length b ≤ n) → IsAdded x clock n p
+      either n o p l e (inl m) = g.each n p l (was_there b c h.grows n p m e) (subst (λ (os : List Operation). Obeys x os) (taken_front b c h.grows n m) o)
+      either n o p l e (inr m) = h.each n p m e o
 
   all_there : (own : ℕ) (vs : List ℕ) → AllByRecursion (λ v. IsEarlier x clock own v) vs → AllByRecursion (λ v. x.clock v ≤ clock) vs
   all_there own [] h = tt
@@ -99,7 +137,7 @@ module _ (x : Readings) (clock : ℕ) where
   module _ (os : List Operation) (f : OperationForm) (plain : is_plain f ≡ true) (begun : x.first ≤ length os)
       (takes : Obeys x os → AllByRecursion (λ v. IsEarlier x clock (length os) v) (form_takes f)) (suits : Obeys x os → PlainSuits x.kind f) where
     pub pushed_adds : Adds x clock os (pushed os None f).operations
-    pushed_adds = record { grows = pushed_grows os None f; each = λ h n o l e. last h n o l e (slice_get_within _ n o e) }
+    pushed_adds = record { grows = pushed_grows os None f; each = λ n o l e h. last n h o l e (slice_get_within _ n o e) }
       where
         ends : length (pushed os None f).operations ≡ length os + 1
         ends = length-append os _
@@ -107,13 +145,14 @@ module _ (x : Readings) (clock : ℕ) where
         same : (o : Operation) → slice_get (pushed os None f).operations (length os) ≡ Some o → record { guard = None; form = f } ≡ o
         same o e = let two = sym (at_end os (record { guard = None; form = f })) ∙ e in cc
 
-        last : Obeys x (pushed os None f).operations → (n : ℕ) (o : Operation) → length os ≤ n → slice_get (pushed os None f).operations n ≡ Some o → n < length (pushed os None f).operations
-            → IsAdded x clock n o
-        last h n o l e m =
+        last : (n : ℕ) → Obeys x (take n (pushed os None f).operations) → (o : Operation) → length os ≤ n → slice_get (pushed os None f).operations n ≡ Some o
+            → n < length (pushed os None f).operations → IsAdded x clock n o
+        last n h o l e m =
             let own : length os ≡ n = (let t = ends in omega (arith, l, m, t)) in
+            let before = subst (λ (ps : List Operation). Obeys x ps) (taken_all os _) (subst (λ i. Obeys x (take i (pushed os None f).operations)) (sym own) h) in
             subst (λ i. IsAdded x clock i o) own
             (subst (λ (p : Operation). IsAdded x clock (length os) p) (same o (subst (λ i. slice_get (pushed os None f).operations i ≡ Some o) (sym own) e))
-            (record { guard = refl; plain = plain; takes = takes (obeys_before x os _ (pushed_grows os None f) h); suits = suits (obeys_before x os _ (pushed_grows os None f) h) }))
+            (record { guard = refl; plain = plain; takes = takes before; suits = suits before }))
 
     pub pushed_value : (k : Kind) → (Obeys x os → plain_kind x.kind f ≡ k) → IsValue x clock (pushed os None f).operations k (length os)
     pushed_value k kinds h =

@@ -1,7 +1,7 @@
 -- What is known of the values of a block while its operations are put down: words, kinds, and clocks from which on
 -- they are there. Each fact is stated for all signals that obey the operations so far, so it stays true when further
 -- operations come behind. Operations by their numbers: the list holds those of all blocks so far.
-use Rattle.std.specs.Prelude.{◌≡◌, ℕ, ◌<◌, ◌≤◌, Bool, true, false, if◌then◌else◌, List, ◌++◌, length, slice_get, Option, Some, None}
+use Rattle.std.specs.Prelude.{◌≡◌, ℕ, ◌<◌, ◌≤◌, Bool, true, false, if◌then◌else◌, List, ◌++◌, length, take, slice_get, Option, Some, None}
 use Rattle.std.specs.List.{AllByRecursion}
 use Rattle.dh_value.specs.declared.kinds.Kind.{Kind}
 use Rattle.dh_value.specs.declared.kinds.Kind.TheVariants as kind
@@ -88,10 +88,21 @@ pub record Grows (old new : List Operation) : Type 0 where
   pub more : List Operation
   pub appended : new ≡ old ++ more
 
--- and all are such
+-- of a plain form, and without a guard
+pub record IsPlain (o : Operation) : Type 0 where
+  pub guard : o.guard ≡ None
+  pub form : is_plain o.form ≡ true
+
+-- plain operations come behind
+pub record GrowsPlain (old new : List Operation) : Type 0 where
+  pub more : List Operation
+  pub appended : new ≡ old ++ more
+  pub plain : AllByRecursion IsPlain more
+
+-- and all are such: each one where the signals obey those before it, so that order and kinds follow one by one
 pub record Adds (x : Readings) (clock : ℕ) (old new : List Operation) : Type 0 where
   pub grows : Grows old new
-  pub each : Obeys x new → (n : ℕ) (o : Operation) → length old ≤ n → slice_get new n ≡ Some o → IsAdded x clock n o
+  pub each : (n : ℕ) (o : Operation) → length old ≤ n → slice_get new n ≡ Some o → Obeys x (take n new) → IsAdded x clock n o
 
 -- a value of the block, of this kind, that is there at a clock
 pub record Stands (x : Readings) (clock : ℕ) (os : List Operation) (k : Kind) (v : ℕ) : Type 0 where

@@ -1,8 +1,9 @@
 //! The bank and the row of an element, of its indices.
 
-ghost use Rattle.std.specs.Prelude.{IfOk};
+ghost use Rattle.std.specs.Prelude.{IfOk, OnOk};
 ghost use Rattle.std.specs.List.{AllByRecursion};
 ghost use Rattle.dh_tree.specs.Shapes.{IsDim};
+ghost use Rattle.dh_rows.specs.Readings.{GrowsPlain};
 ghost use Rattle.dh_rows.specs.RowsShown.{MakesRow};
 ghost use Rattle.dh_rows.specs.MadeOperations.{IsMade, IsSummed, SpreadsEach, SpreadsOne, digit_added, or_zero, times};
 
@@ -125,7 +126,8 @@ pub fn spread(
     banked: bool,
 ) -> Result<RowAndBank, NoMemory>
     requires { AllByRecursion IsDim dims.now }
-    ensures { IfOk result (MakesRow list.old list.new width dims.now indices.now banked) }
+    ensures grows { OnOk result (GrowsPlain list.old list.new) }
+    ensures made { IfOk result (MakesRow list.old list.new width dims.now indices.now banked) }
 {
     spread_each(list, width, dims, indices, banked)
 }

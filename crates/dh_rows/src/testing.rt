@@ -1,6 +1,7 @@
 //! Tests of indices against sizes.
 
-ghost use Rattle.std.specs.Prelude.{◌≡◌, ◌-◌, ◌^◌, min, IfOk};
+ghost use Rattle.std.specs.Prelude.{◌≡◌, ◌-◌, ◌^◌, min, IfOk, OnOk};
+ghost use Rattle.dh_rows.specs.Readings.{GrowsPlain};
 ghost use Rattle.dh_rows.specs.RowsShown.{MakesTest};
 ghost use Rattle.dh_rows.specs.MadeOperations.{IsSummed, bounded, tested};
 
@@ -67,7 +68,8 @@ pub fn push_test(
     value: u64,
     size: u64,
 ) -> Result<Option<u64>, NoMemory>
-    ensures { IfOk result (MakesTest list.old list.new kind value size) }
+    ensures grows { OnOk result (GrowsPlain list.old list.new) }
+    ensures made { IfOk result (MakesTest list.old list.new kind value size) }
 {
     test_kind(list, kind, value, size)
 }

@@ -1,0 +1,186 @@
+-- What is put down for the row and the bank of an access by indices, and what both show.
+use Rattle.std.proofs.Common.{◌≡◌, ℕ, ◌<◌, ◌≤◌, ◌^◌, Some, None, List, Bool, true, false, length, refl, sym, ap, subst, ◌∙◌, arith}
+use Rattle.std.specs.Prelude.{[], ◌∷◌, Option}
+use Rattle.std.specs.List.{AllByRecursion}
+use Rattle.std.proofs.lemmas.Nat.{pow_pos}
+use Rattle.dh_value.specs.declared.kinds.Kind.{Kind}
+use Rattle.dh_value.specs.declared.kinds.Kind.TheVariants as kind
+use Rattle.dh_value.specs.Words.{IsWidth, IsWord, with_bits}
+use Rattle.dh_tree.specs.declared.tables.Dim.{Dim}
+use Rattle.dh_tree.specs.Elements.{bank_of, row_of}
+use Rattle.dh_plan.specs.declared.operations.Operation.{Operation}
+use Rattle.dh_plan.specs.declared.operations.OperationForm.TheVariants.{Constant, Convert}
+use Rattle.dh_rows.specs.Readings.{Readings, Obeys, IsEarlier, Grows, Adds, IsValue, IsValueOrNone}
+use Rattle.dh_rows.specs.RowsShown.{Shows, ShowsOrZero, IsInput, AreWithin, HasWidth, IsRowMade}
+use Rattle.dh_rows.specs.MadeOperations.{Made, constant_made, or_zero}
+use Rattle.dh_rows.proofs.Growing.{grows_self, grows_on, plain_grows, pushed_grows, obeys_before, pushed_word, value_later, maybe_later, adds_self, adds_on, pushed_adds, pushed_value}
+use Rattle.dh_address.specs.declared.literals.LiteralPlace.{LiteralPlace}
+use Rattle.dh_address.specs.Pieces.{IsAim, IsAimBut, waited}
+use Rattle.dh_address.proofs.TestedRanges.{PutsMaybe, begun_later}
+
+-- a select is there if the bank is wanted
+abbrev pub HasSelect : (banked : Bool) → Option ℕ → Type 0
+HasSelect false select = select ≡ None
+HasSelect true select = (v : ℕ) × (select ≡ Some v)
+
+module _ (x : Readings) (clock : ℕ) where
+  -- plain operations, and a value of a kind
+  pub record PutsMade (old : List Operation) (m : Made) (k : Kind) : Type 0 where
+    pub adds : Adds x clock old m.operations
+    pub stands : IsValue x clock m.operations k m.value
+
+  -- plain operations, a row, and a bank where it is wanted
+  pub record PutsAim (old new : List Operation) (k : Kind) (banked : Bool) (row : ℕ) (select : Option ℕ) : Type 0 where
+    pub adds : Adds x clock old new
+    pub row_stands : IsValue x clock new k row
+    pub select_stands : IsValueOrNone x clock new k select
+    pub has : HasSelect banked select
+
+  constant_put : (old : List Operation) (width n : ℕ) → x.first ≤ length old → IsWord (with_bits (kind.Unsigned width) n) → PutsMade old (constant_made old width n) (kind.Unsigned width)
+  constant_put old width n begun word = record {
+    adds = pushed_adds x clock old (Constant (with_bits (kind.Unsigned width) n)) refl begun (λ o. tt) (λ o. word);
+    stands = pushed_value x clock old (Constant (with_bits (kind.Unsigned width) n)) refl begun (λ o. tt) (λ o. word) (kind.Unsigned width) (λ o. refl);
+  }
+
+  zero_word : (width : ℕ) → IsWidth width → IsWord (with_bits (kind.Unsigned width) 0)
+  zero_word width sized = record { sized = sized; fits = pow_pos width }
+
+  or_zero_put : (old : List Operation) (width : ℕ) (value : Option ℕ) → IsWidth width → x.first ≤ length old → IsValueOrNone x clock old (kind.Unsigned width) value
+      → PutsMade old (or_zero old width value) (kind.Unsigned width)
+  or_zero_put old width None sized begun h = constant_put old width 0 begun (zero_word width sized)
+  or_zero_put old width (Some value) sized begun h = record { adds = adds_self x clock old; stands = h }
+
+  aim_put : (old : List Operation) (k : Kind) (banked : Bool) (row bank : Made) (new : List Operation) (number : ℕ) (select : Option ℕ)
+      → PutsMade old row k → PutsMade row.operations bank k → IsAim banked row bank new number select → PutsAim old new k banked number select
+  aim_put old k false row bank new number select r b h =
+      subst (λ (os : List Operation). PutsAim old os k false number select) (sym h.0)
+      (subst (λ (n : ℕ). PutsAim old row.operations k false n select) (sym h.1.0)
+      (subst (λ (s : Option ℕ). PutsAim old row.operations k false row.value s) (sym h.1.1) (record { adds = r.adds; row_stands = r.stands; select_stands = tt; has = refl })))
+  aim_put old k true row bank new number select r b h =
+      subst (λ (os : List Operation). PutsAim old os k true number select) (sym h.0)
+      (subst (λ (n : ℕ). PutsAim old bank.operations k true n select) (sym h.1.0)
+      (subst (λ (s : Option ℕ). PutsAim old bank.operations k true row.value s) (sym h.1.1)
+      (record {
+        adds = adds_on x clock old row.operations bank.operations r.adds b.adds;
+        row_stands = value_later x clock row.operations bank.operations k row.value b.adds.grows r.stands;
+        select_stands = b.stands;
+        has = (bank.value, refl);
+      })))
+
+  -- a constant place whose numbers fit the width
+  abbrev pub PlaceFits : (width : ℕ) → Option LiteralPlace → Type 0
+  PlaceFits width None = Unit {0}
+  PlaceFits width (Some place) = (place.row < 2 ^ width) × (place.bank < 2 ^ width)
+
+  pub index_aim_put : (place : Option LiteralPlace) (width : ℕ) (dims : List Dim) (indices : List ℕ) (banked : Bool) (old new : List Operation) (row : ℕ) (select : Option ℕ)
+      → IsAimBut place width dims indices banked old new row select → HasWidth width dims → PlaceFits width place → x.first ≤ length old → AllByRecursion (λ i. IsInput x clock old i) indices
+      → PutsAim old new (kind.Unsigned width) banked row select
+  index_aim_put (Some place) width dims indices banked old new row select h wide fits begun inputs =
+      let row_made = constant_made old width place.row in
+      aim_put old (kind.Unsigned width) banked row_made (constant_made row_made.operations width place.bank) new row select
+      (constant_put old width place.row begun (record { sized = wide.sized; fits = fits.0 }))
+      (constant_put row_made.operations width place.bank (begun_later x old row_made.operations (pushed_grows old None _) begun) (record { sized = wide.sized; fits = fits.1 })) h
+  index_aim_put None width dims indices banked old new row select h wide fits begun inputs =
+      let m : IsRowMade width dims indices banked old h.spread h.values.row h.values.bank = h.made wide in
+      let row_made = or_zero h.spread width h.values.row in
+      let at_spread = begun_later x old h.spread (plain_grows old h.spread h.grows) begun in
+      let r = or_zero_put h.spread width h.values.row wide.sized at_spread (m.row_stands x clock begun inputs) in
+      let grown = grows_on old h.spread row_made.operations (plain_grows old h.spread h.grows) r.adds.grows in
+      let b = or_zero_put row_made.operations width h.values.bank wide.sized (begun_later x old row_made.operations grown begun)
+      (maybe_later x clock h.spread row_made.operations (kind.Unsigned width) h.values.bank r.adds.grows (m.bank_stands x clock begun inputs)) in
+      let aim = aim_put h.spread (kind.Unsigned width) banked row_made (or_zero row_made.operations width h.values.bank) new row select r b h.aim in
+      record {
+        adds = adds_on x clock old h.spread new (m.adds x clock begun inputs) aim.adds;
+        row_stands = aim.row_stands;
+        select_stands = aim.select_stands;
+        has = aim.has;
+      }
+
+  abbrev pub IsInputOrNone : List Operation → Option ℕ → Type 0
+  IsInputOrNone os None = Unit {0}
+  IsInputOrNone os (Some v) = IsInput x clock os v
+
+  -- what is waited for is a number of one bit
+  pub waited_put : (old : List Operation) (select : Option ℕ) → x.first ≤ length old → IsInputOrNone old select
+      → PutsMaybe x clock old (waited old select).operations (kind.Unsigned 1) (waited old select).sum
+  waited_put old None begun h = record { adds = adds_self x clock old; stands = tt }
+  waited_put old (Some v) begun h =
+      let takes : (Obeys x old → AllByRecursion (λ v. IsEarlier x clock (length old) v) (v ∷ [])) = λ o. (h o, tt) in
+      let one : IsWidth 1 = (omega arith, omega arith) in
+      record {
+        adds = pushed_adds x clock old (Convert v (kind.Unsigned 1)) refl begun takes (λ o. one);
+        stands = pushed_value x clock old (Convert v (kind.Unsigned 1)) refl begun takes (λ o. one) (kind.Unsigned 1) (λ o. refl);
+      }
+
+-- What they show.
+
+module _ (x : Readings) (width : ℕ) where
+  -- a select, where there is one, shows the bank
+  abbrev pub ShowsSelect : Option ℕ → (bank : ℕ) → Type 0
+  ShowsSelect None bank = Unit {0}
+  ShowsSelect (Some v) bank = Shows x width v bank
+
+  pub record ShowsAim (row : ℕ) (select : Option ℕ) (row_number bank : ℕ) : Type 0 where
+    pub row_shown : Shows x width row row_number
+    pub bank_shown : ShowsSelect select bank
+
+  or_zero_shows : (old : List Operation) (value : Option ℕ) (n : ℕ) → x.first ≤ length old → Obeys x (or_zero old width value).operations → ShowsOrZero x width value n
+      → Shows x width (or_zero old width value).value n
+  or_zero_shows old None n begun obeys h =
+      pushed_word x old (Constant (with_bits (kind.Unsigned width) 0)) refl begun obeys ∙ ap (λ (m : ℕ). with_bits (kind.Unsigned width) m) (sym h)
+  or_zero_shows old (Some value) n begun obeys h = h
+
+  constant_shows : (old : List Operation) (n : ℕ) → x.first ≤ length old → Obeys x (constant_made old width n).operations → Shows x width (constant_made old width n).value n
+  constant_shows old n begun obeys = pushed_word x old (Constant (with_bits (kind.Unsigned width) n)) refl begun obeys
+
+  aim_shows : (banked : Bool) (row bank : Made) (new : List Operation) (number : ℕ) (select : Option ℕ) (row_number bank_number : ℕ)
+      → Grows row.operations bank.operations → IsAim banked row bank new number select → Obeys x new
+      → (Obeys x row.operations → Shows x width row.value row_number) → (banked ≡ true → Obeys x bank.operations → Shows x width bank.value bank_number)
+      → ShowsAim number select row_number bank_number
+  aim_shows false row bank new number select row_number bank_number grown h obeys r b =
+      subst (λ (n : ℕ). ShowsAim n select row_number bank_number) (sym h.1.0)
+      (subst (λ (s : Option ℕ). ShowsAim row.value s row_number bank_number) (sym h.1.1)
+      (record { row_shown = r (subst (λ (os : List Operation). Obeys x os) h.0 obeys); bank_shown = tt }))
+  aim_shows true row bank new number select row_number bank_number grown h obeys r b =
+      let behind = subst (λ (os : List Operation). Obeys x os) h.0 obeys in
+      subst (λ (n : ℕ). ShowsAim n select row_number bank_number) (sym h.1.0)
+      (subst (λ (s : Option ℕ). ShowsAim row.value s row_number bank_number) (sym h.1.1)
+      (record { row_shown = r (obeys_before x row.operations bank.operations grown behind); bank_shown = b refl behind }))
+
+  or_zero_grows : (old : List Operation) (value : Option ℕ) → Grows old (or_zero old width value).operations
+  or_zero_grows old None = pushed_grows old None _
+  or_zero_grows old (Some value) = grows_self old
+
+  -- a constant place is that of the element
+  abbrev pub PlaceIs : Option LiteralPlace → (row bank : ℕ) → Type 0
+  PlaceIs None row bank = Unit {0}
+  PlaceIs (Some place) row bank = (place.row ≡ row) × (place.bank ≡ bank)
+
+  aim_grows : (banked : Bool) (row bank : Made) (new : List Operation) (number : ℕ) (select : Option ℕ) → Grows row.operations bank.operations → IsAim banked row bank new number select
+      → Grows row.operations new
+  aim_grows false row bank new number select g h = subst (λ (os : List Operation). Grows row.operations os) (sym h.0) (grows_self row.operations)
+  aim_grows true row bank new number select g h = subst (λ (os : List Operation). Grows row.operations os) (sym h.0) g
+
+  pub index_aim_shows : (place : Option LiteralPlace) (dims : List Dim) (indices : List ℕ) (banked : Bool) (old new : List Operation) (row : ℕ) (select : Option ℕ) (numbers : List ℕ)
+      → IsAimBut place width dims indices banked old new row select → HasWidth width dims → PlaceIs place (row_of dims numbers) (bank_of dims numbers) → x.first ≤ length old → Obeys x new
+      → AreWithin x dims indices numbers → ShowsAim row select (row_of dims numbers) (bank_of dims numbers)
+  index_aim_shows (Some place) dims indices banked old new row select numbers h wide is begun obeys within =
+      let row_made = constant_made old width place.row in
+      let grown = pushed_grows old None (Constant (with_bits (kind.Unsigned width) place.row)) in
+      aim_shows banked row_made (constant_made row_made.operations width place.bank) new row select (row_of dims numbers) (bank_of dims numbers)
+      (pushed_grows row_made.operations None _) h obeys
+      (λ o. subst (λ (n : ℕ). Shows x width (length old) n) is.0 (constant_shows old place.row begun o))
+      (λ b o. subst (λ (n : ℕ). Shows x width (length row_made.operations) n) is.1 (constant_shows row_made.operations place.bank (begun_later x old row_made.operations grown begun) o))
+  index_aim_shows None dims indices banked old new row select numbers h wide is begun obeys within =
+      let m : IsRowMade width dims indices banked old h.spread h.values.row h.values.bank = h.made wide in
+      let row_made = or_zero h.spread width h.values.row in
+      let row_grows = or_zero_grows h.spread h.values.row in
+      let bank_grows = or_zero_grows row_made.operations h.values.bank in
+      let at_spread = begun_later x old h.spread (plain_grows old h.spread h.grows) begun in
+      let spread_obeys : Obeys x h.spread =
+      obeys_before x h.spread row_made.operations row_grows (obeys_before x row_made.operations new
+      (aim_grows banked row_made (or_zero row_made.operations width h.values.bank) new row select bank_grows h.aim) obeys)
+      in
+      aim_shows banked row_made (or_zero row_made.operations width h.values.bank) new row select (row_of dims numbers) (bank_of dims numbers) bank_grows h.aim obeys
+      (λ o. or_zero_shows h.spread h.values.row (row_of dims numbers) at_spread o (m.row_shown x numbers begun spread_obeys within))
+      (λ b o. or_zero_shows row_made.operations h.values.bank (bank_of dims numbers) (begun_later x h.spread row_made.operations row_grows at_spread) o (m.bank_shown x numbers begun spread_obeys within b))

@@ -1,0 +1,10 @@
+use Rattle.std.proofs.Common.{subst, ◌≤◌}
+use Rattle.dh_address.specs.Pieces.{ranges_by}
+use Rattle.dh_address.specs.SeenAround.{around_seen}
+use Rattle.dh_address.proofs.RangeTurns.{checked_end, ranges_end}
+use Rattle.dh_address.proofs.ranging.check_indices.Goals as goal
+
+pub returns : goal.returns
+returns c =
+    checked_end (around_seen c.args.old.now c.args.known.now) c.args.guard c.args.fault _ (ranges_by c.args.dims.now c.args.indices.now) c.args.list.now c.loop-i.list
+    (ranges_end c.args.dims.now c.args.indices.now c.loop-i.i (subst (λ n. n ≤ c.loop-i.i) c.min-i-end.ensures c.loop-i-test.false)) c.loop-i.invariant

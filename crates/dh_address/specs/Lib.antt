@@ -1,0 +1,9 @@
+pub mod SeenLists
+pub mod Renumbered
+pub mod LiteralPlaces
+pub mod Pieces
+pub mod Images
+pub mod SeenAround
+pub mod SeenBlocks
+pub mod Cuts
+pub mod SeenPlan

@@ -1,0 +1,53 @@
+-- Indices that are constants of a block: their numbers, and the row and bank of the element that they name, as
+-- numbers of 64 bits.
+use Rattle.std.specs.Prelude.{ℕ, ◌+◌, ◌-◌, ◌*◌, ◌/◌, ◌%◌, ◌^◌, nat_lt, if◌then◌else◌, List, ◌∷◌, slice_get, Option, Some, None}
+use Rattle.dh_value.specs.declared.kinds.Kind.{Kind}
+use Rattle.dh_value.specs.declared.kinds.Kind.TheVariants as kind
+use Rattle.dh_value.specs.declared.words.Word.{Word}
+use Rattle.dh_tree.specs.declared.tables.Dim.{Dim}
+use Rattle.dh_plan.specs.declared.operations.Operation.{Operation}
+use Rattle.dh_plan.specs.declared.operations.OperationForm.{OperationForm}
+use Rattle.dh_plan.specs.declared.operations.OperationForm.TheVariants.{Constant}
+use Rattle.dh_address.specs.declared.literals.LiteralPlace.{LiteralPlace}
+
+-- a word's value, if it is a number from 0 on
+abbrev pub natural_in : Kind → (bits : ℕ) → Option ℕ
+natural_in kind.Bool bits = None
+natural_in (kind.Unsigned w) bits = Some bits
+natural_in (kind.Signed w) bits = if nat_lt bits (2 ^ (w - 1)) then Some bits else None
+
+abbrev pub natural : Word → Option ℕ
+natural w = natural_in w.kind w.bits
+
+abbrev pub literal_form : OperationForm → Option ℕ
+literal_form (Constant word) = natural word
+literal_form _ = None
+
+-- a guard would make it one of two numbers
+abbrev pub literal_guarded : (guard : Option ℕ) → OperationForm → Option ℕ
+literal_guarded None form = literal_form form
+literal_guarded (Some g) form = None
+
+abbrev pub literal_in : Option Operation → Option ℕ
+literal_in None = None
+literal_in (Some o) = literal_guarded o.guard o.form
+
+abbrev pub literal_at : List Operation → (place : ℕ) → Option ℕ
+literal_at os place = literal_in (slice_get os place)
+
+abbrev pub below_size : Option ℕ → (size : ℕ) → Option ℕ
+below_size None size = None
+below_size (Some n) size = if nat_lt n size then Some n else None
+
+abbrev pub literal_within : List Operation → (first value size : ℕ) → Option ℕ
+literal_within os first value size = below_size (literal_at os (value - first)) size
+
+abbrev pub and_then : Option ℕ → (ℕ → Option LiteralPlace) → Option LiteralPlace
+and_then None rest = None
+and_then (Some n) rest = rest n
+
+-- row and bank of dimensions so far, and of those to come
+abbrev pub literal_places : List Operation → (first : ℕ) → List Dim → List ℕ → (row bank : ℕ) → Option LiteralPlace
+literal_places os first (d ∷ ds) (i ∷ is) row bank =
+    and_then (literal_within os first i d.size) (λ n. literal_places os first ds is ((row * (d.size / d.banks) % 2 ^ 64 + n / d.banks) % 2 ^ 64) ((bank * d.banks % 2 ^ 64 + n % d.banks) % 2 ^ 64))
+literal_places os first _ _ row bank = Some (record { row = row; bank = bank })

@@ -1,0 +1,143 @@
+//! Accesses of rows of banks.
+
+ghost use Rattle.std.specs.Prelude.{◌≡◌, IfOk, length};
+ghost use Rattle.std.specs.List.{AllByRecursion};
+ghost use Rattle.dh_tree.specs.Elements.{dims_at};
+ghost use Rattle.dh_tree.specs.Shapes.{IsDim, IsProgramTable};
+ghost use Rattle.dh_rows.specs.MadeOperations.{IsSummed, constant_made};
+ghost use Rattle.dh_address.specs.Pieces.{IsAim, IsAimed, IsIndexAim, IsSpreadOut, aimed, waited};
+ghost use Rattle.dh_address.specs.SeenAround.{around_seen};
+
+use crate::literals::{LiteralPlace, constant_place};
+use crate::ranging::{OldBlock, dims_in, element_total};
+use crate::renumbering::Renumbering;
+use dh_base::{Items, NoMemory};
+use dh_plan::Reach;
+use dh_rows::{OperationList, bit_length, push_constant, push_convert, push_or_zero, spread};
+use dh_tree::Dim;
+
+/// The values of a row, and of its bank where there are several.
+#[derive(Clone, Copy, Debug)]
+pub struct Aim {
+    /// The row.
+    pub row: u64,
+    /// The bank.
+    pub select: Option<u64>,
+}
+
+/// Adds a row, and its bank where that is wanted, of an element that is known.
+fn push_place(
+    list: &mut OperationList,
+    width: u8,
+    place: LiteralPlace,
+    banked: bool,
+) -> Result<Aim, NoMemory>
+    ensures { IfOk result (λ a. IsAim banked (constant_made list.old width place.row)
+        (constant_made (constant_made list.old width place.row).operations width place.bank)
+        list.new a.row a.select) }
+{
+    let row = push_constant(list, width, place.row)?;
+    if !banked {
+        return Ok(Aim { row, select: None });
+    }
+    let select = Some(push_constant(list, width, place.bank)?);
+    Ok(Aim { row, select })
+}
+
+/// Adds the row of the element of these indices, and its bank where that is wanted.
+fn push_spread(
+    list: &mut OperationList,
+    width: u8,
+    dims: &[Dim],
+    indices: &[u64],
+    banked: bool,
+) -> Result<Aim, NoMemory>
+    requires { AllByRecursion IsDim dims.now }
+    ensures { IfOk result (λ a. IsSpreadOut width dims.now indices.now banked list.old list.new
+        a.row a.select) }
+{
+    let values = spread(list, width, dims, indices, banked)?;
+    let row = push_or_zero(list, width, values.row)?;
+    if !banked {
+        return Ok(Aim { row, select: None });
+    }
+    let select = Some(push_or_zero(list, width, values.bank)?);
+    Ok(Aim { row, select })
+}
+
+/// Adds the row of an access by indices, and its bank where it can reach several.
+fn aim_by_indices(
+    list: &mut OperationList,
+    old: &OldBlock<'_>,
+    known: &Renumbering,
+    reach: &Reach,
+) -> Result<Aim, NoMemory>
+    requires { IsProgramTable old.now.table.now }
+    ensures { IfOk result (λ a. IsIndexAim (around_seen old.now known.now) reach.now
+        list.old list.new a.row a.select) }
+{
+    let dims = dims_in(old.table, reach.memory);
+    let width = bit_length(element_total(dims));
+    let banked = reach.banks.len() != 1;
+    match constant_place(old.operations, known.first, dims, reach.indices.as_slice()) {
+        Some(place) => push_place(list, width, place, banked),
+        None => {
+            let indices = known.each(old.alloc, reach.indices.as_slice())?;
+            push_spread(list, width, dims, indices.as_slice(), banked)
+        }
+    }
+}
+
+/// Adds a value as a number of one bit, if there is one: it is only waited for.
+fn push_waited(list: &mut OperationList, value: Option<u64>) -> Result<Option<u64>, NoMemory>
+    ensures { IfOk result (λ s. IsSummed list.new s (waited list.old value)) }
+{
+    match value {
+        None => Ok(None),
+        Some(value) => Ok(Some(push_convert(list, value, 1)?)),
+    }
+}
+
+/// The same access of a row of a bank, which takes these values too.
+fn aimed(
+    old: &OldBlock<'_>,
+    reach: &Reach,
+    indices: Items<u64>,
+    aim: Aim,
+) -> Result<Reach, NoMemory>
+    ensures { IfOk result (λ t. t ≡ aimed reach.now indices aim.row aim.select) }
+{
+    Ok(Reach {
+        access: reach.access,
+        memory: reach.memory,
+        indices,
+        steps: Items::new(old.alloc),
+        banks: Items::from_vec(Vec::from_slice(old.alloc, reach.banks.as_slice())?),
+        select: aim.select,
+        row: Some(aim.row),
+    })
+}
+
+/// Adds the row of an access. What it took before it still takes, so that it comes no earlier.
+pub fn aim_reach(
+    list: &mut OperationList,
+    old: &OldBlock<'_>,
+    known: &Renumbering,
+    reach: &Reach,
+) -> Result<Reach, NoMemory>
+    requires { IsProgramTable old.now.table.now }
+    ensures { IfOk result (IsAimed (around_seen old.now known.now) reach.now reach.now.row
+        list.old list.new) }
+{
+    let mut indices = known.each(old.alloc, reach.indices.as_slice())?;
+    if let Some(row) = reach.row {
+        let row = known.number(row);
+        let select = known.maybe(reach.select);
+        return aimed(old, reach, indices, Aim { row, select });
+    }
+    if let Some(select) = push_waited(list, known.maybe(reach.select))? {
+        indices.push(select)?;
+    }
+    let aim = aim_by_indices(list, old, known, reach)?;
+    aimed(old, reach, indices, aim)
+}
