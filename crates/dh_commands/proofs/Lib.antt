@@ -1,0 +1,16 @@
+pub mod LanesInOrder
+pub mod ChangesBack
+pub mod PathsDone
+pub mod VariablesSet
+pub mod Assigned
+pub mod Cleared
+pub mod ReducersMade
+pub mod Reduced
+pub mod Tested
+pub mod TestsDone
+pub mod Stored
+pub mod StoredForms
+pub mod ArmGuards
+pub mod ArmsBegun
+pub mod PathsKept
+pub mod ChoicesMade
