@@ -11,7 +11,7 @@ use Rattle.dh_commands.specs.declared.assignments.Change.{Change}
 use Rattle.dh_commands.specs.declared.assignments.Values.{Values}
 use Rattle.dh_commands.specs.LanesRun.{paths_counted}
 use Rattle.dh_commands.specs.ShownVariables.{register_in}
-use Rattle.dh_commands.specs.Undone.{AreReady, Assigns, Changes, HasRoom, IsChange, change_at, given_at, undone}
+use Rattle.dh_commands.specs.Undone.{AreGiven, AreReady, Assigns, Changes, HasRoom, IsChange, IsGiven, change_at, given_at, undone}
 
 pub undone_append : (xs ys : List Change) (current : List (Option ℕ)) → undone (xs ++ ys) current ≡ undone xs (undone ys current)
 undone_append [] ys current = refl
@@ -41,6 +41,22 @@ rooms_kept : (xs ys : List (Option ℕ)) (cs : List Change) → length xs ≡ le
 rooms_kept xs ys [] same a = tt
 rooms_kept xs ys (c ∷ cs) same a = (subst (λ (n : ℕ). c.register < n) (sym same) a.0, rooms_kept xs ys cs same a.1)
 
+pub given_append : (xs ys : List Change) (current : List (Option ℕ)) → AreGiven xs (undone ys current) → AreGiven ys current → AreGiven (xs ++ ys) current
+given_append [] ys current a b = b
+given_append (c ∷ xs) ys current a b =
+    (subst (λ (os : List (Option ℕ)). IsGiven (given_at os c.register)) (sym (undone_append xs ys current)) a.0, given_append xs ys current a.1 b)
+
+set_given : (xs : List (Option ℕ)) (i value : ℕ) → i < length xs → IsGiven (given_at (slice_set xs i (Some value)) i)
+set_given [] i value within = absurd (none i within)
+  where
+    none : (n : ℕ) → n < 0 → ⊥
+    none n h = omega (arith, h)
+set_given (x ∷ xs) zero value within = tt
+set_given (x ∷ xs) (suc i) value within = set_given xs i value (less i (length xs) within)
+  where
+    less : (n m : ℕ) → suc n < suc m → n < m
+    less n m h = omega (arith, h)
+
 -- what is ready stays so
 pub ready_after : (scene : Scene) (around : Around) (May : ℕ → Type 0) (a b : Values) → Changes scene around May a b → AreReady a → AreReady b
 ready_after scene around May a b h ready = record {
@@ -50,7 +66,7 @@ ready_after scene around May a b h ready = record {
 
 module _ (scene : Scene) (around : Around) (May : ℕ → Type 0) where
   pub changes_none : (v : Values) → Changes scene around May v v
-  changes_none v = record { more = []; log = sym (append-nil v.log.items); back = refl; long = refl; marks = refl; each = tt; room = tt }
+  changes_none v = record { more = []; log = sym (append-nil v.log.items); back = refl; long = refl; marks = refl; each = tt; room = tt; given = tt }
 
   pub changes_again : (a b c : Values) → Changes scene around May a b → Changes scene around May b c → Changes scene around May a c
   changes_again a b c h k = record {
@@ -61,6 +77,7 @@ module _ (scene : Scene) (around : Around) (May : ℕ → Type 0) where
     marks = k.marks ∙ h.marks;
     each = all_append (IsChange scene around May) h.more k.more h.each k.each;
     room = all_append (HasRoom a.current.items) h.more k.more h.room (rooms_kept a.current.items b.current.items k.more (sym h.long) k.room);
+    given = given_append h.more k.more c.current.items (subst (λ (os : List (Option ℕ)). AreGiven h.more os) (sym k.back) h.given) k.given;
   }
 
   pub changes_one : (old new : Values) (entity number value : ℕ) → May entity → number < paths_counted around → Assigns old new (register_in scene around entity number) number value → Changes scene around May old new
@@ -78,6 +95,7 @@ module _ (scene : Scene) (around : Around) (May : ℕ → Type 0) where
         marks = s.marks;
         each = (record { entity = entity; may = may; within = within; register_is = refl }, tt);
         room = (there, tt);
+        given = (subst (λ (os : List (Option ℕ)). IsGiven (given_at os (register_in scene around entity number))) (sym s.current) (set_given old.current.items (register_in scene around entity number) value there), tt);
       }
       by (inr past) = record {
         more = [];
@@ -87,6 +105,7 @@ module _ (scene : Scene) (around : Around) (May : ℕ → Type 0) where
         marks = s.marks;
         each = tt;
         room = tt;
+        given = tt;
       }
         where
           below : (r n : ℕ) → r < n → n ≤ r → ⊥

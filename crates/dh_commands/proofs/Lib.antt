@@ -14,3 +14,6 @@ pub mod ArmGuards
 pub mod ArmsBegun
 pub mod PathsKept
 pub mod ChoicesMade
+pub mod ArmEnded
+pub mod JoinedArms
+pub mod JoinTurns

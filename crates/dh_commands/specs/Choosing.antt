@@ -1,5 +1,5 @@
 -- Guards of the arms of an `if`, and the variables behind it.
-use Rattle.std.specs.Prelude.{◌≡◌, ◌⊎◌, ℕ, ◌<◌, ◌&&◌, Bool as Truth, true, if◌then◌else◌, List, [], ◌∷◌, ◌++◌, length, map, slice_get, slice_index_or, Option, Some, None}
+use Rattle.std.specs.Prelude.{◌≡◌, ℕ, ◌<◌, ◌&&◌, Bool as Truth, true, if◌then◌else◌, List, [], ◌∷◌, ◌++◌, length, map, slice_get, slice_index_or, Option, Some, None}
 use Rattle.std.specs.List.{AllByRecursion}
 use Rattle.dh_value.specs.declared.words.Word.{Word}
 use Rattle.dh_value.specs.Operations.{is_true}
@@ -10,9 +10,9 @@ use Rattle.dh_expressions.specs.Shown.{guard_of, variable_shown}
 use Rattle.dh_commands.specs.declared.assignments.Change.{Change}
 use Rattle.dh_commands.specs.declared.assignments.Values.{Values}
 use Rattle.dh_commands.specs.declared.choices.Choice.{Choice}
-use Rattle.dh_commands.specs.declared.choices.Left.{Left}
 use Rattle.dh_commands.specs.LanesRun.{comes_out}
-use Rattle.dh_commands.specs.Undone.{AreReady, Assigns, HasRoom, IsChoice, first_left, undone}
+use Rattle.dh_commands.specs.Joined.{AreApart}
+use Rattle.dh_commands.specs.Undone.{Assigns, HasRoom, undone}
 
 -- operations that tell nothing whatever the guards
 pub record IsQuiet (old new : Draft) : Type 0 where
@@ -30,29 +30,6 @@ pub record MakesGuards (old new : Draft) (guards : List (Option ℕ)) (tests : L
   pub long : length arm ≡ count
   pub on : (x : Step) → Fits x new → Begun x old → (number test : ℕ) → number < count → slice_get tests number ≡ Some test
       → is_on x.first x.words (guard_of arm number) ≡ (is_on x.first x.words (guard_of guards number) && comes_out holds (is_true (shown x test)))
-
--- no two choices are of one register
-abbrev pub AreApart : List Choice → Type 0
-AreApart choices = (k m : ℕ) (c d : Choice) → slice_get choices k ≡ Some c → slice_get choices m ≡ Some d → c.register ≡ d.register → k ≡ m
-
--- The variables that arms left, each once.
-pub record AreChoices (chosen other : List Left) (choices : List Choice) : Type 0 where
-  pub are : (k : ℕ) (c : Choice) → slice_get choices k ≡ Some c → IsChoice chosen other c
-  -- each stands at the path at which its register was left
-  pub left : (k : ℕ) (c : Choice) → slice_get choices k ≡ Some c
-      → (l : Left) × ((l.path ≡ c.path) × ((first_left chosen c.register ≡ Some l) ⊎ (first_left other c.register ≡ Some l)))
-  pub one : AreApart choices
-  pub all : (register : ℕ) (l : Left) → (first_left chosen register ≡ Some l) ⊎ (first_left other register ≡ Some l)
-      → (k : ℕ) × ((c : Choice) × ((slice_get choices k ≡ Some c) × (c.register ≡ register)))
-
-abbrev pub IsRoomy : List (Option ℕ) → Left → Type 0
-IsRoomy current l = l.register < length current
-
-pub record JoinsArms (old new : Values) (chosen other : List Left) (choices : List Choice) : Type 0 where
-  pub current : new.current ≡ old.current
-  pub log : new.log ≡ old.log
-  pub marks : AreReady old → new.marks.items ≡ old.marks.items
-  pub are : AreReady old → AllByRecursion (IsRoomy old.current.items) chosen → AllByRecursion (IsRoomy old.current.items) other → AreChoices chosen other choices
 
 -- what a variable shows behind an arm that left this of it, or nothing
 abbrev pub behind_shown : Step → (current : List (Option ℕ)) → (register : ℕ) → Option ℕ → Word

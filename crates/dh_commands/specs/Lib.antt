@@ -6,4 +6,5 @@ pub mod Undone
 pub mod Done
 -- what functions inside the crate promise one another
 pub mod Setting
+pub mod Joined
 pub mod Choosing

@@ -30,6 +30,11 @@ pub record Assigns (old new : Values) (register path value : ℕ) : Type 0 where
   pub past : (register < length old.current.items → ⊥) → new.log.items ≡ old.log.items
   pub marks : new.marks.items ≡ old.marks.items
 
+-- a variable was given a value
+abbrev pub IsGiven : Option ℕ → Type 0
+IsGiven None = ⊥
+IsGiven (Some value) = Unit {0}
+
 -- the values before these assignments, the last of which is taken back first
 abbrev pub undone : List Change → List (Option ℕ) → List (Option ℕ)
 undone [] current = current
@@ -41,6 +46,11 @@ pub record IsChange (scene : Scene) (around : Around) (May : ℕ → Type 0) (c 
   pub may : May entity
   pub within : c.path < paths_counted around
   pub register_is : c.register ≡ register_in scene around entity c.path
+
+-- what is taken back had a value until then
+abbrev pub AreGiven : List Change → List (Option ℕ) → Type 0
+AreGiven [] current = Unit {0}
+AreGiven (c ∷ cs) current = IsGiven (given_at (undone cs current) c.register) × AreGiven cs current
 
 -- its register is one of these
 abbrev pub HasRoom : List (Option ℕ) → Change → Type 0
@@ -55,6 +65,7 @@ pub record Changes (scene : Scene) (around : Around) (May : ℕ → Type 0) (old
   pub marks : new.marks.items ≡ old.marks.items
   pub each : AllByRecursion (IsChange scene around May) more
   pub room : AllByRecursion (HasRoom old.current.items) more
+  pub given : AreGiven more new.current.items
 
 -- no choice is marked, and each register can be
 pub record AreReady (v : Values) : Type 0 where

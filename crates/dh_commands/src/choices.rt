@@ -1,10 +1,11 @@
 //! Variables behind an `if`. Both arms begin from the same values; behind them each variable that an arm assigned
 //! is chosen once by the test.
 
-ghost use Rattle.std.specs.Prelude.{IfOk, OnOk, length};
+ghost use Rattle.std.specs.Prelude.{◌≡◌, IfOk, OnOk, length};
 ghost use Rattle.dh_expressions.specs.Drafted.{Gives};
 ghost use Rattle.dh_commands.specs.Undone.{EndsArm};
-ghost use Rattle.dh_commands.specs.Choosing.{Chooses, ChoosesOne, JoinsArms, behind_shown};
+ghost use Rattle.dh_commands.specs.Joined.{JoinsArms, all_unmarked, chosen_marked, chosen_noted, other_noted};
+ghost use Rattle.dh_commands.specs.Choosing.{Chooses, ChoosesOne, behind_shown};
 
 use crate::assignments::{Values, assign};
 use dh_base::NoMemory;
@@ -64,7 +65,10 @@ fn note_chosen(
     marks: &mut Vec<usize>,
     choices: &mut Vec<Choice>,
     left: Left,
-) -> Result<(), NoMemory> {
+) -> Result<(), NoMemory>
+    ensures noted { OnOk result (choices.new.items ≡ chosen_noted marks.old.items choices.old.items left) }
+    ensures marked { OnOk result (marks.new.items ≡ chosen_marked marks.old.items choices.old.items left) }
+{
     let at = left.register as usize;
     if at < marks.len() && marks[at] == 0 {
         choices.push(Choice {
@@ -83,7 +87,10 @@ fn note_other(
     marks: &mut Vec<usize>,
     choices: &mut Vec<Choice>,
     left: Left,
-) -> Result<(), NoMemory> {
+) -> Result<(), NoMemory>
+    ensures noted { OnOk result (choices.new.items ≡ other_noted marks.old.items choices.old.items left) }
+    ensures marked { OnOk result (marks.new.items ≡ chosen_marked marks.old.items choices.old.items left) }
+{
     let at = left.register as usize;
     if at >= marks.len() {
         return Ok(());
@@ -127,7 +134,9 @@ pub fn join_arms(
 }
 
 /// Ends a choice's arms: no variable is marked.
-fn unmark(marks: &mut Vec<usize>, choices: &[Choice]) {
+fn unmark(marks: &mut Vec<usize>, choices: &[Choice])
+    ensures { marks.new.items ≡ all_unmarked choices.now marks.old.items }
+{
     for choice in choices {
         let at = choice.register as usize;
         if at < marks.len() {
