@@ -1,4 +1,3 @@
-// CHIEF ENGINEER: read /tmp/h/commands/READ_NOW_FROM_CHIEF.md (spec changes wanted), then delete this line
 //! Operations from straight commands, each at all its paths before the next one.
 
 ghost use Rattle.std.specs.Prelude.{IfOk};
