@@ -74,7 +74,9 @@ fn store_at(
     let own = push_term(scene, lane, current, accesses, draft, first, value)?;
     let Some((aim, memory)) = aim_at(scene, lane, current, accesses, draft, own.next, target)?
     else {
-        return Ok(own.next);
+        // no text has such a target; its accesses have their numbers all the same
+        let passed = push_term(scene, lane, current, accesses, draft, own.next, target)?;
+        return Ok(passed.next);
     };
     let held = push_held(draft, value, own.value, element_kind(scene, memory))?;
     let next = aim.number.saturating_add(1);
