@@ -11,7 +11,7 @@ use Rattle.dh_commands.specs.declared.assignments.Change.{Change}
 use Rattle.dh_commands.specs.declared.assignments.Values.{Values}
 use Rattle.dh_commands.specs.LanesRun.{paths_counted}
 use Rattle.dh_commands.specs.ShownVariables.{register_in}
-use Rattle.dh_commands.specs.Undone.{AreGiven, AreReady, Assigns, Changes, HasRoom, IsChange, IsGiven, change_at, given_at, undone}
+use Rattle.dh_commands.specs.Undone.{AreGiven, AreReady, Assigns, Changes, HasRoom, IsChange, IsGiven, Logs, change_at, given_at, undone}
 
 pub undone_append : (xs ys : List Change) (current : List (Option ℕ)) → undone (xs ++ ys) current ≡ undone xs (undone ys current)
 undone_append [] ys current = refl
@@ -64,44 +64,45 @@ ready_after scene around May a b h ready = record {
   long = ap (λ (ms : List ℕ). length ms) h.marks ∙ (ready.long ∙ sym h.long);
 }
 
-module _ (scene : Scene) (around : Around) (May : ℕ → Type 0) where
-  pub changes_none : (v : Values) → Changes scene around May v v
-  changes_none v = record { more = []; log = sym (append-nil v.log.items); back = refl; long = refl; marks = refl; each = tt; room = tt; given = tt }
+-- Of any assignments.
+module _ (P : Change → Type 0) where
+  pub logs_none : (v : Values) → Logs P v v
+  logs_none v = record { more = []; log = sym (append-nil v.log.items); back = refl; long = refl; marks = refl; each = tt; room = tt; given = tt }
 
-  pub changes_again : (a b c : Values) → Changes scene around May a b → Changes scene around May b c → Changes scene around May a c
-  changes_again a b c h k = record {
+  pub logs_again : (a b c : Values) → Logs P a b → Logs P b c → Logs P a c
+  logs_again a b c h k = record {
     more = h.more ++ k.more;
     log = k.log ∙ (ap (λ (l : List Change). l ++ k.more) h.log ∙ append_assoc a.log.items h.more k.more);
     back = undone_append h.more k.more c.current.items ∙ (ap (λ (os : List (Option ℕ)). undone h.more os) k.back ∙ h.back);
     long = k.long ∙ h.long;
     marks = k.marks ∙ h.marks;
-    each = all_append (IsChange scene around May) h.more k.more h.each k.each;
+    each = all_append P h.more k.more h.each k.each;
     room = all_append (HasRoom a.current.items) h.more k.more h.room (rooms_kept a.current.items b.current.items k.more (sym h.long) k.room);
     given = given_append h.more k.more c.current.items (subst (λ (os : List (Option ℕ)). AreGiven h.more os) (sym k.back) h.given) k.given;
   }
 
-  pub changes_one : (old new : Values) (entity number value : ℕ) → May entity → number < paths_counted around → Assigns old new (register_in scene around entity number) number value → Changes scene around May old new
-  changes_one old new entity number value may within s = by (cases_lt (register_in scene around entity number) (length old.current.items))
+  pub logs_one : (old new : Values) (register number value : ℕ) → P (change_at old.current.items register number) → Assigns old new register number value → Logs P old new
+  logs_one old new register number value is s = by (cases_lt register (length old.current.items))
     where
-      by : (register_in scene around entity number < length old.current.items) ⊎ (length old.current.items ≤ register_in scene around entity number) → Changes scene around May old new
+      by : (register < length old.current.items) ⊎ (length old.current.items ≤ register) → Logs P old new
       by (inl there) = record {
-        more = change_at old.current.items (register_in scene around entity number) number ∷ [];
+        more = change_at old.current.items register number ∷ [];
         log = s.log there;
         back =
-            ap (λ (os : List (Option ℕ)). slice_set os (register_in scene around entity number) (given_at old.current.items (register_in scene around entity number))) s.current
-            ∙ (set_again old.current.items (register_in scene around entity number) (Some value) (given_at old.current.items (register_in scene around entity number))
-            ∙ set-get_or old.current.items (register_in scene around entity number) None);
-        long = ap (λ (os : List (Option ℕ)). length os) s.current ∙ set_long old.current.items (register_in scene around entity number) (Some value);
+            ap (λ (os : List (Option ℕ)). slice_set os register (given_at old.current.items register)) s.current
+            ∙ (set_again old.current.items register (Some value) (given_at old.current.items register)
+            ∙ set-get_or old.current.items register None);
+        long = ap (λ (os : List (Option ℕ)). length os) s.current ∙ set_long old.current.items register (Some value);
         marks = s.marks;
-        each = (record { entity = entity; may = may; within = within; register_is = refl }, tt);
+        each = (is, tt);
         room = (there, tt);
-        given = (subst (λ (os : List (Option ℕ)). IsGiven (given_at os (register_in scene around entity number))) (sym s.current) (set_given old.current.items (register_in scene around entity number) value there), tt);
+        given = (subst (λ (os : List (Option ℕ)). IsGiven (given_at os register)) (sym s.current) (set_given old.current.items register value there), tt);
       }
       by (inr past) = record {
         more = [];
-        log = s.past (λ l. below (register_in scene around entity number) (length old.current.items) l past) ∙ sym (append-nil old.log.items);
-        back = s.current ∙ set_past old.current.items (register_in scene around entity number) (Some value) past;
-        long = ap (λ (os : List (Option ℕ)). length os) s.current ∙ set_long old.current.items (register_in scene around entity number) (Some value);
+        log = s.past (λ l. below register (length old.current.items) l past) ∙ sym (append-nil old.log.items);
+        back = s.current ∙ set_past old.current.items register (Some value) past;
+        long = ap (λ (os : List (Option ℕ)). length os) s.current ∙ set_long old.current.items register (Some value);
         marks = s.marks;
         each = tt;
         room = tt;
@@ -110,3 +111,21 @@ module _ (scene : Scene) (around : Around) (May : ℕ → Type 0) where
         where
           below : (r n : ℕ) → r < n → n ≤ r → ⊥
           below r n l p = omega (arith, l, p)
+
+-- Of these variables.
+module _ (scene : Scene) (around : Around) (May : ℕ → Type 0) where
+  pub changes_logs : (old new : Values) → Logs (IsChange scene around May) old new → Changes scene around May old new
+  changes_logs old new l = record { more = l.more; log = l.log; back = l.back; long = l.long; marks = l.marks; each = l.each; room = l.room; given = l.given }
+
+  pub logs_changes : (old new : Values) → Changes scene around May old new → Logs (IsChange scene around May) old new
+  logs_changes old new l = record { more = l.more; log = l.log; back = l.back; long = l.long; marks = l.marks; each = l.each; room = l.room; given = l.given }
+
+  pub changes_none : (v : Values) → Changes scene around May v v
+  changes_none v = changes_logs v v (logs_none (IsChange scene around May) v)
+
+  pub changes_again : (a b c : Values) → Changes scene around May a b → Changes scene around May b c → Changes scene around May a c
+  changes_again a b c h k = changes_logs a c (logs_again (IsChange scene around May) a b c (logs_changes a b h) (logs_changes b c k))
+
+  pub changes_one : (old new : Values) (entity number value : ℕ) → May entity → number < paths_counted around → Assigns old new (register_in scene around entity number) number value → Changes scene around May old new
+  changes_one old new entity number value may within s =
+      changes_logs old new (logs_one (IsChange scene around May) old new (register_in scene around entity number) number value (record { entity = entity; may = may; within = within; register_is = refl }) s)

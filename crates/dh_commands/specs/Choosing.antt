@@ -12,7 +12,7 @@ use Rattle.dh_commands.specs.declared.assignments.Values.{Values}
 use Rattle.dh_commands.specs.declared.choices.Choice.{Choice}
 use Rattle.dh_commands.specs.LanesRun.{comes_out}
 use Rattle.dh_commands.specs.Joined.{AreApart}
-use Rattle.dh_commands.specs.Undone.{Assigns, HasRoom, undone}
+use Rattle.dh_commands.specs.Undone.{Assigns, Logs}
 
 -- operations that tell nothing whatever the guards
 pub record IsQuiet (old new : Draft) : Type 0 where
@@ -55,13 +55,7 @@ pub record IsOfChoice (choices : List Choice) (c : Change) : Type 0 where
 -- of the first choices, so many, each variable shows what its test picks; all others show what they did
 pub record Chooses (old new : Draft) (before after : Values) (tests : List ℕ) (choices : List Choice) (count : ℕ) : Type 0 where
   pub adds : IsQuiet old new
-  pub more : List Change
-  pub log : after.log.items ≡ before.log.items ++ more
-  pub back : undone more after.current.items ≡ before.current.items
-  pub long : length after.current.items ≡ length before.current.items
-  pub marks : after.marks.items ≡ before.marks.items
-  pub each : AllByRecursion (IsOfChoice choices) more
-  pub room : AllByRecursion (HasRoom before.current.items) more
+  pub logs : Logs (IsOfChoice choices) before after
   pub picked : AreApart choices → (x : Step) → Fits x new → Begun x old → (k : ℕ) (c : Choice) → k < count → slice_get choices k ≡ Some c → c.register < length before.current.items → c.path < length tests
       → variable_shown x after.current.items c.register ≡ choice_shown x tests before.current.items c
   pub others : (register : ℕ) → ((k : ℕ) (c : Choice) → k < count → slice_get choices k ≡ Some c → c.register ≡ register → ⊥)

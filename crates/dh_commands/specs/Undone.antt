@@ -56,6 +56,17 @@ AreGiven (c ∷ cs) current = IsGiven (given_at (undone cs current) c.register) 
 abbrev pub HasRoom : List (Option ℕ) → Change → Type 0
 HasRoom current c = c.register < length current
 
+-- variables are given values, each as this says, which can be taken back
+pub record Logs (P : Change → Type 0) (old new : Values) : Type 0 where
+  pub more : List Change
+  pub log : new.log.items ≡ old.log.items ++ more
+  pub back : undone more new.current.items ≡ old.current.items
+  pub long : length new.current.items ≡ length old.current.items
+  pub marks : new.marks.items ≡ old.marks.items
+  pub each : AllByRecursion P more
+  pub room : AllByRecursion (HasRoom old.current.items) more
+  pub given : AreGiven more new.current.items
+
 -- variables of these are given values, which can be taken back
 pub record Changes (scene : Scene) (around : Around) (May : ℕ → Type 0) (old new : Values) : Type 0 where
   pub more : List Change
