@@ -67,5 +67,5 @@ pub record DoesAll (scene : Scene) (around : Around) (May : ℕ → Type 0) (Pre
 pub record DoesCommand (scene : Scene) (around : Around) (a : Action) (first next : ℕ) (old new : Building) : Type 0 where
   pub next_is : 0 < paths_counted around → IsNext first (accesses_of a) next
   pub arms : Arms
-  pub so : first + accesses_of a < 2 ^ 32
+  pub so : 0 < paths_counted around → first + accesses_of a < 2 ^ 32
       → Does scene around (Sets scene a) (λ x reads e. Follows scene x reads around arms first a e) (λ x e. effect_of scene x (paths_on x around) first a e) old new

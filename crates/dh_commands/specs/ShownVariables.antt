@@ -50,6 +50,7 @@ pub record IsTarget (scene : Scene) (around : Around) (entity : ℕ) : Type 0 wh
 
 -- a variable that is another at each path
 pub record IsOwn (scene : Scene) (around : Around) (entity : ℕ) : Type 0 where
+  pub placed : ArePlaced scene around
   pub there : entity < length scene.held.now
   pub own : (i j : ℕ) → i < paths_counted around → j < paths_counted around
       → register_in scene around entity i ≡ register_in scene around entity j → i ≡ j
