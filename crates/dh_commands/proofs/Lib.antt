@@ -14,6 +14,7 @@ pub mod ArmGuards
 pub mod ArmsBegun
 pub mod PathsKept
 pub mod ChoicesMade
+pub mod CoreRuns
 pub mod ChosenAll
 pub mod ArmEnded
 pub mod JoinedArms

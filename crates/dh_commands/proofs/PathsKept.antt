@@ -2,19 +2,20 @@
 -- an `if` are done at fewer paths. Of an arm: a path at which its guard does not hold is none of those at which it is
 -- done, and a variable that is another at each path is set at no copy that is seen there.
 use Rattle.std.proofs.Common.{◌≡◌, ◌⊎◌, inl, inr, ℕ, zero, suc, ◌<◌, ◌≤◌, ◌==◌, Bool, true, false, if◌then◌else◌, List, [], ◌∷◌, ◌++◌, length, take, refl, ap, sym, ◌∙◌, subst, arith, ℤ}
-use Rattle.std.specs.Prelude.{◌&&◌}
+use Rattle.std.specs.Prelude.{◌&&◌, ◌||◌}
 use Rattle.std.specs.List.{AllByRecursion}
-use Rattle.std.proofs.lemmas.Bool.{cases_Bool, eqb-true}
+use Rattle.std.proofs.lemmas.Bool.{eq-eqb, eqb-true}
 use Rattle.dh_value.specs.Words as words
 use Rattle.dh_meaning.specs.Core.{CoreCommand, store, assign, choose, CoreCommands, no_commands, command_and}
 use Rattle.dh_meaning.specs.Effects.{Begun, Effect, assigned_at, at_each, command_run, commands_run, holds_at, paths_where, stored_at, tested_at, value_of}
+use Rattle.dh_meaning.specs.Levels.{any_assigns, assigns_to}
 use Rattle.dh_meaning.specs.Paths.{Path, same_path}
 use Rattle.dh_plan.proofs.SourceMoves.{same_is}
 use Rattle.dh_expressions.specs.declared.scenes.Around.{Around}
 use Rattle.dh_expressions.specs.declared.scenes.Scene.{Scene}
 use Rattle.dh_expressions.specs.Drafted.{Step}
 use Rattle.dh_commands.specs.LanesRun.{is_on_at, path_if, path_in, paths_counted, paths_on, paths_to}
-use Rattle.dh_commands.specs.ShownVariables.{ArePlaced, IsOwn, depth_in, register_in, seen_path}
+use Rattle.dh_commands.specs.ShownVariables.{IsOwn, depth_in, register_in, seen_path}
 
 -- a copy of a variable is not the one that is set at a path
 abbrev pub IsOther : (e : ℕ) → (p : Path) → (depth entity : ℕ) → Path → Type 0
@@ -103,9 +104,9 @@ none_both true false h = refl
 none_both false b h = refl
 
 -- a variable is set at no copy that is seen where the guard does not hold
-pub others_at : (scene : Scene) (around : Around) (x : Step) (e entity j : ℕ) → ArePlaced scene around → e < length scene.held.now → j < paths_counted around → is_on_at x around j ≡ false
-    → (e ≡ entity → IsOwn scene around entity) → AllByRecursion (IsOther e (seen_path scene around e j) (depth_in scene entity) entity) (paths_on x around)
-others_at scene around x e entity j placed there inside off own =
+pub others_at : (scene : Scene) (around : Around) (x : Step) (e entity j : ℕ) → e < length scene.held.now → j < paths_counted around → is_on_at x around j ≡ false
+    → IsOwn scene around entity → AllByRecursion (IsOther e (seen_path scene around e j) (depth_in scene entity) entity) (paths_on x around)
+others_at scene around x e entity j there inside off own =
     all_to x around (IsOther e (seen_path scene around e j) (depth_in scene entity) entity) (paths_counted around)
     (λ i l on. none_both (e == entity) (same_path (seen_path scene around e j) (seen_path scene around entity i)) (never i l on))
   where
@@ -114,6 +115,43 @@ others_at scene around x e entity j placed there inside off own =
         let is : e ≡ entity = eqb-true e entity a in
         let path : seen_path scene around e j ≡ seen_path scene around e i = same_is (seen_path scene around e j) (seen_path scene around entity i) b ∙ ap (λ n. seen_path scene around n i) (sym is) in
         let register : register_in scene around entity j ≡ register_in scene around entity i =
-            ap (λ n. register_in scene around n j) (sym is) ∙ (placed.one e j i there inside l path ∙ ap (λ n. register_in scene around n i) is) in
-        let same : j ≡ i = (own is).own j i inside l register in
+            ap (λ n. register_in scene around n j) (sym is) ∙ (own.placed.one e j i there inside l path ∙ ap (λ n. register_in scene around n i) is) in
+        let same : j ≡ i = own.own j i inside l register in
         parted (is_on_at x around i) on (ap (λ n. is_on_at x around n) (sym same) ∙ off)
+
+-- Of commands that set only what is another at each path.
+
+abbrev mutual
+  -- each variable is set at its depth
+  pub IsDeep : Scene → CoreCommand → Type 0
+  IsDeep scene (store r target value) = Unit {0}
+  IsDeep scene (assign depth entity value) = depth ≡ depth_in scene entity
+  IsDeep scene (choose test chosen other) = AreDeep scene chosen × AreDeep scene other
+
+  pub AreDeep : Scene → CoreCommands → Type 0
+  AreDeep scene no_commands = Unit {0}
+  AreDeep scene (command_and c cs) = IsDeep scene c × AreDeep scene cs
+
+or_first : (a b : Bool) → a ≡ true → (a || b) ≡ true
+or_first true b h = refl
+or_first false b h = absurd (cc)
+
+or_second : (a b : Bool) → b ≡ true → (a || b) ≡ true
+or_second true b h = refl
+or_second false b h = h
+
+module _ (scene : Scene) (around : Around) (x : Step) (e j : ℕ) (there : e < length scene.held.now) (inside : j < paths_counted around) (off : is_on_at x around j ≡ false) where
+  mutual
+    keeps_one : (c : CoreCommand) → IsDeep scene c → ((entity : ℕ) → assigns_to entity c ≡ true → IsOwn scene around entity) → KeepsAt e (seen_path scene around e j) (paths_on x around) c
+    keeps_one (store r target value) deep own = tt
+    keeps_one (assign depth entity value) deep own =
+        subst (λ (d : ℕ). AllByRecursion (IsOther e (seen_path scene around e j) d entity) (paths_on x around)) (sym deep) (others_at scene around x e entity j there inside off (own entity (eq-eqb entity entity refl)))
+    keeps_one (choose test chosen other) deep own =
+        (keeps_own chosen deep.0 (λ entity sets. own entity (or_first (any_assigns entity chosen) (any_assigns entity other) sets)),
+        keeps_own other deep.1 (λ entity sets. own entity (or_second (any_assigns entity chosen) (any_assigns entity other) sets)))
+
+    pub keeps_own : (cs : CoreCommands) → AreDeep scene cs → ((entity : ℕ) → any_assigns entity cs ≡ true → IsOwn scene around entity) → KeepsAll e (seen_path scene around e j) (paths_on x around) cs
+    keeps_own no_commands deep own = tt
+    keeps_own (command_and c cs) deep own =
+        (keeps_one c deep.0 (λ entity sets. own entity (or_first (assigns_to entity c) (any_assigns entity cs) sets)),
+        keeps_own cs deep.1 (λ entity sets. own entity (or_second (assigns_to entity c) (any_assigns entity cs) sets)))

@@ -33,7 +33,7 @@ fn push_not(draft: &mut Draft, test: u64) -> Result<u64, NoMemory>
 }
 
 /// Adds the guards of the arm that is done where the tests hold.
-pub fn guards_chosen(
+fn guards_chosen(
     alloc: Global,
     draft: &mut Draft,
     guards: &[Option<u64>],
@@ -52,7 +52,7 @@ pub fn guards_chosen(
 }
 
 /// Adds those of the arm that is done where they do not.
-pub fn guards_other(
+fn guards_other(
     alloc: Global,
     draft: &mut Draft,
     guards: &[Option<u64>],
@@ -69,4 +69,22 @@ pub fn guards_other(
         all.push(Some(made))?;
     }
     Ok(all)
+}
+
+/// Adds those of an arm that is done where the tests come out so.
+pub fn guards_of(
+    alloc: Global,
+    draft: &mut Draft,
+    guards: &[Option<u64>],
+    tests: &[u64],
+    holds: bool,
+) -> Result<Vec<Option<u64>>, NoMemory>
+    ensures { IfOk result (λ arm. MakesGuards draft.old draft.new guards.now tests.now holds (length
+        tests.now) arm.items) }
+{
+    if holds {
+        guards_chosen(alloc, draft, guards, tests)
+    } else {
+        guards_other(alloc, draft, guards, tests)
+    }
 }
