@@ -51,4 +51,5 @@ module _ (scene : Scene) (around arm : Around) (x : Step) (holds : Bool) (test :
     tells = s.tells;
     room = λ i j there inside.
         subst (λ (n : ℕ). n < length b.values.current.items) (sym (register_same i j)) (s.room i j there (subst (λ (n : ℕ). j < n) h.long inside));
+    ready = s.ready;
   }

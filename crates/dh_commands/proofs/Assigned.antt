@@ -1,7 +1,7 @@
 -- An assignment at one path: the operations of its right side, its value as the variable holds it, and the register.
 -- Where the guard holds the program does the same; where it does not neither tells anything.
 use Rattle.std.proofs.Common.{◌≡◌, ◌⊎◌, inl, inr, ℕ, ◌+◌, ◌<◌, ◌≤◌, ◌^◌, Bool, true, false, Some, None, List, [], ◌∷◌, ◌++◌, length, take, refl, ap, sym, ◌∙◌, subst, arith, append_assoc, ℤ}
-use Rattle.std.specs.Prelude.{Option, slice_set}
+use Rattle.std.specs.Prelude.{Option, slice_index, slice_set}
 use Rattle.std.proofs.lemmas.List.{append-nil}
 use Rattle.dh_value.specs.declared.kinds.Kind.{Kind}
 use Rattle.dh_value.specs.declared.words.Word.{Word}
@@ -31,6 +31,7 @@ use Rattle.dh_commands.specs.ShownVariables.{IsTarget, Shows, register_in, seen_
 use Rattle.dh_commands.specs.Followed.{FollowsAssigned, value_at, view_of}
 use Rattle.dh_commands.specs.Done.{Stands}
 use Rattle.dh_commands.specs.Setting.{AssignsOne, SetsAt, assigned_run}
+use Rattle.dh_commands.specs.Undone.{AreReady}
 use Rattle.dh_commands.proofs.ChangesBack.{changes_one}
 use Rattle.dh_commands.proofs.PathsDone.{knows_all}
 use Rattle.dh_commands.proofs.VariablesSet.{shows_off, shows_on}
@@ -46,6 +47,14 @@ module _ (scene : Scene) (lane : Lane) (entity value : ℕ) (old new : Building)
       (sym (ap (λ (os : List (Option ℕ)). length os) s.current ∙ set_long old.values.current.items (register_in scene lane.around entity lane.number) (Some value)))
       (stands.room e' j there inside)
 
+  ready_kept : AreReady new.values
+  ready_kept = record {
+    unmarked = λ register. ap (λ (ms : List ℕ). slice_index ms register) s.marks ∙ stands.ready.unmarked register;
+    long =
+        ap (λ (ms : List ℕ). length ms) s.marks
+        ∙ (stands.ready.long ∙ sym (ap (λ (os : List (Option ℕ)). length os) s.current ∙ set_long old.values.current.items (register_in scene lane.around entity lane.number) (Some value)));
+  }
+
   pub set_on : (z : ℤ) (more : List Event) → shown x value ≡ word_of (held_at scene.held.now entity).kind z → tale x new.draft ≡ tale x old.draft ++ told more
       → Stands scene lane.around x reads new (record { variables = set_variable e.variables entity (seen_path scene lane.around entity lane.number) z; events = e.events ++ more })
   set_on z more is tells = record {
@@ -54,6 +63,7 @@ module _ (scene : Scene) (lane : Lane) (entity value : ℕ) (old new : Building)
         (shows_on scene lane.around x old.values.current.items e.variables entity lane.number value z t within (stands.room entity lane.number t.there within) stands.shows is);
     tells = tells ∙ (ap (λ (ts : List Tale). ts ++ told more) stands.tells ∙ sym (told_append e.events more));
     room = room_kept;
+    ready = ready_kept;
   }
 
   pub set_off : is_on_at x lane.around lane.number ≡ false → tale x new.draft ≡ tale x old.draft → Stands scene lane.around x reads new e
@@ -63,6 +73,7 @@ module _ (scene : Scene) (lane : Lane) (entity value : ℕ) (old new : Building)
         (shows_off scene lane.around x old.values.current.items e.variables entity lane.number value (words.value_of (shown x value)) t within (stands.room entity lane.number t.there within) stands.shows off);
     tells = quiet ∙ stands.tells;
     room = room_kept;
+    ready = ready_kept;
   }
 
 pub assigned_one : (scene : Scene) (lane : Lane) (old new : Building) (d : Draft) (first entity : ℕ) (t : plain.Term) (own : Valued) (held : ℕ)

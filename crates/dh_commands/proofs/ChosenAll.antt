@@ -22,7 +22,7 @@ behind_same : (x : Step) (before after : List (Option ℕ)) (register : ℕ) (o 
 behind_same x before after register None same = ap (λ p. current_shown x p register) same
 behind_same x before after register (Some value) same = refl
 
-test_at : (tests : List ℕ) (path test : ℕ) → slice_get tests path ≡ Some test → slice_index_or tests path 0 ≡ test
+pub test_at : (tests : List ℕ) (path test : ℕ) → slice_get tests path ≡ Some test → slice_index_or tests path 0 ≡ test
 test_at [] path test at = absurd (cc)
 test_at (t ∷ ts) zero test at = some_same t test at
 test_at (t ∷ ts) (suc path) test at = test_at ts path test at

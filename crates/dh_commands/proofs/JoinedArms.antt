@@ -16,14 +16,14 @@ use Rattle.dh_expressions.proofs.ListPlaces.{place_of_more, place_within, set_he
 
 -- The first of what was left, with one more behind.
 
-abbrev left_or : Option Left → Option Left → Option Left
+abbrev pub left_or : Option Left → Option Left → Option Left
 left_or None o = o
 left_or (Some l) o = Some l
 
-abbrev left_if : Left → (register : ℕ) → Option Left
+abbrev pub left_if : Left → (register : ℕ) → Option Left
 left_if l register = if l.register == register then Some l else None
 
-first_more : (xs : List Left) (l : Left) (register : ℕ) → first_left (xs ++ l ∷ []) register ≡ left_or (first_left xs register) (left_if l register)
+pub first_more : (xs : List Left) (l : Left) (register : ℕ) → first_left (xs ++ l ∷ []) register ≡ left_or (first_left xs register) (left_if l register)
 first_more [] l register = refl
 first_more (k ∷ xs) l register = by (k.register == register) (first_more xs l register)
   where

@@ -19,3 +19,4 @@ pub mod ChosenAll
 pub mod ArmEnded
 pub mod JoinedArms
 pub mod JoinTurns
+pub mod ArmsLeft

@@ -20,7 +20,7 @@ use Rattle.dh_commands.specs.ShownVariables.{Shows, register_in}
 use Rattle.dh_commands.specs.Followed.{IsFollowedBy, test_run, view_of}
 use Rattle.dh_commands.specs.Done.{Stands}
 use Rattle.dh_commands.specs.Setting.{NoVariable, TestsOne}
-use Rattle.dh_commands.specs.Undone.{Changes}
+use Rattle.dh_commands.specs.Undone.{AreReady, Changes}
 use Rattle.dh_commands.proofs.ChangesBack.{changes_none}
 use Rattle.dh_commands.proofs.PathsDone.{knows_all}
 
@@ -33,6 +33,7 @@ told_stands scene around x reads old new e more same knows tells stands = record
   shows = subst (λ (v : Values). Shows scene around x v.current.items e.variables) (sym same) stands.shows;
   tells = tells ∙ (ap (λ (ts : List Tale). ts ++ told more) stands.tells ∙ sym (told_append e.events more));
   room = λ entity number there inside. subst (λ (v : Values). register_in scene around entity number < length v.current.items) (sym same) (stands.room entity number there inside);
+  ready = subst (λ (v : Values). AreReady v) (sym same) stands.ready;
 }
 
 pub quiet_stands : (scene : Scene) (around : Around) (x : Step) (reads : Reads) (old new : Building) (e : Effect) → new.values ≡ old.values
@@ -43,6 +44,7 @@ quiet_stands scene around x reads old new e same knows quiet stands = record {
   shows = subst (λ (v : Values). Shows scene around x v.current.items e.variables) (sym same) stands.shows;
   tells = quiet ∙ stands.tells;
   room = λ entity number there inside. subst (λ (v : Values). register_in scene around entity number < length v.current.items) (sym same) (stands.room entity number there inside);
+  ready = subst (λ (v : Values). AreReady v) (sym same) stands.ready;
 }
 
 pub tested_one : (scene : Scene) (lane : Lane) (old new : Building) (first : ℕ) (t : plain.Term) (own : Valued)

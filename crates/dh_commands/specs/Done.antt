@@ -25,12 +25,13 @@ use Rattle.dh_commands.specs.Undone.{AreReady, Changes}
 use Rattle.dh_commands.specs.Followed.{Along, Arms, Follows, Sets, effect_of, view_of}
 
 -- Beside a program that has come so far in this step: what is noted of reads is known, variables show what the
--- program's hold, the tale is that of its events, and each copy of a variable has a register.
+-- program's hold, the tale is that of its events, each copy of a variable has a register, and no choice is marked.
 pub record Stands (scene : Scene) (around : Around) (x : Step) (reads : Reads) (b : Building) (e : Effect) : Type 0 where
   pub knows : (variables : Variables) → Knows (view_of x reads variables) b.accesses
   pub shows : Shows scene around x b.values.current.items e.variables
   pub tells : tale x b.draft ≡ told e.events
   pub room : (entity number : ℕ) → entity < length scene.held.now → number < paths_counted around → register_in scene around entity number < length b.values.current.items
+  pub ready : AreReady b.values
 
 -- from one building to another what stood beside an effect stands beside what a run makes of it
 pub record Does (scene : Scene) (around : Around) (May : ℕ → Type 0) (Premise : Step → Reads → Effect → Type 0) (run : Step → Effect → Effect) (old new : Building) : Type 0 where
