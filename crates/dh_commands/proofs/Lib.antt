@@ -20,3 +20,4 @@ pub mod ArmEnded
 pub mod JoinedArms
 pub mod JoinTurns
 pub mod ArmsLeft
+pub mod ArmsJoined
