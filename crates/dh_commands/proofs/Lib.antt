@@ -21,3 +21,4 @@ pub mod JoinedArms
 pub mod JoinTurns
 pub mod ArmsLeft
 pub mod ArmsJoined
+pub mod ArmsDone

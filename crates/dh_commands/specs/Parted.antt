@@ -30,6 +30,8 @@ ShowsTests x around tests truths =
 pub record DoesArm (scene : Scene) (around : Around) (tests : List ℕ) (holds : Truth) (a : Action) (first next : ℕ) (old new : Building) (lefts : List Left) : Type 0 where
   pub next_is : 0 < length tests → IsNext first (accesses_of a) next
   pub arm : Around
+  pub levels : arm.levels.now ≡ around.levels.now
+  pub long : paths_counted arm ≡ length tests
   pub arms : Arms
   -- as the arm ends
   pub inside : Building
