@@ -59,19 +59,20 @@ pub left_at_path : (scene : Scene) (around : Around) (May : ℕ → Type 0) (bas
 left_at_path scene around May base behind lefts r l arm found =
     (lefts_some (λ register path. IsSetAt scene around May base register path) arm.more behind r l arm.each (ap (λ (ls : List Left). first_left ls r) (sym arm.lefts_are) ∙ found)).1
 
+-- a choice is of a register that was set at its path
+pub choice_set : (scene : Scene) (around : Around) (May : ℕ → Type 0) (chosen other : List Left) (base one two : List (Option ℕ)) → ArmLeft scene around May base one chosen → ArmLeft scene around May base two other
+    → (choices : List Choice) → AreChoices chosen other choices → (k : ℕ) (c : Choice) → slice_get choices k ≡ Some c → IsSetAt scene around May base c.register c.path
+choice_set scene around May chosen other base one two arm_one arm_two choices are k c at = let l = are.left k c at in subst (λ (p : ℕ). IsSetAt scene around May base c.register p) l.1.0 (by l.0 l.1.1)
+  where
+    by : (l : Left) → (first_left chosen c.register ≡ Some l) ⊎ (first_left other c.register ≡ Some l) → IsSetAt scene around May base c.register l.path
+    by l (inl found) = left_at_path scene around May base one chosen c.register l arm_one found
+    by l (inr found) = left_at_path scene around May base two other c.register l arm_two found
+
 module _ (scene : Scene) (around : Around) (May : ℕ → Type 0) (x : Step) (tests : List ℕ) (chosen other : List Left) (base one two : List (Option ℕ))
     (arm_one : ArmLeft scene around May base one chosen) (arm_two : ArmLeft scene around May base two other)
     (choices : List Choice) (are : AreChoices chosen other choices) (old new : Draft) (before after : Values)
     (chooses : Chooses old new before after tests choices (length choices)) (same : before.current.items ≡ base) (long : length tests ≡ paths_counted around)
     (fits : Fits x new) (begun : Begun x old) (truths : Path → Bool) (shows_tests : ShowsTests x around tests truths) (own : (entity : ℕ) → May entity → IsOwn scene around entity) where
-
-  -- a choice is of a register that was set at its path
-  choice_set : (k : ℕ) (c : Choice) → slice_get choices k ≡ Some c → IsSetAt scene around May base c.register c.path
-  choice_set k c at = let l = are.left k c at in subst (λ (p : ℕ). IsSetAt scene around May base c.register p) l.1.0 (by l.0 l.1.1)
-    where
-      by : (l : Left) → (first_left chosen c.register ≡ Some l) ⊎ (first_left other c.register ≡ Some l) → IsSetAt scene around May base c.register l.path
-      by l (inl found) = left_at_path scene around May base one chosen c.register l arm_one found
-      by l (inr found) = left_at_path scene around May base two other c.register l arm_two found
 
   -- the test at the path of a choice of a variable there
   module _ (e j : ℕ) (there_e : e < length scene.held.now) (inside : j < paths_counted around) (on : is_on_at x around j ≡ true) where
@@ -80,7 +81,7 @@ module _ (scene : Scene) (around : Around) (May : ℕ → Type 0) (x : Step) (te
 
     path_is : (k : ℕ) (c : Choice) → slice_get choices k ≡ Some c → c.register ≡ r → c.path ≡ j
     path_is k c at is =
-        let set = choice_set k c at in
+        let set = choice_set scene around May chosen other base one two arm_one arm_two choices are k c at in
         let mine = own set.entity set.may in
         let apart = mine.placed.apart set.entity e c.path j mine.there there_e set.within inside (sym set.register_is ∙ is) in
         mine.own c.path j set.within inside (sym set.register_is ∙ (is ∙ ap (λ n. register_in scene around n j) (sym apart.0)))
@@ -96,7 +97,7 @@ module _ (scene : Scene) (around : Around) (May : ℕ → Type 0) (x : Step) (te
     -- of a variable that is chosen
     picked : (k : ℕ) (c : Choice) → slice_get choices k ≡ Some c → c.register ≡ r → Picks (truths (path_in around j))
     picked k c at is =
-        let set = choice_set k c at in
+        let set = choice_set scene around May chosen other base one two arm_one arm_two choices are k c at in
         let path : c.path ≡ j = path_is k c at is in
         let choice = are.are k c at in
         ap (λ n. variable_shown x after.current.items n) (sym is)

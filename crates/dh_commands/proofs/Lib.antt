@@ -22,3 +22,4 @@ pub mod JoinTurns
 pub mod ArmsLeft
 pub mod ArmsJoined
 pub mod ArmsDone
+pub mod OtherDone

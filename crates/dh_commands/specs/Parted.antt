@@ -1,9 +1,9 @@
 -- What the parts of a command do: an arm of an `if`, which is taken back, and the parts of a block.
-use Rattle.std.specs.Prelude.{◌≡◌, ℕ, ◌+◌, ◌<◌, ◌^◌, Bool as Truth, List, length, slice_get, Some, true}
+use Rattle.std.specs.Prelude.{◌≡◌, ℕ, ◌+◌, ◌<◌, ◌^◌, Bool as Truth, true, false, List, [], length, slice_get, Some}
 use Rattle.dh_base.specs.declared.places.Place.{Place}
 use Rattle.dh_value.specs.Operations.{is_true}
 use Rattle.dh_tree.specs.PlainTrees as plain
-use Rattle.dh_tree.specs.PlainTrees.{Action, action, decides, Groups, MaybeAction}
+use Rattle.dh_tree.specs.PlainTrees.{Action, action, decides, Groups, MaybeAction, no_action, one_action}
 use Rattle.dh_meaning.specs.AccessNumbers.{accesses_of, groups_accesses}
 use Rattle.dh_meaning.specs.Core.{no_commands}
 use Rattle.dh_meaning.specs.CoreOf.{core_groups}
@@ -41,6 +41,11 @@ pub record DoesArm (scene : Scene) (around : Around) (tests : List ℕ) (holds :
   pub draft : new.draft ≡ inside.draft
   pub accesses : new.accesses ≡ inside.accesses
   pub ends : EndsArm inside.values new.values (length old.values.log.items) lefts
+
+-- the second arm of an `if`, where there is one
+abbrev pub DoesOther : Scene → Around → (tests : List ℕ) → MaybeAction → (first next : ℕ) → (old new : Building) → (lefts : List Left) → Type 0
+DoesOther scene around tests no_action first next old new lefts = (next ≡ first) × ((new ≡ old) × (lefts ≡ []))
+DoesOther scene around tests (one_action a) first next old new lefts = DoesArm scene around tests false a first next old new lefts
 
 -- an `if`, whatever its number and its place
 abbrev pub DoesChoice : Scene → Around → (t : plain.Term) → (chosen : Action) → (other : MaybeAction) → (first next : ℕ) → (old new : Building) → Type 0
