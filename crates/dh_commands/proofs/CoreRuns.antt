@@ -88,7 +88,7 @@ store_sets known e n (plain.term place k (plain.named r)) value = refl
 store_sets known e n (plain.term place k (plain.applied op left right)) value = refl
 store_sets known e n (plain.term place k (plain.converted inner to)) value = refl
 
-or_none : (a : Bool) → (a || false) ≡ a
+pub or_none : (a : Bool) → (a || false) ≡ a
 or_none true = refl
 or_none false = refl
 

@@ -23,3 +23,4 @@ pub mod ArmsLeft
 pub mod ArmsJoined
 pub mod ArmsDone
 pub mod OtherDone
+pub mod ChoiceDone
