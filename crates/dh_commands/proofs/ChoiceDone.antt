@@ -39,7 +39,7 @@ use Rattle.dh_commands.proofs.ArmsJoined.{choice_set, joined_shows}
 use Rattle.dh_commands.proofs.ArmsLeft.{AreSame, ArmLeft, lefts_given, nothing_changed, same_again, same_ready}
 use Rattle.dh_commands.proofs.CoreRuns.{action_any, or_none, sets_other}
 use Rattle.dh_commands.proofs.LanesInOrder.{arm_paths, lanes_are}
-use Rattle.dh_commands.proofs.OtherDone.{OtherDone, OtherEnds, other_arm, other_arms, other_done, other_next}
+use Rattle.dh_commands.proofs.OtherDone.{OtherDone, OtherEnds, other_arm, other_arms, other_done, other_next, other_shaped}
 
 -- What an arm left, from the same values.
 left_from : (scene : Scene) (around : Around) (May : ℕ → Type 0) (base now behind : List (Option ℕ)) (lefts : List Left) → base ≡ now → ArmLeft scene around May base behind lefts → ArmLeft scene around May now behind lefts
@@ -303,6 +303,7 @@ module _ (scene : Scene) (around : Around) (first n1 n2 n3 : ℕ) (t : plain.Ter
   choice_done id place = record {
     next_is = λ some few. last_at some few;
     arms = arms_of one.arm (other_arm scene around tests other n2 n3 b2 b3 others two) one.arms (other_arms scene around tests other n2 n3 b2 b3 others two);
+    shaped = (one.shaped, other_shaped scene around tests other n2 n3 b2 b3 others two);
     so = λ some few. record {
       extends = all_extends some few;
       changes = λ ready. all_changes some few ready (Sets scene (action id place (decides t chosen other))) (choice_sets id place);

@@ -24,3 +24,4 @@ pub mod ArmsJoined
 pub mod ArmsDone
 pub mod OtherDone
 pub mod ChoiceDone
+pub mod CommandsDone

@@ -17,7 +17,7 @@ use Rattle.dh_commands.specs.declared.choices.Left.{Left}
 use Rattle.dh_commands.specs.LanesRun.{IsArm, is_on_at, path_in, paths_counted, paths_on}
 use Rattle.dh_commands.specs.ShownVariables.{IsOwn, ShowsAt, seen_path}
 use Rattle.dh_commands.specs.Undone.{AreReady}
-use Rattle.dh_commands.specs.Followed.{Arms, no_arms, FollowsOther, SetsOther, effect_of, other_effect, view_of}
+use Rattle.dh_commands.specs.Followed.{Arms, no_arms, FitOther, FollowsOther, SetsOther, effect_of, other_effect, view_of}
 use Rattle.dh_commands.specs.Done.{IsNext}
 use Rattle.dh_commands.specs.Parted.{DoesArm, DoesOther, ShowsTests}
 use Rattle.dh_commands.proofs.ArmsDone.{Halfway, arm_extends, arm_values, ends_kept, ends_knows, ends_shows, ends_tells, is_arm}
@@ -47,6 +47,11 @@ other_arm scene around tests (one_action a) first next old new lefts d = d.arm
 abbrev pub other_arms : (scene : Scene) (around : Around) (tests : List ℕ) (other : MaybeAction) (first next : ℕ) (old new : Building) (lefts : List Left) → DoesOther scene around tests other first next old new lefts → Arms
 other_arms scene around tests no_action first next old new lefts d = no_arms
 other_arms scene around tests (one_action a) first next old new lefts d = d.arms
+
+pub other_shaped : (scene : Scene) (around : Around) (tests : List ℕ) (other : MaybeAction) (first next : ℕ) (old new : Building) (lefts : List Left) (d : DoesOther scene around tests other first next old new lefts)
+    → FitOther other (other_arms scene around tests other first next old new lefts d)
+other_shaped scene around tests no_action first next old new lefts d = tt
+other_shaped scene around tests (one_action a) first next old new lefts d = d.shaped
 
 pub other_next : (scene : Scene) (around : Around) (tests : List ℕ) (other : MaybeAction) (first next : ℕ) (old new : Building) (lefts : List Left) → DoesOther scene around tests other first next old new lefts
     → 0 < length tests → first + other_accesses other < 2 ^ 32 → next ≡ first + other_accesses other

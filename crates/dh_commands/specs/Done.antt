@@ -22,7 +22,7 @@ use Rattle.dh_commands.specs.declared.choices.Choice.{Choice}
 use Rattle.dh_commands.specs.LanesRun.{is_on_at, lanes_run, path_in, paths_counted, paths_on, run_if}
 use Rattle.dh_commands.specs.ShownVariables.{Shows, register_in}
 use Rattle.dh_commands.specs.Undone.{AreReady, Changes}
-use Rattle.dh_commands.specs.Followed.{Along, Arms, Follows, Sets, effect_of, view_of}
+use Rattle.dh_commands.specs.Followed.{Along, Arms, FitArms, Follows, Sets, effect_of, view_of}
 
 -- Beside a program that has come so far in this step: what is noted of reads is known, variables show what the
 -- program's hold, the tale is that of its events, each copy of a variable has a register, and no choice is marked.
@@ -68,5 +68,6 @@ pub record DoesAll (scene : Scene) (around : Around) (May : ℕ → Type 0) (Pre
 pub record DoesCommand (scene : Scene) (around : Around) (a : Action) (first next : ℕ) (old new : Building) : Type 0 where
   pub next_is : 0 < paths_counted around → IsNext first (accesses_of a) next
   pub arms : Arms
+  pub shaped : FitArms a arms
   pub so : 0 < paths_counted around → first + accesses_of a < 2 ^ 32
       → Does scene around (Sets scene a) (λ x reads e. Follows scene x reads around arms first a e) (λ x e. effect_of scene x (paths_on x around) first a e) old new

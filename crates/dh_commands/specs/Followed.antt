@@ -158,6 +158,42 @@ pub data Arms : Type 0 where
   arms_of : (chosen other : Around) → (inside behind : Arms) → Arms
   arms_then : (first rest : Arms) → Arms
 
+-- these arms are those of a command, as its parts stand
+abbrev mutual
+  pub FitArms : Action → Arms → Type 0
+  FitArms (action id place form) arms = FitForm form arms
+
+  pub FitForm : ActionForm → Arms → Type 0
+  FitForm (decides t chosen other) no_arms = ⊥
+  FitForm (decides t chosen other) (arms_then first rest) = ⊥
+  FitForm (decides t chosen other) (arms_of one two inside behind) = FitArms chosen inside × FitOther other behind
+  FitForm (blocks body) arms = FitGroups body arms
+  FitForm (lets r declared value) arms = Unit {0}
+  FitForm (assigns r t) arms = Unit {0}
+  FitForm (stores target t) arms = Unit {0}
+  FitForm (reduces r op t) arms = Unit {0}
+  FitForm (lets_memory name shape shape_places value) arms = Unit {0}
+  FitForm (views name parent form) arms = Unit {0}
+  FitForm (calls function arguments) arms = Unit {0}
+  FitForm (repeats test body) arms = Unit {0}
+  FitForm (counts iterator declared low high factor body combine combine_place) arms = Unit {0}
+
+  pub FitOther : MaybeAction → Arms → Type 0
+  FitOther no_action arms = Unit {0}
+  FitOther (one_action a) arms = FitArms a arms
+
+  pub FitGroups : Groups → Arms → Type 0
+  FitGroups no_groups arms = Unit {0}
+  FitGroups (group_then part rest) no_arms = ⊥
+  FitGroups (group_then part rest) (arms_of one two inside behind) = ⊥
+  FitGroups (group_then part rest) (arms_then first behind) = FitPart part first × FitGroups rest behind
+
+  pub FitPart : Actions → Arms → Type 0
+  FitPart no_actions arms = Unit {0}
+  FitPart (action_then a rest) no_arms = ⊥
+  FitPart (action_then a rest) (arms_of one two inside behind) = ⊥
+  FitPart (action_then a rest) (arms_then first behind) = FitArms a first × FitPart rest behind
+
 -- the effect of a command at these paths, and of parts
 abbrev pub effect_of : Scene → Step → (paths : List Path) → (n : ℕ) → Action → Effect → Effect
 effect_of scene x paths n a e = commands_run (begun_of x) paths (core_action (known_in scene) n a no_commands) e

@@ -17,7 +17,7 @@ use Rattle.dh_expressions.specs.Evaluated.{Reads, known_in}
 use Rattle.dh_commands.specs.declared.buildings.Building.{Building}
 use Rattle.dh_commands.specs.declared.choices.Left.{Left}
 use Rattle.dh_commands.specs.LanesRun.{IsArm, is_on_at, path_in, paths_counted, paths_on}
-use Rattle.dh_commands.specs.Followed.{Arms, Follows, FollowsGroups, Sets, effect_of, groups_effect}
+use Rattle.dh_commands.specs.Followed.{Arms, FitArms, FitGroups, Follows, FollowsGroups, Sets, effect_of, groups_effect}
 use Rattle.dh_commands.specs.Undone.{EndsArm}
 use Rattle.dh_commands.specs.Done.{Does, DoesCommand, IsNext}
 
@@ -33,6 +33,7 @@ pub record DoesArm (scene : Scene) (around : Around) (tests : List ℕ) (holds :
   pub levels : arm.levels.now ≡ around.levels.now
   pub long : paths_counted arm ≡ length tests
   pub arms : Arms
+  pub shaped : FitArms a arms
   -- as the arm ends
   pub inside : Building
   pub is_arm : length tests ≡ paths_counted around → (x : Step) → Fits x inside.draft → Begun x old.draft → (truths : Path → Truth) → ShowsTests x around tests truths → IsArm x around arm holds truths
@@ -59,6 +60,7 @@ SetsGroups scene gs entity = any_assigns entity (core_groups (known_in scene) 0 
 pub record DoesGroups (scene : Scene) (around : Around) (gs : Groups) (first next : ℕ) (old new : Building) : Type 0 where
   pub next_is : 0 < paths_counted around → IsNext first (groups_accesses gs) next
   pub arms : Arms
+  pub shaped : FitGroups gs arms
   pub so : 0 < paths_counted around → first + groups_accesses gs < 2 ^ 32
       → Does scene around (SetsGroups scene gs) (λ x reads e. FollowsGroups scene x reads around arms first gs e) (λ x e. groups_effect scene x (paths_on x around) first gs e) old new
 
