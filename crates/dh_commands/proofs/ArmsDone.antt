@@ -124,7 +124,7 @@ module _ (scene : Scene) (around : Around) (tests : List ℕ) (holds : Bool) (a 
     fits_inside = subst (λ (d : Draft). Fits x d) arm.draft fits
 
     pub is_arm : IsArm x around arm.arm holds truths
-    is_arm = arm.is_arm long x fits_inside begun truths shown_tests
+    is_arm = arm.is_arm some few long x fits_inside begun truths shown_tests
 
     abbrev pub after : Effect
     after = effect_of scene x (paths_on x arm.arm) first a e

@@ -25,3 +25,4 @@ pub mod ArmsDone
 pub mod OtherDone
 pub mod ChoiceDone
 pub mod CommandsDone
+pub mod PartsDone

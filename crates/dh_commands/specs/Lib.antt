@@ -6,6 +6,6 @@ pub mod Undone
 pub mod Done
 -- what functions inside the crate promise one another
 pub mod Setting
-pub mod Parted
 pub mod Joined
 pub mod Choosing
+pub mod Parted

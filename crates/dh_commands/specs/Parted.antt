@@ -1,9 +1,7 @@
 -- What the parts of a command do: an arm of an `if`, which is taken back, and the parts of a block.
 use Rattle.std.specs.Prelude.{◌≡◌, ℕ, ◌+◌, ◌<◌, ◌^◌, Bool as Truth, true, false, List, [], length, slice_get, Some}
-use Rattle.dh_base.specs.declared.places.Place.{Place}
 use Rattle.dh_value.specs.Operations.{is_true}
-use Rattle.dh_tree.specs.PlainTrees as plain
-use Rattle.dh_tree.specs.PlainTrees.{Action, action, decides, Groups, MaybeAction, no_action, one_action}
+use Rattle.dh_tree.specs.PlainTrees.{Action, Groups, MaybeAction, no_action, one_action}
 use Rattle.dh_meaning.specs.AccessNumbers.{accesses_of, groups_accesses}
 use Rattle.dh_meaning.specs.Core.{no_commands}
 use Rattle.dh_meaning.specs.CoreOf.{core_groups}
@@ -15,11 +13,15 @@ use Rattle.dh_expressions.specs.declared.scenes.Scene.{Scene}
 use Rattle.dh_expressions.specs.Drafted.{Begun, Fits, Step, shown}
 use Rattle.dh_expressions.specs.Evaluated.{Reads, known_in}
 use Rattle.dh_commands.specs.declared.buildings.Building.{Building}
+use Rattle.dh_commands.specs.declared.assignments.Values.{Values}
+use Rattle.dh_commands.specs.declared.choices.Choice.{Choice}
 use Rattle.dh_commands.specs.declared.choices.Left.{Left}
 use Rattle.dh_commands.specs.LanesRun.{IsArm, is_on_at, path_in, paths_counted, paths_on}
 use Rattle.dh_commands.specs.Followed.{Arms, FitArms, FitGroups, Follows, FollowsGroups, Sets, effect_of, groups_effect}
 use Rattle.dh_commands.specs.Undone.{EndsArm}
-use Rattle.dh_commands.specs.Done.{Does, DoesCommand, IsNext}
+use Rattle.dh_commands.specs.Joined.{JoinsArms}
+use Rattle.dh_commands.specs.Choosing.{Chooses}
+use Rattle.dh_commands.specs.Done.{Does, IsNext}
 
 -- the values of a test show its truths, at each path where the guard holds
 abbrev pub ShowsTests : Step → Around → (tests : List ℕ) → (truths : Path → Truth) → Type 0
@@ -36,7 +38,7 @@ pub record DoesArm (scene : Scene) (around : Around) (tests : List ℕ) (holds :
   pub shaped : FitArms a arms
   -- as the arm ends
   pub inside : Building
-  pub is_arm : length tests ≡ paths_counted around → (x : Step) → Fits x inside.draft → Begun x old.draft → (truths : Path → Truth) → ShowsTests x around tests truths → IsArm x around arm holds truths
+  pub is_arm : 0 < length tests → first + accesses_of a < 2 ^ 32 → length tests ≡ paths_counted around → (x : Step) → Fits x inside.draft → Begun x old.draft → (truths : Path → Truth) → ShowsTests x around tests truths → IsArm x around arm holds truths
   pub so : 0 < length tests → first + accesses_of a < 2 ^ 32
       → Does scene arm (Sets scene a) (λ x reads e. Follows scene x reads arm arms first a e) (λ x e. effect_of scene x (paths_on x arm) first a e) old inside
   pub draft : new.draft ≡ inside.draft
@@ -48,9 +50,13 @@ abbrev pub DoesOther : Scene → Around → (tests : List ℕ) → MaybeAction �
 DoesOther scene around tests no_action first next old new lefts = (next ≡ first) × ((new ≡ old) × (lefts ≡ []))
 DoesOther scene around tests (one_action a) first next old new lefts = DoesArm scene around tests false a first next old new lefts
 
--- an `if`, whatever its number and its place
-abbrev pub DoesChoice : Scene → Around → (t : plain.Term) → (chosen : Action) → (other : MaybeAction) → (first next : ℕ) → (old new : Building) → Type 0
-DoesChoice scene around t chosen other first next old new = (id : ℕ) (place : Place) → DoesCommand scene around (action id place (decides t chosen other)) first next old new
+-- the choices behind an `if`, from what its arms left
+pub record JoinsAll (old new : Building) (tests : List ℕ) (chosen other : List Left) : Type 0 where
+  pub choices : List Choice
+  pub middle : Values
+  pub joins : JoinsArms old.values middle chosen other choices
+  pub chooses : Chooses old.draft new.draft middle new.values tests choices (length choices)
+  pub accesses : new.accesses ≡ old.accesses
 
 -- the parts of a block may set a variable
 abbrev pub SetsGroups : Scene → Groups → (entity : ℕ) → Type 0

@@ -1,9 +1,9 @@
 //! Operations from straight commands, each at all its paths before the next one.
 
-ghost use Rattle.std.specs.Prelude.{IfOk};
-ghost use Rattle.dh_tree.specs.Seen.{action_seen, all_parts_seen, maybe_block_seen, term_seen};
+ghost use Rattle.std.specs.Prelude.{◌≡◌, IfOk, OnOk};
+ghost use Rattle.dh_tree.specs.Seen.{action_seen, all_parts_seen, maybe_block_seen};
 ghost use Rattle.dh_commands.specs.Done.{DoesCommand};
-ghost use Rattle.dh_commands.specs.Parted.{DoesArm, DoesChoice, DoesGroups};
+ghost use Rattle.dh_commands.specs.Parted.{DoesArm, DoesGroups, DoesOther, JoinsAll};
 
 use crate::assigning::{assign_all, clear_all, reduce_all};
 use crate::buildings::Building;
@@ -14,14 +14,32 @@ use crate::testing::test_all;
 use dh_accesses::behind_command;
 use dh_base::NoMemory;
 use dh_expressions::{Around, Scene};
-use dh_tree::{Command, CommandForm, Expr};
+use dh_tree::{Command, CommandForm};
+use std::alloc::Global;
 
 /// What stands round an arm, which is done at each path where its guard holds.
-fn arm_of<'b>(around: Around<'b>, guards: &'b [Option<u64>]) -> Around<'b> {
+fn arm_of<'b>(around: Around<'b>, guards: &'b [Option<u64>]) -> Around<'b>
+    ensures levels { result.levels.now ≡ around.entry.levels.now }
+    ensures guards { result.guards.now ≡ guards.now }
+{
     Around {
         levels: around.levels,
         guards,
     }
+}
+
+/// Chooses each variable that an arm of an `if` assigned.
+fn join_all(
+    alloc: Global,
+    building: &mut Building,
+    tests: &[u64],
+    chosen: &[Left],
+    other: &[Left],
+) -> Result<(), NoMemory>
+    ensures { OnOk result (JoinsAll building.old building.new tests.now chosen.now other.now) }
+{
+    let choices = join_arms(alloc, &mut building.values, chosen, other)?;
+    choose(&mut building.draft, &mut building.values, tests, choices.as_slice())
 }
 
 /// Adds the operations of a straight command whose accesses are numbered from `first` on. Gives the number of the
@@ -55,7 +73,12 @@ pub fn push_command(
             reduce_all(scene, around, building, first, target, *op, value)
         }
         CommandForm::If { test, then, other } => {
-            push_choice(scene, around, building, first, test, then, other)
+            let (tests, next) = test_all(scene, around, building, first, test)?;
+            let tests = tests.as_slice();
+            let (next, chosen) = push_arm(scene, around, building, next, tests, true, then)?;
+            let (next, other) = push_other(scene, around, building, next, tests, other)?;
+            join_all(scene.alloc, building, tests, chosen.as_slice(), other.as_slice())?;
+            Ok(next)
         }
         CommandForm::Block { body } => push_parts(scene, around, building, first, body.as_slice()),
         CommandForm::LetMemory { .. } => Ok(first),
@@ -67,31 +90,23 @@ pub fn push_command(
     }
 }
 
-/// Adds those of an `if`.
+/// Adds those of the second arm of an `if`, where there is one.
 #[cycle(commands)]
-fn push_choice(
+fn push_other(
     scene: &Scene<'_>,
     around: Around<'_>,
     building: &mut Building,
     first: u32,
-    test: &Expr,
-    then: &Command,
+    tests: &[u64],
     other: &Option<Box<Command>>,
-) -> Result<u32, NoMemory>
-    ensures { IfOk result (λ next. DoesChoice scene.now around.entry (term_seen test.now)
-        (action_seen then.now) (maybe_block_seen other.now) first next building.old building.new) }
+) -> Result<(u32, Vec<Left>), NoMemory>
+    ensures { IfOk result (λ r. DoesOther scene.now around.entry tests.now (maybe_block_seen
+        other.now) first r.0 building.old building.new r.1.items) }
 {
-    let (tests, next) = test_all(scene, around, building, first, test)?;
-    let tests = tests.as_slice();
-    let (next, chosen) = push_arm(scene, around, building, next, tests, true, then)?;
-    let (next, other) = match other {
-        Some(block) => push_arm(scene, around, building, next, tests, false, block)?,
-        None => (next, Vec::new(scene.alloc)),
-    };
-    let values = &mut building.values;
-    let choices = join_arms(scene.alloc, values, chosen.as_slice(), other.as_slice())?;
-    choose(&mut building.draft, values, tests, choices.as_slice())?;
-    Ok(next)
+    match other {
+        Some(block) => push_arm(scene, around, building, first, tests, false, block),
+        None => Ok((first, Vec::new(scene.alloc))),
+    }
 }
 
 /// Adds those of an arm of an `if`, done where its test comes out so, and takes back what it assigned. Gives the
