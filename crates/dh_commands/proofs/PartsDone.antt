@@ -5,18 +5,22 @@ use Rattle.std.specs.Global.{Global}
 use Rattle.dh_base.proofs.ListItems.{at_item}
 use Rattle.dh_value.specs.Operations.{is_true}
 use Rattle.dh_tree.specs.declared.trees.commands.Command.{Command}
-use Rattle.dh_tree.specs.PlainTrees.{Action, Actions, action_then, no_actions, Groups, group_then}
-use Rattle.dh_tree.specs.Seen.{action_seen, actions, all_parts_seen}
+use Rattle.dh_tree.specs.PlainTrees.{Action, action, ActionForm, Groups, group_then}
+use Rattle.dh_tree.specs.Seen.{action_form_seen, action_seen, actions, all_parts_seen}
 use Rattle.dh_meaning.specs.AccessNumbers.{accesses_of}
+use Rattle.dh_meaning.specs.Core.{no_commands}
+use Rattle.dh_meaning.specs.CoreOf.{core_action}
 use Rattle.dh_meaning.specs.Effects.{Effect}
 use Rattle.dh_meaning.specs.Paths.{Path}
+use Rattle.dh_accesses.specs.Counted.{behind}
+use Rattle.dh_accesses.proofs.CountedParts.{behind_few}
 use Rattle.dh_plan.specs.Blocks.{is_on}
 use Rattle.dh_expressions.specs.declared.drafts.Draft.{Draft}
 use Rattle.dh_expressions.specs.declared.paths.Level.{Level}
 use Rattle.dh_expressions.specs.declared.scenes.Around.{Around}
 use Rattle.dh_expressions.specs.declared.scenes.Scene.{Scene}
 use Rattle.dh_expressions.specs.Drafted.{Begun, Fits, Step, shown}
-use Rattle.dh_expressions.specs.Evaluated.{Knows, Reads}
+use Rattle.dh_expressions.specs.Evaluated.{Knows, Reads, known_in}
 use Rattle.dh_expressions.specs.Shown.{guard_of}
 use Rattle.dh_expressions.proofs.ListPlaces.{there}
 use Rattle.dh_expressions.proofs.Pushing.{begun_later, extends_again, fits_before}
@@ -24,11 +28,11 @@ use Rattle.dh_commands.specs.declared.buildings.Building.{Building}
 use Rattle.dh_commands.specs.declared.choices.Left.{Left}
 use Rattle.dh_commands.specs.LanesRun.{IsArm, comes_out, is_on_at, path_in, paths_counted, paths_on}
 use Rattle.dh_commands.specs.Undone.{AreReady, Changes, EndsArm}
-use Rattle.dh_commands.specs.Followed.{Sets, view_of}
+use Rattle.dh_commands.specs.Followed.{FitArms, no_arms, Sets, view_of}
 use Rattle.dh_commands.specs.Choosing.{MakesGuards}
 use Rattle.dh_commands.specs.Done.{DoesCommand, Stands}
 use Rattle.dh_commands.specs.Parted.{DoesArm, DoesGroups, Leads, ShowsTests}
-use Rattle.dh_commands.proofs.CommandsDone.{parts_more, parts_next, parts_none}
+use Rattle.dh_commands.proofs.CommandsDone.{nothing_done, parts_more, parts_next, parts_none}
 use Rattle.dh_commands.proofs.Tested.{quiet_stands}
 
 drop_past : {A : Type 0} (xs : List A) (n : ℕ) → length xs ≤ n → drop n xs ≡ []
@@ -112,3 +116,22 @@ module _ (scene : Scene) (around : Around) (all : Groups) (first : ℕ) (old : B
   pub leads_all : (ps : List (Vec Command Global)) (i : ℕ) (now : ℕ) (here : Building) → length ps ≤ i → Leads scene around all (all_parts_seen (drop i ps)) first now old here → DoesGroups scene around all first now old here
   leads_all ps i now here end leads =
       leads now here (subst (λ (xs : List (Vec Command Global)). DoesGroups scene around (all_parts_seen xs) now now here here) (sym (drop_past ps i end)) (parts_none scene around now here))
+
+-- A command, by what is seen of its form.
+pub as_seen : (scene : Scene) (around : Around) (c : Command) (form : ActionForm) (first next : ℕ) (old new : Building) → action_form_seen c.form ≡ form → DoesCommand scene around (action c.id c.place form) first next old new
+    → DoesCommand scene around (action_seen c) first next old new
+as_seen scene around c form first next old new is d = subst (λ (f : ActionForm). DoesCommand scene around (action c.id c.place f) first next old new) (sym is) d
+
+-- one that does nothing, but has accesses
+pub counted_done : (scene : Scene) (around : Around) (c : Command) (form : ActionForm) (first next : ℕ) (b : Building) → action_form_seen c.form ≡ form → next ≡ behind first (accesses_of (action_seen c)) → FitArms (action c.id c.place form) no_arms
+    → ((n : ℕ) → core_action (known_in scene) n (action c.id c.place form) no_commands ≡ no_commands) → DoesCommand scene around (action_seen c) first next b b
+counted_done scene around c form first next b is counted shaped none =
+    as_seen scene around c form first next b b is
+    (nothing_done scene around (action c.id c.place form) first next b
+    (λ few. counted ∙ (ap (λ (f : ActionForm). behind first (accesses_of (action c.id c.place f))) is ∙ behind_few first (accesses_of (action c.id c.place form)) few)) shaped none)
+
+-- one that does nothing, and has none
+pub idle_done : (scene : Scene) (around : Around) (c : Command) (form : ActionForm) (first : ℕ) (b : Building) → action_form_seen c.form ≡ form → accesses_of (action c.id c.place form) ≡ 0 → FitArms (action c.id c.place form) no_arms
+    → ((n : ℕ) → core_action (known_in scene) n (action c.id c.place form) no_commands ≡ no_commands) → DoesCommand scene around (action_seen c) first first b b
+idle_done scene around c form first b is count shaped none =
+    as_seen scene around c form first first b b is (nothing_done scene around (action c.id c.place form) first first b (λ few. omega (arith, count)) shaped none)
