@@ -1,6 +1,6 @@
 -- The assignments of an arm are taken back, the last of them first.
-use Rattle.std.proofs.Common.{◌≡◌, ◌⊎◌, inl, inr, ℕ, zero, suc, ◌+◌, ◌-◌, ◌<◌, ◌≤◌, Some, None, List, [], ◌∷◌, ◌++◌, length, take, drop, get_or, refl, ap, sym, ◌∙◌, subst, arith, append_assoc}
-use Rattle.std.specs.Prelude.{Option, replicate, slice_set, slice_index_or}
+use Rattle.std.proofs.Common.{◌≡◌, ℕ, zero, suc, ◌-◌, ◌<◌, ◌≤◌, List, [], ◌∷◌, ◌++◌, length, take, drop, get_or, refl, ap, sym, ◌∙◌, subst, arith, append_assoc}
+use Rattle.std.specs.Prelude.{Option, replicate, slice_set}
 use Rattle.std.specs.List.{AllByRecursion}
 use Rattle.std.proofs.lemmas.List.{append-nil}
 use Rattle.dh_commands.specs.declared.assignments.Change.{Change}
@@ -84,9 +84,10 @@ ends_none v floor = record {
   marks = refl;
   long = refl;
   back = ap (λ (l : List Change). undone (drop floor l) v.current.items) (take_all v.log.items);
-  lefts_are = λ rooms.
-      (subst (λ (l : List Change). AllByRecursion (HasRoom v.current.items) (drop floor l)) (sym (take_all v.log.items)) rooms,
-      ap (λ (l : List Change). lefts_of (drop floor l) v.current.items) (take_all v.log.items));
+  lefts_are = λ rooms. (
+    subst (λ (l : List Change). AllByRecursion (HasRoom v.current.items) (drop floor l)) (sym (take_all v.log.items)) rooms,
+    ap (λ (l : List Change). lefts_of (drop floor l) v.current.items) (take_all v.log.items),
+  );
 }
 
 all_parts : (P : Change → Type 0) (xs : List Change) (c : Change) → AllByRecursion P (xs ++ c ∷ []) → AllByRecursion P xs × P c
@@ -127,12 +128,13 @@ module _ (old now : Values) (floor k : ℕ) (lefts : List Left) (d : Change) (be
     long = ap (λ (os : List (Option ℕ)). length os) set ∙ (set_long now.current.items c.register c.before ∙ h.long);
     back = ap (λ (os : List (Option ℕ)). undone (between floor k old.log.items) os) set ∙ undone_then;
     lefts_are = λ rooms.
-        let l = h.lefts_are rooms in
-        ((all_parts (HasRoom old.current.items) (between floor k old.log.items) c (subst (λ (x : List Change). AllByRecursion (HasRoom old.current.items) x) parts l.0)).0,
-        ap (λ (ls : List Left). ls ++ lefts_of (between floor k old.log.items) new.current.items) added
-        ∙ (ap (λ (os : List (Option ℕ)). (lefts ++ left_at c now.current.items ∷ []) ++ lefts_of (between floor k old.log.items) os) set
-        ∙ (append_assoc lefts (left_at c now.current.items ∷ []) (lefts_of (between floor k old.log.items) after)
-        ∙ (ap (λ (ls : List Left). lefts ++ ls) (sym lefts_then) ∙ l.1))));
+        let l = h.lefts_are rooms in (
+          (all_parts (HasRoom old.current.items) (between floor k old.log.items) c (subst (λ (x : List Change). AllByRecursion (HasRoom old.current.items) x) parts l.0)).0,
+          ap (λ (ls : List Left). ls ++ lefts_of (between floor k old.log.items) new.current.items) added
+              ∙ (ap (λ (os : List (Option ℕ)). (lefts ++ left_at c now.current.items ∷ []) ++ lefts_of (between floor k old.log.items) os) set
+              ∙ (append_assoc lefts (left_at c now.current.items ∷ []) (lefts_of (between floor k old.log.items) after)
+              ∙ (ap (λ (ls : List Left). lefts ++ ls) (sym lefts_then) ∙ l.1))),
+        );
   }
 
   -- what has no register is not there to be taken back

@@ -1,5 +1,5 @@
 -- The guards of an arm: at each path both of the guard round it and of the test's truth, or its opposite.
-use Rattle.std.proofs.Common.{◌≡◌, ◌⊎◌, inl, inr, ℕ, zero, suc, ◌+◌, ◌<◌, ◌≤◌, Bool, true, false, if◌then◌else◌, Some, None, List, [], ◌∷◌, ◌++◌, length, refl, ap, sym, ◌∙◌, subst, arith}
+use Rattle.std.proofs.Common.{◌≡◌, ◌⊎◌, inl, inr, ℕ, suc, ◌+◌, ◌<◌, ◌≤◌, Bool, true, false, if◌then◌else◌, Some, None, List, [], ◌∷◌, ◌++◌, refl, ap, sym, ◌∙◌, subst, arith}
 use Rattle.std.specs.Prelude.{Option, ◌&&◌, not, slice_get}
 use Rattle.std.proofs.lemmas.Bool.{cases_lt}
 use Rattle.std.proofs.lemmas.List.{length-append}
@@ -8,7 +8,7 @@ use Rattle.dh_value.specs.declared.words.Word.{Word}
 use Rattle.dh_value.specs.Operations.{binary_of, is_true, truth}
 use Rattle.dh_plan.specs.Blocks.{is_on}
 use Rattle.dh_expressions.specs.declared.drafts.Draft.{Draft}
-use Rattle.dh_expressions.specs.Drafted.{Begun, Computes, Extends, Fits, Gives, Step, shown, tale}
+use Rattle.dh_expressions.specs.Drafted.{Begun, Computes, Fits, Gives, Step, shown}
 use Rattle.dh_expressions.specs.Shown.{guard_of, guard_or_none}
 use Rattle.dh_expressions.proofs.ListPlaces.{some_same, there}
 use Rattle.dh_expressions.proofs.Pushing.{at_seam, begun_later, extends_again, extends_self, fits_before, in_front}

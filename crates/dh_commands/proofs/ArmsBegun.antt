@@ -1,6 +1,6 @@
 -- What stands at all paths stands at those of an arm: it has the same loops, and fewer paths with a guard that holds.
-use Rattle.std.proofs.Common.{◌≡◌, ℕ, ◌+◌, ◌-◌, ◌*◌, ◌<◌, ◌^◌, Bool, true, false, if◌then◌else◌, Some, None, List, length, take, refl, ap, sym, ◌∙◌, subst}
-use Rattle.std.specs.Prelude.{Option, ◌&&◌, min, nat_le, pos, slice_index}
+use Rattle.std.proofs.Common.{◌≡◌, ℕ, ◌+◌, ◌-◌, ◌*◌, ◌<◌, ◌^◌, Bool, true, if◌then◌else◌, Some, None, List, length, take, ap, sym, ◌∙◌, subst}
+use Rattle.std.specs.Prelude.{Option, min, nat_le, pos, slice_index}
 use Rattle.dh_value.specs.declared.kinds.Kind.{Kind}
 use Rattle.dh_value.specs.Words.{word_of}
 use Rattle.dh_tree.specs.declared.trees.counters.Counter.{Counter}

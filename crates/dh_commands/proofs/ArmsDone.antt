@@ -1,7 +1,7 @@
 -- One arm of an `if`, from what stands halfway: at the paths at which it is done its variables show what they hold as it
 -- ends; at the others, at which it is not done, it keeps them.
 use Rattle.std.proofs.Common.{◌≡◌, ℕ, ◌+◌, ◌-◌, ◌<◌, ◌^◌, Bool, true, false, List, [], ◌∷◌, length, refl, ap, sym, ◌∙◌, subst}
-use Rattle.std.specs.Prelude.{Option, ◌&&◌, min, not}
+use Rattle.std.specs.Prelude.{◌&&◌, min, not}
 use Rattle.std.specs.List.{AllByRecursion}
 use Rattle.dh_value.specs.Words.{word_of}
 use Rattle.dh_tree.specs.PlainTrees.{Action}
@@ -9,7 +9,6 @@ use Rattle.dh_meaning.specs.AccessNumbers.{accesses_of}
 use Rattle.dh_meaning.specs.Core.{no_commands}
 use Rattle.dh_meaning.specs.CoreOf.{core_action}
 use Rattle.dh_meaning.specs.Effects.{Effect, Variables}
-use Rattle.dh_meaning.specs.Levels.{any_assigns}
 use Rattle.dh_meaning.specs.Paths.{Path}
 use Rattle.dh_code.specs.Slots.{held_at}
 use Rattle.dh_plan.proofs.SourceMoves.{and_left, and_right}
@@ -25,13 +24,13 @@ use Rattle.dh_commands.specs.declared.assignments.Change.{Change}
 use Rattle.dh_commands.specs.declared.assignments.Values.{Values}
 use Rattle.dh_commands.specs.declared.buildings.Building.{Building}
 use Rattle.dh_commands.specs.declared.choices.Left.{Left}
-use Rattle.dh_commands.specs.LanesRun.{IsArm, comes_out, is_on_at, lane_of, path_in, paths_counted, paths_on}
-use Rattle.dh_commands.specs.ShownVariables.{ArePlaced, IsOwn, Shows, ShowsAt, register_in, seen_path}
+use Rattle.dh_commands.specs.LanesRun.{IsArm, comes_out, is_on_at, path_in, paths_counted, paths_on}
+use Rattle.dh_commands.specs.ShownVariables.{IsOwn, ShowsAt, register_in, seen_path}
 use Rattle.dh_commands.specs.Undone.{AreReady, Changes, IsChange}
 use Rattle.dh_commands.specs.Followed.{Follows, Sets, effect_of, view_of}
-use Rattle.dh_commands.specs.Done.{Does, Stands}
+use Rattle.dh_commands.specs.Done.{Stands}
 use Rattle.dh_commands.specs.Parted.{DoesArm, ShowsTests}
-use Rattle.dh_commands.proofs.ArmsBegun.{on_around, register_same, seen_same, shown_same}
+use Rattle.dh_commands.proofs.ArmsBegun.{register_same, seen_same, shown_same}
 use Rattle.dh_commands.proofs.ArmsLeft.{AreSame, ArmLeft, arm_ended}
 use Rattle.dh_commands.proofs.CoreRuns.{action_any, action_deep}
 use Rattle.dh_commands.proofs.PathsKept.{commands_keep, keeps_own}

@@ -1,8 +1,7 @@
 -- The variables behind an `if`. At a path at which its arm was done a variable shows what it held as the arm ended: where
 -- an arm set it, its choice has the register's own path, and so the test there picks the arm.
 use Rattle.std.proofs.Common.{◌≡◌, ◌⊎◌, inl, inr, ℕ, ◌<◌, Bool, true, false, if◌then◌else◌, Some, None, List, length, refl, ap, sym, ◌∙◌, subst}
-use Rattle.std.specs.Prelude.{Option, slice_get, slice_index_or}
-use Rattle.dh_value.specs.declared.words.Word.{Word}
+use Rattle.std.specs.Prelude.{Option, slice_get}
 use Rattle.dh_value.specs.Operations.{is_true}
 use Rattle.dh_meaning.specs.Effects.{Variables}
 use Rattle.dh_meaning.specs.Paths.{Path}
@@ -18,7 +17,7 @@ use Rattle.dh_commands.specs.declared.assignments.Values.{Values}
 use Rattle.dh_commands.specs.declared.choices.Choice.{Choice}
 use Rattle.dh_commands.specs.declared.choices.Left.{Left}
 use Rattle.dh_commands.specs.LanesRun.{is_on_at, lane_of, path_in, paths_counted}
-use Rattle.dh_commands.specs.ShownVariables.{IsOwn, Shows, ShowsAt, register_in, seen_path}
+use Rattle.dh_commands.specs.ShownVariables.{IsOwn, Shows, ShowsAt, register_in}
 use Rattle.dh_commands.specs.Undone.{first_left, lefts_of, value_left}
 use Rattle.dh_commands.specs.Joined.{AreChoices, IsLeft}
 use Rattle.dh_commands.specs.Choosing.{Chooses, behind_shown, test_shown}
@@ -73,7 +72,6 @@ module _ (scene : Scene) (around : Around) (May : ℕ → Type 0) (x : Step) (te
     (choices : List Choice) (are : AreChoices chosen other choices) (old new : Draft) (before after : Values)
     (chooses : Chooses old new before after tests choices (length choices)) (same : before.current.items ≡ base) (long : length tests ≡ paths_counted around)
     (fits : Fits x new) (begun : Begun x old) (truths : Path → Bool) (shows_tests : ShowsTests x around tests truths) (own : (entity : ℕ) → May entity → IsOwn scene around entity) where
-
   -- the test at the path of a choice of a variable there
   module _ (e j : ℕ) (there_e : e < length scene.held.now) (inside : j < paths_counted around) (on : is_on_at x around j ≡ true) where
     abbrev r : ℕ

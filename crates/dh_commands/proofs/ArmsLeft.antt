@@ -1,6 +1,6 @@
 -- What an arm left, and the values as it ended: of a register that it set, the value then; all others are as before.
-use Rattle.std.proofs.Common.{◌≡◌, ◌⊎◌, inl, inr, ℕ, zero, suc, ◌+◌, ◌<◌, ◌==◌, Bool, true, false, if◌then◌else◌, Some, None, List, [], ◌∷◌, ◌++◌, length, take, drop, refl, ap, sym, ◌∙◌, subst, arith}
-use Rattle.std.specs.Prelude.{Option, slice_get, slice_index, slice_set}
+use Rattle.std.proofs.Common.{◌≡◌, ℕ, zero, suc, ◌<◌, ◌==◌, Bool, true, false, if◌then◌else◌, Some, None, List, [], ◌∷◌, ◌++◌, length, take, drop, refl, ap, sym, ◌∙◌, subst}
+use Rattle.std.specs.Prelude.{Option, slice_get, slice_index}
 use Rattle.std.specs.List.{AllByRecursion}
 use Rattle.std.proofs.lemmas.Bool.{eq-eqb, eqb-true}
 use Rattle.std.proofs.lemmas.List.{append-nil}
@@ -66,11 +66,12 @@ lefts_some P (c ∷ cs) behind r l all h =
         → (first_left (lefts_of cs behind) r ≡ Some l → (l.value ≡ given_at behind r) × (P r l.path)) → (l.value ≡ given_at behind r) × (P r l.path)
     by (Some m) e found before = before (e ∙ found)
     by None e found before =
-        let is = is_here (left_at c (undone cs behind)) l r found in
-        (ap (λ (m : Left). m.value) is.0
-        ∙ (ap (λ n. given_at (undone cs behind) n) is.1
-        ∙ (given_slot (undone cs behind) r ∙ (ap slot (lefts_none cs behind r e) ∙ sym (given_slot behind r)))),
-        subst (λ (m : Left). P r m.path) (sym is.0) (subst (λ (n : ℕ). P n c.path) is.1 all.0))
+        let is = is_here (left_at c (undone cs behind)) l r found in (
+          ap (λ (m : Left). m.value) is.0
+              ∙ (ap (λ n. given_at (undone cs behind) n) is.1
+              ∙ (given_slot (undone cs behind) r ∙ (ap slot (lefts_none cs behind r e) ∙ sym (given_slot behind r)))),
+          subst (λ (m : Left). P r m.path) (sym is.0) (subst (λ (n : ℕ). P n c.path) is.1 all.0),
+        )
 
 given_value : (o : Option ℕ) → IsGiven o → (v : ℕ) × (o ≡ Some v)
 given_value None g = absurd g
@@ -139,33 +140,37 @@ rooms_by xs ys (c ∷ cs) same a = (subst (λ (n : ℕ). c.register < n) same a.
 set_each : (scene : Scene) (arm around : Around) (May : ℕ → Type 0) (base : List (Option ℕ)) (cs : List Change) → ((e j : ℕ) → register_in scene arm e j ≡ register_in scene around e j) → paths_counted arm ≡ paths_counted around
     → AllByRecursion (IsChange scene arm May) cs → AllByRecursion (HasRoom base) cs → AllByRecursion (λ (c : Change). IsSetAt scene around May base c.register c.path) cs
 set_each scene arm around May base [] same long each room = tt
-set_each scene arm around May base (c ∷ cs) same long each room =
-    (record {
-      entity = each.0.entity;
-      may = each.0.may;
-      within = subst (λ (n : ℕ). c.path < n) long each.0.within;
-      register_is = each.0.register_is ∙ same each.0.entity c.path;
-      room = room.0;
-    }, set_each scene arm around May base cs same long each.1 room.1)
+set_each scene arm around May base (c ∷ cs) same long each room = (
+  record {
+    entity = each.0.entity;
+    may = each.0.may;
+    within = subst (λ (n : ℕ). c.path < n) long each.0.within;
+    register_is = each.0.register_is ∙ same each.0.entity c.path;
+    room = room.0;
+  },
+  set_each scene arm around May base cs same long each.1 room.1,
+)
 
 -- the values behind an arm are those before it
 pub arm_ended : (scene : Scene) (arm around : Around) (May : ℕ → Type 0) (begun inside ended : Values) (lefts : List Left) → ((e j : ℕ) → register_in scene arm e j ≡ register_in scene around e j) → paths_counted arm ≡ paths_counted around
     → Changes scene arm May begun inside → EndsArm inside ended (length begun.log.items) lefts → AreSame begun ended × ArmLeft scene around May begun.current.items inside.current.items lefts
-arm_ended scene arm around May begun inside ended lefts same long h k =
-    (record {
-      current = k.current ∙ (ap (λ (cs : List Change). undone cs inside.current.items) behind_is ∙ h.back);
-      log = k.log ∙ (ap (λ (cs : List Change). take (length begun.log.items) cs) h.log ∙ take_front begun.log.items h.more);
-      marks = k.marks ∙ h.marks;
-    }, record {
-      more = h.more;
-      lefts_are =
-          k.lefts_are (subst (λ (cs : List Change). AllByRecursion (HasRoom inside.current.items) cs) (sym behind_is) (rooms_by begun.current.items inside.current.items h.more (sym h.long) h.room))
-          ∙ ap (λ (cs : List Change). lefts_of cs inside.current.items) behind_is;
-      back = h.back;
-      each = set_each scene arm around May begun.current.items h.more same long h.each h.room;
-      given = h.given;
-      room = h.room;
-    })
+arm_ended scene arm around May begun inside ended lefts same long h k = (
+  record {
+    current = k.current ∙ (ap (λ (cs : List Change). undone cs inside.current.items) behind_is ∙ h.back);
+    log = k.log ∙ (ap (λ (cs : List Change). take (length begun.log.items) cs) h.log ∙ take_front begun.log.items h.more);
+    marks = k.marks ∙ h.marks;
+  },
+  record {
+    more = h.more;
+    lefts_are =
+        k.lefts_are (subst (λ (cs : List Change). AllByRecursion (HasRoom inside.current.items) cs) (sym behind_is) (rooms_by begun.current.items inside.current.items h.more (sym h.long) h.room))
+        ∙ ap (λ (cs : List Change). lefts_of cs inside.current.items) behind_is;
+    back = h.back;
+    each = set_each scene arm around May begun.current.items h.more same long h.each h.room;
+    given = h.given;
+    room = h.room;
+  },
+)
   where
     behind_is : drop (length begun.log.items) inside.log.items ≡ h.more
     behind_is = ap (λ (cs : List Change). drop (length begun.log.items) cs) h.log ∙ drop_front begun.log.items h.more

@@ -1,32 +1,26 @@
 -- An assignment at one path: the operations of its right side, its value as the variable holds it, and the register.
 -- Where the guard holds the program does the same; where it does not neither tells anything.
-use Rattle.std.proofs.Common.{◌≡◌, ◌⊎◌, inl, inr, ℕ, ◌+◌, ◌<◌, ◌≤◌, ◌^◌, Bool, true, false, Some, None, List, [], ◌∷◌, ◌++◌, length, take, refl, ap, sym, ◌∙◌, subst, arith, append_assoc, ℤ}
-use Rattle.std.specs.Prelude.{Option, slice_index, slice_set}
-use Rattle.std.proofs.lemmas.List.{append-nil}
-use Rattle.dh_value.specs.declared.kinds.Kind.{Kind}
-use Rattle.dh_value.specs.declared.words.Word.{Word}
+use Rattle.std.proofs.Common.{◌≡◌, ℕ, ◌+◌, ◌<◌, ◌^◌, Bool, true, false, Some, List, ◌++◌, length, refl, ap, sym, ◌∙◌, subst, ℤ}
+use Rattle.std.specs.Prelude.{Option, slice_index}
 use Rattle.dh_value.specs.Words as words
 use Rattle.dh_value.specs.Words.{word_of}
 use Rattle.dh_tree.specs.PlainTrees as plain
 use Rattle.dh_meaning.specs.AccessNumbers.{term_accesses}
-use Rattle.dh_meaning.specs.Core.{CoreTerm}
 use Rattle.dh_meaning.specs.CoreOf.{core_term}
 use Rattle.dh_meaning.specs.Effects.{Effect, Event, Variables, set_variable, term_events}
-use Rattle.dh_meaning.specs.Paths.{Path}
 use Rattle.dh_code.specs.Slots.{held_at}
 use Rattle.dh_expressions.specs.declared.drafts.Draft.{Draft}
-use Rattle.dh_expressions.specs.declared.scenes.Around.{Around}
 use Rattle.dh_expressions.specs.declared.scenes.Lane.{Lane}
 use Rattle.dh_expressions.specs.declared.scenes.Scene.{Scene}
 use Rattle.dh_expressions.specs.declared.terms.Valued.{Valued}
-use Rattle.dh_expressions.specs.Drafted.{Begun, Extends, Fits, Gives, Step, Tale, shown, tale, told}
-use Rattle.dh_expressions.specs.Evaluated.{EvaluatesTerm, Knows, Reads, begun_of, known_in, lane_guard}
+use Rattle.dh_expressions.specs.Drafted.{Begun, Fits, Gives, Step, Tale, shown, tale, told}
+use Rattle.dh_expressions.specs.Evaluated.{EvaluatesTerm, Knows, Reads, begun_of, known_in}
 use Rattle.dh_expressions.specs.Shown.{held_shown}
 use Rattle.dh_expressions.proofs.Evaluating.{told_append}
 use Rattle.dh_expressions.proofs.ListPlaces.{set_long}
 use Rattle.dh_expressions.proofs.Pushing.{begun_later, extends_again, fits_before}
 use Rattle.dh_commands.specs.declared.buildings.Building.{Building}
-use Rattle.dh_commands.specs.LanesRun.{is_on_at, lane_of, path_in, paths_counted, run_if}
+use Rattle.dh_commands.specs.LanesRun.{is_on_at, path_in, paths_counted, run_if}
 use Rattle.dh_commands.specs.ShownVariables.{IsTarget, Shows, register_in, seen_path}
 use Rattle.dh_commands.specs.Followed.{FollowsAssigned, value_at, view_of}
 use Rattle.dh_commands.specs.Done.{Stands}

@@ -1,6 +1,6 @@
 -- An `if` with its arms: its test at all paths, its arms, each from the values before it, and the choices.
-use Rattle.std.proofs.Common.{◌≡◌, ◌⊎◌, inl, inr, ℕ, ◌+◌, ◌<◌, ◌^◌, Bool, true, false, Some, None, List, [], ◌∷◌, ◌++◌, length, refl, ap, sym, ◌∙◌, subst, arith}
-use Rattle.std.specs.Prelude.{Option, ◌||◌, slice_get, slice_index}
+use Rattle.std.proofs.Common.{◌≡◌, ◌⊎◌, inl, inr, ℕ, ◌+◌, ◌<◌, ◌^◌, Bool, true, false, List, [], ◌∷◌, ◌++◌, length, refl, ap, sym, ◌∙◌, subst, arith}
+use Rattle.std.specs.Prelude.{Option, ◌||◌, slice_index}
 use Rattle.std.specs.List.{AllByRecursion}
 use Rattle.dh_base.specs.declared.places.Place.{Place}
 use Rattle.dh_value.specs.Words.{word_of}
@@ -9,15 +9,15 @@ use Rattle.dh_tree.specs.PlainTrees as plain
 use Rattle.dh_tree.specs.PlainTrees.{Action, action, decides, MaybeAction}
 use Rattle.dh_meaning.specs.AccessNumbers.{accesses_of, other_accesses, term_accesses}
 use Rattle.dh_meaning.specs.Core.{no_commands}
-use Rattle.dh_meaning.specs.CoreOf.{core_action, core_other, core_term}
-use Rattle.dh_meaning.specs.Effects.{Effect, Variables, at_each, commands_run, paths_where, tested_at}
+use Rattle.dh_meaning.specs.CoreOf.{core_action, core_other}
+use Rattle.dh_meaning.specs.Effects.{Effect, commands_run, paths_where}
 use Rattle.dh_meaning.specs.Levels.{any_assigns}
 use Rattle.dh_meaning.specs.Paths.{Path}
 use Rattle.dh_code.specs.Slots.{held_at}
 use Rattle.dh_expressions.specs.declared.accesses.Accesses.{Accesses}
 use Rattle.dh_expressions.specs.declared.scenes.Around.{Around}
 use Rattle.dh_expressions.specs.declared.scenes.Scene.{Scene}
-use Rattle.dh_expressions.specs.Drafted.{Begun, Extends, Fits, Step, tale, told}
+use Rattle.dh_expressions.specs.Drafted.{Begun, Extends, Fits, Step}
 use Rattle.dh_expressions.specs.Evaluated.{Knows, Reads, begun_of, known_in}
 use Rattle.dh_expressions.proofs.Pushing.{begun_later, extends_again, fits_before}
 use Rattle.dh_commands.specs.declared.assignments.Change.{Change}
@@ -25,16 +25,16 @@ use Rattle.dh_commands.specs.declared.assignments.Values.{Values}
 use Rattle.dh_commands.specs.declared.buildings.Building.{Building}
 use Rattle.dh_commands.specs.declared.choices.Choice.{Choice}
 use Rattle.dh_commands.specs.declared.choices.Left.{Left}
-use Rattle.dh_commands.specs.LanesRun.{IsArm, is_on_at, lanes_run, path_in, paths_counted, paths_on, paths_to}
+use Rattle.dh_commands.specs.LanesRun.{IsArm, is_on_at, lanes_run, path_in, paths_counted, paths_on}
 use Rattle.dh_commands.specs.ShownVariables.{IsOwn, Shows, ShowsAt, register_in}
 use Rattle.dh_commands.specs.Undone.{AreReady, Changes, HasRoom, IsChange}
 use Rattle.dh_commands.specs.Followed.{Arms, arms_of, Follows, FollowsOther, Sets, SetsOther, effect_of, other_effect, test_out, test_run, view_of}
 use Rattle.dh_commands.specs.Joined.{AreChoices, IsLeft, JoinsArms}
 use Rattle.dh_commands.specs.Choosing.{Chooses, IsOfChoice}
-use Rattle.dh_commands.specs.Done.{Does, DoesCommand, Stands}
+use Rattle.dh_commands.specs.Done.{DoesCommand, Stands}
 use Rattle.dh_commands.specs.Setting.{TestsAll}
 use Rattle.dh_commands.specs.Parted.{DoesArm, DoesOther, ShowsTests}
-use Rattle.dh_commands.proofs.ArmsDone.{Halfway, after, arm_extends, arm_values, ends_kept, ends_knows, ends_shows, ends_tells, halfway, is_arm}
+use Rattle.dh_commands.proofs.ArmsDone.{Halfway, arm_extends, arm_values, ends_kept, ends_knows, ends_shows, ends_tells, halfway, is_arm}
 use Rattle.dh_commands.proofs.ArmsJoined.{choice_set, joined_shows}
 use Rattle.dh_commands.proofs.ArmsLeft.{AreSame, ArmLeft, lefts_given, nothing_changed, same_again, same_ready}
 use Rattle.dh_commands.proofs.CoreRuns.{action_any, or_none, sets_other}
@@ -52,13 +52,15 @@ chosen_each : (scene : Scene) (around : Around) (May More : ℕ → Type 0) (cho
     → (choices : List Choice) → AreChoices chosen other choices → ((entity : ℕ) → May entity → More entity) → (cs : List Change) → AllByRecursion (IsOfChoice choices) cs → AllByRecursion (IsChange scene around More) cs
 chosen_each scene around May More chosen other base one two a b choices are wider [] all = tt
 chosen_each scene around May More chosen other base one two a b choices are wider (c ∷ cs) all =
-    let set = choice_set scene around May chosen other base one two a b choices are all.0.number all.0.choice all.0.there in
-    (record {
-      entity = set.entity;
-      may = wider set.entity set.may;
-      within = subst (λ (p : ℕ). p < paths_counted around) (sym all.0.path_is) set.within;
-      register_is = all.0.register_is ∙ (set.register_is ∙ ap (λ p. register_in scene around set.entity p) (sym all.0.path_is));
-    }, chosen_each scene around May More chosen other base one two a b choices are wider cs all.1)
+    let set = choice_set scene around May chosen other base one two a b choices are all.0.number all.0.choice all.0.there in (
+      record {
+        entity = set.entity;
+        may = wider set.entity set.may;
+        within = subst (λ (p : ℕ). p < paths_counted around) (sym all.0.path_is) set.within;
+        register_is = all.0.register_is ∙ (set.register_is ∙ ap (λ p. register_in scene around set.entity p) (sym all.0.path_is));
+      },
+      chosen_each scene around May More chosen other base one two a b choices are wider cs all.1,
+    )
 
 rooms_in : (xs ys : List (Option ℕ)) (cs : List Change) → xs ≡ ys → AllByRecursion (HasRoom xs) cs → AllByRecursion (HasRoom ys) cs
 rooms_in xs ys cs same a = subst (λ (os : List (Option ℕ)). AllByRecursion (HasRoom os) cs) same a
@@ -267,8 +269,8 @@ module _ (scene : Scene) (around : Around) (first n1 n2 n3 : ℕ) (t : plain.Ter
           joined_shows scene around May x tests lefts others b3.values.current.items one.inside.values.current.items done.behind (left_one stands.ready) (left_two stands.ready) choices (are stands.ready) b3.draft new.draft v4 new.values
           chooses (same_four stands.ready).current does_tests.long fits begun3 truths shown_tests own e3.variables
           (λ entity j there inside on is.
-              ends_shows scene around tests true chosen n1 n2 b1 b2 lefts one does_tests.long some_tests few_one x reads e1 fits2 begun1 truths shown_tests half1 follows1 entity j there inside on is
-              ∙ ap (λ z. word_of (held_at scene.held.now entity).kind z) (sym (ends2.kept entity j there inside on is)))
+          ends_shows scene around tests true chosen n1 n2 b1 b2 lefts one does_tests.long some_tests few_one x reads e1 fits2 begun1 truths shown_tests half1 follows1 entity j there inside on is
+          ∙ ap (λ z. word_of (held_at scene.held.now entity).kind z) (sym (ends2.kept entity j there inside on is)))
           ends2.shows
 
       stands_new : Stands scene around x reads new e3

@@ -1,5 +1,5 @@
 -- One variable behind an `if`: its values behind both arms, and the one that the test picks.
-use Rattle.std.proofs.Common.{◌≡◌, ℕ, if◌then◌else◌, ap, ◌∙◌}
+use Rattle.std.proofs.Common.{ℕ, if◌then◌else◌, ap, ◌∙◌}
 use Rattle.dh_value.specs.Operations.{is_true}
 use Rattle.dh_expressions.specs.declared.drafts.Draft.{Draft}
 use Rattle.dh_expressions.specs.Drafted.{Computes, Gives, shown}

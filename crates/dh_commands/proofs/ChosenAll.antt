@@ -1,15 +1,14 @@
 -- The variables behind an `if`, one choice after the other. Each choice is of a register of its own, so that the values
 -- before it are those before all.
-use Rattle.std.proofs.Common.{◌≡◌, ◌⊎◌, inl, inr, ℕ, zero, suc, ◌<◌, ◌≤◌, ◌==◌, Bool, true, false, if◌then◌else◌, Some, None, List, [], ◌∷◌, length, refl, ap, sym, ◌∙◌, subst, arith}
-use Rattle.std.specs.Prelude.{Option, nat_lt, slice_get, slice_index_or, slice_set}
+use Rattle.std.proofs.Common.{◌≡◌, ◌⊎◌, inl, inr, ℕ, zero, suc, ◌<◌, ◌≤◌, true, false, if◌then◌else◌, Some, None, List, [], ◌∷◌, length, refl, ap, sym, ◌∙◌, subst, arith}
+use Rattle.std.specs.Prelude.{Option, nat_lt, slice_get, slice_index_or}
 use Rattle.std.proofs.lemmas.Bool.{cases_lt}
 use Rattle.std.proofs.lemmas.Bool.Decides.{nat_tests}
-use Rattle.dh_value.specs.declared.words.Word.{Word}
 use Rattle.dh_value.specs.Operations.{is_true}
 use Rattle.dh_expressions.specs.declared.drafts.Draft.{Draft}
 use Rattle.dh_expressions.specs.Drafted.{Begun, Fits, Step, shown}
 use Rattle.dh_expressions.specs.Shown.{current_shown, variable_shown}
-use Rattle.dh_expressions.proofs.ListPlaces.{place_within, set_here, set_other, some_same, there}
+use Rattle.dh_expressions.proofs.ListPlaces.{set_here, set_other, some_same}
 use Rattle.dh_expressions.proofs.Pushing.{begun_later, fits_before}
 use Rattle.dh_commands.specs.declared.assignments.Values.{Values}
 use Rattle.dh_commands.specs.declared.choices.Choice.{Choice}

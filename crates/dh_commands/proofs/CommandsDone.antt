@@ -1,5 +1,5 @@
 -- Commands of each form, from what is done at all paths; and the parts of a block, one after the other.
-use Rattle.std.proofs.Common.{◌≡◌, ◌⊎◌, inl, inr, ℕ, ◌+◌, ◌<◌, ◌^◌, ◌==◌, Bool, true, false, Some, None, List, [], ◌∷◌, ◌++◌, length, refl, ap, sym, ◌∙◌, subst, arith}
+use Rattle.std.proofs.Common.{◌≡◌, ◌⊎◌, inl, inr, ℕ, ◌+◌, ◌<◌, ◌^◌, ◌==◌, Bool, true, false, Some, None, List, [], ◌∷◌, ◌++◌, refl, ap, sym, ◌∙◌, subst, arith}
 use Rattle.std.specs.Prelude.{Option, ◌||◌}
 use Rattle.std.proofs.Math.Nat.{add_assoc, add-zero, zero-add}
 use Rattle.std.proofs.lemmas.Bool.{eq-eqb}
@@ -11,26 +11,23 @@ use Rattle.dh_tree.specs.declared.trees.expressions.Ref.{Ref}
 use Rattle.dh_tree.specs.PlainTrees as plain
 use Rattle.dh_tree.specs.PlainTrees.{Action, action, ActionForm, lets, lets_memory, views, assigns, stores, reduces, calls, blocks, decides, repeats, counts, Actions, no_actions, action_then, Groups, no_groups, group_then}
 use Rattle.dh_meaning.specs.AccessNumbers.{accesses_of, groups_accesses, part_accesses, term_accesses}
-use Rattle.dh_meaning.specs.Bindings.{kind_or_first}
-use Rattle.dh_meaning.specs.Core.{CoreCommands, no_commands, command_and, literal, truth_literal}
+use Rattle.dh_meaning.specs.Core.{CoreCommands, no_commands, literal, truth_literal}
 use Rattle.dh_meaning.specs.CoreOf.{core_action, core_groups, core_part, core_term, entity_number, store_to}
 use Rattle.dh_meaning.specs.Effects.{Effect, Event, Variables, assigned_at, at_each, command_run, commands_run, tested_at}
 use Rattle.dh_meaning.specs.Paths.{Path}
 use Rattle.dh_code.specs.Slots.{held_at}
 use Rattle.dh_expressions.specs.declared.scenes.Around.{Around}
 use Rattle.dh_expressions.specs.declared.scenes.Scene.{Scene}
-use Rattle.dh_expressions.specs.Drafted.{Begun, Fits, Step}
+use Rattle.dh_expressions.specs.Drafted.{Step}
 use Rattle.dh_expressions.specs.Evaluated.{Reads, begun_of, known_in}
 use Rattle.dh_expressions.proofs.Pushing.{begun_later, extends_again, extends_self, fits_before}
-use Rattle.dh_commands.specs.declared.assignments.Values.{Values}
 use Rattle.dh_commands.specs.declared.buildings.Building.{Building}
 use Rattle.dh_commands.specs.LanesRun.{paths_counted, paths_on}
 use Rattle.dh_commands.specs.ShownVariables.{depth_in}
-use Rattle.dh_commands.specs.Undone.{AreReady, Changes}
-use Rattle.dh_commands.specs.Followed.{Along, Arms, no_arms, arms_of, arms_then, FitArms, FitGroups, Follows, FollowsGroups, FollowsPart, Sets, effect_of, groups_effect, part_effect, store_run}
+use Rattle.dh_commands.specs.Followed.{Along, Arms, no_arms, arms_of, arms_then, FitArms, FitGroups, Follows, FollowsGroups, Sets, effect_of, groups_effect, part_effect, store_run}
 use Rattle.dh_commands.specs.Done.{Does, DoesAll, DoesCommand, IsNext, Stands}
-use Rattle.dh_commands.specs.Setting.{AssignsAll, ClearsAll, NoVariable, ReducesAll, StoresAll}
-use Rattle.dh_commands.specs.Parted.{DoesGroups, Leads, SetsGroups}
+use Rattle.dh_commands.specs.Setting.{AssignsAll, ClearsAll, ReducesAll, StoresAll}
+use Rattle.dh_commands.specs.Parted.{DoesGroups, SetsGroups}
 use Rattle.dh_commands.proofs.ArmsDone.{changes_wider}
 use Rattle.dh_commands.proofs.ChangesBack.{changes_again, changes_none, ready_after}
 use Rattle.dh_commands.proofs.CoreRuns.{action_any, action_runs, action_sets, groups_any, groups_set, part_sets}
@@ -226,11 +223,12 @@ module _ (scene : Scene) (around : Around) where
         rest_follows : (x : Step) (reads : Reads) (e : Effect) → n1 ≡ now + accesses_of a → FollowsGroups scene x reads around (arms_then (arms_then c.arms p) g) now All e
             → FollowsGroups scene x reads around (arms_then p g) n1 (group_then cs gs) (effect_of scene x (paths_on x around) now a e)
         rest_follows x reads e is follows =
-            subst (λ (n : ℕ). FollowsGroups scene x reads around (arms_then p g) n (group_then cs gs) (effect_of scene x (paths_on x around) now a e)) (sym is)
-            (follows.0.1,
-            subst (λ (f : Effect). FollowsGroups scene x reads around g (now + accesses_of a + part_accesses cs) gs f)
-            (action_runs (known_in scene) (begun_of x) (paths_on x around) now a (core_part (known_in scene) (now + accesses_of a) cs no_commands) e)
-            (subst (λ (n : ℕ). FollowsGroups scene x reads around g n gs (part_effect scene x (paths_on x around) now (action_then a cs) e)) (sym (add_assoc now (accesses_of a) (part_accesses cs))) follows.1))
+            subst (λ (n : ℕ). FollowsGroups scene x reads around (arms_then p g) n (group_then cs gs) (effect_of scene x (paths_on x around) now a e)) (sym is) (
+              follows.0.1,
+              subst (λ (f : Effect). FollowsGroups scene x reads around g (now + accesses_of a + part_accesses cs) gs f)
+                  (action_runs (known_in scene) (begun_of x) (paths_on x around) now a (core_part (known_in scene) (now + accesses_of a) cs no_commands) e)
+                  (subst (λ (n : ℕ). FollowsGroups scene x reads around g n gs (part_effect scene x (paths_on x around) now (action_then a cs) e)) (sym (add_assoc now (accesses_of a) (part_accesses cs))) follows.1),
+            )
 
         all_runs : (x : Step) (e : Effect) → n1 ≡ now + accesses_of a → groups_effect scene x (paths_on x around) n1 (group_then cs gs) (effect_of scene x (paths_on x around) now a e) ≡ groups_effect scene x (paths_on x around) now All e
         all_runs x e is =

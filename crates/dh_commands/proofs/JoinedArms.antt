@@ -1,18 +1,17 @@
 -- The choices that are made of what both arms left: as one left more is noted, marks and choices still tell of one
 -- another, and each register that was left has its choice.
 use Rattle.std.proofs.Common.{◌≡◌, ◌⊎◌, inl, inr, ℕ, zero, suc, ◌+◌, ◌-◌, ◌<◌, ◌≤◌, ◌==◌, Bool, true, false, if◌then◌else◌, Some, None, List, [], ◌∷◌, ◌++◌, length, get_or, refl, ap, sym, ◌∙◌, subst, arith}
-use Rattle.std.specs.Prelude.{Option, ◌&&◌, nat_lt, slice_get, slice_index, slice_set}
+use Rattle.std.specs.Prelude.{Option, nat_lt, slice_get, slice_index, slice_set}
 use Rattle.std.specs.Option.{is_some}
 use Rattle.std.proofs.lemmas.Option.{slice_get-get_or}
 use Rattle.std.specs.List.{AllByRecursion}
 use Rattle.std.proofs.lemmas.Bool.{cases_Bool, eqb-true, eq-eqb}
 use Rattle.std.proofs.lemmas.Bool.Decides.{nat_tests}
-use Rattle.std.proofs.lemmas.List.{length-append}
 use Rattle.dh_commands.specs.declared.choices.Choice.{Choice}
 use Rattle.dh_commands.specs.declared.choices.Left.{Left}
 use Rattle.dh_commands.specs.Undone.{IsChoice, first_left, value_left}
-use Rattle.dh_commands.specs.Joined.{AreApart, AreChoices, IsLeft, all_unmarked, chosen_marked, chosen_noted, first_choice, is_unmarked, other_marked, other_noted, other_or, other_put, second_choice, with_other}
-use Rattle.dh_expressions.proofs.ListPlaces.{place_of_more, place_within, set_here, set_long, set_other, some_same, there}
+use Rattle.dh_commands.specs.Joined.{AreChoices, IsLeft, all_unmarked, chosen_marked, chosen_noted, first_choice, is_unmarked, other_marked, other_noted, other_or, other_put, second_choice, with_other}
+use Rattle.dh_expressions.proofs.ListPlaces.{place_of_more, place_within, set_here, set_long, set_other, some_same}
 
 -- The first of what was left, with one more behind.
 

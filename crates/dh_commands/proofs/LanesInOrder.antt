@@ -1,6 +1,6 @@
 -- What is done path by path is what is done along the list of paths; and the paths of an arm are those at which
 -- the test of its `if` comes out so. Both by induction on the number of paths.
-use Rattle.std.proofs.Common.{◌≡◌, ℕ, zero, suc, ◌<◌, ◌≤◌, Bool, true, false, if◌then◌else◌, List, [], ◌∷◌, ◌++◌, refl, ap, sym, ◌∙◌, arith}
+use Rattle.std.proofs.Common.{◌≡◌, ℕ, zero, suc, ◌≤◌, Bool, true, false, if◌then◌else◌, List, [], ◌∷◌, ◌++◌, refl, ap, sym, ◌∙◌, arith}
 use Rattle.std.specs.Prelude.{◌&&◌, not}
 use Rattle.dh_meaning.specs.Paths.{Path}
 use Rattle.dh_meaning.specs.Effects.{Effect, at_each, paths_where}

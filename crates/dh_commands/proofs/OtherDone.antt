@@ -1,8 +1,8 @@
 -- The second arm of an `if`, or none: then its paths keep all.
-use Rattle.std.proofs.Common.{◌≡◌, ◌⊎◌, inr, ℕ, ◌+◌, ◌<◌, ◌^◌, Bool, true, false, List, [], length, refl, ap, sym, ◌∙◌, subst}
+use Rattle.std.proofs.Common.{◌≡◌, ℕ, ◌+◌, ◌<◌, ◌^◌, Bool, true, false, List, [], length, refl, sym, ◌∙◌, subst}
 use Rattle.std.specs.Prelude.{Option}
 use Rattle.std.proofs.Math.Nat.{add-zero}
-use Rattle.dh_tree.specs.PlainTrees.{Action, MaybeAction, no_action, one_action}
+use Rattle.dh_tree.specs.PlainTrees.{MaybeAction, no_action, one_action}
 use Rattle.dh_meaning.specs.AccessNumbers.{other_accesses}
 use Rattle.dh_meaning.specs.Effects.{Effect, Variables, paths_where}
 use Rattle.dh_meaning.specs.Paths.{Path}
@@ -11,15 +11,13 @@ use Rattle.dh_expressions.specs.declared.scenes.Scene.{Scene}
 use Rattle.dh_expressions.specs.Drafted.{Begun, Extends, Fits, Step, tale, told}
 use Rattle.dh_expressions.specs.Evaluated.{Knows, Reads}
 use Rattle.dh_expressions.proofs.Pushing.{extends_self}
-use Rattle.dh_commands.specs.declared.assignments.Values.{Values}
 use Rattle.dh_commands.specs.declared.buildings.Building.{Building}
 use Rattle.dh_commands.specs.declared.choices.Left.{Left}
 use Rattle.dh_commands.specs.LanesRun.{IsArm, is_on_at, path_in, paths_counted, paths_on}
 use Rattle.dh_commands.specs.ShownVariables.{IsOwn, ShowsAt, seen_path}
 use Rattle.dh_commands.specs.Undone.{AreReady}
 use Rattle.dh_commands.specs.Followed.{Arms, no_arms, FitOther, FollowsOther, SetsOther, effect_of, other_effect, view_of}
-use Rattle.dh_commands.specs.Done.{IsNext}
-use Rattle.dh_commands.specs.Parted.{DoesArm, DoesOther, ShowsTests}
+use Rattle.dh_commands.specs.Parted.{DoesOther, ShowsTests}
 use Rattle.dh_commands.proofs.ArmsDone.{Halfway, arm_extends, arm_values, ends_kept, ends_knows, ends_shows, ends_tells, is_arm}
 use Rattle.dh_commands.proofs.ArmsLeft.{AreSame, ArmLeft, nothing_left}
 use Rattle.dh_commands.proofs.LanesInOrder.{arm_paths}

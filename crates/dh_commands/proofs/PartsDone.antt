@@ -1,6 +1,6 @@
 -- An arm from its guards and its command, and what is left of the parts of a block.
-use Rattle.std.proofs.Common.{◌≡◌, ℕ, zero, suc, ◌+◌, ◌<◌, ◌≤◌, ◌^◌, Bool, true, false, Some, List, [], ◌∷◌, length, map, drop, get_or, refl, ap, sym, ◌∙◌, subst, arith}
-use Rattle.std.specs.Prelude.{Option, Vec, ◌&&◌, slice_get}
+use Rattle.std.proofs.Common.{◌≡◌, ℕ, zero, suc, ◌+◌, ◌<◌, ◌≤◌, ◌^◌, Bool, true, false, List, [], ◌∷◌, length, map, drop, get_or, refl, ap, sym, ◌∙◌, subst, arith}
+use Rattle.std.specs.Prelude.{Option, Vec, ◌&&◌}
 use Rattle.std.specs.Global.{Global}
 use Rattle.dh_base.proofs.ListItems.{at_item}
 use Rattle.dh_value.specs.Operations.{is_true}
@@ -10,27 +10,24 @@ use Rattle.dh_tree.specs.Seen.{action_form_seen, action_seen, actions, all_parts
 use Rattle.dh_meaning.specs.AccessNumbers.{accesses_of}
 use Rattle.dh_meaning.specs.Core.{no_commands}
 use Rattle.dh_meaning.specs.CoreOf.{core_action}
-use Rattle.dh_meaning.specs.Effects.{Effect}
 use Rattle.dh_meaning.specs.Paths.{Path}
 use Rattle.dh_accesses.specs.Counted.{behind}
 use Rattle.dh_accesses.proofs.CountedParts.{behind_few}
 use Rattle.dh_plan.specs.Blocks.{is_on}
-use Rattle.dh_expressions.specs.declared.drafts.Draft.{Draft}
-use Rattle.dh_expressions.specs.declared.paths.Level.{Level}
 use Rattle.dh_expressions.specs.declared.scenes.Around.{Around}
 use Rattle.dh_expressions.specs.declared.scenes.Scene.{Scene}
 use Rattle.dh_expressions.specs.Drafted.{Begun, Fits, Step, shown}
-use Rattle.dh_expressions.specs.Evaluated.{Knows, Reads, known_in}
+use Rattle.dh_expressions.specs.Evaluated.{Knows, known_in}
 use Rattle.dh_expressions.specs.Shown.{guard_of}
 use Rattle.dh_expressions.proofs.ListPlaces.{there}
 use Rattle.dh_expressions.proofs.Pushing.{begun_later, extends_again, fits_before}
 use Rattle.dh_commands.specs.declared.buildings.Building.{Building}
 use Rattle.dh_commands.specs.declared.choices.Left.{Left}
-use Rattle.dh_commands.specs.LanesRun.{IsArm, comes_out, is_on_at, path_in, paths_counted, paths_on}
+use Rattle.dh_commands.specs.LanesRun.{IsArm, comes_out, is_on_at, path_in, paths_counted}
 use Rattle.dh_commands.specs.Undone.{AreReady, Changes, EndsArm}
 use Rattle.dh_commands.specs.Followed.{FitArms, no_arms, Sets, view_of}
 use Rattle.dh_commands.specs.Choosing.{MakesGuards}
-use Rattle.dh_commands.specs.Done.{DoesCommand, Stands}
+use Rattle.dh_commands.specs.Done.{DoesCommand}
 use Rattle.dh_commands.specs.Parted.{DoesArm, DoesGroups, Leads, ShowsTests}
 use Rattle.dh_commands.proofs.CommandsDone.{nothing_done, parts_more, parts_next, parts_none}
 use Rattle.dh_commands.proofs.Tested.{quiet_stands}

@@ -1,5 +1,5 @@
 -- What is done at one path more stands behind what was done at those before it.
-use Rattle.std.proofs.Common.{◌≡◌, ℕ, zero, suc, ◌+◌, ◌<◌, ◌≤◌, ◌^◌, refl, arith}
+use Rattle.std.proofs.Common.{ℕ, suc, ◌<◌, arith}
 use Rattle.dh_meaning.specs.Effects.{Effect, Variables}
 use Rattle.dh_meaning.specs.Paths.{Path}
 use Rattle.dh_expressions.specs.declared.accesses.Accesses.{Accesses}
@@ -11,7 +11,7 @@ use Rattle.dh_expressions.proofs.Pushing.{begun_later, extends_again, extends_se
 use Rattle.dh_commands.specs.declared.buildings.Building.{Building}
 use Rattle.dh_commands.specs.LanesRun.{lane_of, lanes_run, paths_counted}
 use Rattle.dh_commands.specs.Followed.{view_of}
-use Rattle.dh_commands.specs.Done.{DoesAll, DoesOne, DoesPath, DoesPaths, Stands}
+use Rattle.dh_commands.specs.Done.{DoesAll, DoesOne, DoesPath, DoesPaths}
 use Rattle.dh_commands.proofs.ChangesBack.{changes_again, changes_none, ready_after}
 
 -- what is known is known whatever variables hold

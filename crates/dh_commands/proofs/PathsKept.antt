@@ -1,7 +1,7 @@
 -- Commands at some paths keep a variable at a path that is none of these. By recursion on the commands; the arms of
 -- an `if` are done at fewer paths. Of an arm: a path at which its guard does not hold is none of those at which it is
 -- done, and a variable that is another at each path is set at no copy that is seen there.
-use Rattle.std.proofs.Common.{◌≡◌, ◌⊎◌, inl, inr, ℕ, zero, suc, ◌<◌, ◌≤◌, ◌==◌, Bool, true, false, if◌then◌else◌, List, [], ◌∷◌, ◌++◌, length, take, refl, ap, sym, ◌∙◌, subst, arith, ℤ}
+use Rattle.std.proofs.Common.{◌≡◌, ℕ, zero, suc, ◌<◌, ◌==◌, Bool, true, false, if◌then◌else◌, List, [], ◌∷◌, ◌++◌, length, take, refl, ap, sym, ◌∙◌, subst, arith}
 use Rattle.std.specs.Prelude.{◌&&◌, ◌||◌}
 use Rattle.std.specs.List.{AllByRecursion}
 use Rattle.std.proofs.lemmas.Bool.{eq-eqb, eqb-true}
@@ -115,7 +115,7 @@ others_at scene around x e entity j there inside off own =
         let is : e ≡ entity = eqb-true e entity a in
         let path : seen_path scene around e j ≡ seen_path scene around e i = same_is (seen_path scene around e j) (seen_path scene around entity i) b ∙ ap (λ n. seen_path scene around n i) (sym is) in
         let register : register_in scene around entity j ≡ register_in scene around entity i =
-            ap (λ n. register_in scene around n j) (sym is) ∙ (own.placed.one e j i there inside l path ∙ ap (λ n. register_in scene around n i) is) in
+        ap (λ n. register_in scene around n j) (sym is) ∙ (own.placed.one e j i there inside l path ∙ ap (λ n. register_in scene around n i) is) in
         let same : j ≡ i = own.own j i inside l register in
         parted (is_on_at x around i) on (ap (λ n. is_on_at x around n) (sym same) ∙ off)
 
@@ -146,12 +146,14 @@ module _ (scene : Scene) (around : Around) (x : Step) (e j : ℕ) (there : e < l
     keeps_one (store r target value) deep own = tt
     keeps_one (assign depth entity value) deep own =
         subst (λ (d : ℕ). AllByRecursion (IsOther e (seen_path scene around e j) d entity) (paths_on x around)) (sym deep) (others_at scene around x e entity j there inside off (own entity (eq-eqb entity entity refl)))
-    keeps_one (choose test chosen other) deep own =
-        (keeps_own chosen deep.0 (λ entity sets. own entity (or_first (any_assigns entity chosen) (any_assigns entity other) sets)),
-        keeps_own other deep.1 (λ entity sets. own entity (or_second (any_assigns entity chosen) (any_assigns entity other) sets)))
+    keeps_one (choose test chosen other) deep own = (
+      keeps_own chosen deep.0 (λ entity sets. own entity (or_first (any_assigns entity chosen) (any_assigns entity other) sets)),
+      keeps_own other deep.1 (λ entity sets. own entity (or_second (any_assigns entity chosen) (any_assigns entity other) sets)),
+    )
 
     pub keeps_own : (cs : CoreCommands) → AreDeep scene cs → ((entity : ℕ) → any_assigns entity cs ≡ true → IsOwn scene around entity) → KeepsAll e (seen_path scene around e j) (paths_on x around) cs
     keeps_own no_commands deep own = tt
-    keeps_own (command_and c cs) deep own =
-        (keeps_one c deep.0 (λ entity sets. own entity (or_first (assigns_to entity c) (any_assigns entity cs) sets)),
-        keeps_own cs deep.1 (λ entity sets. own entity (or_second (assigns_to entity c) (any_assigns entity cs) sets)))
+    keeps_own (command_and c cs) deep own = (
+      keeps_one c deep.0 (λ entity sets. own entity (or_first (assigns_to entity c) (any_assigns entity cs) sets)),
+      keeps_own cs deep.1 (λ entity sets. own entity (or_second (assigns_to entity c) (any_assigns entity cs) sets)),
+    )

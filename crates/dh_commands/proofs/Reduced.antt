@@ -1,8 +1,6 @@
 -- A reducer at one path: its value, what its variable shows, and both put together as the variable holds it.
-use Rattle.std.proofs.Common.{◌≡◌, ℕ, ◌+◌, ◌<◌, ◌^◌, Bool, true, false, List, ◌++◌, refl, ap, sym, ◌∙◌, arith}
-use Rattle.std.specs.Prelude.{Option}
+use Rattle.std.proofs.Common.{◌≡◌, ℕ, ◌+◌, ◌<◌, ◌^◌, Bool, true, false, List, ◌++◌, refl, ap, sym, ◌∙◌}
 use Rattle.dh_value.specs.declared.operators.Op.{Op}
-use Rattle.dh_value.specs.declared.words.Word.{Word}
 use Rattle.dh_value.specs.Words as words
 use Rattle.dh_tree.specs.declared.trees.expressions.Ref.{Ref}
 use Rattle.dh_tree.specs.PlainTrees as plain
@@ -17,14 +15,14 @@ use Rattle.dh_expressions.specs.declared.scenes.Lane.{Lane}
 use Rattle.dh_expressions.specs.declared.scenes.Scene.{Scene}
 use Rattle.dh_expressions.specs.declared.terms.Valued.{Valued}
 use Rattle.dh_expressions.specs.Drafted.{Begun, Fits, Step, shown, tale, told}
-use Rattle.dh_expressions.specs.Evaluated.{EvaluatesTerm, Knows, Reads, begun_of, counter_of, known_in, shown_by}
+use Rattle.dh_expressions.specs.Evaluated.{EvaluatesTerm, Knows, Reads, begun_of, known_in, shown_by}
 use Rattle.dh_expressions.specs.Shown.{register_at, variable_shown}
 use Rattle.dh_expressions.proofs.Evaluating.{operation_events}
 use Rattle.dh_expressions.proofs.Pushing.{begun_later, extends_again, fits_before}
 use Rattle.dh_commands.specs.declared.buildings.Building.{Building}
 use Rattle.dh_commands.specs.LanesRun.{is_on_at, path_in, paths_counted, run_if}
 use Rattle.dh_commands.specs.ShownVariables.{depth_in}
-use Rattle.dh_commands.specs.Followed.{FollowsReduced, old_word, reduced_shown, reduced_term, value_at, view_of}
+use Rattle.dh_commands.specs.Followed.{FollowsReduced, old_word, reduced_shown, reduced_term, view_of}
 use Rattle.dh_commands.specs.Done.{Stands}
 use Rattle.dh_commands.specs.Setting.{GivesReduced, ReducesOne, SetsAt, assigned_run}
 use Rattle.dh_commands.proofs.Assigned.{set_off, set_on}

@@ -1,35 +1,29 @@
 -- A store at one path: its right side, then the indices or the row of its element, then its write.
-use Rattle.std.proofs.Common.{◌≡◌, ℕ, suc, ◌+◌, ◌-◌, ◌<◌, ◌^◌, Bool, true, false, Some, None, List, [], ◌∷◌, ◌++◌, length, refl, ap, sym, ◌∙◌, subst, arith, append_assoc}
-use Rattle.std.specs.Prelude.{Option, min, slice_get}
-use Rattle.dh_base.specs.declared.places.Place.{Place}
+use Rattle.std.proofs.Common.{◌≡◌, ℕ, ◌+◌, ◌<◌, ◌^◌, true, false, List, [], ◌∷◌, ◌++◌, ap, sym, ◌∙◌, append_assoc}
+use Rattle.std.specs.Prelude.{Option}
 use Rattle.dh_value.specs.declared.words.Word.{Word}
 use Rattle.dh_tree.specs.Elements.{Spot}
 use Rattle.dh_tree.specs.Indices.{form_of}
-use Rattle.dh_tree.specs.Memories.{table_of}
-use Rattle.dh_tree.specs.Seen.{program_seen}
 use Rattle.dh_tree.specs.PlainTrees as plain
-use Rattle.dh_meaning.specs.AccessNumbers.{term_accesses, terms_accesses}
-use Rattle.dh_meaning.specs.Core.{Target, by_indices, by_row}
-use Rattle.dh_meaning.specs.CoreOf.{core_term, core_terms, memory_of}
-use Rattle.dh_meaning.specs.Effects.{Effect, Event, Variables, entry_kind, kept_bits, spot_reached, stored_at, target_events, term_events, write_made}
+use Rattle.dh_meaning.specs.AccessNumbers.{term_accesses}
+use Rattle.dh_meaning.specs.Core.{Target}
+use Rattle.dh_meaning.specs.CoreOf.{core_term}
+use Rattle.dh_meaning.specs.Effects.{Effect, Event, Variables, kept_bits, spot_reached, stored_at, target_events, term_events, write_made}
 use Rattle.dh_expressions.specs.declared.accesses.Accesses.{Accesses}
 use Rattle.dh_expressions.specs.declared.drafts.Draft.{Draft}
 use Rattle.dh_expressions.specs.declared.elements.Aim.{Aim}
 use Rattle.dh_expressions.specs.declared.scenes.Lane.{Lane}
 use Rattle.dh_expressions.specs.declared.scenes.Scene.{Scene}
 use Rattle.dh_expressions.specs.declared.terms.Valued.{Valued}
-use Rattle.dh_expressions.specs.Drafted.{Begun, Extends, Fits, Gives, Step, Tale, fails_to_hold, holds, shown, tale, told}
-use Rattle.dh_expressions.specs.Evaluated.{EvaluatesTerm, IsSited, Knows, NamesSmallBank, Reads, View, begun_of, known_in, lane_guard, lane_path}
-use Rattle.dh_expressions.specs.Reaching.{AimsAt, HasTarget, IsAimed, StoresAt, Tells, place_written, reach_at}
-use Rattle.dh_expressions.specs.Shown.{held_shown}
+use Rattle.dh_expressions.specs.Drafted.{Begun, Extends, Fits, Gives, Step, Tale, shown, tale, told}
+use Rattle.dh_expressions.specs.Evaluated.{EvaluatesTerm, IsSited, Knows, NamesSmallBank, Reads, View, begun_of, known_in, lane_guard}
+use Rattle.dh_expressions.specs.Reaching.{AimsAt, HasTarget, StoresAt, Tells, place_written, reach_at}
 use Rattle.dh_expressions.proofs.Evaluating.{told_append}
 use Rattle.dh_expressions.proofs.Pushing.{begun_later, extends_again, fits_before}
-use Rattle.dh_commands.specs.declared.assignments.Values.{Values}
 use Rattle.dh_commands.specs.declared.buildings.Building.{Building}
-use Rattle.dh_commands.specs.LanesRun.{is_on_at, path_in, paths_counted, run_if}
-use Rattle.dh_commands.specs.Followed.{FollowsStored, IsFollowed, value_at, view_of}
+use Rattle.dh_commands.specs.LanesRun.{is_on_at, path_in}
+use Rattle.dh_commands.specs.Followed.{IsFollowed, value_at, view_of}
 use Rattle.dh_commands.specs.Done.{Stands}
-use Rattle.dh_commands.specs.Setting.{NoVariable}
 use Rattle.dh_commands.proofs.PathsDone.{knows_all}
 use Rattle.dh_commands.proofs.Tested.{quiet_stands, told_stands}
 

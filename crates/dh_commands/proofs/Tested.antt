@@ -1,21 +1,19 @@
 -- A test at one path: its operations, and no variable.
-use Rattle.std.proofs.Common.{◌≡◌, ℕ, ◌+◌, ◌<◌, ◌^◌, Bool, true, false, List, ◌++◌, length, refl, ap, sym, ◌∙◌, subst, arith}
-use Rattle.std.specs.Prelude.{Option}
+use Rattle.std.proofs.Common.{◌≡◌, ℕ, ◌+◌, ◌<◌, ◌^◌, Bool, true, false, List, ◌++◌, length, refl, ap, sym, ◌∙◌, subst}
 use Rattle.dh_tree.specs.PlainTrees as plain
 use Rattle.dh_meaning.specs.AccessNumbers.{term_accesses}
 use Rattle.dh_meaning.specs.CoreOf.{core_term}
 use Rattle.dh_meaning.specs.Effects.{Effect, Event, Variables, term_events}
-use Rattle.dh_expressions.specs.declared.drafts.Draft.{Draft}
 use Rattle.dh_expressions.specs.declared.scenes.Around.{Around}
 use Rattle.dh_expressions.specs.declared.scenes.Lane.{Lane}
 use Rattle.dh_expressions.specs.declared.scenes.Scene.{Scene}
 use Rattle.dh_expressions.specs.declared.terms.Valued.{Valued}
-use Rattle.dh_expressions.specs.Drafted.{Begun, Fits, Step, Tale, shown, tale, told}
+use Rattle.dh_expressions.specs.Drafted.{Begun, Fits, Step, Tale, tale, told}
 use Rattle.dh_expressions.specs.Evaluated.{EvaluatesTerm, Knows, Reads, begun_of, known_in}
 use Rattle.dh_expressions.proofs.Evaluating.{told_append}
 use Rattle.dh_commands.specs.declared.assignments.Values.{Values}
 use Rattle.dh_commands.specs.declared.buildings.Building.{Building}
-use Rattle.dh_commands.specs.LanesRun.{is_on_at, path_in, paths_counted, run_if}
+use Rattle.dh_commands.specs.LanesRun.{is_on_at, path_in, run_if}
 use Rattle.dh_commands.specs.ShownVariables.{Shows, register_in}
 use Rattle.dh_commands.specs.Followed.{IsFollowedBy, test_run, view_of}
 use Rattle.dh_commands.specs.Done.{Stands}

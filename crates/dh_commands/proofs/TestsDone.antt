@@ -1,6 +1,6 @@
 -- A test at one path more. It sets no variable, so the values of the program's test are those of its begin.
-use Rattle.std.proofs.Common.{◌≡◌, ◌⊎◌, inl, inr, ℕ, zero, suc, ◌+◌, ◌<◌, ◌≤◌, ◌^◌, Bool, true, false, Some, None, List, [], ◌∷◌, ◌++◌, length, refl, ap, sym, ◌∙◌, subst, arith}
-use Rattle.std.specs.Prelude.{Option, slice_get}
+use Rattle.std.proofs.Common.{◌≡◌, ◌⊎◌, inl, inr, ℕ, zero, suc, ◌+◌, ◌<◌, ◌^◌, Bool, true, false, Some, List, [], ◌∷◌, ◌++◌, length, refl, ap, sym, ◌∙◌, arith}
+use Rattle.std.specs.Prelude.{slice_get}
 use Rattle.std.proofs.lemmas.List.{length-append}
 use Rattle.dh_tree.specs.PlainTrees as plain
 use Rattle.dh_meaning.specs.AccessNumbers.{term_accesses}
@@ -60,7 +60,7 @@ module _ (scene : Scene) (around : Around) (first : ℕ) (t : plain.Term) where
       by few x reads e fits begun along stands number test on at (inr last) =
           let is : number ≡ n = last.0 ∙ h.long in
           let before : Stands scene around x reads b (lanes_run x around (test_run scene x first t) n e) =
-              (h.does.so few).so x reads e (fits_before b.draft c.draft x (one.does.so few within).extends fits) begun (λ i m. along i (omega (arith, m))) stands in
+          (h.does.so few).so x reads e (fits_before b.draft c.draft x (one.does.so few within).extends fits) begun (λ i m. along i (omega (arith, m))) stands in
           ap (λ k. shown x k) last.1
           ∙ (one.is few x reads (lanes_run x around (test_run scene x first t) n e) fits (begun_later a.draft b.draft x (h.does.so few).extends begun) (along n (omega arith)) before
           (ap (λ k. is_on_at x around k) (sym is) ∙ on)

@@ -1,15 +1,14 @@
 -- A variable is set at a path. Its register is that of its copy there alone, so that it shows the new value at the
 -- paths that have this copy, and all other registers show what they did. Where the guard is false the program sets
 -- nothing: then no path with a guard that holds has this copy.
-use Rattle.std.proofs.Common.{◌≡◌, ◌⊎◌, inl, inr, ℕ, zero, suc, ◌<◌, ◌≤◌, ◌==◌, Bool, true, false, if◌then◌else◌, Some, None, List, [], ◌∷◌, length, take, refl, ap, sym, ◌∙◌, subst, arith, ℤ}
+use Rattle.std.proofs.Common.{◌≡◌, ◌⊎◌, inl, inr, ℕ, ◌<◌, ◌==◌, Bool, true, false, if◌then◌else◌, Some, None, List, length, refl, ap, sym, ◌∙◌, ℤ}
 use Rattle.std.specs.Prelude.{Option, ◌&&◌, slice_get, slice_set}
 use Rattle.std.proofs.lemmas.Bool.{cases_Bool, eqb-true, eq-eqb}
 use Rattle.dh_value.specs.declared.kinds.Kind.{Kind}
-use Rattle.dh_value.specs.declared.words.Word.{Word}
 use Rattle.dh_value.specs.Words.{word_of}
 use Rattle.dh_tree.specs.declared.trees.counters.Counter.{Counter}
 use Rattle.dh_meaning.specs.Effects.{Variables, set_variable}
-use Rattle.dh_meaning.specs.Paths.{Path, same_path}
+use Rattle.dh_meaning.specs.Paths.{same_path}
 use Rattle.dh_code.specs.declared.places.Held.{Held}
 use Rattle.dh_code.specs.Slots.{held_at}
 use Rattle.dh_plan.specs.Blocks.{is_on}
@@ -22,7 +21,7 @@ use Rattle.dh_expressions.specs.Evaluated.{counter_of, entity_shown, shown_by}
 use Rattle.dh_expressions.specs.Shown.{current_shown, guard_of, register_at, variable_shown}
 use Rattle.dh_expressions.proofs.ListPlaces.{set_here, set_other}
 use Rattle.dh_commands.specs.LanesRun.{is_on_at, lane_of, paths_counted}
-use Rattle.dh_commands.specs.ShownVariables.{ArePlaced, IsTarget, Shows, ShowsAt, register_in, seen_path}
+use Rattle.dh_commands.specs.ShownVariables.{IsTarget, Shows, ShowsAt, register_in, seen_path}
 
 -- what is shown of a variable follows from what its register shows
 pub shown_alike : (x : Step) (o : Option Counter) (held : Held) (lane : Lane) (current more : List (Option ℕ)) (kind : Kind) → variable_shown x more (register_at held lane) ≡ variable_shown x current (register_at held lane)

@@ -1,6 +1,5 @@
 -- Guards of the arms of an `if`, and the variables behind it.
-use Rattle.std.specs.Prelude.{◌≡◌, ℕ, ◌<◌, ◌&&◌, Bool as Truth, true, if◌then◌else◌, List, [], ◌∷◌, ◌++◌, length, map, slice_get, slice_index_or, Option, Some, None}
-use Rattle.std.specs.List.{AllByRecursion}
+use Rattle.std.specs.Prelude.{◌≡◌, ℕ, ◌<◌, ◌&&◌, Bool as Truth, if◌then◌else◌, List, length, slice_get, slice_index_or, Option, Some, None}
 use Rattle.dh_value.specs.declared.words.Word.{Word}
 use Rattle.dh_value.specs.Operations.{is_true}
 use Rattle.dh_plan.specs.Blocks.{is_on}

@@ -1,24 +1,15 @@
 -- What the operations of commands do: beside the program's effect so far, all stands as it should.
-use Rattle.std.specs.Prelude.{◌≡◌, ℕ, ◌+◌, ◌<◌, ◌≤◌, ◌^◌, ◌&&◌, Bool as Truth, true, List, [], ◌∷◌, length, slice_get, Option, Some, None}
-use Rattle.dh_value.specs.Operations.{is_true}
-use Rattle.dh_tree.specs.declared.trees.expressions.Ref.{Ref}
-use Rattle.dh_tree.specs.PlainTrees as plain
-use Rattle.dh_tree.specs.PlainTrees.{Action, MaybeAction, Actions, Groups}
+use Rattle.std.specs.Prelude.{◌≡◌, ℕ, ◌+◌, ◌<◌, ◌^◌, length}
+use Rattle.dh_tree.specs.PlainTrees.{Action}
 use Rattle.dh_meaning.specs.AccessNumbers.{accesses_of}
 use Rattle.dh_meaning.specs.Effects.{Effect, Variables}
 use Rattle.dh_meaning.specs.Paths.{Path}
-use Rattle.dh_plan.specs.Blocks.{is_on}
-use Rattle.dh_expressions.specs.declared.accesses.Accesses.{Accesses}
-use Rattle.dh_expressions.specs.declared.drafts.Draft.{Draft}
 use Rattle.dh_expressions.specs.declared.scenes.Around.{Around}
 use Rattle.dh_expressions.specs.declared.scenes.Lane.{Lane}
 use Rattle.dh_expressions.specs.declared.scenes.Scene.{Scene}
-use Rattle.dh_expressions.specs.Drafted.{Begun, Extends, Fits, Step, shown, tale, told}
+use Rattle.dh_expressions.specs.Drafted.{Begun, Extends, Fits, Step, tale, told}
 use Rattle.dh_expressions.specs.Evaluated.{Knows, Reads}
-use Rattle.dh_expressions.specs.Shown.{guard_of, variable_shown}
 use Rattle.dh_commands.specs.declared.buildings.Building.{Building}
-use Rattle.dh_commands.specs.declared.assignments.Values.{Values}
-use Rattle.dh_commands.specs.declared.choices.Choice.{Choice}
 use Rattle.dh_commands.specs.LanesRun.{is_on_at, lanes_run, path_in, paths_counted, paths_on, run_if}
 use Rattle.dh_commands.specs.ShownVariables.{Shows, register_in}
 use Rattle.dh_commands.specs.Undone.{AreReady, Changes}

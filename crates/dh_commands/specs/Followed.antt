@@ -1,7 +1,7 @@
 -- What a command takes, as the program has it along its run: the premise of all that is stated of its operations.
 -- It speaks of the program's variables where each expression stands; of the values that variables were given it
 -- asks only that they show these.
-use Rattle.std.specs.Prelude.{◌≡◌, ◌⊎◌, ℕ, ◌+◌, ◌<◌, ◌^◌, ◌==◌, ◌||◌, Bool as Truth, true, false, if◌then◌else◌, List, [], ◌∷◌, length, take, slice_get, Option, Some, None}
+use Rattle.std.specs.Prelude.{◌≡◌, ◌⊎◌, ℕ, ◌+◌, ◌<◌, ◌^◌, Bool as Truth, true, false, if◌then◌else◌, List, take, slice_get, Option, Some, None}
 use Rattle.dh_base.specs.declared.places.Place.{Place}
 use Rattle.dh_value.specs.declared.kinds.Kind.{Kind}
 use Rattle.dh_value.specs.declared.kinds.Kind.TheVariants as kind
@@ -19,10 +19,9 @@ use Rattle.dh_tree.specs.PlainTrees.{Action, action, ActionForm, lets, lets_memo
 use Rattle.dh_tree.specs.Seen.{program_seen}
 use Rattle.dh_meaning.specs.AccessNumbers.{accesses_of, part_accesses, term_accesses, terms_accesses}
 use Rattle.dh_meaning.specs.Bindings.{kind_found, kind_or_first}
-use Rattle.dh_meaning.specs.Core.{CoreTerm, CoreCommands, Reach, Target, by_indices, by_row, no_commands, variable}
-use Rattle.dh_meaning.specs.CoreOf.{core_action, core_groups, core_other, core_part, core_term, core_terms, entity_number, first_value, kind_of, memory_of, operation_of, reach_of}
-use Rattle.dh_meaning.specs.Effects as meaning
-use Rattle.dh_meaning.specs.Effects.{Effect, Variables, assigned_at, at_each, commands_run, entry_kind, holds_at, kept_bits, stored_at, tested_at, value_of}
+use Rattle.dh_meaning.specs.Core.{CoreTerm, by_indices, by_row, no_commands, variable}
+use Rattle.dh_meaning.specs.CoreOf.{core_action, core_groups, core_other, core_part, core_term, core_terms, entity_number, kind_of, memory_of, operation_of, reach_of}
+use Rattle.dh_meaning.specs.Effects.{Effect, Variables, assigned_at, commands_run, entry_kind, holds_at, kept_bits, stored_at, tested_at, value_of}
 use Rattle.dh_meaning.specs.Levels.{any_assigns}
 use Rattle.dh_meaning.specs.Paths.{Path}
 use Rattle.dh_code.specs.Extended.{extension_of}
@@ -31,8 +30,8 @@ use Rattle.dh_code.specs.Slots.{held_at}
 use Rattle.dh_expressions.specs.declared.scenes.Around.{Around}
 use Rattle.dh_expressions.specs.declared.scenes.Scene.{Scene}
 use Rattle.dh_expressions.specs.Drafted.{Step}
-use Rattle.dh_expressions.specs.Evaluated.{Fair, FairAll, IsSited, NamesSmallBank, Reads, Sees, SeesAll, View, begun_of, known_in, term_value}
-use Rattle.dh_expressions.specs.Shown.{extended_shown, held_shown, register_shown}
+use Rattle.dh_expressions.specs.Evaluated.{Fair, FairAll, IsSited, NamesSmallBank, Reads, Sees, SeesAll, View, begun_of, known_in}
+use Rattle.dh_expressions.specs.Shown.{extended_shown, held_shown}
 use Rattle.dh_commands.specs.LanesRun.{IsArm, is_on_at, lane_of, lanes_run, path_in, paths_counted, paths_on}
 use Rattle.dh_commands.specs.ShownVariables.{IsOwn, IsTarget, Shows, depth_in}
 

@@ -5,13 +5,12 @@ use Rattle.dh_tree.specs.PlainTrees.{Action, Groups, MaybeAction, no_action, one
 use Rattle.dh_meaning.specs.AccessNumbers.{accesses_of, groups_accesses}
 use Rattle.dh_meaning.specs.Core.{no_commands}
 use Rattle.dh_meaning.specs.CoreOf.{core_groups}
-use Rattle.dh_meaning.specs.Effects.{Effect}
 use Rattle.dh_meaning.specs.Levels.{any_assigns}
 use Rattle.dh_meaning.specs.Paths.{Path}
 use Rattle.dh_expressions.specs.declared.scenes.Around.{Around}
 use Rattle.dh_expressions.specs.declared.scenes.Scene.{Scene}
 use Rattle.dh_expressions.specs.Drafted.{Begun, Fits, Step, shown}
-use Rattle.dh_expressions.specs.Evaluated.{Reads, known_in}
+use Rattle.dh_expressions.specs.Evaluated.{known_in}
 use Rattle.dh_commands.specs.declared.buildings.Building.{Building}
 use Rattle.dh_commands.specs.declared.assignments.Values.{Values}
 use Rattle.dh_commands.specs.declared.choices.Choice.{Choice}

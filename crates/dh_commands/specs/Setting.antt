@@ -5,10 +5,9 @@ use Rattle.dh_tree.specs.declared.trees.expressions.Ref.{Ref}
 use Rattle.dh_tree.specs.Indices.{form_of}
 use Rattle.dh_tree.specs.PlainTrees as plain
 use Rattle.dh_meaning.specs.AccessNumbers.{term_accesses}
-use Rattle.dh_meaning.specs.Bindings.{kind_or_first}
 use Rattle.dh_meaning.specs.Core.{CoreTerm, literal}
 use Rattle.dh_meaning.specs.CoreOf.{core_term, entity_number, memory_of}
-use Rattle.dh_meaning.specs.Effects.{Effect, Variables, assigned_at, tested_at}
+use Rattle.dh_meaning.specs.Effects.{Effect, Variables, assigned_at}
 use Rattle.dh_meaning.specs.Paths.{Path}
 use Rattle.dh_code.specs.Slots.{held_at}
 use Rattle.dh_expressions.specs.declared.accesses.Accesses.{Accesses}
@@ -23,11 +22,11 @@ use Rattle.dh_expressions.specs.Evaluated.{AimsByIndices, AimsByRow, Reads, begu
 use Rattle.dh_expressions.specs.Shown.{register_at, variable_shown}
 use Rattle.dh_commands.specs.declared.assignments.Values.{Values}
 use Rattle.dh_commands.specs.declared.buildings.Building.{Building}
-use Rattle.dh_commands.specs.LanesRun.{is_on_at, lanes_run, path_in, paths_counted}
+use Rattle.dh_commands.specs.LanesRun.{is_on_at, paths_counted}
 use Rattle.dh_commands.specs.ShownVariables.{depth_in}
 use Rattle.dh_commands.specs.Undone.{Assigns}
 use Rattle.dh_commands.specs.Followed.{Along, FollowsAssigned, FollowsCleared, FollowsReduced, FollowsStored, IsFollowedBy, reduced_shown, reduced_term, store_run, test_run, value_at}
-use Rattle.dh_commands.specs.Done.{Does, DoesAll, DoesOne, Stands}
+use Rattle.dh_commands.specs.Done.{DoesAll, DoesOne, Stands}
 
 -- a variable is given a value at a path
 abbrev pub SetsAt : Scene → Lane → (old new : Values) → (entity value : ℕ) → Type 0

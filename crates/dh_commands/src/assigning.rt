@@ -13,8 +13,8 @@ use crate::buildings::Building;
 use dh_base::NoMemory;
 use dh_code::{Held, place_of};
 use dh_expressions::{
-    Around, Lane, Scene, extension, is_same, kind_found, literal, push_compute, push_constant,
-    push_convert, push_held, push_shown, push_term, slot_at, Draft,
+    Around, Draft, Lane, Scene, extension, is_same, kind_found, literal, push_compute,
+    push_constant, push_convert, push_held, push_shown, push_term, slot_at,
 };
 use dh_tree::{Expr, Kind, Ref};
 use dh_value::Op;
@@ -48,7 +48,15 @@ fn assign_at(
 {
     let current = building.values.current.as_slice();
     let accesses = &mut building.accesses;
-    let own = push_term(scene, lane, current, accesses, &mut building.draft, first, value)?;
+    let own = push_term(
+        scene,
+        lane,
+        current,
+        accesses,
+        &mut building.draft,
+        first,
+        value,
+    )?;
     let kind = place_of(scene.held, target).kind;
     let held = push_held(&mut building.draft, value, own.value, kind)?;
     set(scene, lane, &mut building.values, target, held)?;

@@ -83,11 +83,7 @@ fn note_chosen(
 }
 
 /// Notes what the second arm left of a variable.
-fn note_other(
-    marks: &mut Vec<usize>,
-    choices: &mut Vec<Choice>,
-    left: Left,
-) -> Result<(), NoMemory>
+fn note_other(marks: &mut Vec<usize>, choices: &mut Vec<Choice>, left: Left) -> Result<(), NoMemory>
     ensures noted { OnOk result (choices.new.items ≡ other_noted marks.old.items choices.old.items left) }
     ensures marked { OnOk result (marks.new.items ≡ chosen_marked marks.old.items choices.old.items left) }
 {

@@ -39,7 +39,12 @@ fn join_all(
     ensures { OnOk result (JoinsAll building.old building.new tests.now chosen.now other.now) }
 {
     let choices = join_arms(alloc, &mut building.values, chosen, other)?;
-    choose(&mut building.draft, &mut building.values, tests, choices.as_slice())
+    choose(
+        &mut building.draft,
+        &mut building.values,
+        tests,
+        choices.as_slice(),
+    )
 }
 
 /// Adds the operations of a straight command whose accesses are numbered from `first` on. Gives the number of the
@@ -77,7 +82,13 @@ pub fn push_command(
             let tests = tests.as_slice();
             let (next, chosen) = push_arm(scene, around, building, next, tests, true, then)?;
             let (next, other) = push_other(scene, around, building, next, tests, other)?;
-            join_all(scene.alloc, building, tests, chosen.as_slice(), other.as_slice())?;
+            join_all(
+                scene.alloc,
+                building,
+                tests,
+                chosen.as_slice(),
+                other.as_slice(),
+            )?;
             Ok(next)
         }
         CommandForm::Block { body } => push_parts(scene, around, building, first, body.as_slice()),
@@ -125,7 +136,13 @@ fn push_arm(
         command.now) first r.0 building.old building.new r.1.items) }
 {
     let floor = building.values.log.len();
-    let guards = guards_of(scene.alloc, &mut building.draft, around.guards, tests, holds)?;
+    let guards = guards_of(
+        scene.alloc,
+        &mut building.draft,
+        around.guards,
+        tests,
+        holds,
+    )?;
     let arm = arm_of(around, guards.as_slice());
     let next = push_command(scene, arm, building, first, command)?;
     let left = end_arm(scene.alloc, &mut building.values, floor)?;

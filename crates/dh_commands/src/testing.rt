@@ -22,7 +22,15 @@ fn test_at(
 {
     let current = building.values.current.as_slice();
     let accesses = &mut building.accesses;
-    push_term(scene, lane, current, accesses, &mut building.draft, first, test)
+    push_term(
+        scene,
+        lane,
+        current,
+        accesses,
+        &mut building.draft,
+        first,
+        test,
+    )
 }
 
 /// Evaluates a test at each path. Gives its values, and the number of the next access.

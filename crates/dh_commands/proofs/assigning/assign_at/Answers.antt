@@ -1,4 +1,4 @@
-use Rattle.std.proofs.Common.{◌≡◌, ℕ, List, subst}
+use Rattle.std.proofs.Common.{ℕ, List, subst}
 use Rattle.std.specs.Prelude.{Option}
 use Rattle.dh_tree.specs.Seen.{term_seen}
 use Rattle.dh_meaning.specs.CoreOf.{entity_number}

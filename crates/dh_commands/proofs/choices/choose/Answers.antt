@@ -1,4 +1,4 @@
-use Rattle.std.proofs.Common.{◌≡◌, Some, None, length, get_or, ap, sym, ◌∙◌, subst, suc, add-one}
+use Rattle.std.proofs.Common.{Some, None, length, get_or, ap, sym, ◌∙◌, subst, suc, add-one}
 use Rattle.std.proofs.lemmas.Option.{slice_get-get_or}
 use Rattle.dh_expressions.specs.declared.drafts.Draft.{Draft}
 use Rattle.dh_commands.specs.declared.assignments.Values.{Values}
@@ -15,14 +15,14 @@ pub loop-choice-preserved : goal.loop-choice-preserved
 loop-choice-preserved c =
     rw (add-one c.loop-choice.choice-index)
     (elim c.match-get.branch [
-      in-Some+in_ok-choose_one w ↦
+      | in-Some+in_ok-choose_one w ↦
           let look = w.in-Some.ensures.lookup in
           subst (λ (d : Draft). Chooses c.args.draft.now d c.args.values.now c.match-get.values c.args.tests.now c.args.choices.now (suc c.loop-choice.choice-index)) (sym w.draft-is)
           (subst (λ (v : Values). Chooses c.args.draft.now w.choose_one.new.draft c.args.values.now v c.args.tests.now c.args.choices.now (suc c.loop-choice.choice-index)) (sym w.values-is)
           (chooses_more c.args.tests.now c.args.choices.now c.args.draft.now c.loop-choice.draft c.args.values.now c.loop-choice.values c.loop-choice.choice-index (get_or c.args.choices.now c.loop-choice.choice-index nothing)
           (slice_get-get_or c.args.choices.now c.loop-choice.choice-index nothing c.loop-choice-test.true) c.loop-choice.invariant w.choose_one.new.draft w.choose_one.new.values w.in-Some.test.now
           (slice_get-get_or c.args.tests.now (get_or c.args.choices.now c.loop-choice.choice-index nothing).path w.in-Some.test.now (within_by (get_or c.args.choices.now c.loop-choice.choice-index nothing).path (length c.args.tests.now) look.0) ∙ ap Some (sym look.1)) w.in_ok-choose_one.ensures))
-    | in_default w ↦
+      | in_default w ↦
           let look = w.in_default.ensures.lookup in
           subst (λ (d : Draft). Chooses c.args.draft.now d c.args.values.now c.match-get.values c.args.tests.now c.args.choices.now (suc c.loop-choice.choice-index)) (sym w.draft-is)
           (subst (λ (v : Values). Chooses c.args.draft.now c.loop-choice.draft c.args.values.now v c.args.tests.now c.args.choices.now (suc c.loop-choice.choice-index)) (sym w.values-is)

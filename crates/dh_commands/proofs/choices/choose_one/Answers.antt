@@ -1,4 +1,4 @@
-use Rattle.std.proofs.Common.{◌≡◌, ℕ, List, subst}
+use Rattle.std.proofs.Common.{ℕ, List, subst}
 use Rattle.std.specs.Prelude.{Option}
 use Rattle.dh_expressions.specs.Drafted.{Gives}
 use Rattle.dh_commands.specs.Choosing.{behind_shown}

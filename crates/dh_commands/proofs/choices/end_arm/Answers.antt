@@ -1,6 +1,5 @@
-use Rattle.std.proofs.Common.{◌≡◌, ℕ, ◌<◌, List, [], ◌∷◌, ◌++◌, length, refl, ap, ◌∙◌, arith}
+use Rattle.std.proofs.Common.{ℕ, ◌<◌, [], ◌∷◌, ◌++◌, length, refl, ap, ◌∙◌, arith}
 use Rattle.std.specs.Prelude.{Option}
-use Rattle.dh_commands.specs.declared.choices.Left.{Left}
 use Rattle.dh_commands.proofs.ArmEnded.{ends_turn, ends_turn_past, given_is}
 use Rattle.dh_commands.proofs.choices.end_arm.Goals as goal
 

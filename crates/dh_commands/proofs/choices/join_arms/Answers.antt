@@ -1,4 +1,4 @@
-use Rattle.std.proofs.Common.{◌≡◌, List, refl, ap, ◌∙◌, add-one, arith}
+use Rattle.std.proofs.Common.{List, refl, ap, ◌∙◌, add-one, arith}
 use Rattle.dh_commands.specs.declared.choices.Choice.{Choice}
 use Rattle.dh_commands.specs.Joined.{all_unmarked}
 use Rattle.dh_commands.proofs.JoinTurns.{joins_all, joins_one, joins_two}

@@ -1,14 +1,14 @@
-use Rattle.std.proofs.Common.{◌≡◌, ℕ, ◌≤◌, Some, None, List, length, refl, ap, sym, ◌∙◌, subst, arith}
+use Rattle.std.proofs.Common.{◌≡◌, ℕ, Some, None, List, length, refl, ap, sym, ◌∙◌, subst, arith}
 use Rattle.std.specs.Prelude.{Option, option_map}
 use Rattle.std.proofs.lemmas.Result.{IfOk-weaker}
 use Rattle.dh_tree.specs.declared.trees.expressions.Expr.{Expr}
-use Rattle.dh_tree.specs.PlainTrees.{lets, assigns, stores, reduces, blocks, decides, MaybeAction}
+use Rattle.dh_tree.specs.PlainTrees.{lets, assigns, stores, reduces, blocks, decides}
 use Rattle.dh_tree.specs.Seen.{action_form_seen, action_seen, all_parts_seen, maybe_block_seen, term_seen}
 use Rattle.dh_tree.proofs.SeenActions.{assign_is, block_is, call_is, for_is, if_is, let_is, let_memory_is, reduce_is, store_is, view_is, while_is}
 use Rattle.dh_commands.specs.declared.choices.Left.{Left}
 use Rattle.dh_commands.specs.Undone.{EndsArm}
 use Rattle.dh_commands.specs.Setting.{TestsAll}
-use Rattle.dh_commands.specs.Parted.{DoesArm, DoesGroups, JoinsAll}
+use Rattle.dh_commands.specs.Parted.{DoesGroups, JoinsAll}
 use Rattle.dh_commands.proofs.ChoiceDone.{choice_done}
 use Rattle.dh_commands.proofs.CommandsDone.{assign_done, block_done, clear_done, let_done, reduce_done, store_done}
 use Rattle.dh_commands.proofs.PartsDone.{arm_done, as_seen, counted_done, idle_done, leads_all, leads_command, leads_part}
@@ -64,8 +64,8 @@ push_command-returns-in-Reduce t c =
 pub push_command-returns-in_ok-join_all-in-If : goal.push_command-returns-in_ok-join_all-in-If
 push_command-returns-in_ok-join_all-in-If t c =
     let joins : JoinsAll c.push_other.new.building c.join_all.new.building c.as_slice-tests.result.now c.in_ok-next-in-If.chosen.items c.in_ok-next-in-If-2.other.items =
-        subst (λ (ls : List Left). JoinsAll c.push_other.new.building c.join_all.new.building c.as_slice-tests.result.now ls c.in_ok-next-in-If-2.other.items) c.as_slice.ensures.value
-        (subst (λ (ls : List Left). JoinsAll c.push_other.new.building c.join_all.new.building c.as_slice-tests.result.now c.as_slice.result.now ls) c.as_slice-in-If.ensures.value c.in_ok-join_all-in-If.ensures) in
+    subst (λ (ls : List Left). JoinsAll c.push_other.new.building c.join_all.new.building c.as_slice-tests.result.now ls c.in_ok-next-in-If-2.other.items) c.as_slice.ensures.value
+    (subst (λ (ls : List Left). JoinsAll c.push_other.new.building c.join_all.new.building c.as_slice-tests.result.now c.as_slice.result.now ls) c.as_slice-in-If.ensures.value c.in_ok-join_all-in-If.ensures) in
     as_seen c.args.scene.now c.args.around c.args.command.now (decides (term_seen c.in-If.test) (action_seen c.deref.result.now) (maybe_block_seen c.in-If.other)) c.args.first c.in_ok-next-in-If-2.next c.args.building.now c.join_all.new.building
     (ap action_form_seen c.in-If.is ∙ (if_is c.in-If.test c.in-If.then c.in-If.other ∙ ap (λ b. decides (term_seen c.in-If.test) (action_seen b) (maybe_block_seen c.in-If.other)) (sym c.deref.ensures)))
     (choice_done c.args.scene.now c.args.around c.args.first c.in_ok-tests-in-If.next c.in_ok-next-in-If.next c.in_ok-next-in-If-2.next (term_seen c.in-If.test) (action_seen c.deref.result.now) (maybe_block_seen c.in-If.other)

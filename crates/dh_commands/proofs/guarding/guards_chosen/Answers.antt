@@ -1,11 +1,10 @@
-use Rattle.std.proofs.Common.{◌≡◌, ℕ, suc, List, get_or, true, subst, sym, add-one}
+use Rattle.std.proofs.Common.{ℕ, suc, List, get_or, true, subst, sym, add-one}
 use Rattle.std.specs.Prelude.{Option}
 use Rattle.std.proofs.lemmas.Option.{slice_get-get_or}
 use Rattle.dh_value.specs.Operations.{is_true}
 use Rattle.dh_expressions.specs.Drafted.{shown}
-use Rattle.dh_expressions.specs.Shown.{guard_of}
 use Rattle.dh_commands.specs.Choosing.{MakesGuard, MakesGuards}
-use Rattle.dh_commands.proofs.ArmGuards.{guard_not, guards_more}
+use Rattle.dh_commands.proofs.ArmGuards.{guards_more}
 use Rattle.dh_commands.proofs.guarding.guards_chosen.Goals as goal
 
 pub loop-i-preserved : goal.loop-i-preserved

@@ -1,4 +1,4 @@
-use Rattle.std.proofs.Common.{◌≡◌, ℕ, suc, List, get_or, false, subst, sym, add-one}
+use Rattle.std.proofs.Common.{ℕ, suc, List, get_or, false, subst, sym, add-one}
 use Rattle.std.specs.Prelude.{Option}
 use Rattle.std.proofs.lemmas.Option.{slice_get-get_or}
 use Rattle.dh_value.specs.Operations.{is_true}
