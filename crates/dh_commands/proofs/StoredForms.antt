@@ -1,6 +1,7 @@
 -- A store of each form at one path: by indices, by a row of a bank, and of what is no access.
 use Rattle.std.proofs.Common.{◌≡◌, ℕ, suc, ◌+◌, ◌-◌, ◌<◌, ◌^◌, Bool, true, false, Some, None, List, refl, ap, sym, ◌∙◌, subst, arith}
 use Rattle.std.specs.Prelude.{Option, min, slice_get}
+use Rattle.std.proofs.Math.Nat.{add_assoc}
 use Rattle.dh_base.specs.declared.places.Place.{Place}
 use Rattle.dh_value.specs.declared.kinds.Kind.{Kind}
 use Rattle.dh_value.specs.declared.words.Word.{Word}
@@ -23,7 +24,8 @@ use Rattle.dh_expressions.specs.Drafted.{Begun, Extends, Fits, Gives, Step, show
 use Rattle.dh_expressions.specs.Evaluated.{AimsByIndices, AimsByRow, EvaluatesIndices, EvaluatesTerm, Fair, FairAll, IsSited, Knows, Reads, Sees, SeesAll, View, begun_of, known_in, lane_guard, term_told, term_value, terms_told}
 use Rattle.dh_expressions.specs.Reaching.{AimsAt, RowIs, StoresAt, Tells, reach_at}
 use Rattle.dh_expressions.specs.Shown.{held_shown}
-use Rattle.dh_expressions.proofs.Pushing.{extends_again}
+use Rattle.dh_accesses.specs.Counted.{behind}
+use Rattle.dh_accesses.proofs.CountedParts.{behind_few}
 use Rattle.dh_commands.specs.declared.assignments.Values.{Values}
 use Rattle.dh_commands.specs.declared.buildings.Building.{Building}
 use Rattle.dh_commands.specs.LanesRun.{is_on_at, path_in, run_if}
@@ -196,26 +198,25 @@ aimed_none scene lane current d1 d2 a1 a2 n (plain.term place k (plain.named r))
 aimed_none scene lane current d1 d2 a1 a2 n (plain.term place k (plain.applied op left right)) h = (h, λ x reads variables m f. f)
 aimed_none scene lane current d1 d2 a1 a2 n (plain.term place k (plain.converted inner to)) h = (h, λ x reads variables m f. f)
 
-pub stored_none : (scene : Scene) (lane : Lane) (old new : Building) (d1 d2 : Draft) (a1 a2 : Accesses) (first : ℕ) (target t : plain.Term) (own passed : Valued) → new.values ≡ old.values
-    → EvaluatesTerm scene lane old.values.current.items old.draft d1 old.accesses a1 first t own → AimsAtTarget scene lane old.values.current.items d1 d2 a1 a2 own.next target None
-    → EvaluatesTerm scene lane old.values.current.items d2 new.draft a2 new.accesses own.next target passed → StoresOne scene lane old new first passed.next target t
-stored_none scene lane old new d1 d2 a1 a2 first target t own passed same e m f = record {
-  next_is = λ few. (behind few).next (fewer_here few) ∙ omega arith;
+pub stored_none : (scene : Scene) (lane : Lane) (old new : Building) (d : Draft) (a : Accesses) (first next : ℕ) (target t : plain.Term) (own : Valued) → new.values ≡ old.values
+    → EvaluatesTerm scene lane old.values.current.items old.draft d old.accesses a first t own → AimsAtTarget scene lane old.values.current.items d new.draft a new.accesses own.next target None
+    → next ≡ behind own.next (term_accesses target) → StoresOne scene lane old new first next target t
+stored_none scene lane old new d a first next target t own same e m counted = record {
+  next_is = λ few.
+      counted
+      ∙ (ap (λ n. behind n (term_accesses target)) (e.next (fewer few)) ∙ (behind_few (first + term_accesses t) (term_accesses target) (fewer_here few) ∙ add_assoc first (term_accesses t) (term_accesses target)));
   so = λ few within. record {
-    extends = extends_again old.draft d1 new.draft (e.so (fewer few)).extends (subst (λ (d : Draft). Extends d new.draft) none.0.0 ((behind few).so (fewer_here few)).extends);
+    extends = subst (λ (n : Draft). Extends old.draft n) (sym none.0.0) (e.so (fewer few)).extends;
     changes = λ ready. subst (λ (v : Values). Changes scene lane.around NoVariable old.values v) (sym same) (changes_none scene lane.around NoVariable old.values);
     so = λ x reads effect fits begun p stands. absurd (none.1 x reads effect.variables (first + term_accesses t) p.target_is);
   };
 }
   where
-    none : ((d2 ≡ d1) × (a2 ≡ a1)) × ((x : Step) (reads : Reads) (variables : Variables) (m : ℕ) → FollowsTarget scene lane.around lane.number x reads variables m target → ⊥)
-    none = aimed_none scene lane old.values.current.items d1 d2 a1 a2 own.next target m
+    none : ((new.draft ≡ d) × (new.accesses ≡ a)) × ((x : Step) (reads : Reads) (variables : Variables) (m : ℕ) → FollowsTarget scene lane.around lane.number x reads variables m target → ⊥)
+    none = aimed_none scene lane old.values.current.items d new.draft a new.accesses own.next target m
 
     fewer : first + (term_accesses t + term_accesses target) < 2 ^ 32 → first + term_accesses t < 2 ^ 32
     fewer few = omega (arith, few)
 
     fewer_here : first + (term_accesses t + term_accesses target) < 2 ^ 32 → first + term_accesses t + term_accesses target < 2 ^ 32
     fewer_here few = omega (arith, few)
-
-    behind : first + (term_accesses t + term_accesses target) < 2 ^ 32 → EvaluatesTerm scene lane old.values.current.items d2 new.draft a2 new.accesses (first + term_accesses t) target passed
-    behind few = subst (λ (n : ℕ). EvaluatesTerm scene lane old.values.current.items d2 new.draft a2 new.accesses n target passed) (e.next (fewer few)) f

@@ -1,7 +1,7 @@
 //! What grows while a plan is made.
 
 use crate::assignments::Values;
-use dh_expressions::{Accesses, Around, Draft, Lane};
+use dh_expressions::{Accesses, Draft};
 
 /// What grows while a plan is made.
 #[derive(Drop)]

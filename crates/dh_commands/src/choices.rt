@@ -66,8 +66,10 @@ fn note_chosen(
     choices: &mut Vec<Choice>,
     left: Left,
 ) -> Result<(), NoMemory>
-    ensures noted { OnOk result (choices.new.items ≡ chosen_noted marks.old.items choices.old.items left) }
-    ensures marked { OnOk result (marks.new.items ≡ chosen_marked marks.old.items choices.old.items left) }
+    ensures noted { OnOk result (choices.new.items ≡ chosen_noted marks.old.items choices.old.items
+        left) }
+    ensures marked { OnOk result (marks.new.items ≡ chosen_marked marks.old.items choices.old.items
+        left) }
 {
     let at = left.register as usize;
     if at < marks.len() && marks[at] == 0 {
@@ -84,8 +86,10 @@ fn note_chosen(
 
 /// Notes what the second arm left of a variable.
 fn note_other(marks: &mut Vec<usize>, choices: &mut Vec<Choice>, left: Left) -> Result<(), NoMemory>
-    ensures noted { OnOk result (choices.new.items ≡ other_noted marks.old.items choices.old.items left) }
-    ensures marked { OnOk result (marks.new.items ≡ chosen_marked marks.old.items choices.old.items left) }
+    ensures noted { OnOk result (choices.new.items ≡ other_noted marks.old.items choices.old.items
+        left) }
+    ensures marked { OnOk result (marks.new.items ≡ chosen_marked marks.old.items choices.old.items
+        left) }
 {
     let at = left.register as usize;
     if at >= marks.len() {

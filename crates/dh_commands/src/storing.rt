@@ -7,6 +7,7 @@ ghost use Rattle.dh_meaning.specs.Effects.{entry_kind};
 ghost use Rattle.dh_commands.specs.Setting.{AimsAtTarget, StoresAll, StoresOne};
 
 use crate::buildings::Building;
+use dh_accesses::behind_term;
 use dh_base::NoMemory;
 use dh_expressions::{
     Accesses, Aim, Around, Draft, Lane, Scene, memory_of, push_held, push_indices, push_row,
@@ -48,7 +49,8 @@ fn aim_at(
 
 /// The kind of the elements of a memory.
 fn element_kind(scene: &Scene<'_>, memory: usize) -> Kind
-    ensures { result ≡ entry_kind (slice_get (table_of (program_seen scene.now.program.now)) memory) }
+    ensures { result ≡ entry_kind (slice_get (table_of (program_seen scene.now.program.now))
+        memory) }
 {
     match scene.program.memories().as_slice().get(memory) {
         Some(entry) => entry.shape.kind,
@@ -75,8 +77,7 @@ fn store_at(
     let Some((aim, memory)) = aim_at(scene, lane, current, accesses, draft, own.next, target)?
     else {
         // no text has such a target; its accesses have their numbers all the same
-        let passed = push_term(scene, lane, current, accesses, draft, own.next, target)?;
-        return Ok(passed.next);
+        return Ok(behind_term(own.next, target));
     };
     let held = push_held(draft, value, own.value, element_kind(scene, memory))?;
     let next = aim.number.saturating_add(1);

@@ -12,15 +12,14 @@ use Rattle.dh_commands.proofs.storing.store_at.Goals as goal
 
 pub returns-in_default : goal.returns-in_default
 returns-in_default c =
-    stored_none c.args.scene.now c.args.lane.now c.args.building.now (record { draft = c.push_term-in_default.new.draft; accesses = c.push_term-in_default.new.accesses; values = c.args.building.now.values })
-    c.push_term.new.draft c.aim_at.new.draft c.push_term.new.accesses c.aim_at.new.accesses c.args.first (term_seen c.args.target.now) (term_seen c.args.value.now) c.in_ok-own.own c.in_ok-passed.passed refl
+    stored_none c.args.scene.now c.args.lane.now c.args.building.now (record { draft = c.aim_at.new.draft; accesses = c.aim_at.new.accesses; values = c.args.building.now.values })
+    c.push_term.new.draft c.push_term.new.accesses c.args.first c.behind_term.result (term_seen c.args.target.now) (term_seen c.args.value.now) c.in_ok-own.own refl
     (subst (λ (os : List (Option ℕ)). EvaluatesTerm c.args.scene.now c.args.lane.now os c.args.building.now.draft c.push_term.new.draft c.args.building.now.accesses c.push_term.new.accesses c.args.first (term_seen c.args.value.now) c.in_ok-own.own)
     c.as_slice-current.ensures.value c.in_ok-own.ensures)
     (subst (λ (os : List (Option ℕ)). AimsAtTarget c.args.scene.now c.args.lane.now os c.push_term.new.draft c.aim_at.new.draft c.push_term.new.accesses c.aim_at.new.accesses c.in_ok-own.own.next (term_seen c.args.target.now) None) c.as_slice-current.ensures.value
     (subst (λ (o : Option (Aim × ℕ)). AimsAtTarget c.args.scene.now c.args.lane.now c.as_slice-current.result.now c.push_term.new.draft c.aim_at.new.draft c.push_term.new.accesses c.aim_at.new.accesses c.in_ok-own.own.next (term_seen c.args.target.now) o)
     c.in_default.is c.in_ok-aim.ensures))
-    (subst (λ (os : List (Option ℕ)). EvaluatesTerm c.args.scene.now c.args.lane.now os c.aim_at.new.draft c.push_term-in_default.new.draft c.aim_at.new.accesses c.push_term-in_default.new.accesses c.in_ok-own.own.next (term_seen c.args.target.now) c.in_ok-passed.passed)
-    c.as_slice-current.ensures.value c.in_ok-passed.ensures)
+    c.behind_term.ensures
 
 pub returns : goal.returns
 returns c =
