@@ -16,12 +16,12 @@ use Rattle.dh_expressions.specs.declared.copies.AccessAt.{AccessAt}
 use Rattle.dh_expressions.specs.declared.drafts.Draft.{Draft}
 use Rattle.dh_expressions.specs.declared.scenes.Around.{Around}
 use Rattle.dh_expressions.specs.declared.scenes.Scene.{Scene}
-use Rattle.dh_expressions.specs.Copying.{AreCopies, AreNone}
+use Rattle.dh_expressions.specs.Copying.{AddsAllCopies, AreCopies, AreNone}
 use Rattle.dh_expressions.specs.Drafted.{Begun, Extends, Fits, Names, Step, shown, tale, told_block}
 use Rattle.dh_expressions.specs.Evaluated.{Knows, View}
 use Rattle.dh_expressions.specs.Noted.{Notes, given_in, given_then, given_to, is_bare, is_bare_of, noted_in, touched_in, touched_of}
 use Rattle.dh_expressions.specs.Standings.{IsTouched, Standing}
-use Rattle.dh_expressions.specs.Touching.{IsNew, MakesCopies, TouchesAt}
+use Rattle.dh_expressions.specs.Touching.{AddsTouched, IsNew, MakesCopies, TouchesAt}
 use Rattle.dh_expressions.proofs.ListPlaces.{place_of_more, place_within, set_here, set_long, set_other, some_same, there}
 use Rattle.dh_expressions.proofs.Pushing.{at_seam, begun_later, extends_again, extends_self, in_front}
 
@@ -58,6 +58,7 @@ bare_within a number e = by (slice_get a.touched.items number) refl e
 
 pub touched_already : (scene : Scene) (around : Around) (s : Standing) (d : Draft) (a : Accesses) (number : ℕ) → is_bare a number ≡ false → TouchesAt scene around s d d a a number
 touched_already scene around s d a number e = record {
+  adds = inl refl;
   extends = extends_self d;
   quiet = λ x f b. refl;
   long = refl;
@@ -80,6 +81,7 @@ pub touched_first : (scene : Scene) (around : Around) (s : Standing) (d e k : Dr
     → t.fault ≡ fault → t.copies ≡ copies → t.given ≡ [] → after.touched.items ≡ slice_set before.touched.items number (Some t) → after.counts.items ≡ numbers
     → TouchesAt scene around s d k before after number
 touched_first scene around s d e k before after number fault copies numbers t bare named made fault_is copies_are given_none put counts = record {
+  adds = inr (t, added);
   extends = extends_again d e k (named_extends d e fault s.place named) made.extends;
   quiet = λ x f b. made.quiet x f (begun_later d e x (named_extends d e fault s.place named) b) ∙ named_quiet d e fault s.place named x;
   long = ap length put ∙ set_long before.touched.items number (Some t);
@@ -89,6 +91,13 @@ touched_first scene around s d e k before after number fault copies numbers t ba
   none = λ h. subst (λ (ns : List ℕ). AreNone ns) (sym counts) (made.none h);
 }
   where
+    added : AddsTouched d k scene around s before t
+    added = record {
+      middle = e;
+      names = subst (λ (n : ℕ). Names d e n s.place) (sym fault_is) named;
+      copies = λ scopes low. subst (λ (cs : List AccessAt). AddsAllCopies s.leader s.bank s.guards e k before.counts.items cs) (sym copies_are) (made.adds scopes low);
+    }
+
     within : number < length before.touched.items
     within = bare_within before number bare
 
@@ -113,6 +122,7 @@ touched_first scene around s d e k before after number fault copies numbers t ba
     newest m u same there =
         let own : u ≡ t = some_same u t (sym there ∙ (ap (λ n. touched_of (slice_get after.touched.items n)) same ∙ ap touched_of here)) in
         record {
+          adds = subst (λ (v : Touched). AddsTouched d k scene around s before v) (sym own) added;
           own = same;
           none = ap (λ (v : Touched). v.given) own ∙ given_none;
           is = λ none scopes low x f b. subst (λ (v : Touched). IsTouched x s v) (sym own) (record {
