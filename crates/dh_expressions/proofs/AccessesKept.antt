@@ -163,11 +163,11 @@ given_known given path value q n is = by (length given == path) refl is
     by false e is = inl is
     by true e is = ⊎_elim inl (λ p. inr (p.0 ∙ let same : length given ≡ path = grind (arith, nat_tests, e) in same, p.1)) (place_of_more given value n q is)
 
-noted_given : (o : Option Touched) (path value q n : ℕ) → given_to (noted_in o path value) q ≡ Some n → (given_to o q ≡ Some n) ⊎ ((q ≡ path) × (n ≡ value))
+pub noted_given : (o : Option Touched) (path value q n : ℕ) → given_to (noted_in o path value) q ≡ Some n → (given_to o q ≡ Some n) ⊎ ((q ≡ path) × (n ≡ value))
 noted_given None path value q n is = absurd (cc)
 noted_given (Some t) path value q n is = given_known t.given path value q n is
 
-noted_touched : (o : Option Touched) (path value : ℕ) (u : Touched) → noted_in o path value ≡ Some u → (t : Touched) × ((o ≡ Some t) × ((t.fault ≡ u.fault) × (t.copies ≡ u.copies)))
+pub noted_touched : (o : Option Touched) (path value : ℕ) (u : Touched) → noted_in o path value ≡ Some u → (t : Touched) × ((o ≡ Some t) × ((t.fault ≡ u.fault) × (t.copies ≡ u.copies)))
 noted_touched None path value u is = absurd (cc)
 noted_touched (Some t) path value u is = (t, (refl, (ap (λ (v : Touched). v.fault) same, ap (λ (v : Touched). v.copies) same)))
   where
@@ -175,7 +175,7 @@ noted_touched (Some t) path value u is = (t, (refl, (ap (λ (v : Touched). v.fau
     same = some_same _ u is
 
 module _ (before after : Accesses) (number path value : ℕ) (h : Notes before after number path value) where
-  place_noted : (m : ℕ) → (touched_in after m ≡ touched_in before m) ⊎ ((m ≡ number) × (touched_in after m ≡ noted_in (touched_in before m) path value))
+  pub place_noted : (m : ℕ) → (touched_in after m ≡ touched_in before m) ⊎ ((m ≡ number) × (touched_in after m ≡ noted_in (touched_in before m) path value))
   place_noted m = ⊎_elim own (λ other. inl (ap (λ os. touched_of (slice_get os m)) h.touched ∙ ap touched_of (set_other before.touched.items number m _ other))) (cases_eq m number)
     where
       within_or_past : (number < length before.touched.items) ⊎ (length before.touched.items ≤ number) → m ≡ number

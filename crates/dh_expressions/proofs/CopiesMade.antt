@@ -123,7 +123,7 @@ guard_place copies at k g z e = by (slice_get copies at) refl e
         (λ other. inl (sym (set_other copies at k (guarded_by c g) other) ∙ e, other))
         (cases_eq k at)
 
-guard_long : (copies : List AccessAt) (at : ℕ) (g : Option ℕ) → length (with_guard copies at g) ≡ length copies
+pub guard_long : (copies : List AccessAt) (at : ℕ) (g : Option ℕ) → length (with_guard copies at g) ≡ length copies
 guard_long copies at g = by (slice_get copies at)
   where
     by : (o : Option AccessAt) → length (guard_put o copies at g) ≡ length copies
@@ -161,7 +161,7 @@ module _ (leader bank : ℕ → ℕ) where
           less l = omega (arith, l)
 
   -- a leader more
-  counted_more : (f : ℕ → ℕ) (n own b : ℕ) → leader n ≡ n → own ≡ bank n → n < 2 ^ 64 - 1 → ((b : ℕ) → f b ≡ leaders_at leader bank b n)
+  pub counted_more : (f : ℕ → ℕ) (n own b : ℕ) → leader n ≡ n → own ≡ bank n → n < 2 ^ 64 - 1 → ((b : ℕ) → f b ≡ leaders_at leader bank b n)
       → with_number f own (min (f own + 1) (2 ^ 64 - 1)) b ≡ leaders_at leader bank b (suc n)
   counted_more f n own b leads is few so = by (own == b) refl
     where
@@ -189,7 +189,7 @@ module _ (leader bank : ℕ → ℕ) where
           second false q e = refl
 
   -- no leader more
-  counted_still : (n b : ℕ) → (leader n ≡ n → ⊥) → leaders_at leader bank b n ≡ leaders_at leader bank b (suc n)
+  pub counted_still : (n b : ℕ) → (leader n ≡ n → ⊥) → leaders_at leader bank b n ≡ leaders_at leader bank b (suc n)
   counted_still n b other = ap (λ t. if t && (bank n == b) then suc (leaders_at leader bank b n) else leaders_at leader bank b n) (sym (differs (leader n) n other))
     where
       differs : (a b : ℕ) → (a ≡ b → ⊥) → (a == b) ≡ false

@@ -11,3 +11,6 @@ pub mod CopiesStand
 pub mod ElementsReached
 pub mod BankSpans
 pub mod PartsMade
+pub mod ValuesFormed
+pub mod IteratorsFormed
+pub mod CopiesFormed

@@ -15,3 +15,5 @@ pub mod Touching
 -- which operations are put down
 pub mod MadeValues
 pub mod MadeTerms
+-- what a plan asks of them
+pub mod Formed

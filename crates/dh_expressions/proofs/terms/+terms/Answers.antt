@@ -1,4 +1,4 @@
-use Rattle.std.proofs.Common.{◌≡◌, None, ap, sym, refl, ◌∙◌, map, subst, add-one}
+use Rattle.std.proofs.Common.{◌≡◌, ℕ, List, None, ap, sym, refl, ◌∙◌, map, subst, add-one}
 use Rattle.std.proofs.lemmas.Result.{IfOk-weaker}
 use Rattle.dh_value.specs.declared.kinds.Kind.{Kind}
 use Rattle.dh_value.specs.declared.words.Word.{Word}
@@ -14,9 +14,9 @@ use Rattle.dh_plan.specs.declared.operations.OperationForm.TheVariants.{Constant
 use Rattle.dh_expressions.specs.Drafted.{Pushes}
 use Rattle.dh_expressions.specs.Evaluated.{ShowsVariable}
 use Rattle.dh_expressions.specs.MadeValues.{MadeVariable}
-use Rattle.dh_expressions.proofs.Evaluating.{access_formed, bank_formed, binary_done, by_form, cast_done, leads_first, leads_last, leads_on, number_done, truth_done, variable_done}
+use Rattle.dh_expressions.proofs.Evaluating.{Leads, access_formed, bank_formed, binary_done, by_form, cast_done, leads_first, leads_last, leads_on, number_done, truth_done, variable_done}
 use Rattle.dh_expressions.proofs.Evaluating.{values_then}
-use Rattle.dh_expressions.proofs.PartsMade.{made_access, made_bank, made_form, makes_first, makes_last, makes_on}
+use Rattle.dh_expressions.proofs.PartsMade.{Makes, made_access, made_bank, made_form, makes_first, makes_last, makes_on}
 use Rattle.dh_expressions.proofs.terms.+terms.Goals as goal
 
 pub push_term-returns-in_ok-value-in-Number-clause-means : goal.push_term-returns-in_ok-value-in-Number-clause-means
@@ -70,8 +70,12 @@ push_term-returns-in_ok-value-in-Binary-clause-means t c =
 
 pub push_indices-loop-index-init : goal.push_indices-loop-index-init
 push_indices-loop-index-init t c = record {
-  means = leads_first c.args.scene.now c.args.lane.now c.args.current.now c.args.draft.now c.args.accesses.now c.args.first c.args.indices.now;
-  made = makes_first c.args.scene.now c.args.lane.now c.args.current.now c.args.draft.now c.args.accesses.now c.args.first c.args.indices.now;
+  means =
+      subst (λ (vs : List ℕ). Leads c.args.scene.now c.args.lane.now c.args.current.now c.args.draft.now c.args.accesses.now c.args.first c.args.indices.now 0 c.args.draft.now c.args.accesses.now vs c.args.first) (sym c.new-values.ensures)
+      (leads_first c.args.scene.now c.args.lane.now c.args.current.now c.args.draft.now c.args.accesses.now c.args.first c.args.indices.now);
+  made =
+      subst (λ (vs : List ℕ). Makes c.args.scene.now c.args.lane.now c.args.current.now c.args.draft.now c.args.accesses.now c.args.first c.args.indices.now 0 c.args.draft.now c.args.accesses.now vs c.args.first) (sym c.new-values.ensures)
+      (makes_first c.args.scene.now c.args.lane.now c.args.current.now c.args.draft.now c.args.accesses.now c.args.first c.args.indices.now);
 }
 
 pub push_indices-loop-index-preserved : goal.push_indices-loop-index-preserved
