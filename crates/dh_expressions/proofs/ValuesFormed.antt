@@ -218,6 +218,9 @@ extended_forms t kind.Bool value old new v m = forms_there old new value v _ (λ
 extended_forms t (kind.Unsigned w) value old new v m = converted_forms t (kind.Unsigned w) value old new v m
 extended_forms t (kind.Signed w) value old new v m = converted_forms t (kind.Signed w) value old new v m
 
+abbrev extension_by : Op → (left right : Term) → Kind
+extension_by o left right = extension_of o (kind_written left) (kind_written right)
+
 pub operation_forms : (o : Op) (left right : Term) (k : Kind) (a b : ℕ) (old new : Draft) (v : ℕ) → MadeOperation o left right a b old new v
     → FormsValue old new v (λ x. OperandsSuit o (kind_written left) (kind_written right) k × (HasKind x old (kind_written left) a × HasKind x old (kind_written right) b)) (λ x. k)
 operation_forms o left right k a b old new v m = record {
@@ -233,21 +236,18 @@ operation_forms o left right k a b old new v m = record {
       kind_same x new _ k v (sym w.0.result_is) (c.gives x at (started_later x m.first m.second r.extends (started_later x old m.first l.extends s)) (operands x at s w));
 }
   where
-    abbrev to : Kind
-    to = extension_of o (kind_written left) (kind_written right)
+    l : FormsValue old m.first m.x (λ x. IsExtension (extension_by o left right) × HasKind x old (kind_written left) a) (λ x. operand_kind (kind_written left) (extension_by o left right))
+    l = extended_forms left (extension_by o left right) a old m.first m.x m.left_made
 
-    l : FormsValue old m.first m.x (λ x. IsExtension to × HasKind x old (kind_written left) a) (λ x. operand_kind (kind_written left) to)
-    l = extended_forms left to a old m.first m.x m.left_made
+    r : FormsValue m.first m.second m.y (λ x. IsExtension (extension_by o left right) × HasKind x m.first (kind_written right) b) (λ x. operand_kind (kind_written right) (extension_by o left right))
+    r = extended_forms right (extension_by o left right) b m.first m.second m.y m.right_made
 
-    r : FormsValue m.first m.second m.y (λ x. IsExtension to × HasKind x m.first (kind_written right) b) (λ x. operand_kind (kind_written right) to)
-    r = extended_forms right to b m.first m.second m.y m.right_made
-
-    c : FormsValue m.second new v (λ x. Suits o (operand_kind (kind_written left) to) (operand_kind (kind_written right) to) × (HasKind x m.second (operand_kind (kind_written left) to) m.x × HasKind x m.second (operand_kind (kind_written right) to) m.y))
-        (λ x. result_of o (operand_kind (kind_written left) to))
-    c = compute_forms m.second new v m.x m.y o (operand_kind (kind_written left) to) (operand_kind (kind_written right) to) m.pushes
+    c : FormsValue m.second new v (λ x. Suits o (operand_kind (kind_written left) (extension_by o left right)) (operand_kind (kind_written right) (extension_by o left right)) × (HasKind x m.second (operand_kind (kind_written left) (extension_by o left right)) m.x × HasKind x m.second (operand_kind (kind_written right) (extension_by o left right)) m.y))
+        (λ x. result_of o (operand_kind (kind_written left) (extension_by o left right)))
+    c = compute_forms m.second new v m.x m.y o (operand_kind (kind_written left) (extension_by o left right)) (operand_kind (kind_written right) (extension_by o left right)) m.pushes
 
     operands : (x : Block) → Agrees x new → Started x old → OperandsSuit o (kind_written left) (kind_written right) k × (HasKind x old (kind_written left) a × HasKind x old (kind_written right) b)
-        → Suits o (operand_kind (kind_written left) to) (operand_kind (kind_written right) to) × (HasKind x m.second (operand_kind (kind_written left) to) m.x × HasKind x m.second (operand_kind (kind_written right) to) m.y)
+        → Suits o (operand_kind (kind_written left) (extension_by o left right)) (operand_kind (kind_written right) (extension_by o left right)) × (HasKind x m.second (operand_kind (kind_written left) (extension_by o left right)) m.x × HasKind x m.second (operand_kind (kind_written right) (extension_by o left right)) m.y)
     operands x at s w =
         let at2 = agrees_before x m.second new c.extends at in
         let at1 = agrees_before x m.first m.second r.extends at2 in
@@ -304,15 +304,16 @@ held_forms t (kind.Signed w) value old new v m = converted_forms t (kind.Signed 
 
 -- Variables.
 
+-- a register is there, and a value that its variable was given is of its kind
+abbrev pub ShowsThere : (current : List (Option ℕ)) → (register : ℕ) → Draft → Block → Type 0
+ShowsThere current register old x = (register < length x.plan.registers) × ((value : ℕ) → slice_get current register ≡ Some (Some value) → HasKind x old (kind_at x.plan.registers register) value)
+
 pub shown_forms : (current : List (Option ℕ)) (register : ℕ) (old new : Draft) (v : ℕ) → MadeShown current register old new v
     → FormsValue old new v (λ x. (register < length x.plan.registers) × ((value : ℕ) → slice_get current register ≡ Some (Some value) → HasKind x old (kind_at x.plan.registers register) value))
     (λ x. kind_at x.plan.registers register)
 shown_forms current register old new v m = by (slice_get current register) refl m
   where
-    abbrev Where : Block → Type 0
-    Where x = (register < length x.plan.registers) × ((value : ℕ) → slice_get current register ≡ Some (Some value) → HasKind x old (kind_at x.plan.registers register) value)
-
-    by : (o : Option (Option ℕ)) → slice_get current register ≡ o → MadeCurrent o register old new v → FormsValue old new v Where (λ x. kind_at x.plan.registers register)
-    by None e m = forms_where old new v (λ x. register < length x.plan.registers) Where (λ x. kind_at x.plan.registers register) (λ x. kind_at x.plan.registers register) (λ x w. w.0) (λ x w. refl) (old_forms old new v register m)
-    by (Some None) e m = forms_where old new v (λ x. register < length x.plan.registers) Where (λ x. kind_at x.plan.registers register) (λ x. kind_at x.plan.registers register) (λ x w. w.0) (λ x w. refl) (old_forms old new v register m)
-    by (Some (Some value)) e m = forms_there old new value v Where (λ x. kind_at x.plan.registers register) m (λ x w. w.1 value e)
+    by : (o : Option (Option ℕ)) → slice_get current register ≡ o → MadeCurrent o register old new v → FormsValue old new v (ShowsThere current register old) (λ x. kind_at x.plan.registers register)
+    by None e m = forms_where old new v (λ x. register < length x.plan.registers) (ShowsThere current register old) (λ x. kind_at x.plan.registers register) (λ x. kind_at x.plan.registers register) (λ x w. w.0) (λ x w. refl) (old_forms old new v register m)
+    by (Some None) e m = forms_where old new v (λ x. register < length x.plan.registers) (ShowsThere current register old) (λ x. kind_at x.plan.registers register) (λ x. kind_at x.plan.registers register) (λ x w. w.0) (λ x w. refl) (old_forms old new v register m)
+    by (Some (Some value)) e m = forms_there old new value v (ShowsThere current register old) (λ x. kind_at x.plan.registers register) m (λ x w. w.1 value e)

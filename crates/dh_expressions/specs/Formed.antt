@@ -96,9 +96,10 @@ pub record FormsValue (old new : Draft) (value : ℕ) (Where : Block → Type 0)
 -- guards and the values that variables were given are values of the block
 pub record IsScope (x : Block) (d : Draft) (scene : Scene) (lane : Lane) (current : List (Option ℕ)) : Type 0 where
   pub guards : (path : ℕ) (guard : Option ℕ) → slice_get lane.around.guards.now path ≡ Some guard → IsGuard x d guard
-  pub current : (register value : ℕ) → slice_get current register ≡ Some (Some value) → HasKind x d (kind_at x.plan.registers register) value
+  pub given : (register value : ℕ) → slice_get current register ≡ Some (Some value) → HasKind x d (kind_at x.plan.registers register) value
   pub scopes : HasScopes scene
   pub low : length lane.around.levels.now < 2 ^ 63
+  pub few : length lane.around.guards.now < 2 ^ 64
   pub within : lane.number < length lane.around.guards.now
 
 -- a copy of an access that stands so

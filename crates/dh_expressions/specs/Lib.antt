@@ -17,3 +17,4 @@ pub mod MadeValues
 pub mod MadeTerms
 -- what a plan asks of them
 pub mod Formed
+pub mod FormedLaws

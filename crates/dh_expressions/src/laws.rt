@@ -1,0 +1,13 @@
+//! Laws on the operations of expressions, stated on functions that do nothing.
+
+ghost use Rattle.dh_expressions.specs.FormedLaws.{ConversionsForm, HeldValuesForm, IteratorsForm, OperationsForm, ShownVariablesForm};
+
+/// Operations that are put down for values take earlier values of their block, of the kinds that they need, and give
+/// a value of the kind that is wanted.
+pub fn values_are_formed()
+    ensures operations { OperationsForm }
+    ensures conversions { ConversionsForm }
+    ensures held { HeldValuesForm }
+    ensures shown { ShownVariablesForm }
+    ensures iterators { IteratorsForm }
+{}
