@@ -110,23 +110,23 @@ module _ (k : Kind) where
   bit_forms sum value by old new more (inl m) = sum_there old new sum more _ m.0 m.1 (λ x w. w.1)
   bit_forms sum value by old new more (inr m) = addend_forms sum value by old new more m
 
-  bits_forms : (value bits : ℕ) (old new : Draft) (sum : Option ℕ) → MadeBits value bits old new sum → FormsSum old new sum (OfKind old value)
-  bits_forms value zero old new sum m = sum_there old new None sum (OfKind old value) m.0 m.1 (λ x w. tt)
-  bits_forms value (suc b) old new sum (d, (s, (before, last))) = record {
+  bits_more : (value b : ℕ) (old d new : Draft) (s sum : Option ℕ) → FormsSum old d s (OfKind old value) → MadeBit s value b d new sum → FormsSum old new sum (OfKind old value)
+  bits_more value b old d new s sum l last = record {
     extends = extends_again old d new l.extends c.extends;
     forms = λ x at st w.
         forms_again x old d new c.extends (l.forms x (agrees_before x d new c.extends at) st w) (c.forms x at (started_later x old d l.extends st) (operands x at st w));
     gives = λ x at st w. c.gives x at (started_later x old d l.extends st) (operands x at st w);
   }
     where
-      l : FormsSum old d s (OfKind old value)
-      l = bits_forms value b old d s before
-
       c : FormsSum d new sum (λ x. OfKind d value x × HasSum x d s)
       c = bit_forms s value b d new sum last
 
       operands : (x : Block) → Agrees x new → Started x old → OfKind old value x → OfKind d value x × HasSum x d s
       operands x at st w = ((w.0, kind_later x old d k value l.extends w.1), l.gives x (agrees_before x d new c.extends at) st w)
+
+  bits_forms : (value bits : ℕ) (old new : Draft) (sum : Option ℕ) → MadeBits value bits old new sum → FormsSum old new sum (OfKind old value)
+  bits_forms value zero old new sum m = sum_there old new None sum (OfKind old value) m.0 m.1 (λ x w. tt)
+  bits_forms value (suc b) old new sum (d, (s, (before, last))) = bits_more value b old d new s sum (bits_forms value b old d s before) last
 
   total_forms : (sum : Option ℕ) (old new : Draft) (v : ℕ) → MadeTotal k sum old new v → FormsValue old new v (λ x. IsInteger k × HasSum x old sum) (λ x. k)
   total_forms None old new v m = forms_where old new v (λ x. IsKind k) _ (λ x. k) (λ x. k) (λ x w. integer_width k w.0) (λ x w. refl) (number_forms k false 0 old new v m)

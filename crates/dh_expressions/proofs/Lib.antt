@@ -14,3 +14,5 @@ pub mod PartsMade
 pub mod ValuesFormed
 pub mod IteratorsFormed
 pub mod CopiesFormed
+pub mod AccessesFormed
+pub mod ElementsFormed

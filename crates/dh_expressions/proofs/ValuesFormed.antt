@@ -258,7 +258,7 @@ operation_forms o left right k a b old new v m = record {
         ))
 
 -- a truth that a memory held
-lowest_forms : (value : ℕ) (kind : Block → Kind) (old new : Draft) (v : ℕ) → MadeLowestBit value old new v → FormsValue old new v (λ x. HasKind x old (kind x) value) (λ x. kind.Bool)
+lowest_forms : (value : ℕ) (own : Block → Kind) (old new : Draft) (v : ℕ) → MadeLowestBit value old new v → FormsValue old new v (λ x. HasKind x old (own x) value) (λ x. kind.Bool)
 lowest_forms value own old new v m = record {
   extends = extends_again old m.first new l.extends (extends_again m.first m.second new r.extends c.extends);
   forms = λ x at s w.

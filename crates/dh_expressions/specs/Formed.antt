@@ -29,6 +29,7 @@ use Rattle.dh_expressions.specs.declared.accesses.Accesses.{Accesses}
 use Rattle.dh_expressions.specs.declared.accesses.Touched.{Touched}
 use Rattle.dh_expressions.specs.declared.copies.AccessAt.{AccessAt}
 use Rattle.dh_expressions.specs.declared.drafts.Draft.{Draft}
+use Rattle.dh_expressions.specs.declared.elements.Aim.{Aim}
 use Rattle.dh_expressions.specs.declared.scenes.Lane.{Lane}
 use Rattle.dh_expressions.specs.declared.scenes.Scene.{Scene}
 use Rattle.dh_expressions.specs.Copying.{AreNone, HasScopes, leaders_at}
@@ -70,6 +71,10 @@ pub record HasKind (x : Block) (d : Draft) (k : Kind) (number : ℕ) : Type 0 wh
   pub from : x.first ≤ number
   pub below : number < length d.operations.items
   pub kind_is : kind_of x number ≡ k
+
+-- a value of the block so far, of an integer kind
+abbrev pub IsNumberThere : Block → Draft → (number : ℕ) → Type 0
+IsNumberThere x d number = (k : Kind) × (IsInteger k × HasKind x d k number)
 
 -- a guard is a truth of the block
 abbrev pub IsGuard : Block → Draft → Option ℕ → Type 0
@@ -176,6 +181,15 @@ pub record ReadSuits (x : Block) (scene : Scene) (lane : Lane) (memory number : 
   pub kind_is : kind_in x.plan.table memory ≡ k
   pub shares : (earlier : ℕ) → slice_get scene.shares.now number ≡ Some (Some earlier) → SharesMemory x memory earlier
 
+-- the values that name an element are numbers of the block: a row, or as many indices as the memory has dimensions
+abbrev pub RowSuits : Block → Draft → (memory : ℕ) → (indices : List ℕ) → Option ℕ → Type 0
+RowSuits x d memory indices None = length indices ≡ length (dims_at x.plan.table memory)
+RowSuits x d memory indices (Some row) = IsNumberThere x d row
+
+pub record AimSuits (x : Block) (d : Draft) (memory : ℕ) (aim : Aim) : Type 0 where
+  pub indices : AllByRecursion (IsNumberThere x d) aim.indices
+  pub row : RowSuits x d memory aim.indices aim.row
+
 -- how many indices there are, and whether all have integer kinds
 abbrev pub count_of : plain.Terms → ℕ
 count_of plain.no_terms = 0
@@ -225,7 +239,7 @@ pub record FormsTerm (scene : Scene) (lane : Lane) (current : List (Option ℕ))
 -- with values of integer kinds, so many
 pub record HasNumbers (x : Block) (d : Draft) (count : ℕ) (values : List ℕ) : Type 0 where
   pub long : length values ≡ count
-  pub each : AllByRecursion (λ v. (k : Kind) × (IsInteger k × HasKind x d k v)) values
+  pub each : AllByRecursion (IsNumberThere x d) values
 
 pub record FormsTerms (scene : Scene) (lane : Lane) (current : List (Option ℕ)) (old new : Draft) (before after : Accesses) (values : List ℕ) (Where : Block → Type 0) (count : ℕ) : Type 0 where
   pub part : FormsPart scene lane current old new before after Where

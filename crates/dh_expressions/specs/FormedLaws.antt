@@ -1,14 +1,22 @@
 -- The operations that are put down for expressions are formed as a plan asks.
-use Rattle.std.specs.Prelude.{◌≡◌, ℕ, ◌<◌, List, length, slice_get, Option, Some}
+use Rattle.std.specs.Prelude.{◌≡◌, ℕ, ◌<◌, true, List, length, slice_get, Option, Some}
 use Rattle.dh_value.specs.declared.kinds.Kind.{Kind}
 use Rattle.dh_value.specs.declared.operators.Op.{Op}
 use Rattle.dh_value.specs.Words.{IsInteger}
+use Rattle.dh_tree.specs.Indices.{form_of}
 use Rattle.dh_tree.specs.PlainTrees.{Term}
+use Rattle.dh_meaning.specs.Effects.{kind_in}
 use Rattle.dh_code.specs.declared.places.Held.{Held}
 use Rattle.dh_plan.specs.Blocks.{kind_at}
+use Rattle.dh_expressions.specs.declared.accesses.Accesses.{Accesses}
 use Rattle.dh_expressions.specs.declared.drafts.Draft.{Draft}
-use Rattle.dh_expressions.specs.Formed.{FormsValue, HasKind, HeldSuits, OperandsSuit}
+use Rattle.dh_expressions.specs.declared.elements.Aim.{Aim}
+use Rattle.dh_expressions.specs.declared.scenes.Lane.{Lane}
+use Rattle.dh_expressions.specs.declared.scenes.Scene.{Scene}
+use Rattle.dh_expressions.specs.Formed.{AccessSuits, AimSuits, FormsPart, FormsTerm, FormsValue, HasKind, HeldSuits, OperandsSuit, ReadSuits}
+use Rattle.dh_expressions.specs.MadeTerms.{MadeRead, MadeWrite}
 use Rattle.dh_expressions.specs.MadeValues.{MadeConverted, MadeHeld, MadeIterator, MadeOperation, MadeShown}
+use Rattle.dh_expressions.specs.Reaching.{place_written}
 use Rattle.dh_expressions.specs.Shown.{is_kept, kind_written}
 
 -- an operator on operands of kinds that suit it
@@ -40,3 +48,18 @@ ShownVariablesForm =
 abbrev pub IteratorsForm : Type 0
 IteratorsForm =
     (k : Kind) (held : Held) (old new : Draft) (v : ℕ) → MadeIterator held k old new v → FormsValue old new v (λ x. IsInteger k × (held.first < length x.plan.registers)) (λ x. k)
+
+-- the reading of an element, of the kind of its memory
+abbrev pub ReadsForm : Type 0
+ReadsForm =
+    (scene : Scene) (lane : Lane) (current : List (Option ℕ)) (access : Term) (memory : ℕ) (aim : Aim) (old new : Draft) (before after : Accesses) (v : ℕ) (k : Kind)
+    → MadeRead scene lane access memory aim old new before after v
+    → FormsTerm scene lane current old new before after v (λ x. AimSuits x old memory aim × ReadSuits x scene lane memory aim.number (place_written access) (form_of access) k) k
+
+-- the writing of a value of its kind
+abbrev pub WritesForm : Type 0
+WritesForm =
+    (scene : Scene) (lane : Lane) (current : List (Option ℕ)) (access : Term) (memory : ℕ) (aim : Aim) (old new : Draft) (before after : Accesses) (value : ℕ)
+    → MadeWrite scene lane access memory aim value old new before after
+    → FormsPart scene lane current old new before after
+    (λ x. (AimSuits x old memory aim × AccessSuits x scene lane memory aim.number (place_written access) (form_of access) true) × HasKind x old (kind_in x.plan.table memory) value)

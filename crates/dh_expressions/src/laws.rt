@@ -1,6 +1,6 @@
 //! Laws on the operations of expressions, stated on functions that do nothing.
 
-ghost use Rattle.dh_expressions.specs.FormedLaws.{ConversionsForm, HeldValuesForm, IteratorsForm, OperationsForm, ShownVariablesForm};
+ghost use Rattle.dh_expressions.specs.FormedLaws.{ConversionsForm, HeldValuesForm, IteratorsForm, OperationsForm, ReadsForm, ShownVariablesForm, WritesForm};
 
 /// Operations that are put down for values take earlier values of their block, of the kinds that they need, and give
 /// a value of the kind that is wanted.
@@ -10,4 +10,11 @@ pub fn values_are_formed()
     ensures held { HeldValuesForm }
     ensures shown { ShownVariablesForm }
     ensures iterators { IteratorsForm }
+{}
+
+/// So do those of reads and writes; what is noted of accesses stays of the block, and a read gives a value of the kind
+/// of its memory.
+pub fn elements_are_formed()
+    ensures reads { ReadsForm }
+    ensures writes { WritesForm }
 {}
