@@ -16,3 +16,4 @@ pub mod IteratorsFormed
 pub mod CopiesFormed
 pub mod AccessesFormed
 pub mod ElementsFormed
+pub mod TermsFormed

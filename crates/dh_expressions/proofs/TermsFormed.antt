@@ -1,6 +1,7 @@
 -- Expressions are formed: by recursion on the expression, each part behind those before it.
 use Rattle.std.proofs.Common.{◌≡◌, ℕ, suc, ◌+◌, ◌-◌, ◌^◌, ◌<◌, List, Some, None, refl, sym, ap, ◌∙◌, subst, arith, length}
-use Rattle.std.specs.Prelude.{Bool as Truth, [], ◌∷◌, min, slice_get, Option}
+use Rattle.std.specs.Prelude.{Bool as Truth, true, false, [], ◌∷◌, min, slice_get, Option}
+use Rattle.std.specs.List.{AllByRecursion}
 use Rattle.dh_base.specs.declared.places.Place.{Place}
 use Rattle.dh_value.specs.declared.kinds.Kind.{Kind}
 use Rattle.dh_value.specs.declared.kinds.Kind.TheVariants as kind
@@ -27,7 +28,7 @@ use Rattle.dh_expressions.specs.declared.scenes.Scene.{Scene}
 use Rattle.dh_expressions.specs.Drafted.{Extends, Pushes}
 use Rattle.dh_expressions.specs.Evaluated.{counter_of, known_in}
 use Rattle.dh_expressions.specs.Formed.{Agrees, AimSuits, AreNumbers, Block, Forms, FormsPart, FormsTerm, FormsTerms, FormsValue, HasKind, HasNumbers, IsNoted, IsNumberThere, IsScope, OperandsSuit, ReadSuits, RowSuits, Started, TermSuits, TermsSuit, VariableSuits, count_of}
-use Rattle.dh_expressions.specs.MadeTerms.{MadeAlone, MadeByIndices, MadeByRow, MadeForm, MadeNone, MadeOfOne, MadeOfTwo, MadeTerm, MadeTerms, MadeThen, Making, number_behind}
+use Rattle.dh_expressions.specs.MadeTerms.{MadeAlone, MadeByIndices, MadeByRow, MadeForm, MadeIndices, MadeNone, MadeOfOne, MadeOfTwo, MadeTerm, MadeTerms, MadeThen, Making, number_behind}
 use Rattle.dh_expressions.specs.MadeValues.{MadeBy, MadeNumber, MadeVariable}
 use Rattle.dh_expressions.specs.Shown.{kind_written, register_at}
 use Rattle.dh_expressions.proofs.AccessesFormed.{noted_later, scope_later}
@@ -183,12 +184,18 @@ module _ (scene : Scene) (lane : Lane) (current : List (Option ℕ)) where
       whole : Part old new before after (λ x. (TermSuits x scene lane n t × TermsSuit x scene lane (n + term_accesses t) ts) × (IsInteger (kind_written t) × AreNumbers ts))
       whole = part_again old m.middle new before m.between after _ _ _ f.part g.part (λ x w. w.0.0) (λ x at s sc no w. (w.0.1, w.1.1))
 
+  -- what two operands must be, and that they are there
+  abbrev BothSuit : (n : ℕ) → Op → (l r : plain.Term) → Kind → Block → Type 0
+  BothSuit n o l r k x = (TermSuits x scene lane n l × TermSuits x scene lane (n + term_accesses l) r) × OperandsSuit o (kind_written l) (kind_written r) k
+
+  abbrev Operands : Op → (l r : plain.Term) → Kind → (a b : ℕ) → Draft → Block → Type 0
+  Operands o l r k a b d x = OperandsSuit o (kind_written l) (kind_written r) k × (HasKind x d (kind_written l) a × HasKind x d (kind_written r) b)
+
   formed_two : (place : Place) (k : Option Kind) (o : Op) (l r : plain.Term) → Formed l → Formed r → Formed (plain.term place k (plain.applied o l r))
   formed_two place k o l r one two old new before after n next v m few = record {
-    part = part_again old m.end new before after after Both (λ x. Operands x m.end) Both both (part_value m.end new after after v (λ x. Operands x m.end) (λ x. kind_or_first k) refl op) (λ x w. w) (λ x at s sc no w. operands x at s sc no w);
-    gives = λ x at s sc no w.
-        let before_at = agrees_before x m.end new op.extends at in
-        op.gives x at (started_later x old m.end both.extends s) (operands x before_at s sc no w);
+    part = part_again old m.end new before after after (BothSuit n o l r (kind_or_first k)) (Operands o l r (kind_or_first k) m.a m.b m.end) (BothSuit n o l r (kind_or_first k)) both
+        (part_value m.end new after after v (Operands o l r (kind_or_first k) m.a m.b m.end) (λ x. kind_or_first k) refl made) (λ x w. w) (λ x at s sc no w. operands x at s sc no w);
+    gives = λ x at s sc no w. made.gives x at (started_later x old m.end both.extends s) (operands x (agrees_before x m.end new made.extends at) s sc no w);
   }
     where
       f : Term old m.middle before m.between m.a (λ x. TermSuits x scene lane n l) (kind_written l)
@@ -201,22 +208,122 @@ module _ (scene : Scene) (lane : Lane) (current : List (Option ℕ)) where
       g = two m.middle m.end m.between after (n + term_accesses l) next m.b
           (subst (λ (i : ℕ). MadeTerm scene lane current r m.middle m.end m.between after i next m.b) own m.second) (omega (arith, few))
 
-      Both : Block → Type 0
-      Both x = (TermSuits x scene lane n l × TermSuits x scene lane (n + term_accesses l) r) × OperandsSuit o (kind_written l) (kind_written r) (kind_or_first k)
+      both : Part old m.end before after (BothSuit n o l r (kind_or_first k))
+      both = part_again old m.middle m.end before m.between after _ _ (BothSuit n o l r (kind_or_first k)) f.part g.part (λ x w. w.0.0) (λ x at s sc no w. w.0.1)
 
-      Operands : Block → Draft → Type 0
-      Operands x d = OperandsSuit o (kind_written l) (kind_written r) (kind_or_first k) × (HasKind x d (kind_written l) m.a × HasKind x d (kind_written r) m.b)
+      made : FormsValue m.end new v (Operands o l r (kind_or_first k) m.a m.b m.end) (λ x. kind_or_first k)
+      made = operation_forms o l r (kind_or_first k) m.a m.b m.end new v m.operation
 
-      both : Part old m.end before after Both
-      both = part_again old m.middle m.end before m.between after _ _ Both f.part g.part (λ x w. w.0.0) (λ x at s sc no w. w.0.1)
-
-      op : FormsValue m.end new v (λ x. Operands x m.end) (λ x. kind_or_first k)
-      op = operation_forms o l r (kind_or_first k) m.a m.b m.end new v m.operation
-
-      operands : (x : Block) → Agrees x m.end → Started x old → IsScope x old scene lane current → IsNoted x old before → Both x → Operands x m.end
-      operands x at s sc no w =
+      operands : (x : Block) → Agrees x m.end → Started x old → IsScope x old scene lane current → IsNoted x old before → BothSuit n o l r (kind_or_first k) x → Operands o l r (kind_or_first k) m.a m.b m.end x
+      operands x at s sc noted w =
           let before_at = agrees_before x m.middle m.end g.part.extends at in
           (w.1, (
-            kind_later x m.middle m.end _ m.a g.part.extends (f.gives x before_at s sc no w.0.0),
-            g.gives x at (started_later x old m.middle f.part.extends s) (scope_later x old m.middle scene lane current f.part.extends sc) (f.part.notes x before_at s sc no w.0.0) w.0.1,
+            kind_later x m.middle m.end _ m.a g.part.extends (f.gives x before_at s sc noted w.0.0),
+            g.gives x at (started_later x old m.middle f.part.extends s) (scope_later x old m.middle scene lane current f.part.extends sc) (f.part.notes x before_at s sc noted w.0.0) w.0.1,
           ))
+
+  formed_one : (place : Place) (k : Option Kind) (inner : plain.Term) (to : Kind) → Formed inner → Formed (plain.term place k (plain.converted inner to))
+  formed_one place k inner to one old new before after n next v m few = record {
+    part = part_again old m.middle new before after after _ _ (λ x. TermSuits x scene lane n inner × (IsInteger to × (kind_or_first k ≡ to))) f.part
+        (part_value m.middle new after after v (λ x. IsInteger to × HasKind x m.middle (kind_written inner) m.a) (λ x. to) refl made) (λ x w. w.0) (λ x at s sc no w. (w.1.0, f.gives x at s sc no w.0));
+    gives = λ x at s sc no w.
+        kind_same x new to _ v (sym w.1.1)
+        (made.gives x at (started_later x old m.middle f.part.extends s) (w.1.0, f.gives x (agrees_before x m.middle new made.extends at) s sc no w.0));
+  }
+    where
+      f : Term old m.middle before after m.a (λ x. TermSuits x scene lane n inner) (kind_written inner)
+      f = one old m.middle before after n next m.a m.operand few
+
+      made : FormsValue m.middle new v (λ x. IsInteger to × HasKind x m.middle (kind_written inner) m.a) (λ x. to)
+      made = converted_forms inner to m.a m.middle new v m.converts
+
+  -- Reads: the values of the element first, then the read itself.
+
+  module _ (place : Place) (k : Option Kind) (form : plain.TermForm) (memory : ℕ) (old middle new : Draft) (before between after : Accesses) (aim : Aim) (v number : ℕ)
+      (is : aim.number ≡ number) (r : Term middle new between after v (WhereRead scene lane current (plain.term place k form) memory aim middle (kind_or_first k)) (kind_or_first k)) where
+    abbrev AtNumber : Block → Type 0
+    AtNumber x = ReadSuits x scene lane memory number place form (kind_or_first k)
+
+    moved : (x : Block) → AtNumber x → ReadSuits x scene lane memory aim.number place form (kind_or_first k)
+    moved x w = subst (λ (i : ℕ). ReadSuits x scene lane memory i place form (kind_or_first k)) (sym is) w
+
+    read_behind : (First Where : Block → Type 0) → Part old middle before between First → ((x : Block) → Where x → First x) → ((x : Block) → Where x → AtNumber x)
+        → ((x : Block) → Agrees x middle → Started x old → IsScope x old scene lane current → IsNoted x old before → Where x → AimSuits x middle memory aim)
+        → Term old new before after v Where (kind_or_first k)
+    read_behind First Where f first suits aims = record {
+      part = part_again old middle new before between after First (WhereRead scene lane current (plain.term place k form) memory aim middle (kind_or_first k)) Where f r.part first (λ x at s sc no w. (aims x at s sc no w, moved x (suits x w)));
+      gives = λ x at s sc no w.
+          let before_at = agrees_before x middle new r.part.extends at in
+          r.gives x at (started_later x old middle f.extends s) (scope_later x old middle scene lane current f.extends sc) (f.notes x before_at s sc no (first x w)) (aims x before_at s sc no w, moved x (suits x w));
+    }
+
+  aim_of_indices : (x : Block) (d : Draft) (memory count : ℕ) (aim : Aim) → aim.row ≡ None → count ≡ length (dims_at x.plan.table memory) → HasNumbers x d count aim.indices → AimSuits x d memory aim
+  aim_of_indices x d memory count aim none all h = record { indices = h.each; row = subst (λ (o : Option ℕ). RowSuits x d memory aim.indices o) (sym none) (h.long ∙ all) }
+
+  aim_of_row : (x : Block) (d : Draft) (memory value : ℕ) (aim : Aim) → aim.indices ≡ [] → aim.row ≡ Some value → IsNumberThere x d value → AimSuits x d memory aim
+  aim_of_row x d memory value aim none is h = record {
+    indices = subst (λ (vs : List ℕ). AllByRecursion (IsNumberThere x d) vs) (sym none) tt;
+    row = subst (λ (o : Option ℕ). RowSuits x d memory aim.indices o) (sym is) h;
+  }
+
+  formed_access : (place : Place) (k : Option Kind) (r : Ref) (ts : plain.Terms) → AllFormed ts → Formed (plain.term place k (plain.accessed r ts))
+  formed_access place k r ts all old new before after n next v m few =
+      read_behind place k (plain.accessed r ts) (memory_of (known_in scene) r) old m.middle new before m.between after m.aim v (n + terms_accesses ts) own
+      (read_forms scene lane current (plain.term place k (plain.accessed r ts)) (memory_of (known_in scene) r) m.aim m.middle new m.between after v (kind_or_first k) m.reads)
+      (λ x. TermsSuit x scene lane n ts × AreNumbers ts) (λ x. TermSuits x scene lane n (plain.term place k (plain.accessed r ts))) f.part (λ x w. w.0) (λ x w. w.1.1)
+      (λ x at s sc no w. aim_of_indices x m.middle (memory_of (known_in scene) r) (count_of ts) m.aim m.row w.1.0 (f.gives x at s sc no w.0))
+    where
+      own : m.aim.number ≡ n + terms_accesses ts
+      own = all_numbered ts old m.middle before m.between n m.aim.number m.aim.indices m.indices (omega (arith, few))
+
+      f : FormsTerms scene lane current old m.middle before m.between m.aim.indices (λ x. TermsSuit x scene lane n ts × AreNumbers ts) (count_of ts)
+      f = all old m.middle before m.between n m.aim.number m.aim.indices m.indices (omega (arith, few))
+
+  formed_bank : (place : Place) (k : Option Kind) (r : Ref) (bank : ℕ) (at : Place) (t : plain.Term) → Formed t → Formed (plain.term place k (plain.in_bank r bank at t))
+  formed_bank place k r bank at t one old new before after n next v m few =
+      read_behind place k (plain.in_bank r bank at t) (memory_of (known_in scene) r) old m.middle new before m.between after m.aim v (n + term_accesses t) own
+      (read_forms scene lane current (plain.term place k (plain.in_bank r bank at t)) (memory_of (known_in scene) r) m.aim m.middle new m.between after v (kind_or_first k) m.reads)
+      (λ x. TermSuits x scene lane n t) (λ x. TermSuits x scene lane n (plain.term place k (plain.in_bank r bank at t))) f.part (λ x w. w.0.0) (λ x w. w.1)
+      (λ x agrees s sc no w. aim_of_row x m.middle (memory_of (known_in scene) r) m.value m.aim m.none m.row_is (kind_written t, (w.0.1, f.gives x agrees s sc no w.0.0)))
+    where
+      own : m.aim.number ≡ n + term_accesses t
+      own = numbered t old m.middle before m.between n m.aim.number m.value m.row (omega (arith, few))
+
+      f : Term old m.middle before m.between m.value (λ x. TermSuits x scene lane n t) (kind_written t)
+      f = one old m.middle before m.between n m.aim.number m.value m.row (omega (arith, few))
+
+  formed_number : (place : Place) (k : Option Kind) (negative : Truth) (z : ℕ) → Formed (plain.term place k (plain.number negative z))
+  formed_number place k negative z old new before after n next v m few =
+      term_value old new before after v (λ x. IsKind (kind_or_first k)) _ (λ x. kind_or_first k) (kind_or_first k) m.same (number_forms (kind_or_first k) negative z old new v m.part) (λ x sc w. w) (λ x w. refl)
+
+  truth_fits : (b : Truth) → IsWord (truth b)
+  truth_fits true = record { sized = (omega arith, omega arith); fits = omega arith }
+  truth_fits false = record { sized = (omega arith, omega arith); fits = omega arith }
+
+  formed_truth : (place : Place) (k : Option Kind) (b : Truth) → Formed (plain.term place k (plain.truth_value b))
+  formed_truth place k b old new before after n next v m few =
+      term_value old new before after v (λ x. Unit {0}) _ (λ x. kind.Bool) (kind_or_first k) m.same
+      (constant_forms old new v (truth b) (λ x. Unit {0}) (λ x. kind.Bool) m.part (λ x w. truth_fits b) (λ x w. refl)) (λ x sc w. tt) (λ x w. sym w)
+
+  formed_variable : (place : Place) (k : Option Kind) (r : Ref) → Formed (plain.term place k (plain.named r))
+  formed_variable place k r old new before after n next v m few =
+      variable_forms (counter_of scene (entity_number r.entity)) (held_at scene.held.now (entity_number r.entity)) (kind_or_first k) old new before after v m.same m.part
+
+  mutual
+    pub formed : (t : plain.Term) → Formed t
+    formed (plain.term place k (plain.number negative z)) = formed_number place k negative z
+    formed (plain.term place k (plain.truth_value b)) = formed_truth place k b
+    formed (plain.term place k (plain.named r)) = formed_variable place k r
+    formed (plain.term place k (plain.accessed r ts)) = formed_access place k r ts (all_formed ts)
+    formed (plain.term place k (plain.in_bank r bank at t)) = formed_bank place k r bank at t (formed t)
+    formed (plain.term place k (plain.applied o l r)) = formed_two place k o l r (formed l) (formed r)
+    formed (plain.term place k (plain.converted inner to)) = formed_one place k inner to (formed inner)
+
+    pub all_formed : (ts : plain.Terms) → AllFormed ts
+    all_formed plain.no_terms = formed_none
+    all_formed (plain.term_then t ts) = formed_then t ts (formed t) (all_formed ts)
+
+  -- as which element an access names
+  pub indices_formed : (ts : plain.Terms) (old new : Draft) (before after : Accesses) (n : ℕ) (aim : Aim) → MadeIndices scene lane current ts old new before after n aim → n + terms_accesses ts < 2 ^ 32
+      → FormsTerms scene lane current old new before after aim.indices (λ x. TermsSuit x scene lane n ts × AreNumbers ts) (count_of ts)
+  indices_formed ts old new before after n aim m few = all_formed ts old new before after n aim.number aim.indices m.indices few

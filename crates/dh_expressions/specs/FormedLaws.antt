@@ -1,10 +1,11 @@
 -- The operations that are put down for expressions are formed as a plan asks.
-use Rattle.std.specs.Prelude.{◌≡◌, ℕ, ◌<◌, true, List, length, slice_get, Option, Some}
+use Rattle.std.specs.Prelude.{◌≡◌, ℕ, ◌+◌, ◌<◌, ◌^◌, true, List, length, slice_get, Option, Some}
 use Rattle.dh_value.specs.declared.kinds.Kind.{Kind}
 use Rattle.dh_value.specs.declared.operators.Op.{Op}
 use Rattle.dh_value.specs.Words.{IsInteger}
 use Rattle.dh_tree.specs.Indices.{form_of}
-use Rattle.dh_tree.specs.PlainTrees.{Term}
+use Rattle.dh_tree.specs.PlainTrees.{Term, Terms}
+use Rattle.dh_meaning.specs.AccessNumbers.{term_accesses, terms_accesses}
 use Rattle.dh_meaning.specs.Effects.{kind_in}
 use Rattle.dh_code.specs.declared.places.Held.{Held}
 use Rattle.dh_plan.specs.Blocks.{kind_at}
@@ -13,8 +14,8 @@ use Rattle.dh_expressions.specs.declared.drafts.Draft.{Draft}
 use Rattle.dh_expressions.specs.declared.elements.Aim.{Aim}
 use Rattle.dh_expressions.specs.declared.scenes.Lane.{Lane}
 use Rattle.dh_expressions.specs.declared.scenes.Scene.{Scene}
-use Rattle.dh_expressions.specs.Formed.{AccessSuits, AimSuits, FormsPart, FormsTerm, FormsValue, HasKind, HeldSuits, OperandsSuit, ReadSuits}
-use Rattle.dh_expressions.specs.MadeTerms.{MadeRead, MadeWrite}
+use Rattle.dh_expressions.specs.Formed.{AccessSuits, AimSuits, AreNumbers, FormsPart, FormsTerm, FormsTerms, FormsValue, HasKind, HeldSuits, OperandsSuit, ReadSuits, TermSuits, TermsSuit, count_of}
+use Rattle.dh_expressions.specs.MadeTerms.{MadeIndices, MadeRead, MadeTerm, MadeWrite}
 use Rattle.dh_expressions.specs.MadeValues.{MadeConverted, MadeHeld, MadeIterator, MadeOperation, MadeShown}
 use Rattle.dh_expressions.specs.Reaching.{place_written}
 use Rattle.dh_expressions.specs.Shown.{is_kept, kind_written}
@@ -63,3 +64,23 @@ WritesForm =
     → MadeWrite scene lane access memory aim value old new before after
     → FormsPart scene lane current old new before after
     (λ x. (AimSuits x old memory aim × AccessSuits x scene lane memory aim.number (place_written access) (form_of access) true) × HasKind x old (kind_in x.plan.table memory) value)
+
+-- an expression whose accesses are numbered from n on, where these numbers are few
+abbrev pub TermsForm : Type 0
+TermsForm =
+    (scene : Scene) (lane : Lane) (current : List (Option ℕ)) (t : Term) (old new : Draft) (before after : Accesses) (n next v : ℕ)
+    → MadeTerm scene lane current t old new before after n next v → n + term_accesses t < 2 ^ 32
+    → FormsTerm scene lane current old new before after v (λ x. TermSuits x scene lane n t) (kind_written t)
+
+-- indices, all of integer kinds
+abbrev pub IndicesForm : Type 0
+IndicesForm =
+    (scene : Scene) (lane : Lane) (current : List (Option ℕ)) (ts : Terms) (old new : Draft) (before after : Accesses) (n : ℕ) (aim : Aim)
+    → MadeIndices scene lane current ts old new before after n aim → n + terms_accesses ts < 2 ^ 32
+    → FormsTerms scene lane current old new before after aim.indices (λ x. TermsSuit x scene lane n ts × AreNumbers ts) (count_of ts)
+
+-- the number behind an expression's accesses
+abbrev pub TermsAreNumbered : Type 0
+TermsAreNumbered =
+    (scene : Scene) (lane : Lane) (current : List (Option ℕ)) (t : Term) (old new : Draft) (before after : Accesses) (n next v : ℕ)
+    → MadeTerm scene lane current t old new before after n next v → n + term_accesses t < 2 ^ 32 → next ≡ n + term_accesses t

@@ -1,6 +1,6 @@
 //! Laws on the operations of expressions, stated on functions that do nothing.
 
-ghost use Rattle.dh_expressions.specs.FormedLaws.{ConversionsForm, HeldValuesForm, IteratorsForm, OperationsForm, ReadsForm, ShownVariablesForm, WritesForm};
+ghost use Rattle.dh_expressions.specs.FormedLaws.{ConversionsForm, HeldValuesForm, IndicesForm, IteratorsForm, OperationsForm, ReadsForm, ShownVariablesForm, TermsAreNumbered, TermsForm, WritesForm};
 
 /// Operations that are put down for values take earlier values of their block, of the kinds that they need, and give
 /// a value of the kind that is wanted.
@@ -17,4 +17,11 @@ pub fn values_are_formed()
 pub fn elements_are_formed()
     ensures reads { ReadsForm }
     ensures writes { WritesForm }
+{}
+
+/// So do those of whole expressions, which give values of the kinds that are written at them.
+pub fn expressions_are_formed()
+    ensures numbered { TermsAreNumbered }
+    ensures terms { TermsForm }
+    ensures indices { IndicesForm }
 {}
