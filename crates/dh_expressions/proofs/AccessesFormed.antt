@@ -1,12 +1,10 @@
 -- What is noted of accesses stays of the block: when operations are added, when an access gets its copies, and when
 -- a read has given a value.
-use Rattle.std.proofs.Common.{◌≡◌, ℕ, ◌+◌, ◌^◌, ◌<◌, ◌≤◌, ◌⊎◌, inl, inr, ⊎_elim, Bool, List, Some, None, refl, sym, ap, ◌∙◌, subst, arith, length}
-use Rattle.std.specs.Prelude.{[], ◌∷◌, ◌++◌, slice_get, Option}
+use Rattle.std.proofs.Common.{◌≡◌, ℕ, ◌+◌, ◌^◌, ◌<◌, ◌≤◌, ◌⊎◌, inl, inr, ⊎_elim, List, Some, None, refl, sym, ap, ◌∙◌, subst, arith, length}
+use Rattle.std.specs.Prelude.{[], slice_get, Option}
 use Rattle.std.proofs.lemmas.List.{length-append}
 use Rattle.dh_base.specs.declared.outcomes.FaultKind.{FaultKind}
-use Rattle.dh_base.specs.declared.outcomes.FaultKind.TheVariants.{OutOfRange}
 use Rattle.dh_base.specs.declared.places.Place.{Place}
-use Rattle.dh_tree.specs.PlainTrees.{TermForm}
 use Rattle.dh_meaning.specs.Effects.{kind_in}
 use Rattle.dh_plan.specs.declared.operations.Operation.{Operation}
 use Rattle.dh_expressions.specs.declared.accesses.Accesses.{Accesses}
@@ -16,18 +14,16 @@ use Rattle.dh_expressions.specs.declared.drafts.Draft.{Draft}
 use Rattle.dh_expressions.specs.declared.scenes.Around.{Around}
 use Rattle.dh_expressions.specs.declared.scenes.Lane.{Lane}
 use Rattle.dh_expressions.specs.declared.scenes.Scene.{Scene}
-use Rattle.dh_expressions.specs.Copying.{AddsAllCopies, AreNone, HasScopes, depends_at}
-use Rattle.dh_expressions.specs.Drafted.{Extends, Names}
-use Rattle.dh_expressions.specs.Formed.{Agrees, Block, Forms, HasKind, IsGuard, IsLaid, IsLaidCopy, IsNoted, IsScope, Site, Started}
-use Rattle.dh_expressions.specs.Levels.{leader_number}
+use Rattle.dh_expressions.specs.Copying.{AreNone, HasScopes}
+use Rattle.dh_expressions.specs.Drafted.{Extends}
+use Rattle.dh_expressions.specs.Formed.{Agrees, Block, Forms, HasKind, IsLaid, IsLaidCopy, IsNoted, IsScope, Site, Started}
 use Rattle.dh_expressions.specs.Noted.{Notes, given_in, given_to, noted_in, touched_in}
-use Rattle.dh_expressions.specs.Standings.{Standing, standing_at}
+use Rattle.dh_expressions.specs.Standings.{Standing}
 use Rattle.dh_expressions.specs.Touching.{AddsTouched, IsNew, TouchesAt}
 use Rattle.dh_expressions.proofs.AccessesKept.{named_extends, noted_given, noted_touched, place_noted}
 use Rattle.dh_expressions.proofs.CopiesFormed.{AreGuards, FormsCopies, copies_forms, guard_later}
-use Rattle.dh_expressions.proofs.ListPlaces.{place_within, set_long, some_same, there}
-use Rattle.dh_expressions.proofs.Pushing.{extends_again}
-use Rattle.dh_expressions.proofs.ValuesFormed.{agrees_before, faults_fewer, forms_again, forms_none, kind_later, started_later}
+use Rattle.dh_expressions.proofs.ListPlaces.{place_within, set_long, some_same}
+use Rattle.dh_expressions.proofs.ValuesFormed.{faults_fewer, forms_again, forms_none, kind_later, started_later}
 
 -- Operations are added.
 

@@ -1,22 +1,21 @@
 -- Copies that are formed: an access has its copies one after the other, each where it stands, and the guards that are
 -- joined for leaders are truths of the block.
-use Rattle.std.proofs.Common.{◌≡◌, ℕ, zero, suc, ◌+◌, ◌-◌, ◌^◌, ◌<◌, ◌≤◌, ◌⊎◌, inl, inr, ⊎_elim, List, Some, None, refl, sym, ap, ◌∙◌, subst, arith, length, add-one}
-use Rattle.std.specs.Prelude.{[], ◌∷◌, ◌++◌, min, slice_get, slice_index, Option}
-use Rattle.std.proofs.lemmas.Bool.{cases_eq}
+use Rattle.std.proofs.Common.{◌≡◌, ℕ, zero, suc, ◌+◌, ◌-◌, ◌^◌, ◌<◌, ◌≤◌, ◌⊎◌, inl, inr, List, Some, None, refl, sym, ap, ◌∙◌, subst, arith, length, add-one}
+use Rattle.std.specs.Prelude.{[], ◌∷◌, ◌++◌, slice_get, slice_index, Option}
 use Rattle.std.proofs.lemmas.List.{length-append}
 use Rattle.dh_value.specs.declared.kinds.Kind.TheVariants as kind
 use Rattle.dh_value.specs.declared.operators.Op.TheVariants as op
 use Rattle.dh_value.specs.Operations.{Suits}
-use Rattle.dh_events.specs.Tables.{numbered, with_number}
+use Rattle.dh_events.specs.Tables.{numbered}
 use Rattle.dh_expressions.specs.declared.copies.AccessAt.{AccessAt}
 use Rattle.dh_expressions.specs.declared.drafts.Draft.{Draft}
-use Rattle.dh_expressions.specs.Copying.{AddsCopies, AddsCopy, AddsEither, AddsLeader, AddsOther, AreNone, JoinsLeader, leaders_at, with_guard}
-use Rattle.dh_expressions.specs.Drafted.{Extends, Pushes}
+use Rattle.dh_expressions.specs.Copying.{AddsCopies, AddsCopy, AddsEither, AddsLeader, AddsOther, AreNone, JoinsLeader, leaders_at}
+use Rattle.dh_expressions.specs.Drafted.{Extends}
 use Rattle.dh_expressions.specs.Formed.{Agrees, Block, Forms, FormsValue, HasKind, IsGuard, Started}
 use Rattle.dh_expressions.specs.Numbers.{narrowed}
 use Rattle.dh_expressions.specs.Shown.{guard_of, guard_or_none}
 use Rattle.dh_expressions.proofs.CopiesMade.{counted_more, counted_still, guard_long, guard_place}
-use Rattle.dh_expressions.proofs.ListPlaces.{place_of_more, place_within, there}
+use Rattle.dh_expressions.proofs.ListPlaces.{place_of_more, there}
 use Rattle.dh_expressions.proofs.Pushing.{extends_again, extends_self}
 use Rattle.dh_expressions.proofs.ValuesFormed.{agrees_before, compute_forms, forms_again, forms_none, kind_later, started_later}
 

@@ -1,7 +1,7 @@
 -- Reads and writes that are formed: their indices are numbers of the block, their bank is one of the memory's, and
 -- what a read gave before is a value of the block.
-use Rattle.std.proofs.Common.{◌≡◌, ℕ, zero, suc, ◌+◌, ◌-◌, ◌^◌, ◌<◌, ◌≤◌, List, Some, None, refl, sym, ap, ◌∙◌, subst, arith, length}
-use Rattle.std.specs.Prelude.{Bool as Truth, true, false, [], ◌∷◌, ◌++◌, min, slice_get, Option}
+use Rattle.std.proofs.Common.{◌≡◌, ℕ, zero, suc, ◌^◌, ◌<◌, ◌≤◌, List, Some, None, refl, sym, ap, ◌∙◌, subst, arith, length}
+use Rattle.std.specs.Prelude.{Bool as Truth, true, false, [], ◌∷◌, ◌++◌, slice_get, Option}
 use Rattle.std.specs.List.{AllByRecursion}
 use Rattle.dh_value.specs.declared.kinds.Kind.{Kind}
 use Rattle.dh_value.specs.declared.kinds.Kind.TheVariants as kind
@@ -10,7 +10,6 @@ use Rattle.dh_tree.specs.Elements.{banks_of, dims_at}
 use Rattle.dh_tree.specs.Indices.{form_of}
 use Rattle.dh_tree.specs.PlainTrees as plain
 use Rattle.dh_meaning.specs.Effects.{kind_in}
-use Rattle.dh_plan.specs.declared.operations.OperationForm.{OperationForm}
 use Rattle.dh_plan.specs.declared.operations.OperationForm.TheVariants.{Probe, Read, Write}
 use Rattle.dh_plan.specs.Ordered.{IsBetween, one_or_none, reach_takes}
 use Rattle.dh_plan.specs.PlanKinds.{AreBanks, IsNumber, IsTruth, NamesElement, PicksBank, ReachSuits}
@@ -23,9 +22,9 @@ use Rattle.dh_expressions.specs.declared.scenes.Lane.{Lane}
 use Rattle.dh_expressions.specs.declared.scenes.Scene.{Scene}
 use Rattle.dh_expressions.specs.Drafted.{Extends, Pushes}
 use Rattle.dh_expressions.specs.Evaluated.{lane_guard, source_at}
-use Rattle.dh_expressions.specs.Formed.{AccessSuits, Agrees, AimSuits, Block, Forms, FormsPart, FormsTerm, HasKind, IsGuard, IsLaid, IsNoted, IsNumberThere, IsScope, ReadSuits, RowSuits, SharesMemory, Site, Started, kind_of}
+use Rattle.dh_expressions.specs.Formed.{AccessSuits, Agrees, AimSuits, Block, Forms, FormsPart, FormsTerm, HasKind, IsGuard, IsLaid, IsNoted, IsNumberThere, IsScope, ReadSuits, RowSuits, SharesMemory, Started}
 use Rattle.dh_expressions.specs.MadeTerms.{MadeRead, MadeWrite}
-use Rattle.dh_expressions.specs.Noted.{copied_in, copied_of, copy_or_alone, fault_in, fault_of_touched, given_by, given_in, touched_in}
+use Rattle.dh_expressions.specs.Noted.{copied_in, copied_of, copy_or_alone, fault_in, fault_of_touched, given_by, touched_in}
 use Rattle.dh_expressions.specs.Numbers.{narrowed}
 use Rattle.dh_expressions.specs.Reaching.{Finds, one_bank, place_written, reach_told}
 use Rattle.dh_expressions.specs.Standings.{Standing, standing_at}
@@ -34,7 +33,7 @@ use Rattle.dh_expressions.proofs.AccessesFormed.{FormsTouch, noted_later, noted_
 use Rattle.dh_expressions.proofs.CopiesFormed.{guard_later, guard_there}
 use Rattle.dh_expressions.proofs.ListPlaces.{there}
 use Rattle.dh_expressions.proofs.Pushing.{extends_again, extends_self, pushed_extends}
-use Rattle.dh_expressions.proofs.ValuesFormed.{agrees_before, faults_fewer, forms_again, forms_none, kind_later, kind_same, pushed_forms, pushed_kind, started_later}
+use Rattle.dh_expressions.proofs.ValuesFormed.{agrees_before, forms_again, forms_none, kind_later, kind_same, pushed_forms, pushed_kind, started_later}
 
 -- Lists of values.
 

@@ -1,5 +1,5 @@
 -- The values of iterators are formed: shifts and sums of values of one integer kind.
-use Rattle.std.proofs.Common.{◌≡◌, ℕ, zero, suc, ◌<◌, ◌⊎◌, inl, inr, false, Some, None, refl, sym, ap, ◌∙◌, subst, arith, length}
+use Rattle.std.proofs.Common.{◌≡◌, ℕ, zero, suc, ◌<◌, ◌⊎◌, inl, inr, false, Some, None, refl, sym, subst, arith, length}
 use Rattle.std.specs.Prelude.{Option}
 use Rattle.dh_value.specs.declared.kinds.Kind.{Kind}
 use Rattle.dh_value.specs.declared.kinds.Kind.TheVariants as kind
@@ -12,7 +12,7 @@ use Rattle.dh_plan.specs.Blocks.{kind_at}
 use Rattle.dh_expressions.specs.declared.drafts.Draft.{Draft}
 use Rattle.dh_expressions.specs.Drafted.{Extends}
 use Rattle.dh_expressions.specs.Formed.{Agrees, Block, Forms, FormsValue, HasKind, Started}
-use Rattle.dh_expressions.specs.MadeValues.{IsThere, MadeAddend, MadeBit, MadeBits, MadeIterator, MadeMultiple, MadeNumber, MadeOffset, MadeShift, MadeShifted, MadeSum, MadeTotal, MadeTurns}
+use Rattle.dh_expressions.specs.MadeValues.{IsThere, MadeAddend, MadeBit, MadeBits, MadeIterator, MadeMultiple, MadeOffset, MadeShift, MadeShifted, MadeSum, MadeTotal, MadeTurns}
 use Rattle.dh_expressions.proofs.Pushing.{extends_again, extends_self}
 use Rattle.dh_expressions.proofs.ValuesFormed.{agrees_before, compute_forms, convert_forms, forms_again, forms_none, forms_then, forms_there, forms_where, kind_later, number_forms, old_forms, started_later}
 

@@ -1,5 +1,5 @@
 -- Operations of an expression put together from those of its parts, and indices one after the other.
-use Rattle.std.proofs.Common.{◌≡◌, ℕ, suc, ◌+◌, ◌-◌, ◌^◌, ◌<◌, drop, get_or, map, List, [], ◌∷◌, ◌++◌, Some, refl, sym, ap, ◌∙◌, subst, length, append_assoc}
+use Rattle.std.proofs.Common.{◌≡◌, ℕ, suc, ◌<◌, drop, get_or, map, List, [], ◌∷◌, ◌++◌, refl, sym, ap, ◌∙◌, subst, length, append_assoc}
 use Rattle.std.specs.Prelude.{Option}
 use Rattle.std.proofs.Math.Seq.{drop-cons}
 use Rattle.std.proofs.lemmas.List.{append-nil}
@@ -15,7 +15,7 @@ use Rattle.dh_expressions.specs.declared.scenes.Lane.{Lane}
 use Rattle.dh_expressions.specs.declared.scenes.Scene.{Scene}
 use Rattle.dh_expressions.specs.declared.terms.Valued.{Valued}
 use Rattle.dh_expressions.specs.Evaluated.{known_in}
-use Rattle.dh_expressions.specs.MadeTerms.{MadeByIndices, MadeByRow, MadeForm, MadeIndices, MadeNext, MadeNone, MadeRead, MadeRow, MadeTerm, MadeTerms, MadeThen}
+use Rattle.dh_expressions.specs.MadeTerms.{MadeForm, MadeIndices, MadeNext, MadeRead, MadeRow, MadeTerm, MadeTerms}
 
 module _ (scene : Scene) (lane : Lane) (current : List (Option ℕ)) where
   -- a form as the code has it

@@ -1,12 +1,11 @@
 -- Expressions are formed: by recursion on the expression, each part behind those before it.
-use Rattle.std.proofs.Common.{◌≡◌, ℕ, suc, ◌+◌, ◌-◌, ◌^◌, ◌<◌, List, Some, None, refl, sym, ap, ◌∙◌, subst, arith, length}
-use Rattle.std.specs.Prelude.{Bool as Truth, true, false, [], ◌∷◌, min, slice_get, Option}
+use Rattle.std.proofs.Common.{◌≡◌, ℕ, suc, ◌+◌, ◌^◌, ◌<◌, List, Some, None, refl, sym, ◌∙◌, subst, arith, length}
+use Rattle.std.specs.Prelude.{Bool as Truth, true, false, [], Option}
 use Rattle.std.specs.List.{AllByRecursion}
 use Rattle.dh_base.specs.declared.places.Place.{Place}
 use Rattle.dh_value.specs.declared.kinds.Kind.{Kind}
 use Rattle.dh_value.specs.declared.kinds.Kind.TheVariants as kind
 use Rattle.dh_value.specs.declared.operators.Op.{Op}
-use Rattle.dh_value.specs.declared.words.Word.{Word}
 use Rattle.dh_value.specs.Words.{IsInteger, IsKind, IsWord}
 use Rattle.dh_value.specs.Operations.{truth}
 use Rattle.dh_tree.specs.declared.trees.counters.Counter.{Counter}
@@ -18,24 +17,23 @@ use Rattle.dh_meaning.specs.Bindings.{kind_or_first}
 use Rattle.dh_meaning.specs.CoreOf.{entity_number, memory_of}
 use Rattle.dh_code.specs.declared.places.Held.{Held}
 use Rattle.dh_code.specs.Slots.{held_at}
-use Rattle.dh_plan.specs.declared.operations.OperationForm.TheVariants.{Constant}
 use Rattle.dh_plan.specs.Blocks.{kind_at}
 use Rattle.dh_expressions.specs.declared.accesses.Accesses.{Accesses}
 use Rattle.dh_expressions.specs.declared.drafts.Draft.{Draft}
 use Rattle.dh_expressions.specs.declared.elements.Aim.{Aim}
 use Rattle.dh_expressions.specs.declared.scenes.Lane.{Lane}
 use Rattle.dh_expressions.specs.declared.scenes.Scene.{Scene}
-use Rattle.dh_expressions.specs.Drafted.{Extends, Pushes}
+use Rattle.dh_expressions.specs.Drafted.{Extends}
 use Rattle.dh_expressions.specs.Evaluated.{counter_of, known_in}
-use Rattle.dh_expressions.specs.Formed.{Agrees, AimSuits, AreNumbers, Block, Forms, FormsPart, FormsTerm, FormsTerms, FormsValue, HasKind, HasNumbers, IsNoted, IsNumberThere, IsScope, OperandsSuit, ReadSuits, RowSuits, Started, TermSuits, TermsSuit, VariableSuits, count_of}
-use Rattle.dh_expressions.specs.MadeTerms.{MadeAlone, MadeByIndices, MadeByRow, MadeForm, MadeIndices, MadeNone, MadeOfOne, MadeOfTwo, MadeTerm, MadeTerms, MadeThen, Making, number_behind}
-use Rattle.dh_expressions.specs.MadeValues.{MadeBy, MadeNumber, MadeVariable}
+use Rattle.dh_expressions.specs.Formed.{Agrees, AimSuits, AreNumbers, Block, FormsPart, FormsTerm, FormsTerms, FormsValue, HasKind, HasNumbers, IsNoted, IsNumberThere, IsScope, OperandsSuit, ReadSuits, RowSuits, Started, TermSuits, TermsSuit, VariableSuits, count_of}
+use Rattle.dh_expressions.specs.MadeTerms.{MadeIndices, MadeTerm, MadeTerms, number_behind}
+use Rattle.dh_expressions.specs.MadeValues.{MadeBy}
 use Rattle.dh_expressions.specs.Shown.{kind_written, register_at}
 use Rattle.dh_expressions.proofs.AccessesFormed.{noted_later, scope_later}
-use Rattle.dh_expressions.proofs.ElementsFormed.{WhereRead, number_later, read_forms}
+use Rattle.dh_expressions.proofs.ElementsFormed.{WhereRead, read_forms}
 use Rattle.dh_expressions.proofs.IteratorsFormed.{iterator_forms}
 use Rattle.dh_expressions.proofs.Pushing.{extends_again, extends_self}
-use Rattle.dh_expressions.proofs.ValuesFormed.{ShowsThere, agrees_before, constant_forms, converted_forms, forms_again, forms_none, forms_where, kind_later, kind_same, number_forms, operation_forms, shown_forms, started_later}
+use Rattle.dh_expressions.proofs.ValuesFormed.{ShowsThere, agrees_before, constant_forms, converted_forms, forms_again, forms_none, kind_later, kind_same, number_forms, operation_forms, shown_forms, started_later}
 
 -- Numbers of accesses.
 

@@ -10,7 +10,6 @@ use Rattle.dh_value.specs.declared.operators.Op.{Op}
 use Rattle.dh_value.specs.Words.{IsInteger, IsKind, IsWidth}
 use Rattle.dh_value.specs.Operations.{Suits, result_of}
 use Rattle.dh_tree.specs.declared.trees.counters.Counter.{Counter}
-use Rattle.dh_tree.specs.declared.trees.expressions.Ref.{Ref}
 use Rattle.dh_tree.specs.Elements.{banks_of, dims_at}
 use Rattle.dh_tree.specs.PlainTrees as plain
 use Rattle.dh_meaning.specs.AccessNumbers.{term_accesses, terms_accesses}
@@ -22,7 +21,7 @@ use Rattle.dh_code.specs.declared.places.Held.{Held}
 use Rattle.dh_code.specs.Slots.{held_at}
 use Rattle.dh_plan.specs.declared.operations.Operation.{Operation}
 use Rattle.dh_plan.specs.Blocks.{kind_at}
-use Rattle.dh_plan.specs.Ordered.{TakesEarlier, one_or_none}
+use Rattle.dh_plan.specs.Ordered.{TakesEarlier}
 use Rattle.dh_plan.specs.PlainPlans.{PlainPlan}
 use Rattle.dh_plan.specs.PlanKinds.{OperationSuits, form_kind, kind_of_value}
 use Rattle.dh_expressions.specs.declared.accesses.Accesses.{Accesses}
