@@ -166,7 +166,7 @@ module _ (x : Block) where
     found_kind e copy (Some n) v h a s so = subst (λ (m : ℕ). HasKind x e (kind_in x.plan.table memory) m) (sym h.1) (subst (λ (k : Draft). HasKind x k (kind_in x.plan.table memory) n) (sym h.0) (so n refl))
     found_kind e copy None v h a s so = kind_same x e _ (kind_in x.plan.table memory) v (ap (λ m. kind_in x.plan.table m) narrow_is) (pushed_kind d e v copy.guard _ h x a s)
 
-found_extends : (d e : Draft) (memory : ℕ) (aim : Aim) (copy : AccessAt) (found : Option ℕ) (v : ℕ) → Finds d e memory aim copy found v → Extends d e
+pub found_extends : (d e : Draft) (memory : ℕ) (aim : Aim) (copy : AccessAt) (found : Option ℕ) (v : ℕ) → Finds d e memory aim copy found v → Extends d e
 found_extends d e memory aim copy (Some n) v h = subst (λ (k : Draft). Extends d k) (sym h.0) (extends_self d)
 found_extends d e memory aim copy None v h = pushed_extends d e v copy.guard _ h
 

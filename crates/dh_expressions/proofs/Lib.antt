@@ -17,3 +17,7 @@ pub mod CopiesFormed
 pub mod AccessesFormed
 pub mod ElementsFormed
 pub mod TermsFormed
+pub mod PartsCounted
+pub mod ValuesCounted
+pub mod ReadsCounted
+pub mod TermsCounted

@@ -18,3 +18,5 @@ pub mod MadeTerms
 -- what a plan asks of them
 pub mod Formed
 pub mod FormedLaws
+pub mod Counted
+pub mod CountedLaws

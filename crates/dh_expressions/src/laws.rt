@@ -1,6 +1,7 @@
 //! Laws on the operations of expressions, stated on functions that do nothing.
 
 ghost use Rattle.dh_expressions.specs.FormedLaws.{ConversionsForm, HeldValuesForm, IndicesForm, IteratorsForm, OperationsForm, ReadsForm, ShownVariablesForm, TermsAreNumbered, TermsForm, WritesForm};
+ghost use Rattle.dh_expressions.specs.CountedLaws.{HeldIsPure, IndicesCount, IsPure, TermsCount, WritesCount};
 
 /// Operations that are put down for values take earlier values of their block, of the kinds that they need, and give
 /// a value of the kind that is wanted.
@@ -24,4 +25,18 @@ pub fn expressions_are_formed()
     ensures numbered { TermsAreNumbered }
     ensures terms { TermsForm }
     ensures indices { IndicesForm }
+{}
+
+/// Values count no multiplication but that of an operator; they access no memory, see no register, and set none.
+pub fn values_are_counted()
+    ensures operations { IsPure }
+    ensures held { HeldIsPure }
+{}
+
+/// At each path an expression has one probe of each of its accesses, and one read where that path leads; it has no
+/// more multiplications than it has `*`, and sees registers of variables that it mentions alone. A write is one use.
+pub fn expressions_are_counted()
+    ensures terms { TermsCount }
+    ensures indices { IndicesCount }
+    ensures writes { WritesCount }
 {}
