@@ -21,3 +21,4 @@ pub mod PartsCounted
 pub mod ValuesCounted
 pub mod ReadsCounted
 pub mod TermsCounted
+pub mod ValuesTimed

@@ -20,3 +20,5 @@ pub mod Formed
 pub mod FormedLaws
 pub mod Counted
 pub mod CountedLaws
+pub mod Timed
+pub mod TimedLaws

@@ -2,6 +2,7 @@
 
 ghost use Rattle.dh_expressions.specs.FormedLaws.{ConversionsForm, HeldValuesForm, IndicesForm, IteratorsForm, OperationsForm, ReadsForm, ShownVariablesForm, TermsAreNumbered, TermsForm, WritesForm};
 ghost use Rattle.dh_expressions.specs.CountedLaws.{HeldIsPure, IndicesCount, IsPure, TermsCount, WritesCount};
+ghost use Rattle.dh_expressions.specs.TimedLaws.{ConvertedInTime, HeldInTime, OperationsInTime, ShownInTime};
 
 /// Operations that are put down for values take earlier values of their block, of the kinds that they need, and give
 /// a value of the kind that is wanted.
@@ -39,4 +40,12 @@ pub fn expressions_are_counted()
     ensures terms { TermsCount }
     ensures indices { IndicesCount }
     ensures writes { WritesCount }
+{}
+
+/// Values are there when all is that they are made of.
+pub fn values_are_in_time()
+    ensures operations { OperationsInTime }
+    ensures conversions { ConvertedInTime }
+    ensures held { HeldInTime }
+    ensures shown { ShownInTime }
 {}
