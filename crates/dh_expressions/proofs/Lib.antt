@@ -22,3 +22,4 @@ pub mod ValuesCounted
 pub mod ReadsCounted
 pub mod TermsCounted
 pub mod ValuesTimed
+pub mod LevelsBehind

@@ -121,3 +121,15 @@ pub record TimesTerms (c : Clocks) (old new : Draft) (after : Accesses) (made : 
   pub within : Within c old new made.levels.most
   pub at : greatest_of (map (clock_of c) values) ≡ made.level
   pub noted : NotedInTime c after
+
+-- What the levels behind an expression are to those before it: variables have the same, and of reads those of its own
+-- accesses alone are others. None is above the greatest; and the greatest is no more than it was, or than one of those
+-- reads.
+pub record LevelsThen (n count : ℕ) (l : Levels) (made : Leveled) : Type 0 where
+  pub variables : (entity : ℕ) → made.levels.variables entity ≡ l.variables entity
+  pub before_them : (m : ℕ) → m < n → made.levels.reads m ≡ l.reads m
+  pub behind_them : (m : ℕ) → n + count ≤ m → made.levels.reads m ≡ l.reads m
+  pub more : l.most ≤ made.levels.most
+  pub bounded : AreBounded l → AreBounded made.levels
+  pub level_few : AreBounded l → made.level ≤ made.levels.most
+  pub least : (k : ℕ) → l.most ≤ k → ((m : ℕ) → n ≤ m → m < n + count → made.levels.reads m ≤ k) → made.levels.most ≤ k

@@ -2,7 +2,7 @@
 
 ghost use Rattle.dh_expressions.specs.FormedLaws.{ConversionsForm, HeldValuesForm, IndicesForm, IteratorsForm, OperationsForm, ReadsForm, ShownVariablesForm, TermsAreNumbered, TermsForm, WritesForm};
 ghost use Rattle.dh_expressions.specs.CountedLaws.{HeldIsPure, IndicesCount, IsPure, TermsCount, WritesCount};
-ghost use Rattle.dh_expressions.specs.TimedLaws.{ConvertedInTime, HeldInTime, OperationsInTime, ShownInTime};
+ghost use Rattle.dh_expressions.specs.TimedLaws.{AllLevelsGoOn, ConvertedInTime, HeldInTime, LevelsGoOn, OperationsInTime, ShownInTime};
 
 /// Operations that are put down for values take earlier values of their block, of the kinds that they need, and give
 /// a value of the kind that is wanted.
@@ -48,4 +48,10 @@ pub fn values_are_in_time()
     ensures conversions { ConvertedInTime }
     ensures held { HeldInTime }
     ensures shown { ShownInTime }
+{}
+
+/// The levels behind an expression are those before it but for its own reads.
+pub fn levels_go_on()
+    ensures terms { LevelsGoOn }
+    ensures indices { AllLevelsGoOn }
 {}
