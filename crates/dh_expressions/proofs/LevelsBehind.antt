@@ -60,6 +60,18 @@ module _ (shared : ℕ → Option ℕ) (outer : ℕ) where
   pub read_shares : (r : Reach) (i : Leveled) (earlier : ℕ) → shared r.number ≡ Some earlier → read_leveled shared outer r i ≡ read_at r (i.levels.reads earlier) i.levels
   read_shares r i earlier e = ap (λ (q : Option ℕ). read_leveled (λ n. q) outer r i) e
 
+-- and the greatest is no less behind it
+module _ (shared : ℕ → Option ℕ) (outer : ℕ) where
+  pub read_grows : (r : Reach) (i : Leveled) → i.levels.most ≤ (read_leveled shared outer r i).levels.most
+  read_grows r i = by (shared r.number) refl
+    where
+      grown : (x y : ℕ) → x ≤ max x y
+      grown x y = omega arith
+
+      by : (o : Option ℕ) → shared r.number ≡ o → i.levels.most ≤ (read_leveled shared outer r i).levels.most
+      by None e = subst (λ (w : Leveled). i.levels.most ≤ w.levels.most) (sym (read_alone shared outer r i e)) (grown i.levels.most (suc (max i.level outer)))
+      by (Some earlier) e = subst (λ (w : Leveled). i.levels.most ≤ w.levels.most) (sym (read_shares shared outer r i earlier e)) (grown i.levels.most (i.levels.reads earlier))
+
 -- One value of a function changed.
 
 pub value_here : (f : ℕ → ℕ) (key value : ℕ) → with_value f key value key ≡ value
@@ -88,6 +100,15 @@ value_few f key value n k few small = by (n == key)
     by : (t : Truth) → (if t then value else f n) ≤ k
     by true = small
     by false = few
+
+-- a read changes the level of no other
+module _ (shared : ℕ → Option ℕ) (outer : ℕ) where
+  pub read_keeps : (r : Reach) (i : Leveled) (m : ℕ) → (m ≡ r.number → ⊥) → (read_leveled shared outer r i).levels.reads m ≡ i.levels.reads m
+  read_keeps r i m other = by (shared r.number) refl
+    where
+      by : (o : Option ℕ) → shared r.number ≡ o → (read_leveled shared outer r i).levels.reads m ≡ i.levels.reads m
+      by None e = ap (λ (w : Leveled). w.levels.reads m) (read_alone shared outer r i e) ∙ value_other i.levels.reads r.number (suc (max i.level outer)) m other
+      by (Some earlier) e = ap (λ (w : Leveled). w.levels.reads m) (read_shares shared outer r i earlier e) ∙ value_other i.levels.reads r.number (i.levels.reads earlier) m other
 
 -- Parts.
 

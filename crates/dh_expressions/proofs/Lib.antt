@@ -23,3 +23,5 @@ pub mod ReadsCounted
 pub mod TermsCounted
 pub mod ValuesTimed
 pub mod LevelsBehind
+pub mod ReadsTimed
+pub mod TermsTimed

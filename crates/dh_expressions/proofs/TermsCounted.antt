@@ -75,7 +75,7 @@ operation_products op.Ne j k l r = both_products 0 (wider j k) l r
 both_mention : (e : ℕ) (k : Kind) (l r : CoreTerm) → (term_mentions e l || term_mentions e r) ≡ (term_mentions e (extended k l) || term_mentions e (extended k r))
 both_mention e k l r = ap (λ b. b || term_mentions e r) (extended_mentions e k l) ∙ ap (λ b. term_mentions e (extended k l) || b) (extended_mentions e k r)
 
-operation_mentions : (e : ℕ) (o : Op) (j k : Kind) (l r : CoreTerm) → (term_mentions e l || term_mentions e r) ≡ term_mentions e (operation_of o j k l r)
+pub operation_mentions : (e : ℕ) (o : Op) (j k : Kind) (l r : CoreTerm) → (term_mentions e l || term_mentions e r) ≡ term_mentions e (operation_of o j k l r)
 operation_mentions e op.Shl j k l r = refl
 operation_mentions e op.Shr j k l r = refl
 operation_mentions e op.Both j k l r = refl
@@ -93,15 +93,15 @@ operation_mentions e op.Ge j k l r = both_mention e (wider j k) l r
 operation_mentions e op.Eq j k l r = both_mention e (wider j k) l r
 operation_mentions e op.Ne j k l r = both_mention e (wider j k) l r
 
-left_of : (a b : Truth) → a ≡ true → (a || b) ≡ true
+pub left_of : (a b : Truth) → a ≡ true → (a || b) ≡ true
 left_of true b e = refl
 left_of false b e = absurd (cc)
 
-right_of : (a b : Truth) → b ≡ true → (a || b) ≡ true
+pub right_of : (a b : Truth) → b ≡ true → (a || b) ≡ true
 right_of true b e = refl
 right_of false b e = e
 
-itself : (e : ℕ) → (e == e) ≡ true
+pub itself : (e : ℕ) → (e == e) ≡ true
 itself e = grind (arith, nat_tests)
 
 -- Operations of a part are operations of the whole.
@@ -173,7 +173,7 @@ module _ (scene : Scene) (lane : Lane) where
 
 module _ (x : Block) (scene : Scene) (lane : Lane) (current : List (Option ℕ)) where
   -- what stands behind a part
-  stands_behind : (old middle new : Draft) (before between : Accesses) (n a b : ℕ) (Where : Block → Type 0) → FormsPart scene lane current old middle before between Where → Where x → Agrees x middle → Agrees x new
+  pub stands_behind : (old middle new : Draft) (before between : Accesses) (n a b : ℕ) (Where : Block → Type 0) → FormsPart scene lane current old middle before between Where → Where x → Agrees x middle → Agrees x new
       → HaveGiven lane before between n a → Stands x old new scene lane current before n (a + b) → Stands x middle new scene lane current between (n + a) b
   stands_behind old middle new before between n a b Where f w at_middle at g s = record {
     agrees = at;
@@ -183,7 +183,7 @@ module _ (x : Block) (scene : Scene) (lane : Lane) (current : List (Option ℕ))
     next = next_second scene lane before between n a b s.next g;
   }
 
-  stands_first : (old middle new : Draft) (before : Accesses) (n a b : ℕ) → Agrees x middle → Stands x old new scene lane current before n (a + b) → Stands x old middle scene lane current before n a
+  pub stands_first : (old middle new : Draft) (before : Accesses) (n a b : ℕ) → Agrees x middle → Stands x old new scene lane current before n (a + b) → Stands x old middle scene lane current before n a
   stands_first old middle new before n a b at s = record { agrees = at; started = s.started; scope = s.scope; noted = s.noted; next = next_first scene lane before n a b s.next }
 
   abbrev Counted : plain.Term → Type 0
@@ -226,10 +226,10 @@ module _ (x : Block) (scene : Scene) (lane : Lane) (current : List (Option ℕ))
   part_wider M N n a m b more from within o h =
       form_wider _ _ _ _ _ _ _ _ (λ register k. mention_wider M N more register k) (λ r k. access_wider x n a m b from within r k) (λ r k. use_wider x n a m b from within lane.number r k) (λ r k. k) o h
 
-  abbrev Mentions : (n : ℕ) → plain.Term → ℕ → Type 0
+  abbrev pub Mentions : (n : ℕ) → plain.Term → ℕ → Type 0
   Mentions n t entity = term_mentions entity (core_term (known_in scene) n t) ≡ true
 
-  abbrev AllMention : (n : ℕ) → plain.Terms → ℕ → Type 0
+  abbrev pub AllMention : (n : ℕ) → plain.Terms → ℕ → Type 0
   AllMention n ts entity = terms_mention entity (core_terms (known_in scene) n ts) ≡ true
 
   counted_none : AllCounted plain.no_terms

@@ -111,7 +111,7 @@ one_greatest n = omega arith
 two_greatest : (m n : ℕ) → max m (max n 0) ≡ max m n
 two_greatest m n = omega arith
 
-number_timed : (k : Kind) (negative : Truth) (n : ℕ) (old new : Draft) (v : ℕ) → MadeNumber k negative n old new v → TimesValue old new v (λ c. Unit {0}) (λ c. 0)
+pub number_timed : (k : Kind) (negative : Truth) (n : ℕ) (old new : Draft) (v : ℕ) → MadeNumber k negative n old new v → TimesValue old new v (λ c. Unit {0}) (λ c. 0)
 number_timed k negative n old new v m = timed_pushed old new v (Constant m.word) (λ c. Unit {0}) (λ c. 0) m.pushes refl (λ c w. refl)
 
 pub word_timed : (old new : Draft) (v : ℕ) (word : Word) → Pushes old new v None (Constant word) → TimesValue old new v (λ c. Unit {0}) (λ c. 0)

@@ -12,19 +12,21 @@ use Rattle.dh_code.specs.declared.places.Held.{Held}
 use Rattle.dh_code.specs.Slots.{held_at}
 use Rattle.dh_plan.specs.declared.operations.Operation.{Operation}
 use Rattle.dh_plan.specs.LegalSchedules.{greatest_of, there_at}
-use Rattle.dh_plan.specs.Ordered.{operation_takes}
+use Rattle.dh_plan.specs.Ordered.{operation_takes, reach_takes}
 use Rattle.dh_plan.specs.PlanPhases.{term_mentions, terms_mention}
 use Rattle.dh_expressions.specs.declared.accesses.Accesses.{Accesses}
 use Rattle.dh_expressions.specs.declared.accesses.Touched.{Touched}
 use Rattle.dh_expressions.specs.declared.copies.AccessAt.{AccessAt}
 use Rattle.dh_expressions.specs.declared.drafts.Draft.{Draft}
+use Rattle.dh_expressions.specs.declared.elements.Aim.{Aim}
 use Rattle.dh_expressions.specs.declared.scenes.Lane.{Lane}
 use Rattle.dh_expressions.specs.declared.scenes.Scene.{Scene}
 use Rattle.dh_expressions.specs.Counted.{Stands}
 use Rattle.dh_expressions.specs.Drafted.{Extends}
 use Rattle.dh_expressions.specs.Evaluated.{counter_of, known_in}
-use Rattle.dh_expressions.specs.Formed.{AreNumbers, Block, Site, TermSuits, TermsSuit}
+use Rattle.dh_expressions.specs.Formed.{AreNumbers, Block, IsScope, Site, TermSuits, TermsSuit}
 use Rattle.dh_expressions.specs.Noted.{given_in, touched_in}
+use Rattle.dh_expressions.specs.Reaching.{reach_told}
 use Rattle.dh_expressions.specs.Shown.{register_at}
 
 -- a block with the clock at which each of its values is there; the level of each of its reads, and that of the tests
@@ -133,3 +135,24 @@ pub record LevelsThen (n count : ℕ) (l : Levels) (made : Leveled) : Type 0 whe
   pub bounded : AreBounded l → AreBounded made.levels
   pub level_few : AreBounded l → made.level ≤ made.levels.most
   pub least : (k : ℕ) → l.most ≤ k → ((m : ℕ) → n ≤ m → m < n + count → made.levels.reads m ≤ k) → made.levels.most ≤ k
+
+-- the clock at which the values are there that name an element
+abbrev pub aim_clock : Clocks → (memory : ℕ) → Aim → ℕ
+aim_clock c memory aim = greatest_of (map (clock_of c) (reach_takes (reach_told memory aim None)))
+
+-- the writing of a value of a level at a path, under tests of this level
+pub record StandsToWrite (c : Clocks) (old new : Draft) (scene : Scene) (lane : Lane) (current : List (Option ℕ)) (before : Accesses) (memory : ℕ) (aim : Aim) (outer level value most : ℕ) : Type 0 where
+  pub started : StartedInTime c old
+  pub scope : IsScope c.block old scene lane current
+  pub agree : AgreeInTime c new
+  pub guards : (path : ℕ) (guard : Option ℕ) → slice_get lane.around.guards.now path ≡ Some guard → GuardAt c outer guard
+  pub noted : NotedInTime c before
+  pub own : c.outer aim.number ≡ outer
+  pub at : HasClock c level value
+  pub outer_few : outer ≤ most
+  pub aim_few : aim_clock c memory aim ≤ most
+  pub level_few : level ≤ most
+
+pub record TimesWrite (c : Clocks) (old new : Draft) (after : Accesses) (most : ℕ) : Type 0 where
+  pub within : Within c old new most
+  pub noted : NotedInTime c after

@@ -2,7 +2,7 @@
 
 ghost use Rattle.dh_expressions.specs.FormedLaws.{ConversionsForm, HeldValuesForm, IndicesForm, IteratorsForm, OperationsForm, ReadsForm, ShownVariablesForm, TermsAreNumbered, TermsForm, WritesForm};
 ghost use Rattle.dh_expressions.specs.CountedLaws.{HeldIsPure, IndicesCount, IsPure, TermsCount, WritesCount};
-ghost use Rattle.dh_expressions.specs.TimedLaws.{AllLevelsGoOn, ConvertedInTime, HeldInTime, LevelsGoOn, OperationsInTime, ShownInTime};
+ghost use Rattle.dh_expressions.specs.TimedLaws.{AllLevelsGoOn, ConvertedInTime, HeldInTime, IndicesInTime, LevelsGoOn, OperationsInTime, ShownInTime, TermsInTime, WritesInTime};
 
 /// Operations that are put down for values take earlier values of their block, of the kinds that they need, and give
 /// a value of the kind that is wanted.
@@ -54,4 +54,11 @@ pub fn values_are_in_time()
 pub fn levels_go_on()
     ensures terms { LevelsGoOn }
     ensures indices { AllLevelsGoOn }
+{}
+
+/// An expression's value is there at the clock of its level, and no operation of it later than the greatest level.
+pub fn expressions_are_in_time()
+    ensures terms { TermsInTime }
+    ensures indices { IndicesInTime }
+    ensures writes { WritesInTime }
 {}
