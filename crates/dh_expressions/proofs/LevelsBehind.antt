@@ -1,5 +1,5 @@
 -- Levels behind an expression, by recursion on it.
-use Rattle.std.proofs.Common.{◌≡◌, ℕ, zero, suc, ◌+◌, ◌<◌, ◌≤◌, ◌⊎◌, inl, inr, true, false, List, Some, None, refl, sym, ap, ◌∙◌, subst, arith, add-one}
+use Rattle.std.proofs.Common.{◌≡◌, ℕ, suc, ◌+◌, ◌<◌, ◌≤◌, true, false, Some, None, refl, sym, ap, ◌∙◌, subst, arith}
 use Rattle.std.specs.Prelude.{Bool as Truth, ◌==◌, if◌then◌else◌, max, Option}
 use Rattle.std.proofs.lemmas.Bool.Decides.{nat_tests}
 use Rattle.dh_base.specs.declared.places.Place.{Place}
@@ -7,14 +7,13 @@ use Rattle.dh_value.specs.declared.kinds.Kind.{Kind}
 use Rattle.dh_value.specs.declared.kinds.Kind.TheVariants as kind
 use Rattle.dh_value.specs.declared.operators.Op.{Op}
 use Rattle.dh_value.specs.declared.operators.Op.TheVariants as op
-use Rattle.dh_tree.specs.declared.trees.expressions.Ref.{Ref}
 use Rattle.dh_tree.specs.Meaning.{wider}
 use Rattle.dh_tree.specs.PlainTrees as plain
 use Rattle.dh_meaning.specs.AccessNumbers.{term_accesses, terms_accesses}
 use Rattle.dh_meaning.specs.Bindings.{kind_found}
 use Rattle.dh_meaning.specs.Core.{CoreTerm, Reach}
-use Rattle.dh_meaning.specs.CoreOf.{core_term, core_terms, extended, operation_of, reach_of}
-use Rattle.dh_meaning.specs.Levels.{Leveled, Levels, greatest, read_at, read_leveled, term_leveled, terms_leveled, with_value}
+use Rattle.dh_meaning.specs.CoreOf.{core_term, extended, operation_of, reach_of}
+use Rattle.dh_meaning.specs.Levels.{Leveled, Levels, greatest, read_at, read_leveled, term_leveled, with_value}
 use Rattle.dh_expressions.specs.declared.scenes.Scene.{Scene}
 use Rattle.dh_expressions.specs.Evaluated.{known_in}
 use Rattle.dh_expressions.specs.Timed.{AreBounded, LevelsThen, all_leveled, leveled}

@@ -1,22 +1,15 @@
 -- Counts of operations, one part behind the other: each count of a whole is the sum of those of its parts.
-use Rattle.std.proofs.Common.{◌≡◌, ℕ, zero, suc, ◌+◌, ◌<◌, ◌≤◌, true, false, List, Some, None, refl, sym, ap, ◌∙◌, subst, arith, append_assoc}
+use Rattle.std.proofs.Common.{◌≡◌, ℕ, suc, ◌+◌, ◌≤◌, true, false, List, refl, sym, ap, ◌∙◌, arith, append_assoc}
 use Rattle.std.specs.Prelude.{Bool as Truth, [], ◌∷◌, ◌++◌, ◌==◌, ◌&&◌, nat_le, nat_lt, if◌then◌else◌, Option}
-use Rattle.std.specs.List.{AllByRecursion}
 use Rattle.std.proofs.lemmas.Bool.Decides.{nat_tests}
 use Rattle.std.proofs.lemmas.List.{append-nil}
-use Rattle.dh_value.specs.declared.kinds.Kind.{Kind}
-use Rattle.dh_value.specs.declared.kinds.Kind.TheVariants as kind
-use Rattle.dh_value.specs.declared.operators.Op.{Op}
-use Rattle.dh_value.specs.declared.operators.Op.TheVariants as op
 use Rattle.dh_plan.specs.declared.operations.Operation.{Operation}
 use Rattle.dh_plan.specs.declared.operations.OperationForm.{OperationForm}
-use Rattle.dh_plan.specs.declared.operations.OperationForm.TheVariants.{Constant, Old, Compute, Convert, Select, Check, Probe, Read, Write, Set}
-use Rattle.dh_plan.specs.declared.operations.Reach.{Reach}
-use Rattle.dh_plan.specs.DoneProgram.{block_products, counts_probe, counts_use, operations_using, probes_among, product_of}
+use Rattle.dh_plan.specs.DoneProgram.{block_products, counts_probe, counts_use, operations_using, probes_among}
 use Rattle.dh_plan.specs.LegalSchedules.{is_product}
 use Rattle.dh_plan.specs.SoundPlans.{use_in}
 use Rattle.dh_expressions.specs.declared.drafts.Draft.{Draft}
-use Rattle.dh_expressions.specs.Counted.{Counts, FormIs, nothing, one_each, ranged}
+use Rattle.dh_expressions.specs.Counted.{Counts, nothing, ranged}
 use Rattle.dh_expressions.specs.Drafted.{Pushes}
 use Rattle.dh_expressions.proofs.ElementsFormed.{all_append, all_weaker}
 

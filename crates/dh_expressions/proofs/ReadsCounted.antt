@@ -1,16 +1,15 @@
 -- Reads and writes count one probe each; a write is one use of its access, and so is a read at a path that leads and
 -- shares no earlier one. What a read gives is noted behind what it gave at the paths before.
-use Rattle.std.proofs.Common.{◌≡◌, ℕ, zero, suc, ◌+◌, ◌-◌, ◌^◌, ◌<◌, ◌≤◌, ◌⊎◌, inl, inr, ⊎_elim, true, false, List, Some, None, refl, sym, ap, ◌∙◌, subst, arith, length}
-use Rattle.std.specs.Prelude.{Bool as Truth, [], ◌∷◌, ◌++◌, ◌==◌, min, if◌then◌else◌, slice_get, slice_index_or, Option}
-use Rattle.std.proofs.lemmas.Bool.{cases_eq, cases_lt}
+use Rattle.std.proofs.Common.{◌≡◌, ℕ, ◌+◌, ◌^◌, ◌<◌, ◌≤◌, ◌⊎◌, inl, inr, ⊎_elim, true, false, List, Some, None, refl, sym, ap, ◌∙◌, subst, arith, length}
+use Rattle.std.specs.Prelude.{Bool as Truth, [], ◌∷◌, ◌++◌, ◌==◌, if◌then◌else◌, slice_get, slice_index_or, Option}
+use Rattle.std.proofs.lemmas.Bool.{cases_eq}
 use Rattle.std.proofs.lemmas.Bool.Decides.{nat_tests}
 use Rattle.std.proofs.lemmas.List.{append-nil, length-append}
 use Rattle.std.proofs.lemmas.Option.{get_or_from_slice_get, slice_get_past}
 use Rattle.dh_tree.specs.Indices.{form_of}
 use Rattle.dh_tree.specs.PlainTrees as plain
-use Rattle.dh_plan.specs.declared.operations.Operation.{Operation}
 use Rattle.dh_plan.specs.declared.operations.OperationForm.{OperationForm}
-use Rattle.dh_plan.specs.declared.operations.OperationForm.TheVariants.{Probe, Read, Write}
+use Rattle.dh_plan.specs.declared.operations.OperationForm.TheVariants.{Probe, Read}
 use Rattle.dh_plan.specs.declared.operations.Reach.{Reach}
 use Rattle.dh_expressions.specs.declared.accesses.Accesses.{Accesses}
 use Rattle.dh_expressions.specs.declared.accesses.Touched.{Touched}
@@ -21,7 +20,7 @@ use Rattle.dh_expressions.specs.declared.scenes.Around.{Around}
 use Rattle.dh_expressions.specs.declared.scenes.Lane.{Lane}
 use Rattle.dh_expressions.specs.declared.scenes.Scene.{Scene}
 use Rattle.dh_expressions.specs.Copying.{leaders_at}
-use Rattle.dh_expressions.specs.Counted.{AreNext, Counts, FormIs, HaveGiven, IsAccess, IsLedUse, IsUse, Stands, given_at_paths, length_given, nothing, one_each, ranged, use_led, use_of, use_shared}
+use Rattle.dh_expressions.specs.Counted.{Counts, FormIs, HaveGiven, IsAccess, IsLedUse, IsUse, Stands, given_at_paths, length_given, nothing, one_each, ranged, use_of, use_shared}
 use Rattle.dh_expressions.specs.Drafted.{Extends, Pushes}
 use Rattle.dh_expressions.specs.Evaluated.{lane_guard, source_at}
 use Rattle.dh_expressions.specs.Formed.{AccessSuits, Agrees, Block, IsLaid, IsNoted, IsScope, Site, Started}
@@ -37,7 +36,7 @@ use Rattle.dh_expressions.proofs.ElementsFormed.{found_extends}
 use Rattle.dh_expressions.proofs.ListPlaces.{set_here, there}
 use Rattle.dh_expressions.proofs.PartsCounted.{counts_again, counts_none, counts_pushed, counts_same, ranged_one}
 use Rattle.dh_expressions.proofs.Pushing.{extends_again, pushed_extends}
-use Rattle.dh_expressions.proofs.ValuesCounted.{Still, copies_counts, still_again}
+use Rattle.dh_expressions.proofs.ValuesCounted.{Still, copies_counts}
 use Rattle.dh_expressions.proofs.ValuesFormed.{agrees_before}
 
 abbrev one_if : Truth → ℕ

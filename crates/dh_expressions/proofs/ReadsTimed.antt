@@ -1,6 +1,6 @@
 -- When reads are there: one clock behind their indices and the tests round them. The guard of a copy that leads is
 -- there when the tests are, since so are those of all paths.
-use Rattle.std.proofs.Common.{◌≡◌, ℕ, zero, suc, ◌+◌, ◌-◌, ◌^◌, ◌<◌, ◌≤◌, ◌⊎◌, inl, inr, ⊎_elim, true, false, List, Some, None, refl, sym, ap, ◌∙◌, subst, arith, length, map, add-one}
+use Rattle.std.proofs.Common.{◌≡◌, ℕ, zero, suc, ◌+◌, ◌^◌, ◌<◌, ◌≤◌, ◌⊎◌, inl, inr, ⊎_elim, true, false, List, Some, None, refl, sym, ap, ◌∙◌, subst, arith, length, map}
 use Rattle.std.specs.Prelude.{Bool as Truth, [], ◌∷◌, ◌++◌, max, slice_get, Option}
 use Rattle.std.proofs.lemmas.Bool.{cases_eq}
 use Rattle.dh_value.specs.declared.operators.Op.TheVariants as op
@@ -8,11 +8,11 @@ use Rattle.dh_value.specs.declared.kinds.Kind.{Kind}
 use Rattle.dh_tree.specs.Indices.{form_of}
 use Rattle.dh_tree.specs.PlainTrees as plain
 use Rattle.dh_meaning.specs.Core.{Reach}
-use Rattle.dh_meaning.specs.Levels.{Leveled, Levels, read_at, read_leveled}
+use Rattle.dh_meaning.specs.Levels.{Leveled, read_leveled}
 use Rattle.dh_plan.specs.declared.operations.Operation.{Operation}
 use Rattle.dh_plan.specs.declared.operations.OperationForm.{OperationForm}
 use Rattle.dh_plan.specs.declared.operations.OperationForm.TheVariants.{Probe, Read, Write}
-use Rattle.dh_plan.specs.LegalSchedules.{greatest_of, there_at}
+use Rattle.dh_plan.specs.LegalSchedules.{greatest_of}
 use Rattle.dh_plan.specs.Ordered.{one_or_none, operation_takes, reach_takes}
 use Rattle.dh_expressions.specs.declared.accesses.Accesses.{Accesses}
 use Rattle.dh_expressions.specs.declared.accesses.Touched.{Touched}
@@ -26,7 +26,7 @@ use Rattle.dh_expressions.specs.Copying.{AddsCopies, AddsCopy, AddsEither, AddsL
 use Rattle.dh_expressions.specs.Counted.{Stands, given_at_paths}
 use Rattle.dh_expressions.specs.Drafted.{Extends, Pushes}
 use Rattle.dh_expressions.specs.Evaluated.{lane_guard, source_at}
-use Rattle.dh_expressions.specs.Formed.{AccessSuits, Agrees, Block, IsLaid, IsNoted, IsScope, ReadSuits, SharesMemory, Site, Started}
+use Rattle.dh_expressions.specs.Formed.{AccessSuits, IsLaid, IsScope, ReadSuits, Site}
 use Rattle.dh_expressions.specs.MadeTerms.{MadeRead, MadeWrite}
 use Rattle.dh_expressions.specs.Noted.{Notes, copied_in, copied_of, copy_or_alone, fault_in, given_by, given_in, given_to, noted_in, touched_in}
 use Rattle.dh_expressions.specs.Reaching.{Finds, place_written, reach_told}
@@ -41,7 +41,7 @@ use Rattle.dh_expressions.proofs.CopiesMade.{guard_long, guard_place}
 use Rattle.dh_expressions.proofs.ElementsFormed.{found_extends}
 use Rattle.dh_expressions.proofs.LevelsBehind.{read_alone, read_shares, value_here, value_other}
 use Rattle.dh_expressions.proofs.ListPlaces.{place_of_more, some_same, there}
-use Rattle.dh_expressions.proofs.Pushing.{extends_again, extends_self, pushed_extends}
+use Rattle.dh_expressions.proofs.Pushing.{extends_again, pushed_extends}
 use Rattle.dh_expressions.proofs.ReadsCounted.{given_here, given_past, touch_gives}
 use Rattle.dh_expressions.proofs.ValuesFormed.{agrees_before}
 use Rattle.dh_expressions.proofs.ValuesTimed.{agree_before, compute_timed, pushed_clock, pushed_within, time_later, within_again, within_more, within_none}

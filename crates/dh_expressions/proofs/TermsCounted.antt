@@ -1,6 +1,6 @@
 -- Expressions counted: by recursion on the expression, each part behind those before it.
-use Rattle.std.proofs.Common.{◌≡◌, ℕ, zero, suc, ◌+◌, ◌-◌, ◌^◌, ◌<◌, ◌≤◌, ◌⊎◌, inl, inr, ⊎_elim, true, false, List, Some, None, refl, sym, ap, ◌∙◌, subst, arith, add-one}
-use Rattle.std.specs.Prelude.{Bool as Truth, [], ◌∷◌, ◌||◌, ◌==◌, slice_get, Option}
+use Rattle.std.proofs.Common.{◌≡◌, ℕ, suc, ◌+◌, ◌^◌, ◌<◌, ◌≤◌, ◌⊎◌, inl, inr, true, false, List, Some, refl, sym, ap, ◌∙◌, subst, arith, add-one}
+use Rattle.std.specs.Prelude.{Bool as Truth, ◌||◌, ◌==◌, slice_get, Option}
 use Rattle.std.proofs.lemmas.Bool.{cases_lt}
 use Rattle.std.proofs.lemmas.Bool.Decides.{nat_tests}
 use Rattle.dh_base.specs.declared.places.Place.{Place}
@@ -14,7 +14,7 @@ use Rattle.dh_tree.specs.Meaning.{wider}
 use Rattle.dh_tree.specs.PlainTrees as plain
 use Rattle.dh_meaning.specs.AccessNumbers.{term_accesses, terms_accesses}
 use Rattle.dh_meaning.specs.Bindings.{kind_found, kind_or_first}
-use Rattle.dh_meaning.specs.Core.{CoreTerm, convert}
+use Rattle.dh_meaning.specs.Core.{CoreTerm}
 use Rattle.dh_meaning.specs.CoreOf.{core_term, core_terms, entity_number, extended, memory_of, operation_of}
 use Rattle.dh_code.specs.Slots.{held_at}
 use Rattle.dh_plan.specs.declared.operations.OperationForm.{OperationForm}
@@ -27,11 +27,11 @@ use Rattle.dh_expressions.specs.declared.drafts.Draft.{Draft}
 use Rattle.dh_expressions.specs.declared.elements.Aim.{Aim}
 use Rattle.dh_expressions.specs.declared.scenes.Lane.{Lane}
 use Rattle.dh_expressions.specs.declared.scenes.Scene.{Scene}
-use Rattle.dh_expressions.specs.Counted.{AreNext, Counts, CountsTerm, CountsTerms, FormIs, HaveGiven, IsAccess, IsLedUse, IsMentioned, IsOfTerm, IsOfTerms, IsUse, Stands, given_at_paths, nothing, one_each, ranged, use_of}
+use Rattle.dh_expressions.specs.Counted.{AreNext, Counts, CountsTerm, CountsTerms, FormIs, HaveGiven, IsAccess, IsLedUse, IsMentioned, IsOfTerm, IsOfTerms, Stands, given_at_paths, nothing, one_each, ranged, use_of}
 use Rattle.dh_expressions.specs.Evaluated.{counter_of, known_in}
-use Rattle.dh_expressions.specs.Formed.{Agrees, AreNumbers, Block, FormsPart, IsNoted, IsScope, ReadSuits, Started, TermSuits, TermsSuit, count_of}
+use Rattle.dh_expressions.specs.Formed.{Agrees, AreNumbers, Block, FormsPart, ReadSuits, TermSuits, TermsSuit}
 use Rattle.dh_expressions.specs.MadeTerms.{MadeRead, MadeTerm, MadeTerms}
-use Rattle.dh_expressions.proofs.AccessesFormed.{noted_later, scope_later}
+use Rattle.dh_expressions.proofs.AccessesFormed.{scope_later}
 use Rattle.dh_expressions.proofs.PartsCounted.{counts_again, counts_none, counts_same, ranged_none, ranged_sum}
 use Rattle.dh_expressions.proofs.ReadsCounted.{IsOne, read_counts, read_gives}
 use Rattle.dh_expressions.proofs.TermsFormed.{all_formed, all_numbered, formed, numbered}

@@ -1,40 +1,37 @@
 -- When expressions are there: by recursion on the expression, each part behind those before it.
-use Rattle.std.proofs.Common.{◌≡◌, ℕ, zero, suc, ◌+◌, ◌-◌, ◌^◌, ◌<◌, ◌≤◌, ◌⊎◌, inl, inr, true, false, List, Some, None, refl, sym, ap, ◌∙◌, subst, arith, length, map, add-one}
-use Rattle.std.specs.Prelude.{Bool as Truth, [], ◌∷◌, ◌++◌, ◌||◌, max, slice_get, Option}
+use Rattle.std.proofs.Common.{◌≡◌, ℕ, suc, ◌+◌, ◌^◌, ◌<◌, ◌≤◌, true, List, Some, None, sym, ap, ◌∙◌, subst, arith, length, map, add-one}
+use Rattle.std.specs.Prelude.{Bool as Truth, [], ◌||◌, max, Option}
 use Rattle.dh_base.specs.declared.places.Place.{Place}
 use Rattle.dh_value.specs.declared.kinds.Kind.{Kind}
 use Rattle.dh_value.specs.declared.operators.Op.{Op}
 use Rattle.dh_value.specs.Operations.{truth}
-use Rattle.dh_tree.specs.declared.trees.counters.Counter.{Counter}
 use Rattle.dh_tree.specs.declared.trees.expressions.Ref.{Ref}
 use Rattle.dh_tree.specs.PlainTrees as plain
 use Rattle.dh_meaning.specs.AccessNumbers.{term_accesses, terms_accesses}
 use Rattle.dh_meaning.specs.Bindings.{kind_found, kind_or_first}
-use Rattle.dh_meaning.specs.Core.{CoreTerm}
-use Rattle.dh_meaning.specs.CoreOf.{core_term, core_terms, entity_number, memory_of, reach_of}
-use Rattle.dh_meaning.specs.Levels.{Leveled, Levels, greatest, read_leveled, term_leveled}
-use Rattle.dh_code.specs.declared.places.Held.{Held}
+use Rattle.dh_meaning.specs.CoreOf.{core_term, entity_number, memory_of, reach_of}
+use Rattle.dh_meaning.specs.Levels.{Leveled, Levels, greatest, read_leveled}
 use Rattle.dh_code.specs.Slots.{held_at}
 use Rattle.dh_plan.specs.LegalSchedules.{greatest_of}
 use Rattle.dh_plan.specs.Ordered.{one_or_none}
-use Rattle.dh_plan.specs.PlanPhases.{term_mentions, terms_mention}
+use Rattle.dh_plan.specs.PlanPhases.{term_mentions}
 use Rattle.dh_expressions.specs.declared.accesses.Accesses.{Accesses}
 use Rattle.dh_expressions.specs.declared.drafts.Draft.{Draft}
 use Rattle.dh_expressions.specs.declared.elements.Aim.{Aim}
 use Rattle.dh_expressions.specs.declared.scenes.Lane.{Lane}
 use Rattle.dh_expressions.specs.declared.scenes.Scene.{Scene}
-use Rattle.dh_expressions.specs.Counted.{CountsTerm, CountsTerms, HaveGiven, Stands}
+use Rattle.dh_expressions.specs.Counted.{HaveGiven, Stands}
 use Rattle.dh_expressions.specs.Drafted.{Extends}
 use Rattle.dh_expressions.specs.Evaluated.{counter_of, known_in}
-use Rattle.dh_expressions.specs.Formed.{Agrees, AreNumbers, Block, FormsPart, FormsTerm, FormsTerms, ReadSuits, TermSuits, TermsSuit, count_of}
+use Rattle.dh_expressions.specs.Formed.{Agrees, AreNumbers, Block, FormsPart, ReadSuits, TermSuits, TermsSuit}
 use Rattle.dh_expressions.specs.MadeTerms.{MadeRead, MadeTerm, MadeTerms}
-use Rattle.dh_expressions.specs.Timed.{AgreeInTime, AreBounded, Clocks, CurrentAt, EntityAt, GuardAt, HasClock, LevelsThen, NotedInTime, ReadsAgree, StandsInTime, TimesTerm, TimesTerms, TimesValue, VariableAt, Within, aim_clock, all_leveled, clock_of, leveled}
+use Rattle.dh_expressions.specs.Timed.{AgreeInTime, AreBounded, Clocks, EntityAt, HasClock, LevelsThen, NotedInTime, ReadsAgree, StandsInTime, TimesTerm, TimesTerms, TimesValue, VariableAt, Within, aim_clock, all_leveled, clock_of, leveled}
 use Rattle.dh_expressions.proofs.ElementsFormed.{read_forms}
 use Rattle.dh_expressions.proofs.LevelsBehind.{all_levels_behind, levels_behind, operation_leveled, read_grows, read_keeps}
 use Rattle.dh_expressions.proofs.ReadsTimed.{greatest_append, read_timed}
 use Rattle.dh_expressions.proofs.TermsCounted.{AllMention, Mentions, all_counted, counted, itself, left_of, operation_mentions, right_of, stands_behind, stands_first}
 use Rattle.dh_expressions.proofs.TermsFormed.{all_formed, all_numbered, formed, numbered}
-use Rattle.dh_expressions.proofs.ValuesFormed.{agrees_before, converted_forms, operation_forms}
+use Rattle.dh_expressions.proofs.ValuesFormed.{agrees_before}
 use Rattle.dh_expressions.proofs.ValuesTimed.{agree_before, converted_timed, number_timed, operation_timed, time_later, variable_timed, within_again, within_more, word_timed}
 
 module _ (c : Clocks) (scene : Scene) (lane : Lane) (current : List (Option ℕ)) (shared : ℕ → Option ℕ) (outer : ℕ) where

@@ -1,5 +1,5 @@
 -- Values count nothing but the multiplication of an operator, and see no register but that of a variable.
-use Rattle.std.proofs.Common.{◌≡◌, ℕ, zero, suc, ◌+◌, ◌^◌, ◌<◌, ◌≤◌, ◌⊎◌, inl, inr, true, false, List, Some, None, refl, sym, ap, subst, arith, length}
+use Rattle.std.proofs.Common.{◌≡◌, ℕ, zero, suc, ◌+◌, ◌^◌, ◌<◌, ◌≤◌, ◌⊎◌, inl, inr, true, false, List, Some, None, refl, arith, length}
 use Rattle.std.specs.Prelude.{Bool as Truth, if◌then◌else◌, slice_get, Option}
 use Rattle.dh_value.specs.declared.kinds.Kind.{Kind}
 use Rattle.dh_value.specs.declared.kinds.Kind.TheVariants as kind
@@ -7,7 +7,6 @@ use Rattle.dh_value.specs.declared.operators.Op.{Op}
 use Rattle.dh_value.specs.declared.operators.Op.TheVariants as op
 use Rattle.dh_tree.specs.declared.trees.counters.Counter.{Counter}
 use Rattle.dh_tree.specs.PlainTrees.{Term}
-use Rattle.dh_code.specs.Extended.{extension_of}
 use Rattle.dh_code.specs.declared.places.Held.{Held}
 use Rattle.dh_plan.specs.declared.operations.OperationForm.{OperationForm}
 use Rattle.dh_plan.specs.declared.operations.OperationForm.TheVariants.{Constant, Old, Compute, Convert}
@@ -17,11 +16,11 @@ use Rattle.dh_plan.specs.LegalSchedules.{is_product}
 use Rattle.dh_expressions.specs.declared.copies.AccessAt.{AccessAt}
 use Rattle.dh_expressions.specs.declared.drafts.Draft.{Draft}
 use Rattle.dh_expressions.specs.declared.scenes.Lane.{Lane}
-use Rattle.dh_expressions.specs.Copying.{AddsCopies, AddsCopy, AddsEither, AddsOther}
+use Rattle.dh_expressions.specs.Copying.{AddsCopies, AddsCopy, AddsEither}
 use Rattle.dh_expressions.specs.Counted.{Counts, FormIs, nothing, register_seen}
 use Rattle.dh_expressions.specs.Drafted.{Pushes}
-use Rattle.dh_expressions.specs.MadeValues.{IsThere, MadeAddend, MadeBit, MadeBits, MadeBy, MadeConverted, MadeCurrent, MadeExtended, MadeHeld, MadeIterator, MadeLowestBit, MadeMultiple, MadeNumber, MadeOffset, MadeOperation, MadeShift, MadeShifted, MadeShown, MadeSum, MadeTotal, MadeTruth, MadeTurns}
-use Rattle.dh_expressions.specs.Shown.{guard_of, is_kept, is_read_term, kind_written, register_at}
+use Rattle.dh_expressions.specs.MadeValues.{IsThere, MadeBit, MadeBits, MadeBy, MadeConverted, MadeCurrent, MadeExtended, MadeHeld, MadeIterator, MadeLowestBit, MadeNumber, MadeOffset, MadeOperation, MadeShifted, MadeShown, MadeSum, MadeTotal, MadeTruth}
+use Rattle.dh_expressions.specs.Shown.{guard_of, is_kept, is_read_term, register_at}
 use Rattle.dh_expressions.proofs.CopiesFormed.{copies_forms}
 use Rattle.dh_expressions.proofs.ListPlaces.{there}
 use Rattle.dh_expressions.proofs.PartsCounted.{counts_again, counts_none, counts_pushed, counts_same}

@@ -1,6 +1,6 @@
 -- When values are there: an operation that is no read is there when all is that it takes.
-use Rattle.std.proofs.Common.{◌≡◌, ℕ, zero, suc, ◌+◌, ◌-◌, ◌<◌, ◌≤◌, ◌⊎◌, inl, inr, true, false, List, Some, None, refl, sym, ap, ◌∙◌, subst, arith, length, map}
-use Rattle.std.specs.Prelude.{Bool as Truth, [], ◌∷◌, ◌++◌, if◌then◌else◌, max, slice_get, Option}
+use Rattle.std.proofs.Common.{◌≡◌, ℕ, zero, suc, ◌<◌, ◌≤◌, ◌⊎◌, inl, inr, true, false, List, Some, None, refl, sym, ap, ◌∙◌, subst, arith, length, map}
+use Rattle.std.specs.Prelude.{Bool as Truth, if◌then◌else◌, max, slice_get, Option}
 use Rattle.std.proofs.lemmas.Bool.{cases_lt}
 use Rattle.dh_value.specs.declared.kinds.Kind.{Kind}
 use Rattle.dh_value.specs.declared.kinds.Kind.TheVariants as kind
@@ -9,9 +9,7 @@ use Rattle.dh_value.specs.declared.operators.Op.TheVariants as op
 use Rattle.dh_value.specs.declared.words.Word.{Word}
 use Rattle.dh_tree.specs.declared.trees.counters.Counter.{Counter}
 use Rattle.dh_tree.specs.PlainTrees.{Term}
-use Rattle.dh_code.specs.Extended.{extension_of}
 use Rattle.dh_code.specs.declared.places.Held.{Held}
-use Rattle.dh_plan.specs.declared.operations.Operation.{Operation}
 use Rattle.dh_plan.specs.declared.operations.OperationForm.{OperationForm}
 use Rattle.dh_plan.specs.declared.operations.OperationForm.TheVariants.{Constant, Old, Compute, Convert}
 use Rattle.dh_plan.specs.LegalSchedules.{greatest_of, is_read, there_at}
@@ -19,8 +17,8 @@ use Rattle.dh_plan.specs.Ordered.{operation_takes}
 use Rattle.dh_expressions.specs.declared.drafts.Draft.{Draft}
 use Rattle.dh_expressions.specs.declared.scenes.Lane.{Lane}
 use Rattle.dh_expressions.specs.Drafted.{Extends, Pushes}
-use Rattle.dh_expressions.specs.MadeValues.{IsThere, MadeAddend, MadeBit, MadeBits, MadeBy, MadeConverted, MadeCurrent, MadeExtended, MadeHeld, MadeIterator, MadeLowestBit, MadeMultiple, MadeNumber, MadeOffset, MadeOperation, MadeShift, MadeShifted, MadeShown, MadeSum, MadeTotal, MadeTruth, MadeTurns}
-use Rattle.dh_expressions.specs.Shown.{is_kept, is_read_term, kind_written, register_at}
+use Rattle.dh_expressions.specs.MadeValues.{IsThere, MadeAddend, MadeBit, MadeBits, MadeBy, MadeConverted, MadeCurrent, MadeExtended, MadeHeld, MadeIterator, MadeLowestBit, MadeMultiple, MadeNumber, MadeOffset, MadeOperation, MadeShifted, MadeShown, MadeSum, MadeTotal, MadeTruth, MadeTurns}
+use Rattle.dh_expressions.specs.Shown.{is_kept, is_read_term, register_at}
 use Rattle.dh_expressions.specs.Timed.{AgreeInTime, Clocks, CurrentAt, HasClock, StartedInTime, TimesValue, VariableAt, Within, clock_of}
 use Rattle.dh_expressions.proofs.Pushing.{extends_again, extends_self, pushed_extends, pushed_longer, pushed_there}
 

@@ -5,7 +5,6 @@ use Rattle.std.specs.List.{AllByRecursion}
 use Rattle.dh_tree.specs.declared.trees.counters.Counter.{Counter}
 use Rattle.dh_tree.specs.PlainTrees as plain
 use Rattle.dh_meaning.specs.AccessNumbers.{term_accesses, terms_accesses}
-use Rattle.dh_meaning.specs.Core.{CoreTerm, CoreTerms}
 use Rattle.dh_meaning.specs.CoreOf.{core_term, core_terms}
 use Rattle.dh_code.specs.declared.places.Held.{Held}
 use Rattle.dh_code.specs.Slots.{held_at}

@@ -1,11 +1,9 @@
 -- When the values of expressions are there. A value is there at the clock of its level; no operation of an expression
 -- is there later than the greatest level so far. It is stated for every list of clocks that agrees with the operations
 -- so far, each at the least clock at which all is there that it takes.
-use Rattle.std.specs.Prelude.{◌≡◌, ℕ, ◌+◌, ◌-◌, ◌<◌, ◌≤◌, true, List, length, map, slice_get, slice_index, Option, Some, None}
+use Rattle.std.specs.Prelude.{◌≡◌, ℕ, ◌+◌, ◌-◌, ◌<◌, ◌≤◌, List, length, map, slice_get, slice_index, Option, Some, None}
 use Rattle.dh_tree.specs.declared.trees.counters.Counter.{Counter}
 use Rattle.dh_tree.specs.PlainTrees as plain
-use Rattle.dh_meaning.specs.AccessNumbers.{term_accesses, terms_accesses}
-use Rattle.dh_meaning.specs.Core.{CoreTerm, CoreTerms}
 use Rattle.dh_meaning.specs.CoreOf.{core_term, core_terms}
 use Rattle.dh_meaning.specs.Levels.{Leveled, Levels, term_leveled, terms_leveled}
 use Rattle.dh_code.specs.declared.places.Held.{Held}
@@ -13,7 +11,6 @@ use Rattle.dh_code.specs.Slots.{held_at}
 use Rattle.dh_plan.specs.declared.operations.Operation.{Operation}
 use Rattle.dh_plan.specs.LegalSchedules.{greatest_of, there_at}
 use Rattle.dh_plan.specs.Ordered.{operation_takes, reach_takes}
-use Rattle.dh_plan.specs.PlanPhases.{term_mentions, terms_mention}
 use Rattle.dh_expressions.specs.declared.accesses.Accesses.{Accesses}
 use Rattle.dh_expressions.specs.declared.accesses.Touched.{Touched}
 use Rattle.dh_expressions.specs.declared.copies.AccessAt.{AccessAt}
@@ -24,7 +21,7 @@ use Rattle.dh_expressions.specs.declared.scenes.Scene.{Scene}
 use Rattle.dh_expressions.specs.Counted.{Stands}
 use Rattle.dh_expressions.specs.Drafted.{Extends}
 use Rattle.dh_expressions.specs.Evaluated.{counter_of, known_in}
-use Rattle.dh_expressions.specs.Formed.{AreNumbers, Block, IsScope, Site, TermSuits, TermsSuit}
+use Rattle.dh_expressions.specs.Formed.{Block, IsScope, Site}
 use Rattle.dh_expressions.specs.Noted.{given_in, touched_in}
 use Rattle.dh_expressions.specs.Reaching.{reach_told}
 use Rattle.dh_expressions.specs.Shown.{register_at}

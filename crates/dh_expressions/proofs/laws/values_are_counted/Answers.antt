@@ -1,4 +1,3 @@
-use Rattle.dh_expressions.proofs.ReadsCounted.{given_here}
 use Rattle.dh_expressions.proofs.ValuesCounted.{held_counts, operation_counts}
 use Rattle.dh_expressions.proofs.laws.values_are_counted.Goals as goal
 
