@@ -15,10 +15,3 @@ pub mod Touching
 -- which operations are put down
 pub mod MadeValues
 pub mod MadeTerms
--- what a plan asks of them
-pub mod Formed
-pub mod FormedLaws
-pub mod Counted
-pub mod CountedLaws
-pub mod Timed
-pub mod TimedLaws

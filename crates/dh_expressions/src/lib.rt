@@ -14,7 +14,6 @@ mod drafts;
 mod elements;
 mod iterators;
 mod kinds;
-mod laws;
 mod paths;
 mod scenes;
 mod terms;
@@ -28,10 +27,6 @@ pub use drafts::{
 pub use elements::{Aim, push_write};
 pub use iterators::{counter_width, turn_count};
 pub use kinds::{entity_of, extension, is_read, is_same, kind_found, literal, narrow, truth};
-pub use laws::{
-    elements_are_formed, expressions_are_counted, expressions_are_formed,
-    expressions_are_in_time, levels_go_on, values_are_counted, values_are_formed, values_are_in_time,
-};
 pub use paths::{Level, Paths, copy_at, inside, outside, rank_at};
 pub use scenes::{Around, Lane, Scene, guard_at};
 pub use terms::{

@@ -1,0 +1,14 @@
+pub mod ValuesFormed
+pub mod IteratorsFormed
+pub mod CopiesFormed
+pub mod AccessesFormed
+pub mod ElementsFormed
+pub mod TermsFormed
+pub mod PartsCounted
+pub mod ValuesCounted
+pub mod ReadsCounted
+pub mod TermsCounted
+pub mod ValuesTimed
+pub mod LevelsBehind
+pub mod ReadsTimed
+pub mod TermsTimed
