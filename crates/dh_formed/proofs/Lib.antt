@@ -12,3 +12,4 @@ pub mod ValuesTimed
 pub mod LevelsBehind
 pub mod ReadsTimed
 pub mod TermsTimed
+pub mod BlocksWhole

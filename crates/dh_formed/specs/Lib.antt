@@ -7,3 +7,5 @@ pub mod CountedLaws
 -- when they are there
 pub mod Timed
 pub mod TimedLaws
+-- a block whole
+pub mod WholeBlocks

@@ -3,6 +3,7 @@
 ghost use Rattle.dh_formed.specs.FormedLaws.{ConversionsForm, HeldValuesForm, IndicesForm, IteratorsForm, OperationsForm, ReadsForm, ShownVariablesForm, TermsAreNumbered, TermsForm, WritesForm};
 ghost use Rattle.dh_formed.specs.CountedLaws.{HeldIsPure, IndicesCount, IsPure, TermsCount, WritesCount};
 ghost use Rattle.dh_formed.specs.TimedLaws.{AllLevelsGoOn, ConvertedInTime, HeldInTime, IndicesInTime, LevelsGoOn, OperationsInTime, ShownInTime, TermsInTime, WritesInTime};
+ghost use Rattle.dh_formed.specs.WholeBlocks.{BlocksAgree, BlocksAgreeInTime, BlocksAreFormed, BlocksHaveLengths};
 
 /// Operations that are put down for values take earlier values of their block, of the kinds that they need, and give
 /// a value of the kind that is wanted.
@@ -61,4 +62,13 @@ pub fn expressions_are_in_time()
     ensures terms { TermsInTime }
     ensures indices { IndicesInTime }
     ensures writes { WritesInTime }
+{}
+
+/// A block's own kinds and its own least clocks agree with it; so it is well formed where its operations are, and as
+/// long as the clock of its last value tells.
+pub fn blocks_are_whole()
+    ensures agree { BlocksAgree }
+    ensures formed { BlocksAreFormed }
+    ensures time { BlocksAgreeInTime }
+    ensures lengths { BlocksHaveLengths }
 {}

@@ -8,6 +8,6 @@
 mod laws;
 
 pub use laws::{
-    elements_are_formed, expressions_are_counted, expressions_are_formed, expressions_are_in_time,
+    blocks_are_whole, elements_are_formed, expressions_are_counted, expressions_are_formed, expressions_are_in_time,
     levels_go_on, values_are_counted, values_are_formed, values_are_in_time,
 };
