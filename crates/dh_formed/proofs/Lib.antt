@@ -13,3 +13,5 @@ pub mod LevelsBehind
 pub mod ReadsTimed
 pub mod TermsTimed
 pub mod BlocksWhole
+pub mod CommandsFormed
+pub mod TouchedOwn

@@ -9,3 +9,5 @@ pub mod Timed
 pub mod TimedLaws
 -- a block whole
 pub mod WholeBlocks
+-- commands
+pub mod Commanded

@@ -1,6 +1,7 @@
 //! Laws on the operations of expressions, stated on functions that do nothing.
 
 ghost use Rattle.dh_formed.specs.FormedLaws.{ConversionsForm, HeldValuesForm, IndicesForm, IteratorsForm, OperationsForm, ReadsForm, ShownVariablesForm, TermsAreNumbered, TermsForm, WritesForm};
+ghost use Rattle.dh_formed.specs.Commanded.{ComputesForm, ConstantsForm, PartsAreCounted, SelectsCount, SelectsForm, SelectsInTime, SetsCount, SetsForm, SetsInTime, TermsTouchOwn, WritesTouchOwn};
 ghost use Rattle.dh_formed.specs.CountedLaws.{HeldIsPure, IndicesCount, IsPure, TermsCount, WritesCount};
 ghost use Rattle.dh_formed.specs.TimedLaws.{AllLevelsGoOn, ConvertedInTime, HeldInTime, IndicesInTime, LevelsGoOn, OperationsInTime, ShownInTime, TermsInTime, WritesInTime};
 ghost use Rattle.dh_formed.specs.WholeBlocks.{BlocksAgree, BlocksAgreeInTime, BlocksAreFormed, BlocksHaveLengths};
@@ -71,4 +72,23 @@ pub fn blocks_are_whole()
     ensures formed { BlocksAreFormed }
     ensures time { BlocksAgreeInTime }
     ensures lengths { BlocksHaveLengths }
+{}
+
+/// Choices between values and registers that are set, beside expressions: formed, counted and in time.
+pub fn commands_are_formed()
+    ensures constants { ConstantsForm }
+    ensures computes { ComputesForm }
+    ensures selects { SelectsForm }
+    ensures sets { SetsForm }
+    ensures parts_counted { PartsAreCounted }
+    ensures selects_counted { SelectsCount }
+    ensures sets_counted { SetsCount }
+    ensures selects_in_time { SelectsInTime }
+    ensures sets_in_time { SetsInTime }
+{}
+
+/// Only the accesses of an expression, or of a write, get operations by it.
+pub fn accesses_are_own()
+    ensures terms { TermsTouchOwn }
+    ensures writes { WritesTouchOwn }
 {}
