@@ -1,6 +1,6 @@
 -- A block whole. Kinds that are made stay as more are made, so an operation that takes earlier values has the kind that
 -- all kinds of the block tell; and so it is with clocks.
-use Rattle.std.proofs.Common.{◌≡◌, ℕ, zero, suc, ◌+◌, ◌-◌, ◌<◌, ◌≤◌, ◌⊎◌, inl, inr, List, Some, None, refl, sym, ap, ◌∙◌, subst, arith, length, map, get_or, append_assoc}
+use Rattle.std.proofs.Common.{◌≡◌, ℕ, zero, suc, ◌+◌, ◌-◌, ◌<◌, ◌≤◌, List, Some, refl, sym, ap, ◌∙◌, subst, arith, length, map, get_or}
 use Rattle.std.specs.Prelude.{[], ◌∷◌, ◌++◌, max, slice_get, slice_index, Option}
 use Rattle.std.specs.List.{AllByRecursion}
 use Rattle.std.proofs.Math.Seq.{get_or-append_seam}
@@ -12,7 +12,7 @@ use Rattle.dh_tree.specs.declared.tables.MemEntry.{MemEntry}
 use Rattle.dh_plan.specs.declared.operations.Operation.{Operation}
 use Rattle.dh_plan.specs.declared.operations.OperationForm.{OperationForm}
 use Rattle.dh_plan.specs.declared.operations.OperationForm.TheVariants.{Constant, Old, Compute, Convert, Select, Check, Probe, Read, Write, Set}
-use Rattle.dh_plan.specs.LegalSchedules.{block_clocks, greatest_of, last_clock, least_clocks, least_length, needed_clock, there_at, there_from, value_clock}
+use Rattle.dh_plan.specs.LegalSchedules.{block_clocks, greatest_of, last_clock, least_clocks, needed_clock, there_at, there_from, value_clock}
 use Rattle.dh_plan.specs.Ordered.{IsBetween, IsOrdered, TakesEarlier, form_takes, one_or_none, operation_takes}
 use Rattle.dh_plan.specs.PlainPlans.{PlainPlan, first_in, operations_in}
 use Rattle.dh_plan.specs.PlanKinds.{IsFormedBlock, form_kind, kind_of_value, kinds_behind, kinds_of}
@@ -20,7 +20,7 @@ use Rattle.dh_plan.proofs.LeastLegal.{map_same, needed_behind}
 use Rattle.dh_plan.proofs.ValuesAlike.{all_map}
 use Rattle.dh_expressions.specs.declared.drafts.Draft.{Draft}
 use Rattle.dh_expressions.proofs.ListPlaces.{place_within, some_same, there}
-use Rattle.dh_formed.specs.Formed.{Agrees, Block, Forms, IsFormedAt, Site}
+use Rattle.dh_formed.specs.Formed.{Agrees, Forms, IsFormedAt, Site}
 use Rattle.dh_formed.specs.Timed.{AgreeInTime, Clocks, Within, clock_of}
 use Rattle.dh_formed.specs.WholeBlocks.{BlocksAgree, BlocksAgreeInTime, BlocksAreFormed, BlocksHaveLengths, IsCut, block_of, clocks_of, there_of}
 

@@ -1,12 +1,9 @@
 -- Choices and registers that are set, and counts of a whole block.
-use Rattle.std.proofs.Common.{◌≡◌, ℕ, ◌+◌, ◌<◌, ◌≤◌, List, Some, None, refl, sym, ap, ◌∙◌, subst, arith, length, map}
-use Rattle.std.specs.Prelude.{Bool as Truth, [], ◌∷◌, ◌++◌, max, Option}
+use Rattle.std.proofs.Common.{◌≡◌, ℕ, ◌≤◌, List, None, refl, sym, ◌∙◌, subst, arith}
+use Rattle.std.specs.Prelude.{max}
 use Rattle.std.specs.List.{AllByRecursion}
 use Rattle.std.proofs.lemmas.List.{append_cancel_left}
-use Rattle.dh_value.specs.declared.kinds.Kind.{Kind}
 use Rattle.dh_value.specs.declared.kinds.Kind.TheVariants as kind
-use Rattle.dh_value.specs.declared.words.Word.{Word}
-use Rattle.dh_value.specs.Words.{IsWord}
 use Rattle.dh_plan.specs.declared.operations.Operation.{Operation}
 use Rattle.dh_plan.specs.declared.operations.OperationForm.{OperationForm}
 use Rattle.dh_plan.specs.declared.operations.OperationForm.TheVariants.{Constant, Old, Compute, Convert, Select, Check, Probe, Read, Write, Set}
@@ -18,8 +15,7 @@ use Rattle.dh_expressions.specs.Drafted.{Pushes}
 use Rattle.dh_expressions.proofs.Pushing.{pushed_extends}
 use Rattle.dh_formed.specs.Commanded.{CommandIs, ConstantsForm, PartsAreCounted, SelectsCount, SelectsForm, SelectsInTime, SetsCount, SetsForm, SetsInTime, WholeCounts}
 use Rattle.dh_formed.specs.Counted.{Counts, FormIs, nothing}
-use Rattle.dh_formed.specs.Formed.{Block, HasKind, kind_of}
-use Rattle.dh_formed.specs.Timed.{Clocks, HasClock, clock_of}
+use Rattle.dh_formed.specs.Timed.{clock_of}
 use Rattle.dh_formed.specs.WholeBlocks.{IsCut}
 use Rattle.dh_formed.proofs.PartsCounted.{counts_pushed, counts_same}
 use Rattle.dh_formed.proofs.ValuesFormed.{between, constant_forms, forms_pushed, pushed_forms}

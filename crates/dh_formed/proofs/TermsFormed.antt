@@ -214,11 +214,13 @@ module _ (scene : Scene) (lane : Lane) (current : List (Option ℕ)) where
 
       operands : (x : Block) → Agrees x m.end → Started x old → IsScope x old scene lane current → IsNoted x old before → BothSuit n o l r (kind_or_first k) x → Operands o l r (kind_or_first k) m.a m.b m.end x
       operands x at s sc noted w =
-          let before_at = agrees_before x m.middle m.end g.part.extends at in
-          (w.1, (
-            kind_later x m.middle m.end _ m.a g.part.extends (f.gives x before_at s sc noted w.0.0),
-            g.gives x at (started_later x old m.middle f.part.extends s) (scope_later x old m.middle scene lane current f.part.extends sc) (f.part.notes x before_at s sc noted w.0.0) w.0.1,
-          ))
+          let before_at = agrees_before x m.middle m.end g.part.extends at in (
+            w.1,
+            (
+              kind_later x m.middle m.end _ m.a g.part.extends (f.gives x before_at s sc noted w.0.0),
+              g.gives x at (started_later x old m.middle f.part.extends s) (scope_later x old m.middle scene lane current f.part.extends sc) (f.part.notes x before_at s sc noted w.0.0) w.0.1,
+            ),
+          )
 
   formed_one : (place : Place) (k : Option Kind) (inner : plain.Term) (to : Kind) → Formed inner → Formed (plain.term place k (plain.converted inner to))
   formed_one place k inner to one old new before after n next v m few = record {

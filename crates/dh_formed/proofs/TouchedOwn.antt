@@ -1,6 +1,6 @@
 -- Only accesses of an expression are touched by its operations: by recursion on the expression.
-use Rattle.std.proofs.Common.{◌≡◌, ℕ, suc, ◌+◌, ◌-◌, ◌^◌, ◌<◌, ◌≤◌, ◌⊎◌, inl, inr, ⊎_elim, List, Some, None, refl, sym, ap, ◌∙◌, subst, arith}
-use Rattle.std.specs.Prelude.{Bool as Truth, Option}
+use Rattle.std.proofs.Common.{◌≡◌, ℕ, suc, ◌+◌, ◌^◌, ◌<◌, ◌≤◌, ◌⊎◌, inl, inr, ⊎_elim, List, Some, None, refl, sym, ap, ◌∙◌, subst, arith}
+use Rattle.std.specs.Prelude.{Option}
 use Rattle.dh_base.specs.declared.places.Place.{Place}
 use Rattle.dh_value.specs.declared.kinds.Kind.{Kind}
 use Rattle.dh_value.specs.declared.operators.Op.{Op}
@@ -17,7 +17,7 @@ use Rattle.dh_expressions.specs.declared.scenes.Scene.{Scene}
 use Rattle.dh_expressions.specs.MadeTerms.{MadeRead, MadeTerm, MadeTerms}
 use Rattle.dh_expressions.specs.Noted.{Notes, noted_in, touched_in}
 use Rattle.dh_expressions.specs.Standings.{Standing}
-use Rattle.dh_expressions.specs.Touching.{IsNew, TouchesAt}
+use Rattle.dh_expressions.specs.Touching.{TouchesAt}
 use Rattle.dh_expressions.proofs.AccessesKept.{place_noted}
 use Rattle.dh_formed.specs.Commanded.{WritesTouchOwn}
 use Rattle.dh_formed.proofs.TermsFormed.{all_numbered, numbered}

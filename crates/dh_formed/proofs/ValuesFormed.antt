@@ -251,11 +251,13 @@ operation_forms o left right k a b old new v m = record {
     operands x at s w =
         let at2 = agrees_before x m.second new c.extends at in
         let at1 = agrees_before x m.first m.second r.extends at2 in
-        let s1 = started_later x old m.first l.extends s in
-        (w.0.suits, (
-          kind_later x m.first m.second _ m.x r.extends (l.gives x at1 s (w.0.extension, w.1.0)),
-          r.gives x at2 s1 (w.0.extension, kind_later x old m.first _ b l.extends w.1.1),
-        ))
+        let s1 = started_later x old m.first l.extends s in (
+          w.0.suits,
+          (
+            kind_later x m.first m.second _ m.x r.extends (l.gives x at1 s (w.0.extension, w.1.0)),
+            r.gives x at2 s1 (w.0.extension, kind_later x old m.first _ b l.extends w.1.1),
+          ),
+        )
 
 -- a truth that a memory held
 lowest_forms : (value : ℕ) (own : Block → Kind) (old new : Draft) (v : ℕ) → MadeLowestBit value old new v → FormsValue old new v (λ x. HasKind x old (own x) value) (λ x. kind.Bool)

@@ -1,7 +1,6 @@
 -- The operations that commands put down beside those of expressions: choices between values, and registers that are
 -- set. And what stays when a block is whole.
 use Rattle.std.specs.Prelude.{◌≡◌, ◌⊎◌, ℕ, ◌+◌, ◌<◌, ◌≤◌, ◌^◌, max, List, length, Option, None}
-use Rattle.std.specs.List.{AllByRecursion}
 use Rattle.dh_value.specs.declared.kinds.Kind.{Kind}
 use Rattle.dh_value.specs.declared.kinds.Kind.TheVariants.{Bool}
 use Rattle.dh_value.specs.declared.operators.Op.{Op}
@@ -14,7 +13,7 @@ use Rattle.dh_plan.specs.declared.operations.OperationForm.{OperationForm}
 use Rattle.dh_plan.specs.declared.operations.OperationForm.TheVariants.{Constant, Old, Compute, Convert, Select, Check, Probe, Read, Write, Set}
 use Rattle.dh_plan.specs.declared.operations.Reach.{Reach}
 use Rattle.dh_plan.specs.Blocks.{kind_at}
-use Rattle.dh_plan.specs.DoneProgram.{block_products, operations_using, probes_among, product_of}
+use Rattle.dh_plan.specs.DoneProgram.{block_products, operations_using, probes_among}
 use Rattle.dh_plan.specs.PlainPlans.{PlainPlan, operations_in}
 use Rattle.dh_expressions.specs.declared.accesses.Accesses.{Accesses}
 use Rattle.dh_expressions.specs.declared.drafts.Draft.{Draft}
@@ -27,7 +26,6 @@ use Rattle.dh_expressions.specs.Noted.{touched_in}
 use Rattle.dh_formed.specs.Counted.{Counts, FormIs, nothing}
 use Rattle.dh_formed.specs.Formed.{Agrees, Block, Forms, FormsValue, HasKind, Started}
 use Rattle.dh_formed.specs.Timed.{AgreeInTime, Clocks, HasClock, StartedInTime, TimesValue, Within}
-use Rattle.dh_formed.specs.WholeBlocks.{IsCut}
 
 -- Kinds.
 
