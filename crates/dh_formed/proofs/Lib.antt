@@ -15,3 +15,4 @@ pub mod TermsTimed
 pub mod BlocksWhole
 pub mod CommandsFormed
 pub mod TouchedOwn
+pub mod OperandsTyped

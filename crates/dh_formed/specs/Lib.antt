@@ -11,3 +11,5 @@ pub mod TimedLaws
 pub mod WholeBlocks
 -- commands
 pub mod Commanded
+-- from the kinds of a typed program
+pub mod TypedOperands

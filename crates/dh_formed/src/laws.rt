@@ -4,6 +4,7 @@ ghost use Rattle.dh_formed.specs.FormedLaws.{ConversionsForm, HeldValuesForm, In
 ghost use Rattle.dh_formed.specs.Commanded.{ComputesForm, ConstantsForm, PartsAreCounted, SelectsCount, SelectsForm, SelectsInTime, SetsCount, SetsForm, SetsInTime, TermsTouchOwn, WritesTouchOwn};
 ghost use Rattle.dh_formed.specs.CountedLaws.{HeldIsPure, IndicesCount, IsPure, TermsCount, WritesCount};
 ghost use Rattle.dh_formed.specs.TimedLaws.{AllLevelsGoOn, ConvertedInTime, HeldInTime, IndicesInTime, LevelsGoOn, OperationsInTime, ShownInTime, TermsInTime, WritesInTime};
+ghost use Rattle.dh_formed.specs.TypedOperands.{TypedOperandsSuit};
 ghost use Rattle.dh_formed.specs.WholeBlocks.{BlocksAgree, BlocksAgreeInTime, BlocksAreFormed, BlocksHaveLengths};
 
 /// Operations that are put down for values take earlier values of their block, of the kinds that they need, and give
@@ -91,4 +92,9 @@ pub fn commands_are_formed()
 pub fn accesses_are_own()
     ensures terms { TermsTouchOwn }
     ensures writes { WritesTouchOwn }
+{}
+
+/// Operands of a typed program suit their operator, once they are extended.
+pub fn typed_operands_suit()
+    ensures { TypedOperandsSuit }
 {}

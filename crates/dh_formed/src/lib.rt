@@ -10,5 +10,5 @@ mod laws;
 pub use laws::{
     accesses_are_own, blocks_are_whole, commands_are_formed, elements_are_formed,
     expressions_are_counted, expressions_are_formed, expressions_are_in_time, levels_go_on,
-    values_are_counted, values_are_formed, values_are_in_time,
+    typed_operands_suit, values_are_counted, values_are_formed, values_are_in_time,
 };
