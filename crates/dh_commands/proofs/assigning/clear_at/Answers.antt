@@ -12,4 +12,4 @@ returns c =
     cleared_one c.args.scene.now c.args.lane.now c.args.building.now (record { draft = c.push_constant.new.draft; accesses = c.args.building.now.accesses; values = c.set.new.values })
     (entity_number c.args.target.now.entity) c.in_ok-value.value c.literal.result
     (subst (λ (h : Held). IsKind h.kind → c.literal.result ≡ with_bits h.kind (bits_of h.kind false 0)) c.place_of-kind.ensures c.literal.ensures)
-    c.in_ok-value.ensures refl c.in_ok-set.ensures
+    c.in_ok-value.ensures.means refl c.in_ok-set.ensures

@@ -6,5 +6,5 @@ pub returns : goal.returns
 returns c =
     IfOk-weaker c.push_select.result _ _
     (λ n h. not_made c.args.draft.now c.push_constant.new.draft c.push_constant-2.new.draft c.push_select.new.draft c.in_ok-no.no c.in_ok-yes.yes c.args.test n c.truth.result c.truth-2.result c.truth.ensures c.truth-2.ensures
-    c.in_ok-no.ensures c.in_ok-yes.ensures h)
-    c.push_select.ensures
+    c.in_ok-no.ensures.means c.in_ok-yes.ensures.means h)
+    c.push_select.ensures.means

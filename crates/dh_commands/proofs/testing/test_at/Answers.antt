@@ -12,4 +12,4 @@ returns c =
     (λ own h. tested_one c.args.scene.now c.args.lane.now c.args.building.now (record { draft = c.push_term.new.draft; accesses = c.push_term.new.accesses; values = c.args.building.now.values }) c.args.first (term_seen c.args.test.now) own
     (subst (λ (os : List (Option ℕ)). EvaluatesTerm c.args.scene.now c.args.lane.now os c.args.building.now.draft c.push_term.new.draft c.args.building.now.accesses c.push_term.new.accesses c.args.first (term_seen c.args.test.now) own) c.as_slice-current.ensures.value h)
     refl)
-    c.push_term.ensures
+    c.push_term.ensures.means
