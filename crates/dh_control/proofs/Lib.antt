@@ -1,0 +1,10 @@
+pub mod ListFacts
+pub mod GatheredItems
+pub mod WiresListed
+pub mod MovedLists
+pub mod NumberTests
+pub mod GuardsShown
+pub mod SetsMoved
+pub mod ChecksTested
+pub mod DecisionForms
+pub mod WaysMoved

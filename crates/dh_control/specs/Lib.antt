@@ -1,0 +1,9 @@
+pub mod KeyedItems
+pub mod SizedWires
+pub mod WireLists
+pub mod MovedValues
+pub mod ValuesShown
+pub mod OnWires
+pub mod RegisterSets
+pub mod FaultTests
+pub mod WayMoves

@@ -1,0 +1,13 @@
+//! The control of a net that is made of a plan: where the graph stands, the clock of the step, the first fault, what
+//! becomes of the registers at the end of a step, and the drivers of ports. Takes the wires of the plan's values.
+//! Stands on `dh_cells` and `dh_lower`. Nothing of the program stands on this crate yet.
+#![tactic(auto)]
+
+mod checking;
+mod gathering;
+mod leading;
+mod moving;
+mod setting;
+mod testing;
+
+pub use gathering::Keyed;
