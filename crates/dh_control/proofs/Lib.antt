@@ -8,3 +8,4 @@ pub mod SetsMoved
 pub mod ChecksTested
 pub mod DecisionForms
 pub mod WaysMoved
+pub mod CountsMoved

@@ -1,6 +1,6 @@
 //! Where the steps of one thread lead, as moves of its state and of counters.
 
-ghost use Rattle.std.specs.Prelude.{◌≡◌, ◌<◌, ◌^◌, ◌∷◌, ◌++◌, [], length, slice_index, IfOk, OnOk};
+ghost use Rattle.std.specs.Prelude.{◌≡◌, ◌<◌, ◌++◌, length, slice_index, slice_set, IfOk, OnOk};
 ghost use Rattle.dh_cells.specs.Settled.{IsWire};
 ghost use Rattle.dh_control.specs.SizedWires.{AreSized};
 ghost use Rattle.dh_control.specs.WayMoves.{BranchMade, CountedMade, FitsThread, HoldsStates, LeadAdded, WayAdded, counts, way_of_decision};
@@ -29,19 +29,23 @@ pub struct Counted {
     pub more: u64,
 }
 
-/// Adds wires for the ways of an active thread: where a wire of a width shows a number, and where it does not.
+/// Adds wires for the ways of an active thread: where the wire of a register shows a number, and where it does not.
 fn push_branch(
     circuit: &mut Circuit,
+    widths: &[u8],
+    wires: &[u64],
     active: u64,
-    width: u8,
-    wire: u64,
+    register: u64,
     number: u64,
 ) -> Result<Branch, NoMemory>
     requires active { IsWire circuit.old active 1 }
-    requires wire { IsWire circuit.old wire width }
-    ensures { IfOk result (λ b. BranchMade circuit.old circuit.new active wire number b) }
+    requires wires { AreSized circuit.old widths.now wires.now }
+    requires register { register < length widths.now }
+    ensures { IfOk result (λ b. BranchMade circuit.old circuit.new active
+        (slice_index wires.now register) number b) }
 {
-    let test = push_number_test(circuit, width, wire, number)?;
+    let at = register as usize;
+    let test = push_number_test(circuit, widths[at], wires[at], number)?;
     let chosen = push_both(circuit, active, test)?;
     let fails = push_not(circuit, test)?;
     let other = push_both(circuit, active, fails)?;
@@ -49,13 +53,37 @@ fn push_branch(
 }
 
 /// Adds wires for the next values of a counter.
-fn push_counted(circuit: &mut Circuit, width: u8, wire: u64) -> Result<Counted, NoMemory>
-    requires { IsWire circuit.old wire width }
-    ensures { IfOk result (λ c. CountedMade circuit.old circuit.new width wire c) }
+fn push_counted(
+    circuit: &mut Circuit,
+    widths: &[u8],
+    wires: &[u64],
+    counter: u64,
+) -> Result<Counted, NoMemory>
+    requires wires { AreSized circuit.old widths.now wires.now }
+    requires counter { counter < length widths.now }
+    ensures { IfOk result (λ c. CountedMade circuit.old circuit.new
+        (slice_index widths.now counter) (slice_index wires.now counter) c) }
 {
-    let none = circuit.push_constant(width, 0)?;
-    let more = push_more(circuit, width, wire)?;
+    let at = counter as usize;
+    let none = circuit.push_constant(widths[at], 0)?;
+    let more = push_more(circuit, widths[at], wires[at])?;
     Ok(Counted { none, more })
+}
+
+/// The wire of a register.
+fn wire_of(wires: &[u64], register: u64) -> u64
+    requires { register < length wires.now }
+    ensures { result ≡ slice_index wires.now register }
+{
+    wires[register as usize]
+}
+
+/// Has a register go by another wire.
+fn set_wire(wires: &mut Vec<u64>, register: u64, wire: u64)
+    requires { register < length wires.old.items }
+    ensures { wires.new.items ≡ slice_set wires.old.items register wire }
+{
+    wires[register as usize] = wire;
 }
 
 /// Adds the move of a state to this number.
@@ -117,25 +145,25 @@ pub fn push_way(
     states: u64,
     active: u64,
     way: &Decision,
-    after: &mut [u64],
+    after: &mut Vec<u64>,
     moves: &mut Items<Keyed<Tested>>,
     leads: &mut Items<Keyed<Tested>>,
 ) -> Result<(), NoMemory>
     requires active { IsWire circuit.old active 1 }
     requires states { HoldsStates width states }
-    requires after { AreSized circuit.old widths.now after.old }
+    requires after { AreSized circuit.old widths.now after.old.items }
     requires way { FitsThread states (length widths.now) way.now }
     ensures added { OnOk result (WayAdded circuit.old circuit.new widths.now width states active
-        after.old (way_of_decision way.now) moves.old moves.new leads.old leads.new) }
-    ensures kept { OnOk result (after.new ≡ after.old) }
+        after.old.items (way_of_decision way.now) moves.old moves.new leads.old leads.new) }
+    ensures kept { OnOk result (after.new.items ≡ after.old.items) }
 {
     match way {
         Decision::Go { state } => push_lead(circuit, width, active, *state, leads),
         Decision::Rest => push_lead(circuit, width, active, states, leads),
         Decision::Fork { .. } => unreachable!(),
         Decision::Test { flag, yes, no } => {
-            let at = *flag as usize;
-            let branch = push_branch(circuit, active, widths[at], after[at], 1)?;
+            let wires = after.as_slice();
+            let branch = push_branch(circuit, widths, wires, active, *flag, 1)?;
             let (chosen, other) = (branch.chosen, branch.other);
             push_way(
                 circuit, widths, width, states, chosen, yes, after, moves, leads,
@@ -151,20 +179,20 @@ pub fn push_way(
             again,
             past,
         } => {
-            let at = *counter as usize;
-            let wire = after[at];
-            let branch = push_branch(circuit, active, widths[at], wire, *last)?;
-            let counted = push_counted(circuit, widths[at], wire)?;
+            let wires = after.as_slice();
+            let wire = wire_of(wires, *counter);
+            let branch = push_branch(circuit, widths, wires, active, *counter, *last)?;
+            let counted = push_counted(circuit, widths, wires, *counter)?;
             let (chosen, other) = (branch.chosen, branch.other);
-            after[at] = counted.none;
+            set_wire(after, *counter, counted.none);
             push_way(
                 circuit, widths, width, states, chosen, past, after, moves, leads,
             )?;
-            after[at] = counted.more;
+            set_wire(after, *counter, counted.more);
             push_way(
                 circuit, widths, width, states, other, again, after, moves, leads,
             )?;
-            after[at] = wire;
+            set_wire(after, *counter, wire);
             push_counts(*counter, branch, counted, moves)?;
             Ok(())
         }
