@@ -9,3 +9,4 @@ pub mod ChecksTested
 pub mod DecisionForms
 pub mod WaysMoved
 pub mod CountsMoved
+pub mod StandsTell

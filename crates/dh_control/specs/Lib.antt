@@ -7,3 +7,4 @@ pub mod OnWires
 pub mod RegisterSets
 pub mod FaultTests
 pub mod WayMoves
+pub mod StateWires

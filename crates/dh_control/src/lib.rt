@@ -8,6 +8,7 @@ mod gathering;
 mod leading;
 mod moving;
 mod setting;
+mod standing;
 mod testing;
 
 pub use gathering::Keyed;
