@@ -10,3 +10,6 @@ pub mod DecisionForms
 pub mod WaysMoved
 pub mod CountsMoved
 pub mod StandsTell
+pub mod BlocksAdded
+pub mod StatesLead
+pub mod StepsPaced

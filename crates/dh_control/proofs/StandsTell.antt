@@ -58,9 +58,9 @@ mapped_long f [] = refl
 mapped_long f (x ∷ xs) = ap suc (mapped_long f xs)
 
 pub next_stand : (old now new : PlainCircuit) (state : ℕ) (states : List State) (count item : ℕ) (s : State) (stands more : List (Keyed ℕ)) → count < length states → s ≡ get_or states count s
-    → StandsSoFar old now state states count stands → Adds now new item 1 (match_shown state count) → more ≡ stands ++ record { key = s.block; item = item } ∷ []
+    → StandsSoFar old now state states count stands → Adds now new item 1 (match_shown state count) → more ≡ stands ++ record { key = (get_or states count s).block; item = item } ∷ []
     → StandsSoFar old new state states (count + 1) more
-next_stand old now new state states count item s stands more less is h a put = record {
+next_stand old now new state states count item s stands more less is h a made = let put = made ∙ ap (λ (y : State). stands ++ record { key = y.block; item = item } ∷ []) (sym is) in record {
   grows = grows_then old now new h.grows a.grows;
   stands_are =
       let next : take (count + 1) states ≡ take count states ++ s ∷ [] = take_more states count s less ∙ ap (λ (y : State). take count states ++ y ∷ []) (sym is) in

@@ -8,3 +8,5 @@ pub mod RegisterSets
 pub mod FaultTests
 pub mod WayMoves
 pub mod StateWires
+pub mod AllBlocks
+pub mod StepWires

@@ -4,11 +4,13 @@
 #![tactic(auto)]
 
 mod checking;
+mod ending;
 mod gathering;
 mod leading;
 mod moving;
 mod setting;
 mod standing;
+mod stepping;
 mod testing;
 
 pub use gathering::Keyed;
