@@ -13,3 +13,6 @@ pub mod StandsTell
 pub mod BlocksAdded
 pub mod StatesLead
 pub mod StepsPaced
+pub mod OneActive
+pub mod StepEnds
+pub mod ThreadNets

@@ -45,7 +45,9 @@ pace_made d e f g h i clock active lengths waits list waiting done going last w 
         bit_tells (shown x waiting) (any_one x list) (a.shows.is x s)
         ∙ (ap (λ ws. any_one x ws) same
         ∙ (any_by x clock active lengths 0 waits (λ k less.
-        bit_tells (shown x (slice_index waits k)) _ ((w.each k (let long = w.long in omega (arith, less, long))).is x in_e))
+        let here : k ≡ 0 + k = omega arith in
+        bit_tells (shown x (slice_index waits k)) (is_one x (slice_index active k) && nat_lt (shown x clock + 1) (slice_index lengths k)) ((w.each k (let long = w.long in omega (arith, less, long))).is x in_e)
+        ∙ ap (λ n. is_one x (slice_index active n) && nat_lt (shown x clock + 1) (slice_index lengths n)) here)
         ∙ ap (λ n. any_waits x clock active lengths 0 n) w.long))) in
     let going_is : (x : Signals) → IsSettled h x → is_one x going ≡ any_one x active = (λ x s. bit_tells (shown x going) (any_one x active) (c.shows.is x s)) in
     record {

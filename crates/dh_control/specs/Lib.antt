@@ -10,3 +10,5 @@ pub mod WayMoves
 pub mod StateWires
 pub mod AllBlocks
 pub mod StepWires
+pub mod ThreadHolds
+pub mod WiredNets
