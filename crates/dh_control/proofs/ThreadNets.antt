@@ -14,14 +14,14 @@ use Rattle.dh_net.specs.declared.nets.Net.{Net}
 use Rattle.dh_net.specs.declared.nets.Register.{Register}
 use Rattle.dh_net.specs.declared.ports.Port.{Port}
 use Rattle.dh_plan.specs.Blocks.{AreValues, all_set}
-use Rattle.dh_plan.specs.LegalSchedules.{Timing}
+use Rattle.dh_plan.specs.LegalSchedules.{Timing, clocks_in}
 use Rattle.dh_plan.specs.PlainPlans.{PlainPlan, first_in, operations_in}
 use Rattle.dh_plan.specs.PlanRuns.{start_at, first_registers, flag_holds, counted_up}
 use Rattle.dh_plan.specs.Ways.{Stop, Spot, rests, in_state, in_fork, Way, to_state, by_flag, by_count, to_fork, to_end, resolve, way_of_stop}
 use Rattle.dh_cells.specs.Settled.{Signals, signals, shown}
 use Rattle.dh_cells.specs.ShownValues.{is_one}
 use Rattle.dh_lower.specs.NetOfPlan.{Making, Standing, words_of, sets_by, spot_length, fault_seen, led_on, moment_at, next_registers, ShowsAtClock, ShowsOver, IsNetOf}
-use Rattle.dh_lower.specs.PortUsers.{User, Moment, DrivesFor, DriveFor, is_among}
+use Rattle.dh_lower.specs.PortUsers.{User, Moment, DrivesFor, DriveFor, is_among, operation_asks, user_asks}
 use Rattle.dh_lower.specs.ShownWords.{in_ports}
 use Rattle.dh_lower.specs.SpotsDone.{blocks_of_spot}
 use Rattle.dh_control.specs.SizedWires.{shown_all}
@@ -75,13 +75,18 @@ taken (r ∷ rs) wires x e = (λ i. slice_index (sym e i) r.next ∷ taken rs wi
 
 -- The drivers of a port whose users do not ask.
 
+never_asks : (plan : PlainPlan) (t : Timing) (words : ℕ → List Word) (m : Moment) (u : User) → m.active ≡ [] → user_asks plan t words m u ≡ false
+never_asks plan t words m u none =
+    ap (λ bs. is_among u.block bs
+    && operation_asks (first_in plan u.block) (words u.block) u.bank (slice_index (clocks_in plan t u.block) u.place) m (slice_get (operations_in plan u.block) u.place)) none
+
 silent_at : (plan : PlainPlan) (t : Timing) (words : ℕ → List Word) (m : Moment) (p : Port) (wires : List ℕ) (ds : List Driver) (us : List User) (i : ℕ) (d : Driver) → m.active ≡ []
     → DriveFor plan t words m p wires ds us → slice_get ds i ≡ Some d → is_active wires d ≡ false
 silent_at plan t words m p wires [] us i d none h at = absurd (let f : None ≡ Some d = at in cc)
 silent_at plan t words m p wires (e ∷ ds) [] i d none h at = absurd h
 silent_at plan t words m p wires (e ∷ ds) (u ∷ us) zero d none h at =
     let same : e ≡ d = (let f : Some e ≡ Some d = at in cc) in
-    let off : slice_index wires e.enable ≡ 0 = (h.0.enable ∙ ap (λ bs. if (is_among u.block bs && _) then 1 else 0) none) in
+    let off : slice_index wires e.enable ≡ 0 = (h.0.enable ∙ ap (λ t. if t then 1 else 0) (never_asks plan t words m u none)) in
     ap (λ y. slice_index wires y.enable == 1) (sym same) ∙ ap (λ n. n == 1) off
 silent_at plan t words m p wires (e ∷ ds) (u ∷ us) (suc i) d none h at = silent_at plan t words m p wires ds us i d none h.1 at
 
@@ -92,7 +97,7 @@ module _ (k : Making) (net : Net) (c : ControlWires) (w : IsWired k net c) where
   abbrev Holds : Standing
   Holds = holds_thread (length k.flow.states) (length k.plan.registers)
 
-  nexts : (wires held registers : List ℕ) → next_registers net wires ≡ shown_all (signals registers held wires) (next_wires c)
+  nexts : (wires held registers : List ℕ) → next_registers k net Holds wires ≡ shown_all (signals registers held wires) (next_wires c)
   nexts wires held registers = taken net.registers wires (signals registers held wires) refl ∙ ap (λ l. shown_all (signals registers held wires) l) w.nexts_are
 
   -- in a state
