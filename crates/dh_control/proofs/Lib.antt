@@ -16,3 +16,5 @@ pub mod StepsPaced
 pub mod OneActive
 pub mod StepEnds
 pub mod ThreadNets
+pub mod ControlPut
+pub mod ControlWhole

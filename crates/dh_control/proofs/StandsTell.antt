@@ -1,6 +1,7 @@
 -- Wires of states, and which blocks are active by them.
 use Rattle.std.proofs.Common.{◌≡◌, ℕ, zero, suc, ◌+◌, ◌-◌, ◌<◌, ◌≤◌, ◌==◌, ◌&&◌, ◌||◌, inl, inr, Bool, true, false, if◌then◌else◌, List, [], ◌∷◌, ◌++◌, length, map, take, drop, refl, sym, ap, subst, ◌∙◌, arith}
 use Rattle.std.specs.Prelude.{get_or, slice_index, nat_lt}
+use Rattle.std.specs.List.{AllByRecursion}
 use Rattle.std.proofs.lemmas.Bool.{cases_eq, cases_Bool}
 use Rattle.std.proofs.lemmas.Bool.Decides.{nat_tests}
 use Rattle.std.proofs.lemmas.List.{map-append, take_more}
@@ -18,6 +19,7 @@ use Rattle.dh_control.specs.KeyedItems.{picked}
 use Rattle.dh_control.specs.StateWires.{AreStands, StandsMade, blocks_active, active_shown, waits_shown, with_each_shown}
 use Rattle.dh_control.specs.WireLists.{EachShows, EachTells}
 use Rattle.dh_control.proofs.GatheredItems.{picked_here, picked_past}
+use Rattle.dh_control.proofs.ListFacts.{all_same}
 use Rattle.dh_control.proofs.WiresListed.{next_listed}
 
 -- One state more.
@@ -87,15 +89,25 @@ all_stands old new state states count stands all h = record {
 }
 
 -- the wires of a block's states
-pub picked_wires : (d : PlainCircuit) (state first : ℕ) (bs : List ℕ) (ks : List (Keyed ℕ)) (block : ℕ) → AreStands d state first bs ks → AreWires d (picked block ks) 1
-picked_wires d state first [] [] block h = tt
-picked_wires d state first [] (k ∷ ks) block h = absurd h
-picked_wires d state first (b ∷ bs) [] block h = tt
-picked_wires d state first (b ∷ bs) (k ∷ ks) block h =
+abbrev pub AreBits : PlainCircuit → List (Keyed ℕ) → Type 0
+AreBits d ks = AllByRecursion (λ k. IsWire d k.item 1) ks
+
+pub stands_bits : (d : PlainCircuit) (state first : ℕ) (bs : List ℕ) (ks : List (Keyed ℕ)) → AreStands d state first bs ks → AreBits d ks
+stands_bits d state first [] [] h = tt
+stands_bits d state first [] (k ∷ ks) h = absurd h
+stands_bits d state first (b ∷ bs) [] h = tt
+stands_bits d state first (b ∷ bs) (k ∷ ks) h = (h.0.1.there, stands_bits d state (suc first) bs ks h.1)
+
+bits_picked : (d : PlainCircuit) (ks : List (Keyed ℕ)) (block : ℕ) → AreBits d ks → AreWires d (picked block ks) 1
+bits_picked d [] block h = tt
+bits_picked d (k ∷ ks) block h =
     elim (cases_eq k.key block) [
-      | inl same ↦ subst (λ (l : List ℕ). AreWires d l 1) (sym (picked_here block k ks same)) (h.0.1.there, picked_wires d state (suc first) bs ks block h.1)
-      | inr other ↦ subst (λ (l : List ℕ). AreWires d l 1) (sym (picked_past block k ks other)) (picked_wires d state (suc first) bs ks block h.1)
+      | inl same ↦ subst (λ (l : List ℕ). AreWires d l 1) (sym (picked_here block k ks same)) (h.0, bits_picked d ks block h.1)
+      | inr other ↦ subst (λ (l : List ℕ). AreWires d l 1) (sym (picked_past block k ks other)) (bits_picked d ks block h.1)
     ]
+
+pub picked_wires : (d e : PlainCircuit) (ks : List (Keyed ℕ)) (block : ℕ) → Grows d e → AreBits d ks → AreWires e (picked block ks) 1
+picked_wires d e ks block g h = bits_picked e ks block (all_same (λ k. IsWire d k.item 1) (λ k. IsWire e k.item 1) ks (λ k a. wire_stays d e k.item 1 g a) h)
 
 -- What the wires of states tell.
 

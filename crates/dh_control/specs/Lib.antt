@@ -12,3 +12,6 @@ pub mod AllBlocks
 pub mod StepWires
 pub mod ThreadHolds
 pub mod WiredNets
+pub mod ControlsMade
+pub mod ControlsWhole
+pub mod ThreadLaws

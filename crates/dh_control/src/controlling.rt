@@ -1,10 +1,11 @@
 //! The control of one thread, put together: where it stands, what its step does, and what the registers are then.
 
-ghost use Rattle.std.specs.Prelude.{◌≡◌, ◌≤◌, ◌^◌, [], length, map, slice_get, IfOk};
+ghost use Rattle.std.specs.Prelude.{◌≡◌, ◌≤◌, ◌^◌, length, map, IfOk};
 ghost use Rattle.std.specs.List.{AllByRecursion};
 ghost use Rattle.dh_cells.specs.Settled.{AreWires, IsWire};
 ghost use Rattle.dh_control.specs.AllBlocks.{ChecksSuit, SetsSuit};
-ghost use Rattle.dh_control.specs.ControlsMade.{ActivityMade, OutcomeMade, ResultsMade};
+ghost use Rattle.dh_control.specs.ControlsMade.{ActivityMade, AfterMade, OutcomeMade, ResultsMade};
+ghost use Rattle.dh_control.specs.ControlsWhole.{ControlMade, OwnWires};
 ghost use Rattle.dh_control.specs.SizedWires.{AreSized};
 ghost use Rattle.dh_control.specs.StateWires.{AreStands};
 ghost use Rattle.dh_control.specs.WayMoves.{FitsThread, HoldsStates};
@@ -14,7 +15,7 @@ use crate::gathering::Keyed;
 use crate::leading::push_lead;
 use crate::moving::push_moved;
 use crate::standing::{push_active, push_each, push_stands};
-use crate::stepping::{Pace, Verdict, push_pace, push_verdict};
+use crate::stepping::{Nexts, Pace, Verdict, push_nexts, push_pace, push_verdict};
 use dh_base::{Items, NoMemory};
 use dh_cells::Circuit;
 use dh_plan::{PlanBlock, State};
@@ -43,11 +44,9 @@ pub struct Outcome {
 /// What the registers are after a clock, by wires.
 #[derive(Debug, Drop)]
 pub struct Results {
-    /// Those of the plan as they are after sets.
-    pub after: Items<u64>,
-    /// As they are after the step.
+    /// Those of the plan.
     pub news: Items<u64>,
-    /// The number of the next state.
+    /// The number of the state, one wire for the one thread.
     pub state: Items<u64>,
 }
 
@@ -103,7 +102,7 @@ pub fn push_outcome(
 }
 
 /// Adds wires for the registers after sets.
-fn push_after(
+pub fn push_after(
     alloc: Global,
     circuit: &mut Circuit,
     widths: &[u8],
@@ -125,7 +124,7 @@ fn push_after(
 }
 
 /// Adds wires for the registers and the state after a step, by the wires of registers after sets.
-fn push_led(
+pub fn push_results(
     alloc: Global,
     circuit: &mut Circuit,
     widths: &[u8],
@@ -135,7 +134,7 @@ fn push_led(
     verdict: Verdict,
     stands: &[Keyed<u64>],
     states: &[State],
-) -> Result<Led, NoMemory>
+) -> Result<Results, NoMemory>
     requires state { IsWire circuit.old state width }
     requires width { HoldsStates width (length states.now) }
     requires commit { IsWire circuit.old verdict.commit 1 }
@@ -144,8 +143,8 @@ fn push_led(
     requires after { AreSized circuit.old widths.now after.now }
     requires ways { AllByRecursion
         (λ s. FitsThread (length states.now) (length widths.now) s.next) states.now }
-    ensures { IfOk result (λ led. LedMade circuit.old circuit.new widths.now after.now width state
-        verdict stands.now states.now led) }
+    ensures { IfOk result (λ r. ResultsMade circuit.old circuit.new widths.now after.now width state
+        verdict states.now r) }
 {
     let mut wires = Vec::new(alloc);
     wires.extend_from_slice(after)?;
@@ -163,8 +162,107 @@ fn push_led(
         &mut moves,
         &mut leads,
     )?;
-    push_lead(circuit, width, verdict.faulted, states.len() as u64, &mut leads)?;
+    let over = states.len() as u64;
+    push_lead(circuit, width, verdict.faulted, over, &mut leads)?;
     let news = push_moved(alloc, circuit, widths, after, moves.as_slice())?;
     let state = push_moved(alloc, circuit, &[width], &[state], leads.as_slice())?;
-    Ok(Led { news, state })
+    Ok(Results { news, state })
+}
+
+/// The registers of the control's own, by wires that show them, with their widths.
+#[derive(Clone, Copy, Debug)]
+pub struct Own {
+    /// Bits of the clock of the step.
+    pub clock_width: u8,
+    /// The clock of the step, from 0.
+    pub clock: u64,
+    /// The tick.
+    pub tick: u64,
+    /// The fault, from 1, 0 where there is none; of 32 bits.
+    pub fault: u64,
+    /// Bits of the number of the state.
+    pub state_width: u8,
+    /// The number of the state; behind all states where the run is over.
+    pub state: u64,
+}
+
+/// The control of one thread, by wires.
+#[derive(Debug, Drop)]
+pub struct Control {
+    /// Where the graph stands.
+    pub activity: Activity,
+    /// What becomes of the step.
+    pub outcome: Outcome,
+    /// The registers of the plan after sets.
+    pub after: Items<u64>,
+    /// What the registers are after the clock.
+    pub results: Results,
+    /// The next clock and fault, and whether the run has ended.
+    pub nexts: Nexts,
+}
+
+/// Adds the control of a plan of one thread, over wires of its own registers, of the plan's, and of its values.
+pub fn push_control(
+    alloc: Global,
+    circuit: &mut Circuit,
+    own: Own,
+    widths: &[u8],
+    registers: &[u64],
+    wires: &[u64],
+    blocks: &[PlanBlock],
+    states: &[State],
+    lengths: &[u64],
+) -> Result<Control, NoMemory>
+    requires own { OwnWires circuit.old own (length states.now) }
+    requires registers { AreSized circuit.old widths.now registers.now }
+    requires each { length lengths.now ≡ length blocks.now }
+    requires fits { AllByRecursion (λ n. (1 ≤ n) × (n ≤ 2 ^ own.clock_width)) lengths.now }
+    requires checks { ChecksSuit circuit.old wires.now blocks.now }
+    requires sets { SetsSuit circuit.old widths.now wires.now blocks.now }
+    requires ways { AllByRecursion
+        (λ s. FitsThread (length states.now) (length widths.now) s.next) states.now }
+    ensures { IfOk result (λ c. ControlMade circuit.old circuit.new own widths.now registers.now wires.now
+        blocks.now states.now lengths.now c) }
+{
+    let (width, state) = (own.state_width, own.state);
+    let activity = push_activity(alloc, circuit, width, state, states, blocks.len())?;
+    let outcome = push_outcome(
+        alloc,
+        circuit,
+        own.clock_width,
+        own.clock,
+        activity.active.as_slice(),
+        lengths,
+        wires,
+        blocks,
+    )?;
+    let commits = outcome.commits.as_slice();
+    let after = push_after(alloc, circuit, widths, registers, commits, wires, blocks)?;
+    let results = push_results(
+        alloc,
+        circuit,
+        widths,
+        after.as_slice(),
+        width,
+        state,
+        outcome.verdict,
+        activity.stands.as_slice(),
+        states,
+    )?;
+    let failed = outcome.verdict.failed;
+    let nexts = push_nexts(
+        circuit,
+        own.clock_width,
+        own.clock,
+        own.fault,
+        outcome.pace,
+        failed,
+    )?;
+    Ok(Control {
+        activity,
+        outcome,
+        after,
+        results,
+        nexts,
+    })
 }

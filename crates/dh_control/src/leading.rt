@@ -87,7 +87,7 @@ fn set_wire(wires: &mut Vec<u64>, register: u64, wire: u64)
 }
 
 /// Adds the move of a state to this number.
-fn push_lead(
+pub fn push_lead(
     circuit: &mut Circuit,
     width: u8,
     active: u64,

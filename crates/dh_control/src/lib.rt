@@ -4,8 +4,10 @@
 #![tactic(auto)]
 
 mod checking;
+mod controlling;
 mod ending;
 mod gathering;
+mod laws;
 mod leading;
 mod moving;
 mod setting;

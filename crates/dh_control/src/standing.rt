@@ -5,7 +5,7 @@ ghost use Rattle.std.specs.List.{AllByRecursion};
 ghost use Rattle.dh_value.specs.Words.{IsWidth};
 ghost use Rattle.dh_cells.specs.Settled.{AreWires, IsWire, WireAdded};
 ghost use Rattle.dh_cells.specs.ShownValues.{match_shown};
-ghost use Rattle.dh_control.specs.StateWires.{AreStands, StandsMade, active_shown, waits_shown, wait_of, with_each_shown};
+ghost use Rattle.dh_control.specs.StateWires.{StandsMade, active_shown, waits_shown, wait_of, with_each_shown};
 ghost use Rattle.dh_control.specs.WireLists.{EachTells};
 
 use crate::gathering::{Keyed, gather};
@@ -41,12 +41,10 @@ pub fn push_stands(
 pub fn push_active(
     alloc: Global,
     circuit: &mut Circuit,
-    wire: u64,
-    blocks: &[u64],
     stands: &[Keyed<u64>],
     count: usize,
 ) -> Result<Items<u64>, NoMemory>
-    requires { AreStands circuit.old wire 0 blocks.now stands.now }
+    requires { AllByRecursion (λ k. IsWire circuit.old k.item 1) stands.now }
     ensures { IfOk result (λ active. EachTells circuit.old circuit.new (active_shown stands.now) count active) }
 {
     let lists = gather(alloc, count, stands)?;
