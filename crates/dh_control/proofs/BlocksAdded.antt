@@ -39,6 +39,16 @@ checks_suit d e wires bs i b os g h less is same =
     (all_same (CheckSuits d wires) (CheckSuits e wires) b.operations (λ o a. suits_check_stay d e wires o g a)
     (at_item (λ b. AllByRecursion (CheckSuits d wires) b.operations) bs i b h less is))
 
+pub sets_stay : (d e : PlainCircuit) (widths wires : List ℕ) (bs : List PlanBlock) → Grows d e → SetsSuit d widths wires bs → SetsSuit e widths wires bs
+sets_stay d e widths wires bs g h =
+    all_same (λ b. AllByRecursion (SetSuits d widths wires) b.operations) (λ b. AllByRecursion (SetSuits e widths wires) b.operations) bs
+    (λ b a. all_same (SetSuits d widths wires) (SetSuits e widths wires) b.operations (λ o u. suits_stay d e widths wires o g u) a) h
+
+pub checks_stay : (d e : PlainCircuit) (wires : List ℕ) (bs : List PlanBlock) → Grows d e → ChecksSuit d wires bs → ChecksSuit e wires bs
+checks_stay d e wires bs g h =
+    all_same (λ b. AllByRecursion (CheckSuits d wires) b.operations) (λ b. AllByRecursion (CheckSuits e wires) b.operations) bs
+    (λ b a. all_same (CheckSuits d wires) (CheckSuits e wires) b.operations (λ o u. suits_check_stay d e wires o g u) a) h
+
 -- Sets.
 
 pub no_sets : (d : PlainCircuit) (widths commits wires : List ℕ) (from : ℕ) (moves : List Move) → AllSetsAdded d d widths commits wires from [] moves moves

@@ -153,3 +153,7 @@ results_made d e f g h widths after copy width state v states start moves list s
       halts = λ x s off wrong. next_is x s ∙ (b.goes x (shown x state) (in_f x s) wrong ∙ a.stays x (length states ∷ []) (in_e x s) (inl off));
       stays = λ x s off fine. next_is x s ∙ (b.stays x (shown x state ∷ []) (in_f x s) fine ∙ a.stays x (shown x state ∷ []) (in_e x s) (inl off));
     }
+
+-- stands of a slice, behind more cells
+pub stands_listed : (d e : PlainCircuit) (state : ℕ) (blocks : List ℕ) (stands list : List (Keyed ℕ)) → Grows d e → AreStands d state 0 blocks stands → list ≡ stands → AreStands e state 0 blocks list
+stands_listed d e state blocks stands list g h same = subst (λ (l : List (Keyed ℕ)). AreStands e state 0 blocks l) (sym same) (stands_later d e state 0 blocks stands g h)

@@ -31,15 +31,15 @@ use Rattle.dh_control.specs.WayMoves.{number_of}
 use Rattle.dh_control.proofs.MovedLists.{sized_stay, shown_at}
 
 -- of a step without fault and one with a fault there is one at most
-not_both : (c f last zero : Bool) → c ≡ (last && zero) → f ≡ (last && not zero) → c ≡ true → f ≡ false
+not_both : (c f last none : Bool) → c ≡ (last && none) → f ≡ (last && not none) → c ≡ true → f ≡ false
 not_both c f true true p q on = q
 not_both c f true false p q on = absurd (let e : false ≡ true = sym p ∙ on in cc)
-not_both c f false zero p q on = q
+not_both c f false none p q on = q
 
-not_either : (c f last zero : Bool) → c ≡ (last && zero) → f ≡ (last && not zero) → f ≡ true → c ≡ false
+not_either : (c f last none : Bool) → c ≡ (last && none) → f ≡ (last && not none) → f ≡ true → c ≡ false
 not_either c f true true p q on = absurd (let e : false ≡ true = sym q ∙ on in cc)
 not_either c f true false p q on = p
-not_either c f false zero p q on = p
+not_either c f false none p q on = p
 
 only_wire : (x : Signals) (wires : List ℕ) (v : ℕ) → shown_all x wires ≡ v ∷ [] → shown x (slice_index wires 0) ≡ v
 only_wire x [] v e = absurd (let f = ap (λ l. length l) e in omega (arith, f))

@@ -1,0 +1,121 @@
+//! Drivers of ports: an operation drives, of each bank that it lists, the port that it uses.
+
+ghost use Rattle.std.specs.Prelude.{◌≡◌, ◌<◌, ◌^◌, IfOk, OnOk};
+ghost use Rattle.std.specs.List.{AllByRecursion};
+ghost use Rattle.dh_value.specs.Words.{IsWidth};
+ghost use Rattle.dh_plan.specs.BoundPorts.{port_among};
+ghost use Rattle.dh_cells.specs.Settled.{IsWire};
+ghost use Rattle.dh_lower.specs.ShownWords.{port_or_first};
+ghost use Rattle.dh_control.specs.DriverWires.{BanksDriven, MayHaveValue, PickMade, RowMade, port_key};
+
+use crate::gathering::Keyed;
+use crate::testing::push_number_test;
+use dh_base::{Items, NoMemory};
+use dh_cells::{Circuit, push_both, push_converted};
+use dh_net::Driver;
+use dh_value::{Kind, width};
+
+/// What an operation asks of a port, by wires.
+#[derive(Clone, Copy, Debug)]
+pub struct Asking {
+    /// Whether it asks, of whichever bank it picks.
+    pub test: u64,
+    /// Whether it writes.
+    pub write: bool,
+    /// The number of the row.
+    pub row: u64,
+    /// What it writes; 0 of a read.
+    pub value: u64,
+}
+
+/// Adds a wire for the number of a row, of so many bits; 0 where no row is named.
+pub fn push_row(
+    circuit: &mut Circuit,
+    bits: u8,
+    kinds: &[Kind],
+    wires: &[u64],
+    row: Option<u64>,
+) -> Result<u64, NoMemory>
+    requires bits { IsWidth bits }
+    requires row { MayHaveValue circuit.old kinds.now wires.now row }
+    ensures { IfOk result (λ wire. RowMade circuit.old circuit.new bits kinds.now wires.now row wire) }
+{
+    match row {
+        None => circuit.push_constant(bits, 0),
+        Some(value) => {
+            let at = value as usize;
+            push_converted(circuit, kinds[at], Kind::Unsigned(bits), wires[at])
+        }
+    }
+}
+
+/// Adds a wire that is 1 where another is and a bank is picked.
+pub fn push_pick(
+    circuit: &mut Circuit,
+    kinds: &[Kind],
+    wires: &[u64],
+    test: u64,
+    select: Option<u64>,
+    bank: u32,
+) -> Result<u64, NoMemory>
+    requires test { IsWire circuit.old test 1 }
+    requires select { MayHaveValue circuit.old kinds.now wires.now select }
+    ensures { IfOk result (λ wire. PickMade circuit.old circuit.new kinds.now wires.now test select bank wire) }
+{
+    match select {
+        None => Ok(test),
+        Some(value) => {
+            let at = value as usize;
+            let picked = push_number_test(circuit, width(kinds[at]), wires[at], bank as u64)?;
+            push_both(circuit, test, picked)
+        }
+    }
+}
+
+/// The port of a bank among the bank and port pairs of an operation, 0 where there is none.
+fn port_of_bank(pairs: &[(u32, u32)], bank: u32) -> u32
+    ensures { result ≡ port_or_first (port_among bank pairs.now) }
+{
+    for pair in pairs {
+        if pair.0 == bank {
+            return pair.1;
+        }
+    }
+    0
+}
+
+/// Adds a driver for each bank, under the number of its port among those of all memories: `first` is the number of the
+/// memory's first one, and each bank has `ports`.
+pub fn push_drivers(
+    circuit: &mut Circuit,
+    kinds: &[Kind],
+    wires: &[u64],
+    asking: Asking,
+    select: Option<u64>,
+    first: u64,
+    ports: u64,
+    pairs: &[(u32, u32)],
+    banks: &[(u32, u32)],
+    drivers: &mut Items<Keyed<Driver>>,
+) -> Result<(), NoMemory>
+    requires test { IsWire circuit.old asking.test 1 }
+    requires select { MayHaveValue circuit.old kinds.now wires.now select }
+    requires small { AllByRecursion (λ b. port_key first ports pairs.now b.0 < 2 ^ 64) banks.now }
+    ensures { OnOk result (BanksDriven circuit.old circuit.new kinds.now wires.now asking select first
+        ports pairs.now banks.now drivers.old drivers.new) }
+{
+    for i in 0..banks.len() {
+        let bank = banks[i].0;
+        let enable = push_pick(circuit, kinds, wires, asking.test, select, bank)?;
+        let port = port_of_bank(pairs, bank);
+        let key = first + (u64::from(bank) * ports + u64::from(port));
+        let item = Driver {
+            enable,
+            write: asking.write,
+            row: asking.row,
+            data_: asking.value,
+        };
+        drivers.push(Keyed { key, item })?;
+    }
+    Ok(())
+}
