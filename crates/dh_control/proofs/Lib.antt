@@ -18,3 +18,4 @@ pub mod StepEnds
 pub mod ThreadNets
 pub mod ControlPut
 pub mod ControlWhole
+pub mod DriversMade

@@ -15,3 +15,4 @@ pub mod WiredNets
 pub mod ControlsMade
 pub mod ControlsWhole
 pub mod ThreadLaws
+pub mod DriverWires

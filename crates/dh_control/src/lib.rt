@@ -5,6 +5,7 @@
 
 mod checking;
 mod controlling;
+mod driving;
 mod ending;
 mod gathering;
 mod laws;
