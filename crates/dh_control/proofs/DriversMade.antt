@@ -108,12 +108,13 @@ pub none_driven : (d : PlainCircuit) (kinds : List Kind) (wires : List ℕ) (a :
     → BanksDriven d d kinds wires a select first_port ports pairs [] before before
 none_driven d kinds wires a select first_port ports pairs before = record { grows = grows_none d; added = []; behind = sym (append-nil before); drive = tt }
 
-pub next_driven : (d e f : PlainCircuit) (kinds : List Kind) (wires : List ℕ) (a : Asking) (select : Option ℕ) (first_port ports : ℕ) (pairs banks : List (ℕ × ℕ)) (i : ℕ) (b : ℕ × ℕ) (enable port key : ℕ)
-    (before mid after : List (Keyed Driver)) → i < length banks → port ≡ port_or_first (port_among (get_or banks i b).0 pairs) → key ≡ first_port + ((get_or banks i b).0 * ports + port)
+pub next_driven : (d e f : PlainCircuit) (kinds : List Kind) (wires : List ℕ) (a : Asking) (select : Option ℕ) (first_port ports : ℕ) (pairs banks : List (ℕ × ℕ)) (i : ℕ) (b : ℕ × ℕ) (enable port bank_from port_from key : ℕ)
+    (before mid after : List (Keyed Driver)) → i < length banks → port ≡ port_or_first (port_among (get_or banks i b).0 pairs) → bank_from ≡ (get_or banks i b).0 → port_from ≡ port
+    → key ≡ first_port + (bank_from * ports + port_from)
     → BanksDriven d e kinds wires a select first_port ports pairs (take i banks) before mid → PickMade e f kinds wires a.test select (get_or banks i b).0 enable
     → after ≡ mid ++ record { key = key; item = record { enable = enable; write = a.write; row = a.row; data_ = a.value } } ∷ []
     → BanksDriven d f kinds wires a select first_port ports pairs (take (i + 1) banks) before after
-next_driven d e f kinds wires a select first_port ports pairs banks i b enable port key before mid after less port_is key_is h p put =
+next_driven d e f kinds wires a select first_port ports pairs banks i b enable port bank_from port_from key before mid after less port_is bank_as port_as key_is h p put =
     let driver : Keyed Driver = record { key = key; item = record { enable = enable; write = a.write; row = a.row; data_ = a.value } } in
     record {
       grows = grows_then d e f h.grows p.grows;
@@ -122,7 +123,7 @@ next_driven d e f kinds wires a select first_port ports pairs banks i b enable p
       drive =
           subst (λ (l : List (ℕ × ℕ)). DriveBanks f kinds wires a select first_port ports pairs l (h.added ++ driver ∷ [])) (sym (take_more banks i b less))
           (banks_snoc f kinds wires a select first_port ports pairs (take i banks) h.added (get_or banks i b) driver
-          (key_is ∙ ap (λ n. first_port + ((get_or banks i b).0 * ports + n)) port_is)
+          (key_is ∙ ((λ j. first_port + (bank_as j * ports + port_as j)) ∙ ap (λ n. first_port + ((get_or banks i b).0 * ports + n)) port_is))
           (record { write_is = refl; row_is = refl; data_is = refl; there = p.there; is = λ x first ws s shows. p.is x first ws s shows })
           (banks_stay e f kinds wires a select first_port ports pairs (take i banks) h.added p.grows h.drive));
     }

@@ -7,12 +7,15 @@ ghost use Rattle.dh_plan.specs.BoundPorts.{port_among};
 ghost use Rattle.dh_cells.specs.Settled.{IsWire};
 ghost use Rattle.dh_lower.specs.ShownWords.{port_or_first};
 ghost use Rattle.dh_control.specs.DriverWires.{BanksDriven, MayHaveValue, PickMade, RowMade, port_key};
+ghost use Rattle.dh_control.specs.UseWires.{ReachAsked, ReachSuits, TimesThere, UseDriven, UseSuits};
 
 use crate::gathering::Keyed;
+use crate::setting::push_guard;
 use crate::testing::push_number_test;
 use dh_base::{Items, NoMemory};
 use dh_cells::{Circuit, push_both, push_converted};
 use dh_net::Driver;
+use dh_plan::{Operation, OperationForm, Reach};
 use dh_value::{Kind, width};
 
 /// What an operation asks of a port, by wires.
@@ -118,4 +121,112 @@ pub fn push_drivers(
         drivers.push(Keyed { key, item })?;
     }
     Ok(())
+}
+
+/// Where the ports of a memory stand among those of all memories.
+#[derive(Clone, Copy, Debug)]
+pub struct MemoryPorts {
+    /// The number of its first one.
+    pub first: u64,
+    /// How many each of its banks has.
+    pub count: u64,
+    /// Bits of the numbers of its rows.
+    pub bits: u8,
+}
+
+/// When an operation asks, by wires of one bit.
+#[derive(Clone, Copy, Debug)]
+pub struct Times {
+    /// Its block is active.
+    pub active: u64,
+    /// Its clock has come.
+    pub own: u64,
+    /// The writes of its block are made.
+    pub commit: u64,
+}
+
+/// Adds the drivers of a reach, which is asked for where a wire shows 1.
+fn push_reach(
+    circuit: &mut Circuit,
+    kinds: &[Kind],
+    wires: &[u64],
+    reach: &Reach,
+    test: u64,
+    write: bool,
+    value: u64,
+    memory: MemoryPorts,
+    pairs: &[(u32, u32)],
+    drivers: &mut Items<Keyed<Driver>>,
+) -> Result<(), NoMemory>
+    requires test { IsWire circuit.old test 1 }
+    requires suits { ReachSuits circuit.old kinds.now wires.now memory pairs.now reach.now }
+    ensures { OnOk result (ReachAsked circuit.old circuit.new kinds.now wires.now test write value
+        reach.now memory pairs.now drivers.old drivers.new) }
+{
+    let row = push_row(circuit, memory.bits, kinds, wires, reach.row)?;
+    let asking = Asking {
+        test,
+        write,
+        row,
+        value,
+    };
+    push_drivers(
+        circuit,
+        kinds,
+        wires,
+        asking,
+        reach.select,
+        memory.first,
+        memory.count,
+        pairs,
+        reach.banks.as_slice(),
+        drivers,
+    )?;
+    Ok(())
+}
+
+/// Adds the drivers of what an operation reads or writes.
+pub fn push_use(
+    circuit: &mut Circuit,
+    kinds: &[Kind],
+    wires: &[u64],
+    times: Times,
+    operation: &Operation,
+    memories: &[MemoryPorts],
+    pairs: &[(u32, u32)],
+    drivers: &mut Items<Keyed<Driver>>,
+) -> Result<(), NoMemory>
+    requires times { TimesThere circuit.old times }
+    requires suits { UseSuits circuit.old kinds.now wires.now memories.now pairs.now operation.now }
+    ensures { OnOk result (UseDriven circuit.old circuit.new kinds.now wires.now times operation.now
+        memories.now pairs.now drivers.old drivers.new) }
+{
+    match &operation.form {
+        OperationForm::Read { access } => {
+            let now = push_both(circuit, times.active, times.own)?;
+            let test = push_guard(circuit, now, wires, operation.guard)?;
+            let memory = memories[access.memory as usize];
+            push_reach(
+                circuit, kinds, wires, access, test, false, 0, memory, pairs, drivers,
+            )?;
+            Ok(())
+        }
+        OperationForm::Write { access, value } => {
+            let test = push_guard(circuit, times.commit, wires, operation.guard)?;
+            let memory = memories[access.memory as usize];
+            let data = wires[*value as usize];
+            push_reach(
+                circuit, kinds, wires, access, test, true, data, memory, pairs, drivers,
+            )?;
+            Ok(())
+        }
+        OperationForm::Constant { .. } => Ok(()),
+        OperationForm::Old { .. } => Ok(()),
+        OperationForm::Compute { .. } => Ok(()),
+        OperationForm::Convert { .. } => Ok(()),
+        OperationForm::Select { .. } => Ok(()),
+        OperationForm::Check { .. } => Ok(()),
+        OperationForm::Probe { .. } => Ok(()),
+        OperationForm::Set { .. } => Ok(()),
+    }
 }
