@@ -19,3 +19,4 @@ pub mod ThreadNets
 pub mod ControlPut
 pub mod ControlWhole
 pub mod DriversMade
+pub mod UsesMade

@@ -16,3 +16,4 @@ pub mod ControlsMade
 pub mod ControlsWhole
 pub mod ThreadLaws
 pub mod DriverWires
+pub mod UseWires

@@ -37,6 +37,7 @@ form_picks first ws bank f = false
 pub record DrivesUse (d : PlainCircuit) (kinds : List Kind) (wires : List ℕ) (t : Times) (o : Operation) (bits bank : ℕ) (driver : Driver) : Type 0 where
   pub enable_wire : IsWire d driver.enable 1
   pub row_wire : IsWire d driver.row bits
+  pub data_is : (r : Reach) (value : ℕ) → o.form ≡ Write r value → driver.data_ ≡ slice_index wires value
   pub enable_is : (x : Signals) (first : ℕ) (ws : List Word) → IsSettled d x → AreShownWords first ws kinds wires x (o ∷ [])
       → is_one x driver.enable ≡ ((form_time x t o.form && is_on first ws o.guard) && form_picks first ws bank o.form)
   pub says : (x : Signals) (first : ℕ) (ws : List Word) (p : Port) → IsSettled d x → AreShownWords first ws kinds wires x (o ∷ []) → p.row_width ≡ bits → SaysForm p x.wires first ws driver o.form
