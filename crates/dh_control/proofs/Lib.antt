@@ -20,3 +20,6 @@ pub mod ControlPut
 pub mod ControlWhole
 pub mod DriversMade
 pub mod UsesMade
+pub mod UsersListed
+pub mod UsersApart
+pub mod DrivesMeant

@@ -172,7 +172,7 @@ module _ (plan : PlainPlan) (u : Uses) where
 
   -- All of them, and no others.
 
-  all_listed : (block i bank place : ℕ) (r : Reach) → HasUse plan block i r → IsListed bank place r.banks → HasUser (user_at block i bank) (users_of plan u (port_bound plan u block i bank r))
+  pub all_listed : (block i bank place : ℕ) (r : Reach) → HasUse plan block i r → IsListed bank place r.banks → HasUser (user_at block i bank) (users_of plan u (port_bound plan u block i bank r))
   all_listed block i bank place r h listed =
       picked_has (keyed_user block i bank r) (blocks_users plan u 0 plan.blocks)
       (elim (slice_get_cases plan.blocks block).1 [
@@ -184,11 +184,11 @@ module _ (plan : PlainPlan) (u : Uses) where
             let g : None ≡ Some h.operation = f in cc)
       ])
 
-  abbrev IsOwn : (port : ℕ) → User → Type 0
+  abbrev pub IsOwn : (port : ℕ) → User → Type 0
   IsOwn port user =
       (r : Reach) × (HasUse plan user.block user.place r × ((place : ℕ) × (IsListed user.bank place r.banks × (port_bound plan u user.block user.place user.bank r ≡ port))))
 
-  own_listed : (port : ℕ) (user : User) → HasUser user (users_of plan u port) → IsOwn port user
+  pub own_listed : (port : ℕ) (user : User) → HasUser user (users_of plan u port) → IsOwn port user
   own_listed port user h =
       let p = picked_from port user (blocks_users plan u 0 plan.blocks) h in
       let b = of_blocks 0 plan.blocks p.keyed p.among in

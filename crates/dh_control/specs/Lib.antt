@@ -17,3 +17,4 @@ pub mod ControlsWhole
 pub mod ThreadLaws
 pub mod DriverWires
 pub mod UseWires
+pub mod PlanUsers
