@@ -23,3 +23,4 @@ pub mod UsesMade
 pub mod UsersListed
 pub mod UsersApart
 pub mod DrivesMeant
+pub mod BlocksDriven

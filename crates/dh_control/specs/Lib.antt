@@ -18,3 +18,4 @@ pub mod ThreadLaws
 pub mod DriverWires
 pub mod UseWires
 pub mod PlanUsers
+pub mod BlockUses

@@ -1,11 +1,13 @@
 //! Drivers of ports: an operation drives, of each bank that it lists, the port that it uses.
 
-ghost use Rattle.std.specs.Prelude.{◌≡◌, ◌<◌, ◌^◌, IfOk, OnOk};
+ghost use Rattle.std.specs.Prelude.{◌≡◌, ◌<◌, ◌^◌, [], ℕ, Some, length, slice_get, slice_index_or, IfOk, OnOk};
 ghost use Rattle.std.specs.List.{AllByRecursion};
 ghost use Rattle.dh_value.specs.Words.{IsWidth};
 ghost use Rattle.dh_plan.specs.BoundPorts.{port_among};
-ghost use Rattle.dh_cells.specs.Settled.{IsWire};
+ghost use Rattle.dh_plan.specs.declared.operations.Operation.{Operation};
+ghost use Rattle.dh_cells.specs.Settled.{AreWires, IsWire};
 ghost use Rattle.dh_lower.specs.ShownWords.{port_or_first};
+ghost use Rattle.dh_control.specs.BlockUses.{BlockDriven, times_at};
 ghost use Rattle.dh_control.specs.DriverWires.{BanksDriven, MayHaveValue, PickMade, RowMade, port_key};
 ghost use Rattle.dh_control.specs.UseWires.{ReachAsked, ReachSuits, TimesThere, UseDriven, UseSuits};
 
@@ -229,4 +231,53 @@ pub fn push_use(
         OperationForm::Probe { .. } => Ok(()),
         OperationForm::Set { .. } => Ok(()),
     }
+}
+
+/// Adds the drivers of what the operations of a block read or write. `at` has a wire for each clock of a step, and
+/// `clocks` and `pairs` are those of the operations.
+pub fn push_block_uses(
+    circuit: &mut Circuit,
+    kinds: &[Kind],
+    wires: &[u64],
+    active: u64,
+    commit: u64,
+    at: &[u64],
+    clocks: &[u64],
+    operations: &[Operation],
+    memories: &[MemoryPorts],
+    pairs: &[Items<(u32, u32)>],
+    drivers: &mut Items<Keyed<Driver>>,
+) -> Result<(), NoMemory>
+    requires active { IsWire circuit.old active 1 }
+    requires commit { IsWire circuit.old commit 1 }
+    requires at { AreWires circuit.old at.now 1 }
+    requires clocks { length clocks.now ≡ length operations.now }
+    requires early { AllByRecursion (λ c. c < length at.now) clocks.now }
+    requires pairs { length pairs.now ≡ length operations.now }
+    requires suits { (i : ℕ) (o : Operation) → slice_get operations.now i ≡ Some o
+        → UseSuits circuit.old kinds.now wires.now memories.now (slice_index_or pairs.now i []) o }
+    ensures { OnOk result (BlockDriven circuit.old circuit.new kinds.now wires.now
+        (times_at active commit at.now clocks.now) memories.now pairs.now operations.now
+        drivers.old drivers.new) }
+{
+    for i in 0..operations.len() {
+        let own = at[clocks[i] as usize];
+        let times = Times {
+            active,
+            own,
+            commit,
+        };
+        let list = pairs[i].as_slice();
+        push_use(
+            circuit,
+            kinds,
+            wires,
+            times,
+            &operations[i],
+            memories,
+            list,
+            drivers,
+        )?;
+    }
+    Ok(())
 }
