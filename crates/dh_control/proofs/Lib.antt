@@ -24,3 +24,4 @@ pub mod UsersListed
 pub mod UsersApart
 pub mod DrivesMeant
 pub mod BlocksDriven
+pub mod StraightWays

@@ -1,6 +1,7 @@
 -- The drivers of what an operation reads or writes.
 use Rattle.std.proofs.Common.{◌≡◌, ℕ, zero, suc, ◌+◌, ◌<◌, ◌==◌, ◌&&◌, Bool, true, false, Some, None, List, [], ◌∷◌, ◌++◌, length, refl, sym, ap, subst, ◌∙◌, arith}
-use Rattle.std.specs.Prelude.{Option, slice_index}
+use Rattle.std.specs.Prelude.{Option, get_or, slice_get, slice_index}
+use Rattle.std.proofs.lemmas.Option.{get_or_from_slice_get, slice_get-get_or}
 use Rattle.std.specs.List.{AllByRecursion}
 use Rattle.dh_value.specs.declared.kinds.Kind.{Kind}
 use Rattle.dh_value.specs.declared.words.Word.{Word}
@@ -8,7 +9,7 @@ use Rattle.dh_net.specs.declared.nets.Driver.{Driver}
 use Rattle.dh_net.specs.declared.ports.Port.{Port}
 use Rattle.dh_plan.specs.declared.operations.Operation.{Operation}
 use Rattle.dh_plan.specs.declared.operations.OperationForm.{OperationForm}
-use Rattle.dh_plan.specs.declared.operations.OperationForm.TheVariants.{Read, Write}
+use Rattle.dh_plan.specs.declared.operations.OperationForm.TheVariants.{Constant, Old, Compute, Convert, Select, Check, Probe, Read, Write, Set}
 use Rattle.dh_plan.specs.declared.operations.Reach.{Reach}
 use Rattle.dh_plan.specs.Blocks.{is_on}
 use Rattle.dh_plan.specs.Ordered.{one_or_none, offsets_taken, reach_takes, form_takes, operation_takes}
@@ -28,7 +29,7 @@ use Rattle.dh_control.specs.OnWires.{on_shown, on_both_shown}
 use Rattle.dh_control.specs.UseWires.{form_time, form_picks, DrivesUse, DriveUses, ReachDriven, ReachAsked, ReachSuits, FormUseSuits, UseSuits, memory_ports_at, UsedDriven, UseDriven}
 use Rattle.dh_control.specs.ValuesShown.{IsShownValue, AreShownWords}
 use Rattle.dh_control.proofs.DriversMade.{may_stay}
-use Rattle.dh_control.proofs.GuardsShown.{guard_is, both_tells}
+use Rattle.dh_control.proofs.GuardsShown.{guard_is, guard_stays, both_tells}
 use Rattle.dh_control.proofs.ListFacts.{all_front, all_back}
 
 -- A reach.
@@ -181,3 +182,26 @@ pub write_suits : (d e : PlainCircuit) (kinds : List Kind) (wires : List ℕ) (m
 write_suits d e kinds wires ms pairs o r value m g is h same =
     subst (λ (n : MemoryPorts). ReachSuits e kinds wires n pairs r) (sym same)
     (suits_stay d e kinds wires (memory_ports_at ms r.memory) pairs r g (subst (λ (f : OperationForm). FormUseSuits d kinds wires ms pairs f) is h.form).1.1)
+
+pub use_suits_stay : (d e : PlainCircuit) (kinds : List Kind) (wires : List ℕ) (ms : List MemoryPorts) (pairs list : List (ℕ × ℕ)) (o : Operation) → Grows d e → list ≡ pairs → UseSuits d kinds wires ms pairs o → UseSuits e kinds wires ms list o
+use_suits_stay d e kinds wires ms pairs list o g same h =
+    subst (λ (l : List (ℕ × ℕ)). UseSuits e kinds wires ms l o) (sym same) (record { guard = guard_stays d e wires o.guard g h.guard; form = by o.form h.form })
+  where
+    by : (f : OperationForm) → FormUseSuits d kinds wires ms pairs f → FormUseSuits e kinds wires ms pairs f
+    by (Constant word) k = tt
+    by (Old register) k = tt
+    by (Compute op left right) k = tt
+    by (Convert inner to) k = tt
+    by (Select test a b) k = tt
+    by (Check ok fault) k = tt
+    by (Probe r fault) k = tt
+    by (Set register value) k = tt
+    by (Read r) k = (k.0, suits_stay d e kinds wires (memory_ports_at ms r.memory) pairs r g k.1)
+    by (Write r value) k = (k.0, (k.1.0, suits_stay d e kinds wires (memory_ports_at ms r.memory) pairs r g k.1.1))
+
+-- an item by whatever default
+pub same_item : {A : Type 0} (xs : List A) (i : ℕ) (d e : A) → i < length xs → get_or xs i d ≡ get_or xs i e
+same_item xs i d e less = sym (get_or_from_slice_get xs i (get_or xs i d) e (slice_get-get_or xs i d less))
+
+pub item_at : {A : Type 0} (xs : List A) (i : ℕ) (x : A) → i < length xs → x ≡ get_or xs i x → slice_get xs i ≡ Some x
+item_at {A = A} xs i x less is = slice_get-get_or xs i x less ∙ ap (λ (y : A). Some y) (sym is)
