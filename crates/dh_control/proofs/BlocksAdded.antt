@@ -1,5 +1,5 @@
 -- Blocks one after the other: their sets from the last to the first, and their checks from the first to the last.
-use Rattle.std.proofs.Common.{◌≡◌, ℕ, zero, suc, ◌+◌, ◌-◌, ◌<◌, ◌≤◌, List, [], ◌∷◌, ◌++◌, length, drop, refl, sym, ap, subst, ◌∙◌, arith}
+use Rattle.std.proofs.Common.{◌≡◌, ℕ, zero, suc, ◌+◌, ◌-◌, ◌<◌, ◌≤◌, List, [], ◌∷◌, length, drop, refl, sym, ap, subst, ◌∙◌, arith}
 use Rattle.std.specs.Prelude.{get_or, slice_index}
 use Rattle.std.specs.List.{AllByRecursion}
 use Rattle.std.proofs.Math.Seq.{drop-cons}
@@ -7,16 +7,16 @@ use Rattle.std.proofs.Math.ListN.{drop_of_length-le}
 use Rattle.dh_value.specs.declared.kinds.Kind.{Kind}
 use Rattle.dh_plan.specs.declared.operations.Operation.{Operation}
 use Rattle.dh_plan.specs.declared.operations.PlanBlock.{PlanBlock}
-use Rattle.dh_plan.specs.Blocks.{StepStart, block_sets, block_events, first_fault}
+use Rattle.dh_plan.specs.Blocks.{StepStart, block_sets}
 use Rattle.dh_cells.specs.FirstTests.{AreTested}
 use Rattle.dh_cells.specs.PlainCircuits.{PlainCircuit}
-use Rattle.dh_cells.specs.Settled.{Signals, IsSettled, Grows, AreWires}
+use Rattle.dh_cells.specs.Settled.{Signals, IsSettled, Grows}
 use Rattle.dh_cells.specs.ShownValues.{is_one, first_of}
 use Rattle.dh_cells.specs.declared.trees.Tested.{Tested}
 use Rattle.dh_cells.proofs.CellsAppended.{grows_none, grows_then, settled_fewer}
-use Rattle.dh_control.specs.AllBlocks.{BlockWords, AreBlockWords, blocks_set, blocks_code, SetsSuit, ChecksSuit, AllSetsAdded, AllChecksAdded}
-use Rattle.dh_control.specs.FaultTests.{code_where, CheckSuits, ChecksAdded}
-use Rattle.dh_control.specs.MovedValues.{Move, moved, AreMoves}
+use Rattle.dh_control.specs.AllBlocks.{BlockWords, AreBlockWords, blocks_code, SetsSuit, ChecksSuit, AllSetsAdded, AllChecksAdded}
+use Rattle.dh_control.specs.FaultTests.{CheckSuits, ChecksAdded}
+use Rattle.dh_control.specs.MovedValues.{Move}
 use Rattle.dh_control.specs.RegisterSets.{all_set_where, SetSuits, SetsAdded}
 use Rattle.dh_control.specs.ValuesShown.{AreShownWords}
 use Rattle.dh_control.proofs.ChecksTested.{suits_check_stay}

@@ -1,6 +1,6 @@
 -- Drivers of operations one after the other.
 use Rattle.std.proofs.Common.{◌≡◌, ℕ, zero, suc, ◌+◌, ◌<◌, ◌≤◌, Some, None, List, [], ◌∷◌, ◌++◌, length, take, refl, sym, ap, subst, ◌∙◌, arith, append_assoc}
-use Rattle.std.specs.Prelude.{Option, get_or, slice_index, slice_index_or}
+use Rattle.std.specs.Prelude.{Option, get_or, slice_index_or}
 use Rattle.std.proofs.lemmas.List.{append-nil, take_more}
 use Rattle.dh_value.specs.declared.kinds.Kind.{Kind}
 use Rattle.dh_net.specs.declared.nets.Driver.{Driver}
@@ -8,14 +8,13 @@ use Rattle.dh_plan.specs.declared.operations.Operation.{Operation}
 use Rattle.dh_plan.specs.declared.operations.Reach.{Reach}
 use Rattle.dh_plan.specs.SoundPlans.{use_in}
 use Rattle.dh_cells.specs.PlainCircuits.{PlainCircuit}
-use Rattle.dh_cells.specs.Settled.{Grows, IsWire, AreWires}
+use Rattle.dh_cells.specs.Settled.{Grows}
 use Rattle.dh_cells.proofs.CellsAppended.{grows_none, grows_then, settled_fewer, wire_stays}
 use Rattle.dh_control.specs.declared.driving.MemoryPorts.{MemoryPorts}
 use Rattle.dh_control.specs.declared.driving.Times.{Times}
 use Rattle.dh_control.specs.declared.gathering.Keyed.{Keyed}
-use Rattle.dh_control.specs.BlockUses.{BankUse, bank_uses, operation_uses, block_uses, times_at, DriveAll, BlockDriven}
-use Rattle.dh_control.specs.UseWires.{DrivesUse, DriveUses, ReachDriven, UsedDriven, UseDriven, TimesThere, memory_ports_at}
-use Rattle.dh_control.proofs.StandsTell.{wires_at}
+use Rattle.dh_control.specs.BlockUses.{BankUse, bank_uses, operation_uses, block_uses, DriveAll, BlockDriven}
+use Rattle.dh_control.specs.UseWires.{DrivesUse, DriveUses, UsedDriven, UseDriven, memory_ports_at}
 
 drives_stay : (d e : PlainCircuit) (kinds : List Kind) (wires : List ℕ) (t : Times) (o : Operation) (bits bank : ℕ) (driver : Driver) → Grows d e → DrivesUse d kinds wires t o bits bank driver → DrivesUse e kinds wires t o bits bank driver
 drives_stay d e kinds wires t o bits bank driver g h = record {

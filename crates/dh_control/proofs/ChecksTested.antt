@@ -1,31 +1,30 @@
 -- Tests for the faults of operations: one operation, and operations one after the other.
-use Rattle.std.proofs.Common.{◌≡◌, ℕ, zero, suc, ◌+◌, ◌-◌, ◌<◌, ◌≤◌, ◌^◌, ◌==◌, ◌&&◌, not, Bool, true, false, if◌then◌else◌, Some, None, List, [], ◌∷◌, ◌++◌, length, take, refl, sym, ap, subst, ◌∙◌, arith}
+use Rattle.std.proofs.Common.{◌≡◌, ℕ, zero, suc, ◌+◌, ◌<◌, ◌≤◌, ◌^◌, ◌&&◌, not, Bool, true, false, if◌then◌else◌, Some, None, List, [], ◌∷◌, ◌++◌, length, take, refl, sym, ap, subst, ◌∙◌, arith}
 use Rattle.std.specs.Prelude.{Option, slice_index, get_or}
 use Rattle.std.specs.List.{AllByRecursion}
 use Rattle.std.proofs.lemmas.List.{append-nil, take_more}
-use Rattle.dh_value.specs.declared.kinds.Kind.{Kind}
 use Rattle.dh_value.specs.declared.words.Word.{Word}
 use Rattle.dh_value.specs.Operations.{is_true}
 use Rattle.dh_plan.specs.declared.operations.Operation.{Operation}
 use Rattle.dh_plan.specs.declared.operations.OperationForm.{OperationForm}
 use Rattle.dh_plan.specs.declared.operations.OperationForm.TheVariants.{Constant, Old, Compute, Convert, Select, Check, Probe, Read, Write, Set}
-use Rattle.dh_plan.specs.Blocks.{StepStart, BlockEvent, fails, fails_unless, puts, is_on, word_at, form_events, operation_events, block_events, first_fault}
+use Rattle.dh_plan.specs.Blocks.{StepStart, BlockEvent, fails_unless, is_on, form_events, block_events, first_fault}
 use Rattle.dh_plan.specs.BlockLaws.{fault_or}
 use Rattle.dh_plan.specs.Ordered.{one_or_none, form_takes, operation_takes}
 use Rattle.dh_plan.proofs.Appends.{events_behind, fault_behind}
-use Rattle.dh_cells.specs.FirstTests.{IsTested, AreTested}
+use Rattle.dh_cells.specs.FirstTests.{AreTested}
 use Rattle.dh_cells.specs.PlainCircuits.{PlainCircuit}
-use Rattle.dh_cells.specs.Settled.{Signals, IsSettled, Grows, IsWire, Adds, shown}
-use Rattle.dh_cells.specs.ShownValues.{bit, is_one, first_of, not_shown, both_shown, number_shown}
+use Rattle.dh_cells.specs.Settled.{Signals, Grows, IsWire, Adds, shown}
+use Rattle.dh_cells.specs.ShownValues.{is_one, first_of, not_shown, both_shown, number_shown}
 use Rattle.dh_cells.specs.declared.trees.Tested.{Tested}
 use Rattle.dh_cells.proofs.CellsAppended.{grows_none, grows_then, settled_fewer, wire_stays}
 use Rattle.dh_cells.proofs.OperatorBits.{bit_tells}
-use Rattle.dh_cells.proofs.WireTrees.{tests_stay, tested_stays}
+use Rattle.dh_cells.proofs.WireTrees.{tests_stay}
 use Rattle.dh_control.specs.FaultTests.{code_or, code_where, CheckHasWire, CheckSuits, ChecksAdded}
 use Rattle.dh_control.specs.OnWires.{on_shown, on_both_shown}
-use Rattle.dh_control.specs.ValuesShown.{HasWire, IsShownValue, AreShownWords}
+use Rattle.dh_control.specs.ValuesShown.{HasWire, IsShownValue}
 use Rattle.dh_control.proofs.GuardsShown.{has_wire_stays, guard_stays, guard_is, both_tells}
-use Rattle.dh_control.proofs.ListFacts.{all_front, all_back, all_both}
+use Rattle.dh_control.proofs.ListFacts.{all_front, all_back}
 
 -- Tests behind others count where none of those shows 1.
 
@@ -94,7 +93,7 @@ check_added d e f g h active wires o ok fault number asked wrong test value befo
           (tested_both h before _ 32 (tests_stay d h before 32 all were) (record { test = wire_stays g h test 1 n.grows c.shows.there; value = n.shows.there }, tt));
       does = λ x s first ws kinds default settled words.
           let takes : AllByRecursion (IsShownValue first ws kinds wires x) (one_or_none o.guard ++ (ok ∷ [])) =
-              subst (λ (w : OperationForm). AllByRecursion (IsShownValue first ws kinds wires x) (one_or_none o.guard ++ form_takes w)) is words.each.0 in
+          subst (λ (w : OperationForm). AllByRecursion (IsShownValue first ws kinds wires x) (one_or_none o.guard ++ form_takes w)) is words.each.0 in
           let guard = guard_is first ws kinds wires x o.guard (all_front (IsShownValue first ws kinds wires x) (one_or_none o.guard) (ok ∷ []) takes) in
           let word = (all_back (IsShownValue first ws kinds wires x) (one_or_none o.guard) (ok ∷ []) takes).0 in
           let in_g = settled_fewer g h x n.grows settled in

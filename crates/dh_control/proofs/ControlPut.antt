@@ -1,36 +1,28 @@
 -- The parts of the control, put together.
-use Rattle.std.proofs.Common.{◌≡◌, ℕ, zero, suc, ◌+◌, ◌<◌, ◌≤◌, ◌==◌, ◌&&◌, not, inl, inr, Bool, true, false, List, [], ◌∷◌, ◌++◌, length, map, refl, sym, ap, subst, ◌∙◌, arith}
+use Rattle.std.proofs.Common.{◌≡◌, ℕ, zero, suc, ◌<◌, ◌==◌, ◌&&◌, not, inl, List, [], ◌∷◌, length, refl, sym, ap, subst, ◌∙◌, arith}
 use Rattle.std.specs.Prelude.{slice_index}
-use Rattle.dh_value.specs.Words.{width_of}
-use Rattle.dh_value.specs.declared.kinds.Kind.{Kind}
 use Rattle.dh_plan.specs.declared.graphs.State.{State}
 use Rattle.dh_plan.specs.declared.operations.PlanBlock.{PlanBlock}
-use Rattle.dh_plan.specs.Blocks.{StepStart}
-use Rattle.dh_plan.specs.Ways.{resolve}
 use Rattle.dh_cells.specs.FirstTests.{AreTested}
 use Rattle.dh_cells.specs.PlainCircuits.{PlainCircuit}
 use Rattle.dh_cells.specs.Settled.{Signals, IsSettled, Grows, IsWire, AreWires, shown}
-use Rattle.dh_cells.specs.ShownValues.{bit, is_one, any_one, first_of}
+use Rattle.dh_cells.specs.ShownValues.{is_one, any_one, first_of}
 use Rattle.dh_cells.specs.declared.trees.Tested.{Tested}
-use Rattle.dh_cells.proofs.CellsAppended.{grows_then, settled_fewer, wire_stays, wires_stay}
+use Rattle.dh_cells.proofs.CellsAppended.{grows_then, settled_fewer, wire_stays}
 use Rattle.dh_cells.proofs.OperatorBits.{bit_tells}
 use Rattle.dh_cells.proofs.WireTrees.{tests_stay}
-use Rattle.dh_lower.specs.PortUsers.{is_among}
-use Rattle.dh_control.specs.declared.controlling.Activity.{Activity}
-use Rattle.dh_control.specs.declared.controlling.Outcome.{Outcome}
-use Rattle.dh_control.specs.declared.controlling.Results.{Results}
 use Rattle.dh_control.specs.declared.gathering.Keyed.{Keyed}
 use Rattle.dh_control.specs.declared.stepping.Pace.{Pace}
 use Rattle.dh_control.specs.declared.stepping.Verdict.{Verdict}
-use Rattle.dh_control.specs.AllBlocks.{BlockWords, AreBlockWords, blocks_set, blocks_code, ways_of, way_at, AllChecksAdded, AllSetsAdded, WaysAdded}
+use Rattle.dh_control.specs.AllBlocks.{ways_of, AllChecksAdded, AllSetsAdded, WaysAdded}
 use Rattle.dh_control.specs.ControlsMade.{ActivityMade, OutcomeMade, AfterMade, ResultsMade}
 use Rattle.dh_control.specs.KeyedItems.{picked}
 use Rattle.dh_control.specs.MovedValues.{Move, moved, AreMoves, MovesMade}
 use Rattle.dh_control.specs.SizedWires.{AreSized, shown_all}
-use Rattle.dh_control.specs.StateWires.{AreStands, StandsMade, blocks_active, active_shown, with_each_shown}
-use Rattle.dh_control.specs.StepWires.{any_waits, PaceMade, VerdictMade}
-use Rattle.dh_control.specs.WayMoves.{number_of, LeadAdded}
-use Rattle.dh_control.specs.WireLists.{EachShows, EachTells}
+use Rattle.dh_control.specs.StateWires.{AreStands, StandsMade, active_shown, with_each_shown}
+use Rattle.dh_control.specs.StepWires.{PaceMade, VerdictMade}
+use Rattle.dh_control.specs.WayMoves.{LeadAdded}
+use Rattle.dh_control.specs.WireLists.{EachTells}
 use Rattle.dh_control.proofs.MovedLists.{moves_stay, sized_stay}
 use Rattle.dh_control.proofs.StandsTell.{AreBits, stands_bits, stands_later, stands_tell, wires_from}
 
@@ -101,11 +93,11 @@ pub after_made : (d e f : PlainCircuit) (widths registers commits wires : List �
 after_made d e f widths registers commits wires blocks before moves list after none a0 same b =
     let a : AllSetsAdded d e widths commits wires 0 blocks [] moves = subst (λ (l : List Move). AllSetsAdded d e widths commits wires 0 blocks l moves) none a0 in
     record {
-  grows = grows_then d e f a.grows b.grows;
-  sized = b.sized;
-  shows = λ x w kinds s words.
-      b.shows x s ∙ (ap (λ l. moved x l (shown_all x registers)) same ∙ a.does x w kinds (shown_all x registers) (settled_fewer e f x b.grows s) words);
-}
+      grows = grows_then d e f a.grows b.grows;
+      sized = b.sized;
+      shows = λ x w kinds s words.
+          b.shows x s ∙ (ap (λ l. moved x l (shown_all x registers)) same ∙ a.does x w kinds (shown_all x registers) (settled_fewer e f x b.grows s) words);
+    }
 
 -- The registers and the state after the step.
 
@@ -131,17 +123,17 @@ pub results_made : (d e f g h : PlainCircuit) (widths after copy : List ℕ) (wi
     → ResultsMade d h widths after width state v states (record { news = news; state = next })
 results_made d e f g h widths after copy width state v states start moves list start2 leads leads2 more news next copied none none2 a1 b same c other m =
     let a0 : WaysAdded d e widths width (length states) state v.commit copy (ways_of states) (length states) [] moves [] leads =
-        subst (λ (l : List Move). WaysAdded d e widths width (length states) state v.commit copy (ways_of states) (length states) [] moves l leads) none2
-        (subst (λ (l : List Move). WaysAdded d e widths width (length states) state v.commit copy (ways_of states) (length states) l moves start2 leads) none a1) in
+    subst (λ (l : List Move). WaysAdded d e widths width (length states) state v.commit copy (ways_of states) (length states) [] moves l leads) none2
+    (subst (λ (l : List Move). WaysAdded d e widths width (length states) state v.commit copy (ways_of states) (length states) l moves start2 leads) none a1) in
     let a : WaysAdded d e widths width (length states) state v.commit after (ways_of states) (length states) [] moves [] leads =
-        subst (λ (l : List ℕ). WaysAdded d e widths width (length states) state v.commit l (ways_of states) (length states) [] moves [] leads) copied a0 in
+    subst (λ (l : List ℕ). WaysAdded d e widths width (length states) state v.commit l (ways_of states) (length states) [] moves [] leads) copied a0 in
     let in_g : (x : Signals) → IsSettled h x → IsSettled g x = (λ x s. settled_fewer g h x m.grows s) in
     let in_f : (x : Signals) → IsSettled h x → IsSettled f x = (λ x s. settled_fewer f g x c.grows (in_g x s)) in
     let in_e : (x : Signals) → IsSettled h x → IsSettled e x = (λ x s. settled_fewer e f x b.grows (in_f x s)) in
     let news_are : (x : Signals) → IsSettled h x → shown_all x news ≡ moved x moves (shown_all x after) =
-        (λ x s. c.shows x (in_g x s) ∙ ap (λ l. moved x l (shown_all x after)) same) in
+    (λ x s. c.shows x (in_g x s) ∙ ap (λ l. moved x l (shown_all x after)) same) in
     let next_is : (x : Signals) → IsSettled h x → shown_all x next ≡ moved x leads2 (shown x state ∷ []) =
-        (λ x s. m.shows x s ∙ ap (λ l. moved x l (shown x state ∷ [])) other) in
+    (λ x s. m.shows x s ∙ ap (λ l. moved x l (shown x state ∷ [])) other) in
     record {
       grows = grows_then d e h a.grows (grows_then e f h b.grows (grows_then f g h c.grows m.grows));
       news = sized_stay g h widths news m.grows c.sized;

@@ -1,15 +1,14 @@
 -- The control as a whole: what its parts show is what the control of a plan shows.
-use Rattle.std.proofs.Common.{◌≡◌, ℕ, zero, suc, ◌+◌, ◌<◌, ◌≤◌, ◌==◌, ◌&&◌, not, Bool, true, false, Some, List, [], ◌∷◌, length, map, refl, sym, ap, subst, ◌∙◌, arith}
+use Rattle.std.proofs.Common.{◌≡◌, ℕ, ◌<◌, ◌==◌, ◌&&◌, not, Bool, true, false, Some, List, [], ◌∷◌, length, map, refl, sym, ap, subst, ◌∙◌, arith}
 use Rattle.std.specs.Prelude.{option_map, slice_get, slice_index, slice_index_or}
 use Rattle.std.proofs.lemmas.List.{length-map}
 use Rattle.std.proofs.lemmas.Option.{slice_get-map, slice_get_within, get_or_from_slice_get}
-use Rattle.dh_value.specs.Words.{width_of}
 use Rattle.dh_value.specs.declared.kinds.Kind.{Kind}
 use Rattle.dh_plan.specs.declared.graphs.State.{State}
 use Rattle.dh_plan.specs.declared.operations.PlanBlock.{PlanBlock}
-use Rattle.dh_plan.specs.Ways.{Stop, Way, to_end, resolve}
+use Rattle.dh_plan.specs.Ways.{Stop, to_end, resolve}
 use Rattle.dh_cells.specs.PlainCircuits.{PlainCircuit}
-use Rattle.dh_cells.specs.Settled.{Signals, IsSettled, Grows, IsWire, AreWires, shown}
+use Rattle.dh_cells.specs.Settled.{Signals, IsSettled, Grows, shown}
 use Rattle.dh_cells.specs.ShownValues.{is_one, any_one}
 use Rattle.dh_cells.proofs.CellsAppended.{grows_then, settled_fewer, wire_stays, wires_stay}
 use Rattle.dh_lower.specs.NetOfPlan.{Making}
@@ -22,13 +21,13 @@ use Rattle.dh_control.specs.declared.controlling.Results.{Results}
 use Rattle.dh_control.specs.declared.stepping.Nexts.{Nexts}
 use Rattle.dh_control.specs.AllBlocks.{AreBlockWords, blocks_set, blocks_code, ways_of, way_at}
 use Rattle.dh_control.specs.ControlsMade.{ActivityMade, OutcomeMade, AfterMade, ResultsMade}
-use Rattle.dh_control.specs.ControlsWhole.{OwnWires, OwnShown, AreOfMaking, control_wires, ControlMade}
-use Rattle.dh_control.specs.SizedWires.{AreSized, shown_all}
+use Rattle.dh_control.specs.ControlsWhole.{OwnShown, AreOfMaking, control_wires, ControlMade}
+use Rattle.dh_control.specs.SizedWires.{shown_all}
 use Rattle.dh_control.specs.StateWires.{blocks_active}
 use Rattle.dh_control.specs.StepWires.{any_waits, NextsMade}
-use Rattle.dh_control.specs.ThreadHolds.{ControlWires, ControlShows, shown_blocks, state_blocks}
+use Rattle.dh_control.specs.ThreadHolds.{ControlShows, shown_blocks}
 use Rattle.dh_control.specs.WayMoves.{number_of}
-use Rattle.dh_control.proofs.MovedLists.{sized_stay, shown_at}
+use Rattle.dh_control.proofs.MovedLists.{sized_stay}
 
 -- of a step without fault and one with a fault there is one at most
 not_both : (c f last none : Bool) → c ≡ (last && none) → f ≡ (last && not none) → c ≡ true → f ≡ false

@@ -1,10 +1,10 @@
 -- The way of a decision, and what it leads to, form by form, where its parts stand in the code's boxes.
-use Rattle.std.proofs.Common.{◌≡◌, ℕ, suc, ◌+◌, ◌<◌, refl, ap, sym, subst, ◌∙◌, arith}
+use Rattle.std.proofs.Common.{◌≡◌, ℕ, ◌<◌, refl, ap, sym, subst, ◌∙◌, arith}
 use Rattle.std.specs.Prelude.{Vec}
 use Rattle.std.specs.Global.{Global}
 use Rattle.dh_plan.specs.declared.graphs.Decision.{Decision}
 use Rattle.dh_plan.specs.declared.graphs.Decision.TheVariants.{Go, Test, Count, Fork, Rest}
-use Rattle.dh_plan.specs.Ways.{Way, to_state, by_flag, by_count, to_end}
+use Rattle.dh_plan.specs.Ways.{to_state, by_flag, by_count, to_end}
 use Rattle.dh_control.specs.WayMoves.{FitsThread, way_of_decision, way_weight}
 
 pub go_is : (state : ℕ) → way_of_decision (Go state) ≡ to_state state

@@ -1,25 +1,23 @@
 -- Drivers of the banks that an operation lists.
 use Rattle.std.proofs.Common.{◌≡◌, ℕ, zero, suc, ◌+◌, ◌<◌, ◌≤◌, ◌==◌, ◌&&◌, Bool, true, false, Some, None, List, [], ◌∷◌, ◌++◌, length, take, refl, sym, ap, subst, ◌∙◌, arith, append_assoc}
 use Rattle.std.specs.Prelude.{Option, ◌*◌, get_or, slice_index, slice_index_or}
-use Rattle.std.specs.List.{AllByRecursion}
 use Rattle.std.proofs.lemmas.List.{append-nil, take_more}
-use Rattle.dh_value.specs.Words.{value_in, value_of, width_of, word_of}
+use Rattle.dh_value.specs.Words.{value_of, word_of}
 use Rattle.dh_value.specs.declared.kinds.Kind.{Kind}
 use Rattle.dh_value.specs.declared.kinds.Kind.TheVariants as kind
 use Rattle.dh_value.specs.declared.words.Word.{Word}
 use Rattle.dh_net.specs.declared.nets.Driver.{Driver}
-use Rattle.dh_plan.specs.Blocks.{word_at}
 use Rattle.dh_plan.specs.BoundPorts.{port_among}
 use Rattle.dh_plan.specs.Ordered.{one_or_none}
 use Rattle.dh_cells.specs.PlainCircuits.{PlainCircuit}
-use Rattle.dh_cells.specs.Settled.{Signals, IsSettled, Grows, IsWire, Adds, shown}
-use Rattle.dh_cells.specs.ShownValues.{bit, is_one, number_shown, converted_shown, match_shown, both_shown}
+use Rattle.dh_cells.specs.Settled.{Signals, Grows, IsWire, Adds, shown}
+use Rattle.dh_cells.specs.ShownValues.{is_one, number_shown, converted_shown, match_shown, both_shown}
 use Rattle.dh_cells.proofs.CellsAppended.{grows_none, grows_then, settled_fewer, wire_stays}
 use Rattle.dh_cells.proofs.OperatorBits.{bit_tells}
 use Rattle.dh_lower.specs.ShownWords.{port_or_first}
 use Rattle.dh_control.specs.declared.driving.Asking.{Asking}
 use Rattle.dh_control.specs.declared.gathering.Keyed.{Keyed}
-use Rattle.dh_control.specs.DriverWires.{HasValue, MayHaveValue, select_picks, MayShow, RowMade, PickMade, port_key, DrivesBank, DriveBanks, BanksDriven}
+use Rattle.dh_control.specs.DriverWires.{HasValue, MayHaveValue, MayShow, RowMade, PickMade, port_key, DrivesBank, DriveBanks, BanksDriven}
 use Rattle.dh_control.specs.ValuesShown.{IsShownValue}
 use Rattle.dh_control.proofs.ListFacts.{all_same}
 

@@ -1,5 +1,5 @@
 -- A driver that asks by wires asks where the user of its port does, at the moment that wires show.
-use Rattle.std.proofs.Common.{◌≡◌, ℕ, zero, suc, ◌+◌, ◌<◌, ◌==◌, ◌&&◌, Bool, true, false, if◌then◌else◌, Some, None, List, [], ◌∷◌, length, refl, sym, ap, subst, ◌∙◌, arith}
+use Rattle.std.proofs.Common.{◌≡◌, ℕ, zero, suc, ◌<◌, ◌==◌, ◌&&◌, Bool, true, false, Some, None, List, [], ◌∷◌, refl, sym, ap, subst, ◌∙◌, arith}
 use Rattle.std.specs.Prelude.{Option, slice_get, slice_index}
 use Rattle.dh_value.specs.declared.kinds.Kind.{Kind}
 use Rattle.dh_value.specs.declared.words.Word.{Word}
@@ -9,14 +9,14 @@ use Rattle.dh_plan.specs.declared.operations.Operation.{Operation}
 use Rattle.dh_plan.specs.declared.operations.OperationForm.{OperationForm}
 use Rattle.dh_plan.specs.declared.operations.OperationForm.TheVariants.{Constant, Old, Compute, Convert, Select, Check, Probe, Read, Write, Set}
 use Rattle.dh_plan.specs.declared.operations.Reach.{Reach}
-use Rattle.dh_plan.specs.Blocks.{is_on, first_bank, bank_picked, word_at}
+use Rattle.dh_plan.specs.Blocks.{is_on, first_bank, bank_picked}
 use Rattle.dh_plan.specs.LegalSchedules.{Timing, clocks_in}
 use Rattle.dh_plan.specs.PlainPlans.{PlainPlan, first_in, operations_in}
 use Rattle.dh_plan.specs.SoundPlans.{use_in}
 use Rattle.dh_cells.specs.PlainCircuits.{PlainCircuit}
 use Rattle.dh_cells.specs.Settled.{Signals, IsSettled, shown}
 use Rattle.dh_cells.specs.ShownValues.{bit, is_one}
-use Rattle.dh_lower.specs.PortUsers.{User, Moment, DrivesFor, SaysOperation, is_among, form_asks, operation_asks, user_asks}
+use Rattle.dh_lower.specs.PortUsers.{User, Moment, DrivesFor, SaysOperation, is_among, form_asks, operation_asks}
 use Rattle.dh_control.specs.declared.driving.Times.{Times}
 use Rattle.dh_control.specs.DriverWires.{select_picks}
 use Rattle.dh_control.specs.UseWires.{form_time, form_picks, DrivesUse}

@@ -1,7 +1,7 @@
 -- Items gathered by their numbers: what was gathered of a number, and its items among those still to come, are all of
 -- its items.
 use Rattle.std.proofs.Common.{◌≡◌, ℕ, suc, ◌+◌, ◌<◌, ◌≤◌, ◌==◌, inl, inr, Some, Bool, true, false, if◌then◌else◌, List, [], ◌∷◌, ◌++◌, length, drop, take, refl, sym, ap, subst, ◌∙◌, arith, append_assoc}
-use Rattle.std.specs.Prelude.{Vec, get_or, map, set, replicate, slice_get}
+use Rattle.std.specs.Prelude.{Vec, get_or, set, replicate, slice_get}
 use Rattle.std.specs.Global.{Global}
 use Rattle.std.proofs.Math.Seq.{drop-cons}
 use Rattle.std.proofs.Math.ListN.{drop_of_length-le}
@@ -41,14 +41,14 @@ gather_turn {A = A} count i lists news all e less is long put so key small =
     elim (cases_eq e.key key) [
       | inl same ↦
           let here : get_or news key [] ≡ get_or lists key [] ++ e.item ∷ [] =
-              (ap (λ l. get_or l key []) put ∙ (ap (λ k. get_or (set lists e.key (get_or lists e.key [] ++ e.item ∷ [])) k []) (sym same)
-              ∙ (get_or-set_same lists e.key (get_or lists e.key [] ++ e.item ∷ []) [] (omega (arith, long, small, same)) ∙ ap (λ k. get_or lists k [] ++ e.item ∷ []) same))) in
+          (ap (λ l. get_or l key []) put ∙ (ap (λ k. get_or (set lists e.key (get_or lists e.key [] ++ e.item ∷ [])) k []) (sym same)
+          ∙ (get_or-set_same lists e.key (get_or lists e.key [] ++ e.item ∷ []) [] (omega (arith, long, small, same)) ∙ ap (λ k. get_or lists k [] ++ e.item ∷ []) same))) in
           ap (λ l. get_or news key [] ++ picked key l) next
           ∙ (ap (λ l. l ++ picked key (drop (suc i) all)) here ∙ (append_assoc (get_or lists key []) (e.item ∷ []) (picked key (drop (suc i) all))
           ∙ (ap (λ l. get_or lists key [] ++ l) (sym (picked_here key e (drop (suc i) all) same)) ∙ before)))
       | inr other ↦
           let here : get_or news key [] ≡ get_or lists key [] =
-              (ap (λ l. get_or l key []) put ∙ get_or-set_other lists e.key key (get_or lists e.key [] ++ e.item ∷ []) [] (λ q. other (sym q))) in
+          (ap (λ l. get_or l key []) put ∙ get_or-set_other lists e.key key (get_or lists e.key [] ++ e.item ∷ []) [] (λ q. other (sym q))) in
           ap (λ l. get_or news key [] ++ picked key l) next
           ∙ (ap (λ l. l ++ picked key (drop (suc i) all)) here
           ∙ (ap (λ l. get_or lists key [] ++ l) (sym (picked_past key e (drop (suc i) all) other)) ∙ before))
@@ -122,13 +122,13 @@ pub gather_step : {A : Type 0} (count i len : ℕ) (olds now news : List (Vec A 
     → Gathering count (take len (news ++ drop (length news) olds)) (drop (i + 1) all) all
 gather_step {A = A} count i len olds now news all e less is all_len same put h =
     let put_here : items_of news ≡ set (items_of olds) e.key (get_or (items_of olds) e.key [] ++ e.item ∷ []) =
-        put ∙ ap (λ (l : List (Vec A Global)). set (items_of l) e.key (get_or (items_of l) e.key [] ++ e.item ∷ [])) same in
+    put ∙ ap (λ (l : List (Vec A Global)). set (items_of l) e.key (get_or (items_of l) e.key [] ++ e.item ∷ [])) same in
     let long_new : length (items_of news) ≡ count = gather_long count e.key (items_of olds) (items_of news) (get_or (items_of olds) e.key [] ++ e.item ∷ []) h.long put_here in
     let a = length-map news (λ l. l.items) in
     let b = length-map olds (λ l. l.items) in
     let c = h.long in
     let back : take len (news ++ drop (length news) olds) ≡ news =
-        ap (λ n. take n (news ++ drop (length news) olds)) all_len ∙ written_back news olds (omega (arith, a, b, c, long_new)) in
+    ap (λ n. take n (news ++ drop (length news) olds)) all_len ∙ written_back news olds (omega (arith, a, b, c, long_new)) in
     subst (λ (l : List (Vec A Global)). Gathering count l (drop (i + 1) all) all) (sym back)
     (record { long = long_new; so_far = gather_turn count i (items_of olds) (items_of news) all e less is h.long put_here h.so_far })
 

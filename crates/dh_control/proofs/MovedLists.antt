@@ -1,19 +1,17 @@
 -- Values after moves, one by one: the first move of a value whose test shows 1.
-use Rattle.std.proofs.Common.{◌≡◌, ℕ, zero, suc, ◌+◌, ◌<◌, ◌≤◌, ◌==◌, inl, inr, Some, Bool, true, false, if◌then◌else◌, List, [], ◌∷◌, ◌++◌, length, map, refl, sym, ap, subst, ◌∙◌, arith}
-use Rattle.std.specs.Prelude.{get_or, set, slice_get, slice_index, slice_set}
-use Rattle.std.specs.List.{AllByRecursion}
-use Rattle.std.proofs.lemmas.Bool.{cases_Bool, cases_eq}
+use Rattle.std.proofs.Common.{◌≡◌, ℕ, zero, suc, ◌+◌, ◌<◌, ◌≤◌, inl, inr, Bool, true, false, if◌then◌else◌, List, [], ◌∷◌, ◌++◌, length, refl, sym, ap, subst, ◌∙◌, arith}
+use Rattle.std.specs.Prelude.{slice_index}
+use Rattle.std.proofs.lemmas.Bool.{cases_eq}
 use Rattle.std.proofs.lemmas.List.{ext_get_or, get_or-set_same, get_or-set_other, length-map, length-set}
 use Rattle.dh_cells.specs.FirstTests.{IsTested, AreTested}
 use Rattle.dh_cells.specs.PlainCircuits.{PlainCircuit}
-use Rattle.dh_cells.specs.Settled.{Signals, IsSettled, Grows, IsWire, Shows, Adds, shown}
+use Rattle.dh_cells.specs.Settled.{Signals, Grows, Adds, shown}
 use Rattle.dh_cells.specs.ShownValues.{is_one, first_of, first_shown}
 use Rattle.dh_cells.specs.declared.trees.Tested.{Tested}
 use Rattle.dh_cells.proofs.CellsAppended.{grows_none, grows_then, wire_stays}
-use Rattle.dh_cells.proofs.WireTrees.{tested_stays, tests_stay}
-use Rattle.dh_control.specs.declared.gathering.Keyed.{Keyed}
+use Rattle.dh_cells.proofs.WireTrees.{tested_stays}
 use Rattle.dh_control.specs.KeyedItems.{picked}
-use Rattle.dh_control.specs.MovedValues.{Move, set_where, moved, MoveFits, AreMoves, MovesMade}
+use Rattle.dh_control.specs.MovedValues.{Move, set_where, moved, AreMoves, MovesMade}
 use Rattle.dh_control.specs.SizedWires.{AreSized, shown_all}
 use Rattle.dh_control.specs.WireLists.{EachShows}
 use Rattle.dh_control.proofs.GatheredItems.{picked_here, picked_past}
@@ -49,9 +47,9 @@ moved_at x (m ∷ ms) values i less =
     elim (cases_eq m.key i) [
       | inl same ↦
           let here : slice_index (moved x (m ∷ ms) values) i ≡ (if is_one x m.item.test then shown x m.item.value else slice_index (moved x ms values) i) =
-              subst (λ (k : ℕ). slice_index (set_where (is_one x m.item.test) m.key (shown x m.item.value) (moved x ms values)) k
-                  ≡ (if is_one x m.item.test then shown x m.item.value else slice_index (moved x ms values) k)) same
-              (set_here (is_one x m.item.test) m.key (shown x m.item.value) (moved x ms values) (omega (arith, long, less, same))) in
+          subst (λ (k : ℕ). slice_index (set_where (is_one x m.item.test) m.key (shown x m.item.value) (moved x ms values)) k
+          ≡ (if is_one x m.item.test then shown x m.item.value else slice_index (moved x ms values) k)) same
+          (set_here (is_one x m.item.test) m.key (shown x m.item.value) (moved x ms values) (omega (arith, long, less, same))) in
           here ∙ (ap (λ (v : ℕ). if is_one x m.item.test then shown x m.item.value else v) before
           ∙ sym (ap (λ (l : List Tested). first_of x l (slice_index values i)) (picked_here i m ms same)))
       | inr other ↦

@@ -1,5 +1,5 @@
 -- One block is active: what all blocks do by wires is what that one does.
-use Rattle.std.proofs.Common.{◌≡◌, ℕ, zero, suc, ◌+◌, ◌<◌, ◌≤◌, ◌==◌, ◌&&◌, ◌||◌, inl, inr, Bool, true, false, if◌then◌else◌, Some, List, [], ◌∷◌, length, refl, sym, ap, subst, ◌∙◌, arith}
+use Rattle.std.proofs.Common.{◌≡◌, ℕ, zero, suc, ◌+◌, ◌<◌, ◌≤◌, ◌==◌, ◌&&◌, ◌||◌, inl, inr, Bool, true, false, Some, List, [], ◌∷◌, length, refl, ap, ◌∙◌, arith}
 use Rattle.std.specs.Prelude.{nat_lt, slice_get, slice_index}
 use Rattle.std.proofs.lemmas.Bool.{cases_eq}
 use Rattle.std.proofs.lemmas.Bool.Decides.{nat_tests}
@@ -8,7 +8,6 @@ use Rattle.dh_plan.specs.Blocks.{StepStart, block_events, block_sets, first_faul
 use Rattle.dh_plan.specs.PlainPlans.{block_operations}
 use Rattle.dh_cells.specs.Settled.{Signals, shown}
 use Rattle.dh_cells.specs.ShownValues.{is_one, any_one}
-use Rattle.dh_lower.specs.PortUsers.{is_among}
 use Rattle.dh_control.specs.AllBlocks.{BlockWords, blocks_set, blocks_code}
 use Rattle.dh_control.specs.FaultTests.{code_where}
 use Rattle.dh_control.specs.RegisterSets.{all_set_where}

@@ -1,27 +1,25 @@
 -- Moves for the sets of operations: one operation, and operations one after the other.
-use Rattle.std.proofs.Common.{◌≡◌, ℕ, zero, suc, ◌+◌, ◌-◌, ◌<◌, ◌≤◌, ◌==◌, ◌&&◌, Bool, true, false, if◌then◌else◌, Some, None, List, [], ◌∷◌, ◌++◌, length, drop, refl, sym, ap, subst, ◌∙◌, arith}
-use Rattle.std.specs.Prelude.{Option, slice_index, get_or}
+use Rattle.std.proofs.Common.{◌≡◌, ℕ, suc, ◌-◌, ◌<◌, ◌≤◌, ◌&&◌, Bool, true, false, if◌then◌else◌, List, [], ◌∷◌, ◌++◌, length, drop, refl, sym, ap, subst, ◌∙◌, arith}
+use Rattle.std.specs.Prelude.{slice_index, get_or}
 use Rattle.std.specs.List.{AllByRecursion}
 use Rattle.std.proofs.Math.Seq.{drop-cons}
 use Rattle.std.proofs.Math.ListN.{drop_of_length-le}
 use Rattle.std.proofs.lemmas.List.{append-nil}
-use Rattle.dh_value.specs.declared.kinds.Kind.{Kind}
 use Rattle.dh_value.specs.declared.words.Word.{Word}
 use Rattle.dh_plan.specs.declared.operations.Operation.{Operation}
 use Rattle.dh_plan.specs.declared.operations.OperationForm.{OperationForm}
 use Rattle.dh_plan.specs.declared.operations.OperationForm.TheVariants.{Constant, Old, Compute, Convert, Select, Check, Probe, Read, Write, Set}
-use Rattle.dh_plan.specs.Blocks.{RegisterSet, is_on, word_at, form_sets, operation_sets, block_sets, all_set}
-use Rattle.dh_plan.specs.Ordered.{one_or_none, form_takes, operation_takes}
+use Rattle.dh_plan.specs.Blocks.{RegisterSet, is_on, form_sets, operation_sets, block_sets, all_set}
+use Rattle.dh_plan.specs.Ordered.{one_or_none, form_takes}
 use Rattle.dh_plan.proofs.Appends.{sets_in_order}
-use Rattle.dh_cells.specs.FirstTests.{IsTested}
 use Rattle.dh_cells.specs.PlainCircuits.{PlainCircuit}
-use Rattle.dh_cells.specs.Settled.{Signals, IsSettled, Grows, IsWire, Adds, shown}
+use Rattle.dh_cells.specs.Settled.{Signals, Grows, Adds, shown}
 use Rattle.dh_cells.specs.ShownValues.{is_one}
 use Rattle.dh_cells.proofs.CellsAppended.{grows_none, grows_then, settled_fewer, wire_stays}
 use Rattle.dh_control.specs.MovedValues.{Move, set_where, moved, MoveFits, AreMoves}
 use Rattle.dh_control.specs.OnWires.{on_shown, on_both_shown}
 use Rattle.dh_control.specs.RegisterSets.{all_set_where, SetHasWire, SetSuits, SetsAdded}
-use Rattle.dh_control.specs.ValuesShown.{HasWire, GuardHasWire, IsShownValue, AreShownWords}
+use Rattle.dh_control.specs.ValuesShown.{HasWire, IsShownValue}
 use Rattle.dh_control.proofs.GuardsShown.{has_wire_stays, guard_stays, guard_is, both_tells}
 use Rattle.dh_control.proofs.ListFacts.{all_front, all_back, all_both}
 use Rattle.dh_control.proofs.MovedLists.{moves_stay}
@@ -77,7 +75,7 @@ set_added d e widths commit wires o register value test before after is suits a 
       ((λ less. record { test = a.shows.there; value = wire_stays d e (slice_index wires value) (slice_index widths register) a.grows (set_fits d widths wires o register value is suits).1 }), tt));
   does = λ x first ws kinds values s h.
       let takes : AllByRecursion (IsShownValue first ws kinds wires x) (one_or_none o.guard ++ (value ∷ [])) =
-          subst (λ (f : OperationForm). AllByRecursion (IsShownValue first ws kinds wires x) (one_or_none o.guard ++ form_takes f)) is h.each.0 in
+      subst (λ (f : OperationForm). AllByRecursion (IsShownValue first ws kinds wires x) (one_or_none o.guard ++ form_takes f)) is h.each.0 in
       let guard = guard_is first ws kinds wires x o.guard (all_front (IsShownValue first ws kinds wires x) (one_or_none o.guard) (value ∷ []) takes) in
       let word = (all_back (IsShownValue first ws kinds wires x) (one_or_none o.guard) (value ∷ []) takes).0 in
       ap (λ l. moved x l values) put

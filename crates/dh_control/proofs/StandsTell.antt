@@ -1,26 +1,24 @@
 -- Wires of states, and which blocks are active by them.
-use Rattle.std.proofs.Common.{◌≡◌, ℕ, zero, suc, ◌+◌, ◌-◌, ◌<◌, ◌≤◌, ◌==◌, ◌&&◌, ◌||◌, inl, inr, Bool, true, false, if◌then◌else◌, List, [], ◌∷◌, ◌++◌, length, map, take, drop, refl, sym, ap, subst, ◌∙◌, arith}
+use Rattle.std.proofs.Common.{◌≡◌, ℕ, zero, suc, ◌+◌, ◌-◌, ◌<◌, ◌≤◌, ◌==◌, ◌&&◌, ◌||◌, inl, inr, true, false, List, [], ◌∷◌, ◌++◌, length, map, take, refl, sym, ap, subst, ◌∙◌, arith}
 use Rattle.std.specs.Prelude.{get_or, slice_index, nat_lt}
 use Rattle.std.specs.List.{AllByRecursion}
-use Rattle.std.proofs.lemmas.Bool.{cases_eq, cases_Bool}
+use Rattle.std.proofs.lemmas.Bool.{cases_eq}
 use Rattle.std.proofs.lemmas.Bool.Decides.{nat_tests}
 use Rattle.std.proofs.lemmas.List.{map-append, take_more}
 use Rattle.dh_cells.specs.PlainCircuits.{PlainCircuit, IsNext}
 use Rattle.dh_cells.specs.Settled.{Signals, IsSettled, Grows, IsWire, Shows, Adds, AreWires, shown}
-use Rattle.dh_cells.specs.ShownValues.{bit, is_one, any_one, any_shown, match_shown, both_shown, number_shown, form_shown}
+use Rattle.dh_cells.specs.ShownValues.{bit, is_one, any_one, match_shown, both_shown, number_shown, form_shown}
 use Rattle.dh_cells.proofs.CellsAppended.{grows_none, grows_then, settled_fewer, shows_later, wire_stays}
 use Rattle.dh_cells.proofs.OperatorBits.{bit_tells}
-use Rattle.dh_cells.proofs.WiresMade.{adds_as, adds_behind, sum_next}
+use Rattle.dh_cells.proofs.WiresMade.{adds_behind, sum_next}
 use Rattle.dh_lower.specs.PortUsers.{is_among}
 use Rattle.dh_net.specs.declared.nets.CellForm.TheVariants.{LtU}
 use Rattle.dh_plan.specs.declared.graphs.State.{State}
 use Rattle.dh_control.specs.declared.gathering.Keyed.{Keyed}
 use Rattle.dh_control.specs.KeyedItems.{picked}
-use Rattle.dh_control.specs.StateWires.{AreStands, StandsMade, blocks_active, active_shown, waits_shown, with_each_shown}
-use Rattle.dh_control.specs.WireLists.{EachShows, EachTells}
+use Rattle.dh_control.specs.StateWires.{AreStands, StandsMade, blocks_active, waits_shown}
 use Rattle.dh_control.proofs.GatheredItems.{picked_here, picked_past}
 use Rattle.dh_control.proofs.ListFacts.{all_same}
-use Rattle.dh_control.proofs.WiresListed.{next_listed}
 
 -- One state more.
 

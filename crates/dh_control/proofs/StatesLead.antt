@@ -1,25 +1,22 @@
 -- The ways behind states, one state after the other.
-use Rattle.std.proofs.Common.{◌≡◌, ◌⊎◌, ℕ, zero, suc, ◌+◌, ◌<◌, ◌≤◌, ◌==◌, ◌&&◌, inl, inr, Bool, true, false, List, [], ◌∷◌, length, map, refl, sym, ap, subst, ◌∙◌, arith}
-use Rattle.std.specs.Prelude.{get_or, slice_index, slice_index_or}
-use Rattle.std.specs.List.{AllByRecursion}
-use Rattle.std.proofs.lemmas.Bool.{cases_eq, cases_Bool}
+use Rattle.std.proofs.Common.{◌≡◌, ◌⊎◌, ℕ, zero, suc, ◌+◌, ◌<◌, ◌≤◌, ◌==◌, ◌&&◌, inl, inr, true, false, List, [], ◌∷◌, length, refl, sym, ap, subst, ◌∙◌, arith}
+use Rattle.std.specs.Prelude.{get_or}
+use Rattle.std.proofs.lemmas.Bool.{cases_eq}
 use Rattle.std.proofs.lemmas.Bool.Decides.{nat_tests}
-use Rattle.std.proofs.lemmas.List.{get_or-map, length-map}
-use Rattle.dh_value.specs.Words.{width_of}
-use Rattle.dh_value.specs.declared.kinds.Kind.{Kind}
+use Rattle.std.proofs.lemmas.List.{get_or-map}
 use Rattle.dh_plan.specs.declared.graphs.State.{State}
 use Rattle.dh_plan.specs.Ways.{Way, to_end, resolve}
 use Rattle.dh_cells.specs.PlainCircuits.{PlainCircuit}
-use Rattle.dh_cells.specs.Settled.{Signals, IsSettled, Grows, IsWire, Shows, Adds, shown}
+use Rattle.dh_cells.specs.Settled.{Signals, IsSettled, Grows, Shows, Adds, shown}
 use Rattle.dh_cells.specs.ShownValues.{is_one, both_shown, match_shown}
 use Rattle.dh_cells.proofs.CellsAppended.{grows_none, grows_then, settled_fewer}
 use Rattle.dh_cells.proofs.OperatorBits.{bit_tells}
 use Rattle.dh_control.specs.declared.gathering.Keyed.{Keyed}
 use Rattle.dh_control.specs.AllBlocks.{ways_of, way_at, WaysAdded}
-use Rattle.dh_control.specs.MovedValues.{Move, moved, AreMoves}
+use Rattle.dh_control.specs.MovedValues.{Move, moved}
 use Rattle.dh_control.specs.SizedWires.{shown_all}
 use Rattle.dh_control.specs.StateWires.{AreStands}
-use Rattle.dh_control.specs.WayMoves.{number_of, way_of_decision, FitsThread, WayAdded}
+use Rattle.dh_control.specs.WayMoves.{number_of, way_of_decision, WayAdded}
 use Rattle.dh_control.proofs.MovedLists.{moves_stay}
 use Rattle.dh_control.proofs.WaysMoved.{both_true, both_no_test, both_no_first}
 

@@ -1,28 +1,26 @@
 -- What the next registers of a net of one thread are, by what its control shows: in a clock in which the step goes on, in
 -- its last clock without a fault and with one, and once the run is over.
-use Rattle.std.proofs.Common.{◌≡◌, ℕ, zero, suc, ◌+◌, ◌<◌, ◌≤◌, ◌%◌, ◌^◌, ◌==◌, ◌&&◌, ◌||◌, not, inl, inr, Bool, true, false, if◌then◌else◌, Some, None, List, [], ◌∷◌, ◌++◌, length, map, drop, refl, sym, ap, subst, ◌∙◌, arith}
+use Rattle.std.proofs.Common.{◌≡◌, ℕ, zero, suc, ◌+◌, ◌<◌, ◌≤◌, ◌%◌, ◌^◌, ◌==◌, ◌&&◌, ◌||◌, not, inl, inr, Bool, true, false, if◌then◌else◌, Some, None, List, [], ◌∷◌, ◌++◌, length, drop, refl, sym, ap, subst, ◌∙◌, arith}
 use Rattle.std.specs.Prelude.{Option, is_none, max, nat_lt, option_map, slice_get, slice_index}
 use Rattle.std.proofs.Math.Nat.{mod-eq_of_lt}
 use Rattle.std.proofs.lemmas.Bool.{cases_eq}
 use Rattle.std.proofs.lemmas.Bool.Decides.{nat_tests}
 use Rattle.std.proofs.lemmas.List.{append-nil, length-map}
-use Rattle.std.proofs.lemmas.Option.{slice_get-map, slice_get_within}
-use Rattle.dh_plan.specs.Blocks.{StepStart, BlockEvent, block_events, block_sets, first_fault, all_set}
-use Rattle.dh_plan.specs.PlainPlans.{first_in, operations_in, block_operations}
+use Rattle.std.proofs.lemmas.Option.{slice_get-map}
+use Rattle.dh_plan.specs.Blocks.{BlockEvent, block_events, block_sets, first_fault, all_set}
+use Rattle.dh_plan.specs.PlainPlans.{first_in, operations_in}
 use Rattle.dh_plan.specs.PlanRuns.{start_at}
 use Rattle.dh_plan.specs.PlayedPlans.{longest}
-use Rattle.dh_plan.specs.Ways.{Stop, Spot, rests, in_state, in_fork, resolve, block_of_stop, way_of_stop}
+use Rattle.dh_plan.specs.Ways.{Stop, in_state, resolve, block_of_stop, way_of_stop}
 use Rattle.dh_cells.specs.Settled.{Signals, shown}
 use Rattle.dh_cells.specs.ShownValues.{bit, is_one, any_one}
 use Rattle.dh_lower.specs.NetOfPlan.{Making, words_of, sets_by, spot_length, fault_seen, led_on}
 use Rattle.dh_lower.specs.PortUsers.{is_among}
 use Rattle.dh_lower.specs.SpotsDone.{blocks_of_spot}
-use Rattle.dh_control.specs.AllBlocks.{BlockWords, blocks_set, blocks_code}
-use Rattle.dh_control.specs.FaultTests.{code_or, code_where}
-use Rattle.dh_control.specs.RegisterSets.{all_set_where}
+use Rattle.dh_control.specs.FaultTests.{code_or}
 use Rattle.dh_control.specs.SizedWires.{shown_all}
 use Rattle.dh_control.specs.StateWires.{blocks_active}
-use Rattle.dh_control.specs.StepWires.{any_waits, next_clock_shown, next_fault_shown}
+use Rattle.dh_control.specs.StepWires.{any_waits}
 use Rattle.dh_control.specs.ThreadHolds.{own_registers, ControlWires, next_wires, shown_blocks, state_blocks, ControlShows}
 use Rattle.dh_control.specs.WayMoves.{number_of}
 use Rattle.dh_control.proofs.OneActive.{state_active, none_active, ShowsOnly, ShowNone, some_active, none_going, never_waits, one_waits, one_fails, one_sets, none_sets}
@@ -212,7 +210,7 @@ module _ (k : Making) (c : ControlWires) (x : Signals) (shows : ControlShows k c
           let b : shown x c.verdict.commit ≡ 1 = bit_number (shown x c.verdict.commit) true shows.commit_fits commits in
           let f : shown x c.nexts.fault ≡ 0 = fault_next ∙ not_failed in
           let s : shown x c.next_state ≡ number_of (length k.flow.states) (led_on k (in_state n) registers x.wires).spot =
-              (shows.goes commits stop here ∙ sym (ap (λ l. number_of (length k.flow.states) l.spot) led_is)) in
+          (shows.goes commits stop here ∙ sym (ap (λ l. number_of (length k.flow.states) l.spot) led_is)) in
           let r : shown_all x c.news ≡ (led_on k (in_state n) registers x.wires).registers = shows.turns commits stop here ∙ sym (ap (λ l. l.registers) led_is) in
           (λ i. clock_none i ∷ b i ∷ f i ∷ s i ∷ r i)
 

@@ -1,17 +1,16 @@
 -- The wires of a step, a few in a row.
-use Rattle.std.proofs.Common.{◌≡◌, ℕ, zero, suc, ◌+◌, ◌<◌, ◌%◌, ◌^◌, ◌==◌, ◌&&◌, ◌||◌, not, Bool, true, false, if◌then◌else◌, List, [], ◌∷◌, length, refl, sym, ap, subst, ◌∙◌, arith}
+use Rattle.std.proofs.Common.{◌≡◌, ℕ, zero, suc, ◌+◌, ◌<◌, ◌==◌, ◌&&◌, ◌||◌, not, if◌then◌else◌, List, [], ◌∷◌, length, refl, sym, ap, subst, ◌∙◌, arith}
 use Rattle.std.specs.Prelude.{nat_lt, slice_index}
 use Rattle.dh_cells.specs.PlainCircuits.{PlainCircuit}
-use Rattle.dh_cells.specs.Settled.{Signals, IsSettled, Grows, IsWire, Shows, Adds, AreWires, shown}
+use Rattle.dh_cells.specs.Settled.{Signals, IsSettled, Adds, AreWires, shown}
 use Rattle.dh_cells.specs.ShownValues.{bit, is_one, any_one, first_of, any_shown, not_shown, both_shown, match_shown, number_shown, first_shown, choice_shown, guarded_shown, more_shown}
 use Rattle.dh_cells.specs.declared.trees.Tested.{Tested}
 use Rattle.dh_cells.proofs.CellsAppended.{grows_then, settled_fewer, wire_stays, shows_later}
 use Rattle.dh_cells.proofs.OperatorBits.{bit_tells}
-use Rattle.dh_control.specs.StateWires.{waits_shown, wait_of}
-use Rattle.dh_control.specs.StepWires.{any_waits, PaceMade, VerdictMade, next_clock_shown, next_fault_shown, done_shown, NextsMade}
-use Rattle.dh_control.specs.WireLists.{EachShows, EachTells}
+use Rattle.dh_control.specs.StateWires.{wait_of}
+use Rattle.dh_control.specs.StepWires.{any_waits, PaceMade, VerdictMade, next_fault_shown, NextsMade}
+use Rattle.dh_control.specs.WireLists.{EachTells}
 use Rattle.dh_control.specs.declared.stepping.Pace.{Pace}
-use Rattle.dh_control.specs.declared.stepping.Nexts.{Nexts}
 use Rattle.dh_control.proofs.StandsTell.{wires_from}
 
 -- Whether one of many waits.
@@ -23,10 +22,10 @@ any_by x clock active lengths from [] each = refl
 any_by x clock active lengths from (w ∷ ws) each =
     let here : from + 0 ≡ from = omega arith in
     let first : is_one x w ≡ (is_one x (slice_index active from) && nat_lt (shown x clock + 1) (slice_index lengths from)) =
-        each zero (omega arith) ∙ ap (λ n. is_one x (slice_index active n) && nat_lt (shown x clock + 1) (slice_index lengths n)) here in
+    each zero (omega arith) ∙ ap (λ n. is_one x (slice_index active n) && nat_lt (shown x clock + 1) (slice_index lengths n)) here in
     let rest = any_by x clock active lengths (suc from) ws (λ i less.
-        let next : from + suc i ≡ suc from + i = omega arith in
-        each (suc i) (omega (arith, less)) ∙ ap (λ n. is_one x (slice_index active n) && nat_lt (shown x clock + 1) (slice_index lengths n)) next) in
+    let next : from + suc i ≡ suc from + i = omega arith in
+    each (suc i) (omega (arith, less)) ∙ ap (λ n. is_one x (slice_index active n) && nat_lt (shown x clock + 1) (slice_index lengths n)) next) in
     (λ i. first i || rest i)
 
 pub listed_wires : (d e : PlainCircuit) (value : ℕ → Signals → ℕ) (count : ℕ) (wires list : List ℕ) → EachTells d e value count wires → list ≡ wires → AreWires e list 1
@@ -40,15 +39,15 @@ pace_made d e f g h i clock active lengths waits list waiting done going last w 
     let g_i = grows_then g h i c.grows l.grows in
     let f_i = grows_then f g i b.grows g_i in
     let waiting_is : (x : Signals) → IsSettled f x → is_one x waiting ≡ any_waits x clock active lengths 0 (length active) =
-        (λ x s.
-        let in_e = settled_fewer e f x a.grows s in
-        bit_tells (shown x waiting) (any_one x list) (a.shows.is x s)
-        ∙ (ap (λ ws. any_one x ws) same
-        ∙ (any_by x clock active lengths 0 waits (λ k less.
-        let here : k ≡ 0 + k = omega arith in
-        bit_tells (shown x (slice_index waits k)) (is_one x (slice_index active k) && nat_lt (shown x clock + 1) (slice_index lengths k)) ((w.each k (let long = w.long in omega (arith, less, long))).is x in_e)
-        ∙ ap (λ n. is_one x (slice_index active n) && nat_lt (shown x clock + 1) (slice_index lengths n)) here)
-        ∙ ap (λ n. any_waits x clock active lengths 0 n) w.long))) in
+    (λ x s.
+    let in_e = settled_fewer e f x a.grows s in
+    bit_tells (shown x waiting) (any_one x list) (a.shows.is x s)
+    ∙ (ap (λ ws. any_one x ws) same
+    ∙ (any_by x clock active lengths 0 waits (λ k less.
+    let here : k ≡ 0 + k = omega arith in
+    bit_tells (shown x (slice_index waits k)) (is_one x (slice_index active k) && nat_lt (shown x clock + 1) (slice_index lengths k)) ((w.each k (let long = w.long in omega (arith, less, long))).is x in_e)
+    ∙ ap (λ n. is_one x (slice_index active n) && nat_lt (shown x clock + 1) (slice_index lengths n)) here)
+    ∙ ap (λ n. any_waits x clock active lengths 0 n) w.long))) in
     let going_is : (x : Signals) → IsSettled h x → is_one x going ≡ any_one x active = (λ x s. bit_tells (shown x going) (any_one x active) (c.shows.is x s)) in
     record {
       grows = grows_then d e i w.grows (grows_then e f i a.grows f_i);
@@ -72,9 +71,9 @@ verdict_made d e f g h i j last none failed fine commit wrong faulted tests a b 
     let h_j = grows_then h i j w.grows o.grows in
     let f_j = grows_then f g j c.grows (grows_then g h j m.grows h_j) in
     let failed_is : (x : Signals) → IsSettled f x → shown x failed ≡ first_of x tests 0 =
-        (λ x s. b.shows.is x s ∙ ap (λ n. first_of x tests n) (a.shows.is x (settled_fewer e f x b.grows s))) in
+    (λ x s. b.shows.is x s ∙ ap (λ n. first_of x tests n) (a.shows.is x (settled_fewer e f x b.grows s))) in
     let fine_is : (x : Signals) → IsSettled g x → is_one x fine ≡ (first_of x tests 0 == 0) =
-        (λ x s. bit_tells (shown x fine) _ (c.shows.is x s) ∙ ap (λ n. n == 0) (failed_is x (settled_fewer f g x c.grows s))) in
+    (λ x s. bit_tells (shown x fine) _ (c.shows.is x s) ∙ ap (λ n. n == 0) (failed_is x (settled_fewer f g x c.grows s))) in
     record {
       grows = grows_then d e j a.grows (grows_then e f j b.grows f_j);
       failed = wire_stays f j failed 32 f_j b.shows.there;

@@ -1,18 +1,11 @@
 -- A graph of one group has ways of one thread: its decisions are those ways, and lead where `push_way` can go.
-use Rattle.std.proofs.Common.{◌≡◌, ℕ, zero, suc, ◌+◌, ◌<◌, ◌≤◌, Some, None, List, [], ◌∷◌, length, map, refl, sym, ap, subst, ◌∙◌, arith}
-use Rattle.std.specs.Prelude.{Option, get_or, slice_get}
-use Rattle.std.specs.List.{AllByRecursion}
-use Rattle.std.proofs.lemmas.List.{ext_get_or, get_or-map, length-map}
-use Rattle.std.proofs.lemmas.Option.{slice_get_cases, slice_get-get_or}
+use Rattle.std.proofs.Common.{◌≡◌, ℕ, zero, suc, ◌<◌, Some, None, List, [], ◌∷◌, refl, sym, ap, subst}
+use Rattle.std.specs.Prelude.{Option, slice_get}
 use Rattle.dh_plan.specs.declared.graphs.Decision.{Decision}
 use Rattle.dh_plan.specs.declared.graphs.Decision.TheVariants.{Go, Test', Count', Fork, Rest}
-use Rattle.dh_plan.specs.declared.graphs.Graph.{Graph}
 use Rattle.dh_plan.specs.declared.graphs.Group.{Group}
-use Rattle.dh_plan.specs.declared.graphs.State.{State}
-use Rattle.dh_plan.specs.PlainPlans.{PlainPlan}
-use Rattle.dh_plan.specs.SeenGraphs.{IsWay, IsStop, IsFlowOf, WayWithin, FlowWithin, StaysInGroup, BeginsGroups, GroupsFit, homes_of, parents_of, numbers_from, way_count, HasFirst}
-use Rattle.dh_plan.specs.Ways.{Way, to_state, by_flag, by_count, to_fork, to_end, AllWays, no_ways, way_then, Stop, Flow}
-use Rattle.dh_control.specs.AllBlocks.{ways_of}
+use Rattle.dh_plan.specs.SeenGraphs.{IsWay, WayWithin, StaysInGroup, BeginsGroups, HasFirst}
+use Rattle.dh_plan.specs.Ways.{Way, to_state, by_flag, by_count, to_fork, to_end, AllWays, no_ways, way_then}
 use Rattle.dh_control.specs.WayMoves.{FitsThread, way_of_decision}
 use Rattle.dh_control.specs.WiredNets.{IsStraight}
 

@@ -1,9 +1,8 @@
 -- A net that is wired so is the net of its plan: what the control shows, and what the next registers hold.
-use Rattle.std.proofs.Common.{◌≡◌, ℕ, zero, suc, ◌+◌, ◌<◌, ◌≤◌, ◌==◌, ◌&&◌, inl, inr, Bool, true, false, if◌then◌else◌, Some, None, List, [], ◌∷◌, length, map, drop, refl, sym, ap, subst, ◌∙◌, arith}
-use Rattle.std.specs.Prelude.{Option, is_none, slice_get, slice_index, slice_set, replicate}
-use Rattle.std.proofs.lemmas.Bool.{cases_Bool}
-use Rattle.std.proofs.lemmas.List.{length-map, length-replicate, length-set}
-use Rattle.std.proofs.lemmas.Option.{slice_get-get_or, slice_get_cases, slice_get_within}
+use Rattle.std.proofs.Common.{◌≡◌, ℕ, zero, suc, ◌<◌, ◌==◌, ◌&&◌, inl, inr, Bool, true, false, if◌then◌else◌, Some, None, List, [], ◌∷◌, length, map, drop, refl, sym, ap, subst, ◌∙◌, arith}
+use Rattle.std.specs.Prelude.{Option, slice_get, slice_index, slice_set}
+use Rattle.std.proofs.lemmas.List.{length-replicate, length-set}
+use Rattle.std.proofs.lemmas.Option.{slice_get_cases, slice_get_within}
 use Rattle.dh_value.specs.declared.kinds.Kind.{Kind}
 use Rattle.dh_value.specs.declared.words.Word.{Word}
 use Rattle.dh_net.specs.BankPorts.{ports_of}
@@ -21,14 +20,14 @@ use Rattle.dh_plan.specs.Ways.{Stop, Spot, rests, in_state, in_fork, Way, to_sta
 use Rattle.dh_cells.specs.Settled.{Signals, signals, shown}
 use Rattle.dh_cells.specs.ShownValues.{is_one}
 use Rattle.dh_lower.specs.NetOfPlan.{Making, Standing, words_of, sets_by, spot_length, fault_seen, led_on, moment_at, next_registers, ShowsAtClock, ShowsOver, IsNetOf}
-use Rattle.dh_lower.specs.PortUsers.{User, Moment, DrivesFor, DriveFor, is_among, operation_asks, user_asks}
+use Rattle.dh_lower.specs.PortUsers.{User, Moment, DriveFor, is_among, operation_asks, user_asks}
 use Rattle.dh_lower.specs.ShownWords.{in_ports}
 use Rattle.dh_lower.specs.SpotsDone.{blocks_of_spot}
 use Rattle.dh_control.specs.SizedWires.{shown_all}
 use Rattle.dh_control.specs.ThreadHolds.{StandsAt, holds_thread, own_registers, ControlWires, next_wires, ControlShows}
 use Rattle.dh_control.specs.WayMoves.{number_of}
 use Rattle.dh_control.specs.WiredNets.{IsStraight, MomentShown, IsWired}
-use Rattle.dh_control.proofs.StepEnds.{waits_next, goes_on_next, faults_next, led_is, commits_as, active_as, clock_as, outputs, over_next, over_outputs, over_active, over_commit}
+use Rattle.dh_control.proofs.StepEnds.{waits_next, goes_on_next, faults_next, commits_as, active_as, clock_as, outputs, over_next, over_outputs, over_active, over_commit}
 
 -- Where a way of one thread leads.
 
@@ -127,8 +126,8 @@ module _ (k : Making) (net : Net) (c : ControlWires) (w : IsWired k net c) where
         × (length (led_on k (in_state n) registers wires).registers ≡ length k.plan.registers)
     led_there fine =
         let so = led_stands (length k.flow.states) k.plan.registers (way_of_stop (slice_get k.flow.states n))
-            (all_set (sets_by k.plan (words_of k wires) (blocks_of_spot k.flow.states (in_state n))) registers)
-            (subst (λ (o : Option Stop). IsStraight (length k.flow.states) (way_of_stop o)) (sym at) (w.straight n stop at)) in
+        (all_set (sets_by k.plan (words_of k wires) (blocks_of_spot k.flow.states (in_state n))) registers)
+        (subst (λ (o : Option Stop). IsStraight (length k.flow.states) (way_of_stop o)) (sym at) (w.straight n stop at)) in
         (so.0, so.1 ∙ (sets_long (sets_by k.plan (words_of k wires) (blocks_of_spot k.flow.states (in_state n))) registers ∙ long))
 
     shows_clock : ShowsAtClock k net Holds (in_state n) clock tick registers s.held wires

@@ -1,12 +1,12 @@
 -- Each user of a port is listed once.
-use Rattle.std.proofs.Common.{◌≡◌, ◌⊎◌, ℕ, zero, suc, ◌+◌, ◌<◌, ◌≤◌, inl, inr, Some, None, List, [], ◌∷◌, ◌++◌, length, refl, sym, ap, subst, ◌∙◌, arith}
+use Rattle.std.proofs.Common.{◌≡◌, ◌⊎◌, ℕ, suc, ◌≤◌, inl, inr, Some, None, List, [], ◌∷◌, ◌++◌, refl, sym, ap, subst, ◌∙◌, arith}
 use Rattle.std.specs.Prelude.{Option, slice_get}
 use Rattle.std.proofs.lemmas.Bool.{cases_eq}
 use Rattle.dh_plan.specs.declared.operations.Operation.{Operation}
 use Rattle.dh_plan.specs.declared.operations.PlanBlock.{PlanBlock}
 use Rattle.dh_plan.specs.declared.operations.Reach.{Reach}
 use Rattle.dh_plan.specs.BoundPorts.{Uses}
-use Rattle.dh_plan.specs.PlainPlans.{PlainPlan, operations_in, block_operations}
+use Rattle.dh_plan.specs.PlainPlans.{PlainPlan, block_operations}
 use Rattle.dh_plan.specs.SoundPlans.{use_in, HasUse, IsFormed}
 use Rattle.dh_lower.specs.PortUsers.{User, HasUser, AreApart, AreUsers}
 use Rattle.dh_lower.proofs.BoundPortFacts.{reach_suits}
@@ -83,9 +83,9 @@ module _ (plan : PlainPlan) (u : Uses) where
   banks_apart block i r [] once = tt
   banks_apart block i r (b ∷ bs) once = (
     (λ a.
-    let p = item_banks block i r bs (user_at block i b.0) a in
-    let e : 0 ≡ suc p.bank_place = once 0 (suc p.bank_place) b p.listed refl p.there (ap (λ y. y.bank) p.is) in
-    let f : ⊥ = omega (arith, e) in f),
+        let p = item_banks block i r bs (user_at block i b.0) a in
+        let e : 0 ≡ suc p.bank_place = once 0 (suc p.bank_place) b p.listed refl p.there (ap (λ y. y.bank) p.is) in
+        let f : ⊥ = omega (arith, e) in f),
     banks_apart block i r bs (λ m n x y at_m at_n same. let e = once (suc m) (suc n) x y at_m at_n same in omega (arith, e)),
   )
 

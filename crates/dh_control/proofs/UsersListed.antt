@@ -1,5 +1,5 @@
 -- The users of ports that are listed are all users, no others, and each once.
-use Rattle.std.proofs.Common.{◌≡◌, ◌⊎◌, ℕ, zero, suc, ◌+◌, ◌<◌, ◌≤◌, inl, inr, Some, None, List, [], ◌∷◌, ◌++◌, length, refl, sym, ap, subst, ◌∙◌, arith}
+use Rattle.std.proofs.Common.{◌≡◌, ◌⊎◌, ℕ, zero, suc, ◌+◌, inl, inr, Some, None, List, [], ◌∷◌, ◌++◌, refl, sym, ap, subst, ◌∙◌, arith}
 use Rattle.std.specs.Prelude.{Option, slice_get}
 use Rattle.std.proofs.lemmas.Bool.{cases_eq}
 use Rattle.std.proofs.lemmas.Option.{slice_get_cases}
@@ -8,10 +8,9 @@ use Rattle.dh_plan.specs.declared.operations.PlanBlock.{PlanBlock}
 use Rattle.dh_plan.specs.declared.operations.Reach.{Reach}
 use Rattle.dh_plan.specs.BoundPorts.{Uses}
 use Rattle.dh_plan.specs.PlainPlans.{PlainPlan, operations_in, block_operations}
-use Rattle.dh_plan.specs.SoundPlans.{use_in, HasUse, IsListed, IsFormed}
-use Rattle.dh_lower.specs.PortUsers.{User, HasUser, AreApart, AreUsers}
+use Rattle.dh_plan.specs.SoundPlans.{use_in, HasUse, IsListed}
+use Rattle.dh_lower.specs.PortUsers.{User, HasUser}
 use Rattle.dh_lower.specs.ShownWords.{port_bound}
-use Rattle.dh_lower.proofs.BoundPortFacts.{reach_suits}
 use Rattle.dh_control.specs.declared.gathering.Keyed.{Keyed}
 use Rattle.dh_control.specs.KeyedItems.{picked}
 use Rattle.dh_control.specs.PlanUsers.{user_at, bank_users, use_users, operations_users, blocks_users, users_of}
@@ -198,7 +197,7 @@ module _ (plan : PlainPlan) (u : Uses) where
       let place_is : o.place ≡ o.number = (let e = o.number_is in omega (arith, e)) in
       let user_is : user ≡ user_at b.number o.number k.bank = p.user_is ∙ ap (λ y. y.item) k.is in
       let there : slice_get (operations_in plan b.number) o.number ≡ Some o.operation =
-          (ap (λ (w : Option PlanBlock). slice_get (block_operations w) o.number) (ap (λ n. slice_get plan.blocks n) (sym block_is) ∙ b.there)
-          ∙ (ap (λ n. slice_get b.block.operations n) (sym place_is) ∙ o.there)) in
+      (ap (λ (w : Option PlanBlock). slice_get (block_operations w) o.number) (ap (λ n. slice_get plan.blocks n) (sym block_is) ∙ b.there)
+      ∙ (ap (λ n. slice_get b.block.operations n) (sym place_is) ∙ o.there)) in
       subst (λ (v : User). IsOwn port v) (sym user_is)
       (o.reach, (record { operation = o.operation; there = there; uses = o.used }, (k.bank_place, (k.listed, ap (λ y. y.key) (sym k.is) ∙ p.port_is))))

@@ -1,31 +1,30 @@
 -- The drivers of what an operation reads or writes.
-use Rattle.std.proofs.Common.{◌≡◌, ℕ, zero, suc, ◌+◌, ◌<◌, ◌==◌, ◌&&◌, Bool, true, false, Some, None, List, [], ◌∷◌, ◌++◌, length, refl, sym, ap, subst, ◌∙◌, arith}
+use Rattle.std.proofs.Common.{◌≡◌, ℕ, ◌<◌, ◌&&◌, Bool, true, false, Some, None, List, [], ◌∷◌, ◌++◌, length, refl, sym, ap, subst, ◌∙◌}
 use Rattle.std.specs.Prelude.{Option, get_or, slice_get, slice_index}
 use Rattle.std.proofs.lemmas.Option.{get_or_from_slice_get, slice_get-get_or}
 use Rattle.std.specs.List.{AllByRecursion}
 use Rattle.dh_value.specs.declared.kinds.Kind.{Kind}
 use Rattle.dh_value.specs.declared.words.Word.{Word}
 use Rattle.dh_net.specs.declared.nets.Driver.{Driver}
-use Rattle.dh_net.specs.declared.ports.Port.{Port}
 use Rattle.dh_plan.specs.declared.operations.Operation.{Operation}
 use Rattle.dh_plan.specs.declared.operations.OperationForm.{OperationForm}
 use Rattle.dh_plan.specs.declared.operations.OperationForm.TheVariants.{Constant, Old, Compute, Convert, Select, Check, Probe, Read, Write, Set}
 use Rattle.dh_plan.specs.declared.operations.Reach.{Reach}
 use Rattle.dh_plan.specs.Blocks.{is_on}
-use Rattle.dh_plan.specs.Ordered.{one_or_none, offsets_taken, reach_takes, form_takes, operation_takes}
+use Rattle.dh_plan.specs.Ordered.{one_or_none, offsets_taken, reach_takes, form_takes}
 use Rattle.dh_plan.specs.SoundPlans.{use_in}
 use Rattle.dh_cells.specs.PlainCircuits.{PlainCircuit}
-use Rattle.dh_cells.specs.Settled.{Signals, IsSettled, Grows, IsWire, Adds, shown}
-use Rattle.dh_cells.specs.ShownValues.{bit, is_one, both_shown}
+use Rattle.dh_cells.specs.Settled.{Signals, Grows, IsWire, Adds, shown}
+use Rattle.dh_cells.specs.ShownValues.{is_one, both_shown}
 use Rattle.dh_cells.proofs.CellsAppended.{grows_none, grows_then, settled_fewer, wire_stays}
 use Rattle.dh_cells.proofs.OperatorBits.{bit_tells}
-use Rattle.dh_lower.specs.PortUsers.{SaysRead, SaysWrite, SaysForm, row_bits}
+use Rattle.dh_lower.specs.PortUsers.{SaysForm, row_bits}
 use Rattle.dh_control.specs.declared.driving.Asking.{Asking}
 use Rattle.dh_control.specs.declared.driving.MemoryPorts.{MemoryPorts}
 use Rattle.dh_control.specs.declared.driving.Times.{Times}
 use Rattle.dh_control.specs.declared.gathering.Keyed.{Keyed}
-use Rattle.dh_control.specs.DriverWires.{MayHaveValue, MayShow, RowMade, select_picks, port_key, DrivesBank, DriveBanks, BanksDriven}
-use Rattle.dh_control.specs.OnWires.{on_shown, on_both_shown}
+use Rattle.dh_control.specs.DriverWires.{MayShow, RowMade, select_picks, DrivesBank, DriveBanks, BanksDriven}
+use Rattle.dh_control.specs.OnWires.{on_both_shown}
 use Rattle.dh_control.specs.UseWires.{form_time, form_picks, DrivesUse, DriveUses, ReachDriven, ReachAsked, ReachSuits, FormUseSuits, UseSuits, memory_ports_at, UsedDriven, UseDriven}
 use Rattle.dh_control.specs.ValuesShown.{IsShownValue, AreShownWords}
 use Rattle.dh_control.proofs.DriversMade.{may_stay}

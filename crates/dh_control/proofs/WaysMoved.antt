@@ -1,24 +1,19 @@
 -- The moves of a way, form by form.
-use Rattle.std.proofs.Common.{◌≡◌, ℕ, zero, suc, ◌+◌, ◌-◌, ◌<◌, ◌≤◌, ◌%◌, ◌^◌, ◌==◌, ◌&&◌, not, inl, inr, Bool, true, false, if◌then◌else◌, List, [], ◌∷◌, ◌++◌, length, map, refl, sym, ap, subst, ◌∙◌, arith}
-use Rattle.std.specs.Prelude.{slice_index, slice_index_or, slice_set}
+use Rattle.std.proofs.Common.{◌≡◌, ℕ, ◌<◌, ◌^◌, ◌==◌, ◌&&◌, not, inl, inr, Bool, true, false, if◌then◌else◌, List, [], ◌∷◌, ◌++◌, length, refl, sym, ap, subst, ◌∙◌, arith}
+use Rattle.std.specs.Prelude.{slice_index, slice_set}
 use Rattle.std.proofs.lemmas.Bool.{cases_Bool}
-use Rattle.std.proofs.lemmas.List.{get_or-map, length-map, length-set, map-set, get_or-set_same, get_or-set_other, set-get_or}
 use Rattle.dh_value.specs.declared.kinds.Kind.{Kind}
-use Rattle.dh_value.specs.declared.kinds.Kind.TheVariants as kind
-use Rattle.dh_value.specs.Words.{width_of}
-use Rattle.dh_plan.specs.Blocks.{kind_at}
-use Rattle.dh_plan.specs.PlanRuns.{flag_holds, counted_up}
-use Rattle.dh_plan.specs.Ways.{Way, to_state, by_flag, by_count, to_end, Led, resolve}
+use Rattle.dh_plan.specs.PlanRuns.{flag_holds}
+use Rattle.dh_plan.specs.Ways.{Way, to_state, by_flag, to_end, Led, resolve}
 use Rattle.dh_cells.specs.PlainCircuits.{PlainCircuit}
-use Rattle.dh_cells.specs.Settled.{Signals, IsSettled, Grows, IsWire, Shows, Adds, shown}
-use Rattle.dh_cells.specs.ShownValues.{bit, is_one, number_shown, more_shown, match_shown, both_shown, not_shown}
+use Rattle.dh_cells.specs.Settled.{Signals, IsSettled, Grows, IsWire, Adds, shown}
+use Rattle.dh_cells.specs.ShownValues.{is_one, number_shown, more_shown, match_shown, both_shown, not_shown}
 use Rattle.dh_cells.proofs.CellsAppended.{grows_then, settled_fewer, wire_stays, shows_later}
 use Rattle.dh_cells.proofs.OperatorBits.{bit_tells}
 use Rattle.dh_control.specs.declared.leading.Branch.{Branch}
-use Rattle.dh_control.specs.declared.leading.Counted.{Counted}
 use Rattle.dh_control.specs.MovedValues.{Move, set_where, moved, MoveFits, AreMoves}
 use Rattle.dh_control.specs.SizedWires.{AreSized, shown_all}
-use Rattle.dh_control.specs.WayMoves.{HoldsStates, number_of, BranchMade, CountedMade, LeadAdded, WayAdded, counts}
+use Rattle.dh_control.specs.WayMoves.{HoldsStates, number_of, BranchMade, CountedMade, LeadAdded, WayAdded}
 use Rattle.dh_control.proofs.ListFacts.{all_both}
 use Rattle.dh_control.proofs.MovedLists.{moves_stay, sized_stay, shown_at}
 use Rattle.dh_control.proofs.SetsMoved.{moved_behind}

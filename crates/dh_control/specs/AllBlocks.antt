@@ -1,5 +1,5 @@
 -- What the blocks of a plan do at the end of a step, by wires that say which of them are active.
-use Rattle.std.specs.Prelude.{◌≡◌, ◌⊎◌, ℕ, suc, ◌<◌, ◌≤◌, true, false, List, [], ◌∷◌, length, map, slice_index, slice_index_or}
+use Rattle.std.specs.Prelude.{◌≡◌, ◌⊎◌, ℕ, suc, ◌<◌, ◌≤◌, true, false, List, [], ◌∷◌, map, slice_index, slice_index_or}
 use Rattle.std.specs.List.{AllByRecursion}
 use Rattle.dh_value.specs.Words.{width_of}
 use Rattle.dh_value.specs.declared.kinds.Kind.{Kind}

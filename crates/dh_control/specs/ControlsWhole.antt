@@ -1,5 +1,5 @@
 -- The control of one thread as a whole, of a plan with its graph and its schedule.
-use Rattle.std.specs.Prelude.{◌≡◌, ℕ, ◌<◌, ◌^◌, List, [], ◌∷◌, length, map, drop, slice_index}
+use Rattle.std.specs.Prelude.{◌≡◌, ℕ, List, [], ◌∷◌, length, map, drop, slice_index}
 use Rattle.dh_value.specs.Words.{width_of}
 use Rattle.dh_value.specs.declared.kinds.Kind.{Kind}
 use Rattle.dh_plan.specs.declared.graphs.State.{State}

@@ -6,7 +6,6 @@ use Rattle.dh_value.specs.declared.kinds.Kind.{Kind}
 use Rattle.dh_value.specs.declared.kinds.Kind.TheVariants as kind
 use Rattle.dh_value.specs.declared.words.Word.{Word}
 use Rattle.dh_net.specs.declared.nets.Driver.{Driver}
-use Rattle.dh_plan.specs.declared.operations.Reach.{Reach}
 use Rattle.dh_plan.specs.Blocks.{word_at}
 use Rattle.dh_plan.specs.BoundPorts.{port_among}
 use Rattle.dh_plan.specs.Ordered.{one_or_none}

@@ -1,5 +1,5 @@
 -- The first fault of a step by wires: tests in order, each with the number of its fault from 1.
-use Rattle.std.specs.Prelude.{◌≡◌, ℕ, suc, ◌<◌, ◌^◌, Bool, if◌then◌else◌, List, [], ◌∷◌, Option, Some, None}
+use Rattle.std.specs.Prelude.{◌≡◌, ℕ, suc, ◌<◌, ◌^◌, Bool, if◌then◌else◌, List, Option, Some, None}
 use Rattle.dh_value.specs.declared.kinds.Kind.{Kind}
 use Rattle.dh_value.specs.declared.words.Word.{Word}
 use Rattle.dh_plan.specs.declared.operations.Operation.{Operation}

@@ -8,7 +8,6 @@ use Rattle.dh_plan.specs.PlainPlans.{PlainPlan}
 use Rattle.dh_plan.specs.SoundPlans.{use_in}
 use Rattle.dh_lower.specs.PortUsers.{User, AreUsers}
 use Rattle.dh_lower.specs.ShownWords.{port_bound}
-use Rattle.dh_plan.specs.BoundPorts.{ArePorts}
 use Rattle.dh_plan.specs.SoundPlans.{IsFormed}
 use Rattle.dh_control.specs.declared.gathering.Keyed.{Keyed}
 use Rattle.dh_control.specs.KeyedItems.{picked}

@@ -1,6 +1,5 @@
 -- What the registers are after the sets of a step, by wires: moves under the test that a block's writes are made.
-use Rattle.std.specs.Prelude.{◌≡◌, ℕ, ◌<◌, Bool, if◌then◌else◌, List, [], ◌∷◌, length, slice_index}
-use Rattle.std.specs.List.{AllByRecursion}
+use Rattle.std.specs.Prelude.{◌≡◌, ℕ, Bool, if◌then◌else◌, List, slice_index}
 use Rattle.dh_value.specs.declared.kinds.Kind.{Kind}
 use Rattle.dh_value.specs.declared.words.Word.{Word}
 use Rattle.dh_plan.specs.declared.operations.Operation.{Operation}
@@ -8,7 +7,7 @@ use Rattle.dh_plan.specs.declared.operations.OperationForm.{OperationForm}
 use Rattle.dh_plan.specs.declared.operations.OperationForm.TheVariants.{Set}
 use Rattle.dh_plan.specs.Blocks.{RegisterSet, block_sets, all_set}
 use Rattle.dh_cells.specs.PlainCircuits.{PlainCircuit}
-use Rattle.dh_cells.specs.Settled.{Signals, IsSettled, Grows, IsWire}
+use Rattle.dh_cells.specs.Settled.{Signals, IsSettled, Grows}
 use Rattle.dh_cells.specs.ShownValues.{is_one}
 use Rattle.dh_control.specs.MovedValues.{Move, moved, AreMoves}
 use Rattle.dh_control.specs.ValuesShown.{HasWire, GuardHasWire, AreShownWords}

@@ -1,7 +1,7 @@
 -- Where the graph stands, by wires, and which blocks are active there.
-use Rattle.std.specs.Prelude.{◌≡◌, ℕ, zero, suc, ◌+◌, ◌-◌, ◌<◌, ◌&&◌, nat_lt, if◌then◌else◌, List, [], ◌∷◌, length, slice_get, slice_index, Some}
+use Rattle.std.specs.Prelude.{◌≡◌, ℕ, zero, suc, ◌+◌, ◌&&◌, nat_lt, List, [], ◌∷◌, slice_index}
 use Rattle.dh_cells.specs.PlainCircuits.{PlainCircuit}
-use Rattle.dh_cells.specs.Settled.{Signals, IsSettled, Grows, Shows, shown}
+use Rattle.dh_cells.specs.Settled.{Signals, Grows, Shows, shown}
 use Rattle.dh_cells.specs.ShownValues.{bit, is_one, any_shown, match_shown}
 use Rattle.dh_control.specs.declared.gathering.Keyed.{Keyed}
 use Rattle.dh_control.specs.KeyedItems.{picked}

@@ -1,6 +1,6 @@
 -- The step by wires: whether a block is done, whether the step ends in this clock, its first fault, and whether what it
 -- does is kept.
-use Rattle.std.specs.Prelude.{◌≡◌, ℕ, zero, suc, ◌+◌, ◌%◌, ◌^◌, ◌==◌, ◌&&◌, ◌||◌, nat_lt, not, Bool, false, if◌then◌else◌, List, [], ◌∷◌, length, slice_index}
+use Rattle.std.specs.Prelude.{◌≡◌, ℕ, zero, suc, ◌+◌, ◌%◌, ◌^◌, ◌==◌, ◌&&◌, ◌||◌, nat_lt, not, Bool, false, if◌then◌else◌, List, length, slice_index}
 use Rattle.dh_cells.specs.PlainCircuits.{PlainCircuit}
 use Rattle.dh_cells.specs.Settled.{Signals, IsSettled, Grows, IsWire, Shows, shown}
 use Rattle.dh_cells.specs.ShownValues.{bit, is_one, any_one, first_of}

@@ -1,7 +1,7 @@
 -- The registers of a net of one thread, and what its control shows at a clock.
 -- Threads side by side have a state for each group behind the fault, and a spot stands for their numbers; the clock of
 -- the step, the tick and the fault are one for all.
-use Rattle.std.specs.Prelude.{◌≡◌, ◌⊎◌, ℕ, ◌<◌, ◌≤◌, ◌==◌, ◌&&◌, not, true, false, List, [], ◌∷◌, length, drop, map, slice_get, slice_index, Some}
+use Rattle.std.specs.Prelude.{◌≡◌, ℕ, ◌<◌, ◌==◌, ◌&&◌, not, true, false, List, ◌∷◌, length, drop, map, slice_get, slice_index, Some}
 use Rattle.dh_plan.specs.Blocks.{StepStart}
 use Rattle.dh_plan.specs.PlainPlans.{first_in}
 use Rattle.dh_plan.specs.Ways.{Stop, Spot, rests, in_state, in_fork, resolve}

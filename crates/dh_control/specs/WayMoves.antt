@@ -1,7 +1,7 @@
 -- Where a step leads, by wires: moves of the state and of the counters that a decision counts.
 -- Decisions here are those of one thread: none of them forks. A graph with forks has a state for each group: then the
 -- moves of states name groups, a fork moves those of its groups, and the lemmas on flags and counters stay.
-use Rattle.std.specs.Prelude.{◌≡◌, ℕ, suc, ◌+◌, ◌<◌, ◌^◌, ◌==◌, ◌&&◌, not, Bool, true, false, List, [], ◌∷◌, length, map, slice_index}
+use Rattle.std.specs.Prelude.{◌≡◌, ℕ, suc, ◌+◌, ◌<◌, ◌^◌, ◌==◌, ◌&&◌, not, true, false, List, [], ◌∷◌, map}
 use Rattle.dh_value.specs.Words.{IsWidth, width_of}
 use Rattle.dh_value.specs.declared.kinds.Kind.{Kind}
 use Rattle.dh_plan.specs.declared.graphs.Decision.{Decision}

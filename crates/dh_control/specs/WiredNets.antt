@@ -1,6 +1,6 @@
 -- What makes a net that of a plan of one thread: its control shows what it does for every valuation, and its drivers ask
 -- for what the users of their ports do at each clock that the control shows.
-use Rattle.std.specs.Prelude.{◌≡◌, ℕ, ◌<◌, ◌≤◌, ◌^◌, ◌&&◌, Bool, List, [], ◌∷◌, length, map, drop, slice_get, slice_index, Some}
+use Rattle.std.specs.Prelude.{◌≡◌, ℕ, ◌<◌, ◌≤◌, ◌^◌, ◌&&◌, List, [], ◌∷◌, length, map, drop, slice_get, slice_index, Some}
 use Rattle.dh_net.specs.BankPorts.{ports_of}
 use Rattle.dh_net.specs.Clock.{State, IsValuation}
 use Rattle.dh_net.specs.Laws.{FitsNet}

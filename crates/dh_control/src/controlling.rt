@@ -221,8 +221,8 @@ pub fn push_control(
     requires sets { SetsSuit circuit.old widths.now wires.now blocks.now }
     requires ways { AllByRecursion
         (λ s. FitsThread (length states.now) (length widths.now) s.next) states.now }
-    ensures { IfOk result (λ c. ControlMade circuit.old circuit.new own widths.now registers.now wires.now
-        blocks.now states.now lengths.now c) }
+    ensures { IfOk result (λ c. ControlMade circuit.old circuit.new own widths.now registers.now
+        wires.now blocks.now states.now lengths.now c) }
 {
     let (width, state) = (own.state_width, own.state);
     let activity = push_activity(alloc, circuit, width, state, states, blocks.len())?;

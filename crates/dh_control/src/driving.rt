@@ -43,7 +43,8 @@ pub fn push_row(
 ) -> Result<u64, NoMemory>
     requires bits { IsWidth bits }
     requires row { MayHaveValue circuit.old kinds.now wires.now row }
-    ensures { IfOk result (λ wire. RowMade circuit.old circuit.new bits kinds.now wires.now row wire) }
+    ensures { IfOk result
+        (λ wire. RowMade circuit.old circuit.new bits kinds.now wires.now row wire) }
 {
     match row {
         None => circuit.push_constant(bits, 0),
@@ -65,7 +66,8 @@ pub fn push_pick(
 ) -> Result<u64, NoMemory>
     requires test { IsWire circuit.old test 1 }
     requires select { MayHaveValue circuit.old kinds.now wires.now select }
-    ensures { IfOk result (λ wire. PickMade circuit.old circuit.new kinds.now wires.now test select bank wire) }
+    ensures { IfOk result
+        (λ wire. PickMade circuit.old circuit.new kinds.now wires.now test select bank wire) }
 {
     match select {
         None => Ok(test),
@@ -106,8 +108,8 @@ pub fn push_drivers(
     requires test { IsWire circuit.old asking.test 1 }
     requires select { MayHaveValue circuit.old kinds.now wires.now select }
     requires small { AllByRecursion (λ b. port_key first ports pairs.now b.0 < 2 ^ 64) banks.now }
-    ensures { OnOk result (BanksDriven circuit.old circuit.new kinds.now wires.now asking select first
-        ports pairs.now banks.now drivers.old drivers.new) }
+    ensures { OnOk result (BanksDriven circuit.old circuit.new kinds.now wires.now asking select
+        first ports pairs.now banks.now drivers.old drivers.new) }
 {
     for i in 0..banks.len() {
         let bank = banks[i].0;

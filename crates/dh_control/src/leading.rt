@@ -96,7 +96,8 @@ pub fn push_lead(
 ) -> Result<(), NoMemory>
     requires active { IsWire circuit.old active 1 }
     requires number { HoldsStates width number }
-    ensures { OnOk result (LeadAdded circuit.old circuit.new width active number leads.old leads.new) }
+    ensures { OnOk result
+        (LeadAdded circuit.old circuit.new width active number leads.old leads.new) }
 {
     let value = circuit.push_constant(width, number)?;
     leads.push(Keyed {

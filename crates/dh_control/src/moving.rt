@@ -19,7 +19,8 @@ pub fn push_moved(
 ) -> Result<Items<u64>, NoMemory>
     requires wires { AreSized circuit.old widths.now wires.now }
     requires moves { AreMoves circuit.old widths.now moves.now }
-    ensures { IfOk result (λ news. MovesMade circuit.old circuit.new widths.now wires.now moves.now news) }
+    ensures { IfOk result
+        (λ news. MovesMade circuit.old circuit.new widths.now wires.now moves.now news) }
 {
     let lists = gather(alloc, wires.len(), moves)?;
     let lists = lists.as_slice();

@@ -45,7 +45,8 @@ pub fn push_active(
     count: usize,
 ) -> Result<Items<u64>, NoMemory>
     requires { AllByRecursion (λ k. IsWire circuit.old k.item 1) stands.now }
-    ensures { IfOk result (λ active. EachTells circuit.old circuit.new (active_shown stands.now) count active) }
+    ensures { IfOk result
+        (λ active. EachTells circuit.old circuit.new (active_shown stands.now) count active) }
 {
     let lists = gather(alloc, count, stands)?;
     let lists = lists.as_slice();
@@ -67,7 +68,8 @@ pub fn push_numbers(
 ) -> Result<Items<u64>, NoMemory>
     requires wire { IsWire circuit.old wire width }
     requires few { count ≤ 2 ^ width }
-    ensures { IfOk result (λ wires. EachTells circuit.old circuit.new (match_shown wire) count wires) }
+    ensures { IfOk result
+        (λ wires. EachTells circuit.old circuit.new (match_shown wire) count wires) }
 {
     let mut wires = Items::new(alloc);
     for i in 0..count {

@@ -75,11 +75,7 @@ pub fn push_pace(
 }
 
 /// Adds wires that tell what comes of the step, by the tests of its faults in order.
-pub fn push_verdict(
-    circuit: &mut Circuit,
-    last: u64,
-    tests: &[Tested],
-) -> Result<Verdict, NoMemory>
+pub fn push_verdict(circuit: &mut Circuit, last: u64, tests: &[Tested]) -> Result<Verdict, NoMemory>
     requires last { IsWire circuit.old last 1 }
     requires tests { AreTested circuit.old tests.now 32 }
     ensures { IfOk result (λ v. VerdictMade circuit.old circuit.new last tests.now v) }
@@ -112,7 +108,8 @@ pub fn push_nexts(
     requires waiting { IsWire circuit.old pace.waiting 1 }
     requires last { IsWire circuit.old pace.last 1 }
     requires failed { IsWire circuit.old failed 32 }
-    ensures { IfOk result (λ nexts. NextsMade circuit.old circuit.new width clock fault pace failed nexts) }
+    ensures { IfOk result
+        (λ nexts. NextsMade circuit.old circuit.new width clock fault pace failed nexts) }
 {
     let more = push_more(circuit, width, clock)?;
     let next = push_guarded(circuit, width, pace.waiting, more)?;

@@ -1,7 +1,7 @@
 use Rattle.dh_cells.proofs.CellsAppended.{wire_stays}
 use Rattle.dh_control.specs.FaultTests.{CheckSuits}
 use Rattle.dh_control.proofs.ListFacts.{at_item}
-use Rattle.dh_control.proofs.ChecksTested.{checks_begin, checks_turn, checks_done, suits_check_stay}
+use Rattle.dh_control.proofs.ChecksTested.{checks_turn, suits_check_stay}
 use Rattle.dh_control.proofs.checking.push_checks.Goals as goal
 
 pub push_check-requires-clause-active : goal.push_check-requires-clause-active

@@ -1,4 +1,4 @@
-use Rattle.std.proofs.Common.{List, ℕ, map, length, subst}
+use Rattle.std.proofs.Common.{List, ℕ, map, subst}
 use Rattle.dh_cells.proofs.CellsAppended.{grows_then, wire_stays}
 use Rattle.dh_control.specs.ControlsMade.{ResultsMade}
 use Rattle.dh_control.proofs.BlocksAdded.{checks_stay, sets_stay}

@@ -1,7 +1,7 @@
 use Rattle.std.proofs.Common.{◌++◌, ◌∷◌, [], ap, ◌∙◌}
 use Rattle.dh_cells.proofs.CellsAppended.{grows_then, wire_stays}
 use Rattle.dh_control.proofs.ControlPut.{from_none, moves_listed, one_sized, results_made}
-use Rattle.dh_control.proofs.MovedLists.{moves_stay, sized_stay}
+use Rattle.dh_control.proofs.MovedLists.{sized_stay}
 use Rattle.dh_control.proofs.controlling.push_results.Goals as goal
 
 pub push_lead-requires-clause-active : goal.push_lead-requires-clause-active

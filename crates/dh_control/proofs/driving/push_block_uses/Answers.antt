@@ -1,4 +1,4 @@
-use Rattle.std.proofs.Common.{◌<◌, [], length, sym, ◌∙◌, arith}
+use Rattle.std.proofs.Common.{◌<◌, [], length, ◌∙◌, arith}
 use Rattle.dh_cells.proofs.CellsAppended.{wire_stays}
 use Rattle.dh_control.specs.BlockUses.{times_at}
 use Rattle.dh_control.proofs.BlocksDriven.{next_use}

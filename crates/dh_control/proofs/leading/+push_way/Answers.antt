@@ -1,4 +1,4 @@
-use Rattle.std.proofs.Common.{◌<◌, ◌^◌, length, ap, refl, sym, subst, ◌∙◌, arith}
+use Rattle.std.proofs.Common.{length, ap, subst, ◌∙◌, arith}
 use Rattle.std.proofs.lemmas.Result.{on_ok_weaker}
 use Rattle.dh_cells.proofs.CellsAppended.{grows_then, wire_stays}
 use Rattle.std.specs.Prelude.{slice_index}
@@ -25,19 +25,31 @@ push_branch-requires-clause-register t c =
 pub push_way-requires : goal.push_way-requires
 push_way-requires t c = (
   let less = chosen_lighter c.args.states (length c.args.widths.now) c.in-Test.flag c.in-Test.yes c.in-Test.no c.args.way.now c.in-Test.is c.deref.result.now c.deref.ensures in omega (arith, less, c.decreases),
-  (c.in_ok-branch-in-Test.ensures.chosen,
-  (c.requires.states,
-  (sized_stay _ _ c.args.widths.now c.args.after.now.items c.in_ok-branch-in-Test.ensures.grows c.requires.after,
-  chosen_fits c.args.states (length c.args.widths.now) c.in-Test.flag c.in-Test.yes c.in-Test.no c.args.way.now c.in-Test.is c.deref.result.now c.deref.ensures c.requires.way))),
+  (
+    c.in_ok-branch-in-Test.ensures.chosen,
+    (
+      c.requires.states,
+      (
+        sized_stay _ _ c.args.widths.now c.args.after.now.items c.in_ok-branch-in-Test.ensures.grows c.requires.after,
+        chosen_fits c.args.states (length c.args.widths.now) c.in-Test.flag c.in-Test.yes c.in-Test.no c.args.way.now c.in-Test.is c.deref.result.now c.deref.ensures c.requires.way,
+      ),
+    ),
+  ),
 )
 
 pub push_way-requires-in-Test : goal.push_way-requires-in-Test
 push_way-requires-in-Test t c = (
   let less = other_lighter c.args.states (length c.args.widths.now) c.in-Test.flag c.in-Test.yes c.in-Test.no c.args.way.now c.in-Test.is c.deref-in-Test.result.now c.deref-in-Test.ensures in omega (arith, less, c.decreases),
-  (wire_stays _ _ c.in_ok-branch-in-Test.branch.other 1 c.in_ok-push_way-in-Test.ensures.added.grows c.in_ok-branch-in-Test.ensures.other,
-  (c.requires.states,
-  (after_sized _ _ c.args.widths.now c.push_way.new.after.items c.args.after.now.items (grows_then _ _ _ c.in_ok-branch-in-Test.ensures.grows c.in_ok-push_way-in-Test.ensures.added.grows) c.in_ok-push_way-in-Test.ensures.kept c.requires.after,
-  other_fits c.args.states (length c.args.widths.now) c.in-Test.flag c.in-Test.yes c.in-Test.no c.args.way.now c.in-Test.is c.deref-in-Test.result.now c.deref-in-Test.ensures c.requires.way))),
+  (
+    wire_stays _ _ c.in_ok-branch-in-Test.branch.other 1 c.in_ok-push_way-in-Test.ensures.added.grows c.in_ok-branch-in-Test.ensures.other,
+    (
+      c.requires.states,
+      (
+        after_sized _ _ c.args.widths.now c.push_way.new.after.items c.args.after.now.items (grows_then _ _ _ c.in_ok-branch-in-Test.ensures.grows c.in_ok-push_way-in-Test.ensures.added.grows) c.in_ok-push_way-in-Test.ensures.kept c.requires.after,
+        other_fits c.args.states (length c.args.widths.now) c.in-Test.flag c.in-Test.yes c.in-Test.no c.args.way.now c.in-Test.is c.deref-in-Test.result.now c.deref-in-Test.ensures c.requires.way,
+      ),
+    ),
+  ),
 )
 
 pub returns-in_ok-push_way-in-Test-2-clause-added : goal.returns-in_ok-push_way-in-Test-2-clause-added
@@ -72,26 +84,38 @@ push_counted-requires-clause-counter t c =
 pub push_way-requires-in-Count : goal.push_way-requires-in-Count
 push_way-requires-in-Count t c = (
   let less = past_lighter c.args.states (length c.args.widths.now) c.in-Count.counter c.in-Count.last c.in-Count.again c.in-Count.past c.args.way.now c.in-Count.is c.deref-in-Count.result.now c.deref-in-Count.ensures in omega (arith, less, c.decreases),
-  (wire_stays _ _ c.in_ok-branch-in-Count.branch.chosen 1 c.in_ok-counted-in-Count.ensures.grows c.in_ok-branch-in-Count.ensures.chosen,
-  (c.requires.states,
-  (sized_set _ c.args.widths.now c.set_wire.new.wires.items c.args.after.now.items c.in-Count.counter c.in_ok-counted-in-Count.counted.none
-  (sized_stay _ _ c.args.widths.now c.args.after.now.items (grows_then _ _ _ c.in_ok-branch-in-Count.ensures.grows c.in_ok-counted-in-Count.ensures.grows) c.requires.after) c.set_wire.ensures
-  (count_fits c.args.states (length c.args.widths.now) c.in-Count.counter c.in-Count.last c.in-Count.again c.in-Count.past c.args.way.now c.in-Count.is c.requires.way).0 c.in_ok-counted-in-Count.ensures.none.there,
-  past_fits c.args.states (length c.args.widths.now) c.in-Count.counter c.in-Count.last c.in-Count.again c.in-Count.past c.args.way.now c.in-Count.is c.deref-in-Count.result.now c.deref-in-Count.ensures c.requires.way))),
+  (
+    wire_stays _ _ c.in_ok-branch-in-Count.branch.chosen 1 c.in_ok-counted-in-Count.ensures.grows c.in_ok-branch-in-Count.ensures.chosen,
+    (
+      c.requires.states,
+      (
+        sized_set _ c.args.widths.now c.set_wire.new.wires.items c.args.after.now.items c.in-Count.counter c.in_ok-counted-in-Count.counted.none
+            (sized_stay _ _ c.args.widths.now c.args.after.now.items (grows_then _ _ _ c.in_ok-branch-in-Count.ensures.grows c.in_ok-counted-in-Count.ensures.grows) c.requires.after) c.set_wire.ensures
+            (count_fits c.args.states (length c.args.widths.now) c.in-Count.counter c.in-Count.last c.in-Count.again c.in-Count.past c.args.way.now c.in-Count.is c.requires.way).0 c.in_ok-counted-in-Count.ensures.none.there,
+        past_fits c.args.states (length c.args.widths.now) c.in-Count.counter c.in-Count.last c.in-Count.again c.in-Count.past c.args.way.now c.in-Count.is c.deref-in-Count.result.now c.deref-in-Count.ensures c.requires.way,
+      ),
+    ),
+  ),
 )
 
 pub push_way-requires-in-Count-2 : goal.push_way-requires-in-Count-2
 push_way-requires-in-Count-2 t c = (
   let less = again_lighter c.args.states (length c.args.widths.now) c.in-Count.counter c.in-Count.last c.in-Count.again c.in-Count.past c.args.way.now c.in-Count.is c.deref-in-Count-2.result.now c.deref-in-Count-2.ensures in omega (arith, less, c.decreases),
-  (wire_stays _ _ c.in_ok-branch-in-Count.branch.other 1 (grows_then _ _ _ c.in_ok-counted-in-Count.ensures.grows c.in_ok-push_way-in-Count.ensures.added.grows) c.in_ok-branch-in-Count.ensures.other,
-  (c.requires.states,
-  (sized_set _ c.args.widths.now c.set_wire-in-Count.new.wires.items c.args.after.now.items c.in-Count.counter c.in_ok-counted-in-Count.counted.more
-  (sized_stay _ _ c.args.widths.now c.args.after.now.items
-  (grows_then _ _ _ (grows_then _ _ _ c.in_ok-branch-in-Count.ensures.grows c.in_ok-counted-in-Count.ensures.grows) c.in_ok-push_way-in-Count.ensures.added.grows) c.requires.after)
-  (second_set c.args.after.now.items c.set_wire.new.wires.items c.push_way-in-Count.new.after.items c.set_wire-in-Count.new.wires.items c.in-Count.counter _ _ c.set_wire.ensures c.in_ok-push_way-in-Count.ensures.kept c.set_wire-in-Count.ensures)
-  (count_fits c.args.states (length c.args.widths.now) c.in-Count.counter c.in-Count.last c.in-Count.again c.in-Count.past c.args.way.now c.in-Count.is c.requires.way).0
-  (wire_stays _ _ c.in_ok-counted-in-Count.counted.more _ c.in_ok-push_way-in-Count.ensures.added.grows c.in_ok-counted-in-Count.ensures.more.there),
-  again_fits c.args.states (length c.args.widths.now) c.in-Count.counter c.in-Count.last c.in-Count.again c.in-Count.past c.args.way.now c.in-Count.is c.deref-in-Count-2.result.now c.deref-in-Count-2.ensures c.requires.way))),
+  (
+    wire_stays _ _ c.in_ok-branch-in-Count.branch.other 1 (grows_then _ _ _ c.in_ok-counted-in-Count.ensures.grows c.in_ok-push_way-in-Count.ensures.added.grows) c.in_ok-branch-in-Count.ensures.other,
+    (
+      c.requires.states,
+      (
+        sized_set _ c.args.widths.now c.set_wire-in-Count.new.wires.items c.args.after.now.items c.in-Count.counter c.in_ok-counted-in-Count.counted.more
+            (sized_stay _ _ c.args.widths.now c.args.after.now.items
+            (grows_then _ _ _ (grows_then _ _ _ c.in_ok-branch-in-Count.ensures.grows c.in_ok-counted-in-Count.ensures.grows) c.in_ok-push_way-in-Count.ensures.added.grows) c.requires.after)
+            (second_set c.args.after.now.items c.set_wire.new.wires.items c.push_way-in-Count.new.after.items c.set_wire-in-Count.new.wires.items c.in-Count.counter _ _ c.set_wire.ensures c.in_ok-push_way-in-Count.ensures.kept c.set_wire-in-Count.ensures)
+            (count_fits c.args.states (length c.args.widths.now) c.in-Count.counter c.in-Count.last c.in-Count.again c.in-Count.past c.args.way.now c.in-Count.is c.requires.way).0
+            (wire_stays _ _ c.in_ok-counted-in-Count.counted.more _ c.in_ok-push_way-in-Count.ensures.added.grows c.in_ok-counted-in-Count.ensures.more.there),
+        again_fits c.args.states (length c.args.widths.now) c.in-Count.counter c.in-Count.last c.in-Count.again c.in-Count.past c.args.way.now c.in-Count.is c.deref-in-Count-2.result.now c.deref-in-Count-2.ensures c.requires.way,
+      ),
+    ),
+  ),
 )
 
 pub returns-in_ok-push_counts-in-Count-clause-added : goal.returns-in_ok-push_counts-in-Count-clause-added

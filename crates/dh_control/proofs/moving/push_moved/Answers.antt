@@ -1,9 +1,4 @@
-use Rattle.std.proofs.Common.{◌≡◌, List, get_or, subst, sym, ap, ◌∙◌, arith, length}
-use Rattle.std.specs.Prelude.{slice_index}
-use Rattle.dh_cells.specs.FirstTests.{AreTested}
-use Rattle.dh_cells.specs.Settled.{Adds}
-use Rattle.dh_cells.specs.ShownValues.{first_shown}
-use Rattle.dh_cells.specs.declared.trees.Tested.{Tested}
+use Rattle.std.proofs.Common.{ap, ◌∙◌, arith, length}
 use Rattle.dh_cells.proofs.CellsAppended.{wire_stays}
 use Rattle.dh_control.proofs.GatheredItems.{list_in, list_there}
 use Rattle.dh_control.proofs.MovedLists.{moves_stay, picked_tested, all_moved, next_moved}

@@ -1,4 +1,4 @@
-use Rattle.std.proofs.Common.{◌≡◌, List, ℕ, subst, sym, ◌∙◌}
+use Rattle.std.proofs.Common.{List, ℕ, subst, sym, ◌∙◌}
 use Rattle.dh_cells.specs.Settled.{Adds, AreWires}
 use Rattle.dh_cells.specs.ShownValues.{any_shown}
 use Rattle.dh_control.specs.StateWires.{active_shown}
