@@ -1,0 +1,7 @@
+-- Done at the paths so far.
+use Rattle.dh_tree.specs.Seen.{term_seen}
+use Rattle.dh_commands.specs.Setting.{TestsFirst}
+use Rattle.dh_commands.proofs.testing.test_all.Given as goal
+
+abbrev pub invariant-loop-i : goal.invariant-loop-i
+invariant-loop-i l = TestsFirst l.scene l.around l.fn.building l.building l.first l.next (term_seen l.test) l.tests.items l.i
