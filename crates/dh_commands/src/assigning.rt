@@ -48,7 +48,8 @@ fn assign_at(
 ) -> Result<u32, NoMemory>
     ensures means { IfOk result (λ next. AssignsOne scene.now lane.now building.old building.new first
         next (entity_number target.now.entity) (term_seen value.now)) }
-    ensures made { IfOk result (λ next. MadeAssigned scene.now lane.now first (entity_number target.now.entity) (term_seen value.now) building.old building.new next) }
+    ensures made { IfOk result (λ next. MadeAssigned scene.now lane.now first (entity_number
+        target.now.entity) (term_seen value.now) building.old building.new next) }
 {
     let current = building.values.current.as_slice();
     let accesses = &mut building.accesses;
@@ -78,7 +79,9 @@ pub fn assign_all(
 ) -> Result<u32, NoMemory>
     ensures means { IfOk result (λ next. AssignsAll scene.now around.entry building.old building.new first
         next (entity_number target.now.entity) (term_seen value.now)) }
-    ensures made { IfOk result (λ next. AssignedTo scene.now around.entry first (entity_number target.now.entity) (term_seen value.now) (paths_counted around.entry) building.old building.new next) }
+    ensures made { IfOk result (λ next. AssignedTo scene.now around.entry first (entity_number
+        target.now.entity) (term_seen value.now) (paths_counted around.entry) building.old
+        building.new next) }
 {
     let mut next = first;
     for i in 0..around.guards.len() {
@@ -100,7 +103,8 @@ fn clear_at(
 ) -> Result<(), NoMemory>
     ensures means { OnOk result (ClearsOne scene.now lane.now building.old building.new (entity_number
         target.now.entity)) }
-    ensures made { OnOk result (MadeCleared scene.now lane.now (entity_number target.now.entity) building.old building.new) }
+    ensures made { OnOk result (MadeCleared scene.now lane.now (entity_number target.now.entity)
+        building.old building.new) }
 {
     let kind = place_of(scene.held, target).kind;
     let value = push_constant(&mut building.draft, literal(kind, false, 0))?;
@@ -117,7 +121,8 @@ pub fn clear_all(
 ) -> Result<(), NoMemory>
     ensures means { OnOk result (ClearsAll scene.now around.entry building.old building.new (entity_number
         target.now.entity)) }
-    ensures made { OnOk result ((first : ℕ) → ClearedTo scene.now around.entry first (entity_number target.now.entity) (paths_counted around.entry) building.old building.new first) }
+    ensures made { OnOk result ((first : ℕ) → ClearedTo scene.now around.entry first (entity_number
+        target.now.entity) (paths_counted around.entry) building.old building.new first) }
 {
     for i in 0..around.guards.len() {
         let lane = Lane {
@@ -158,7 +163,8 @@ fn push_own(draft: &mut Draft, value: u64, own: bool, to: Kind) -> Result<u64, N
 fn push_operand(draft: &mut Draft, from: &Expr, value: u64, to: Kind) -> Result<u64, NoMemory>
     ensures means { IfOk result (λ v. Gives draft.old draft.new v (λ x. extended_shown (term_seen
         from.now) to (shown x value))) }
-    ensures made { IfOk result (λ v. MadeOperand (term_seen from.now) to value draft.old draft.new v) }
+    ensures made { IfOk result (λ v. MadeOperand (term_seen from.now) to value draft.old draft.new
+        v) }
 {
     match to {
         Kind::Bool => Ok(value),
@@ -180,7 +186,8 @@ fn push_reduced(
 ) -> Result<u64, NoMemory>
     ensures means { IfOk result (λ made. GivesReduced scene.now lane.now current.now draft.old draft.new
         own made (entity_number target.now.entity) op (term_seen value.now)) }
-    ensures made { IfOk result (λ made. MadeFolded scene.now lane.now current.now (entity_number target.now.entity) op (term_seen value.now) own draft.old draft.new made) }
+    ensures made { IfOk result (λ made. MadeFolded scene.now lane.now current.now (entity_number
+        target.now.entity) op (term_seen value.now) own draft.old draft.new made) }
 {
     let held = place_of(scene.held, target);
     let to = extension(op, held.kind, kind_found(value.kind));
@@ -203,7 +210,8 @@ fn reduce_at(
 ) -> Result<u32, NoMemory>
     ensures means { IfOk result (λ next. ReducesOne scene.now lane.now building.old building.new first
         next target.now op (term_seen value.now)) }
-    ensures made { IfOk result (λ next. MadeReduced scene.now lane.now first (entity_number target.now.entity) op (term_seen value.now) building.old building.new next) }
+    ensures made { IfOk result (λ next. MadeReduced scene.now lane.now first (entity_number
+        target.now.entity) op (term_seen value.now) building.old building.new next) }
 {
     let current = building.values.current.as_slice();
     let accesses = &mut building.accesses;
@@ -226,7 +234,9 @@ pub fn reduce_all(
 ) -> Result<u32, NoMemory>
     ensures means { IfOk result (λ next. ReducesAll scene.now around.entry building.old building.new first
         next target.now op (term_seen value.now)) }
-    ensures made { IfOk result (λ next. ReducedTo scene.now around.entry first (entity_number target.now.entity) op (term_seen value.now) (paths_counted around.entry) building.old building.new next) }
+    ensures made { IfOk result (λ next. ReducedTo scene.now around.entry first (entity_number
+        target.now.entity) op (term_seen value.now) (paths_counted around.entry) building.old
+        building.new next) }
 {
     let mut next = first;
     for i in 0..around.guards.len() {

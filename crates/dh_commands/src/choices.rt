@@ -190,7 +190,8 @@ pub fn choose(
 ) -> Result<(), NoMemory>
     ensures means { OnOk result (Chooses draft.old draft.new values.old values.new tests.now choices.now
         (length choices.now)) }
-    ensures made { OnOk result (MadeChoices tests.now choices.now (length choices.now) draft.old draft.new values.old values.new) }
+    ensures made { OnOk result (MadeChoices tests.now choices.now (length choices.now) draft.old
+        draft.new values.old values.new) }
 {
     for choice in choices {
         if let Some(test) = tests.get(choice.path as usize) {

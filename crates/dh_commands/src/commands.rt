@@ -61,7 +61,8 @@ pub fn push_command(
 ) -> Result<u32, NoMemory>
     ensures means { IfOk result (λ next. DoesCommand scene.now around.entry (action_seen command.now)
         first next building.old building.new) }
-    ensures made { IfOk result (λ next. MadeCommand scene.now (action_seen command.now) around.entry building.old building.new first next) }
+    ensures made { IfOk result (λ next. MadeCommand scene.now (action_seen command.now) around.entry
+        building.old building.new first next) }
 {
     match &command.form {
         CommandForm::Let { name, value, .. } => match value {
@@ -116,7 +117,8 @@ fn push_other(
 ) -> Result<(u32, Vec<Left>), NoMemory>
     ensures means { IfOk result (λ r. DoesOther scene.now around.entry tests.now (maybe_block_seen
         other.now) first r.0 building.old building.new r.1.items) }
-    ensures made { IfOk result (λ r. MadeOther scene.now (maybe_block_seen other.now) around.entry tests.now building.old building.new first r.0 r.1.items) }
+    ensures made { IfOk result (λ r. MadeOther scene.now (maybe_block_seen other.now) around.entry
+        tests.now building.old building.new first r.0 r.1.items) }
 {
     match other {
         Some(block) => push_arm(scene, around, building, first, tests, false, block),
@@ -138,7 +140,8 @@ fn push_arm(
 ) -> Result<(u32, Vec<Left>), NoMemory>
     ensures means { IfOk result (λ r. DoesArm scene.now around.entry tests.now holds (action_seen
         command.now) first r.0 building.old building.new r.1.items) }
-    ensures made { IfOk result (λ r. MadeArm (MadeCommand scene.now (action_seen command.now)) around.entry holds tests.now building.old building.new first r.0 r.1.items) }
+    ensures made { IfOk result (λ r. MadeArm (MadeCommand scene.now (action_seen command.now))
+        around.entry holds tests.now building.old building.new first r.0 r.1.items) }
 {
     let floor = building.values.log.len();
     let guards = guards_of(
@@ -166,7 +169,8 @@ fn push_parts(
 ) -> Result<u32, NoMemory>
     ensures means { IfOk result (λ next. DoesGroups scene.now around.entry (all_parts_seen parts.now)
         first next building.old building.new) }
-    ensures made { IfOk result (λ next. MadeGroups scene.now (all_parts_seen parts.now) around.entry building.old building.new first next) }
+    ensures made { IfOk result (λ next. MadeGroups scene.now (all_parts_seen parts.now) around.entry
+        building.old building.new first next) }
 {
     let mut next = first;
     for part in parts {

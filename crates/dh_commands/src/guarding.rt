@@ -44,7 +44,8 @@ fn guards_chosen(
 ) -> Result<Vec<Option<u64>>, NoMemory>
     ensures means { IfOk result (λ arm. MakesGuards draft.old draft.new guards.now tests.now true (length
         tests.now) arm.items) }
-    ensures made { IfOk result (λ arm. MadeArmGuards true guards.now tests.now (length tests.now) draft.old draft.new arm.items) }
+    ensures made { IfOk result (λ arm. MadeArmGuards true guards.now tests.now (length tests.now)
+        draft.old draft.new arm.items) }
 {
     let mut all = Vec::new(alloc);
     for i in 0..tests.len() {
@@ -64,7 +65,8 @@ fn guards_other(
 ) -> Result<Vec<Option<u64>>, NoMemory>
     ensures means { IfOk result (λ arm. MakesGuards draft.old draft.new guards.now tests.now false (length
         tests.now) arm.items) }
-    ensures made { IfOk result (λ arm. MadeArmGuards false guards.now tests.now (length tests.now) draft.old draft.new arm.items) }
+    ensures made { IfOk result (λ arm. MadeArmGuards false guards.now tests.now (length tests.now)
+        draft.old draft.new arm.items) }
 {
     let mut all = Vec::new(alloc);
     for i in 0..tests.len() {
@@ -86,7 +88,8 @@ pub fn guards_of(
 ) -> Result<Vec<Option<u64>>, NoMemory>
     ensures means { IfOk result (λ arm. MakesGuards draft.old draft.new guards.now tests.now holds (length
         tests.now) arm.items) }
-    ensures made { IfOk result (λ arm. MadeArmGuards holds guards.now tests.now (length tests.now) draft.old draft.new arm.items) }
+    ensures made { IfOk result (λ arm. MadeArmGuards holds guards.now tests.now (length tests.now)
+        draft.old draft.new arm.items) }
 {
     if holds {
         guards_chosen(alloc, draft, guards, tests)

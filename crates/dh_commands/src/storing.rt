@@ -31,7 +31,8 @@ fn aim_at(
 ) -> Result<Option<(Aim, usize)>, NoMemory>
     ensures means { IfOk result (λ aimed. AimsAtTarget scene.now lane.now current.now draft.old draft.new
         accesses.old accesses.new first (term_seen target.now) aimed) }
-    ensures made { IfOk result (λ aimed. MadeAim scene.now lane.now current.now (form_of (term_seen target.now)) draft.old draft.new accesses.old accesses.new first aimed) }
+    ensures made { IfOk result (λ aimed. MadeAim scene.now lane.now current.now (form_of (term_seen
+        target.now)) draft.old draft.new accesses.old accesses.new first aimed) }
 {
     match &target.form {
         ExprForm::Access { of, indices } => {
@@ -73,7 +74,8 @@ fn store_at(
 ) -> Result<u32, NoMemory>
     ensures means { IfOk result (λ next. StoresOne scene.now lane.now building.old building.new first next
         (term_seen target.now) (term_seen value.now)) }
-    ensures made { IfOk result (λ next. MadeStored scene.now lane.now first (term_seen target.now) (term_seen value.now) building.old building.new next) }
+    ensures made { IfOk result (λ next. MadeStored scene.now lane.now first (term_seen target.now)
+        (term_seen value.now) building.old building.new next) }
 {
     let current = building.values.current.as_slice();
     let accesses = &mut building.accesses;
@@ -101,7 +103,8 @@ pub fn store_all(
 ) -> Result<u32, NoMemory>
     ensures means { IfOk result (λ next. StoresAll scene.now around.entry building.old building.new first
         next (term_seen target.now) (term_seen value.now)) }
-    ensures made { IfOk result (λ next. StoredTo scene.now around.entry first (term_seen target.now) (term_seen value.now) (paths_counted around.entry) building.old building.new next) }
+    ensures made { IfOk result (λ next. StoredTo scene.now around.entry first (term_seen target.now)
+        (term_seen value.now) (paths_counted around.entry) building.old building.new next) }
 {
     let mut next = first;
     for i in 0..around.guards.len() {

@@ -21,7 +21,8 @@ fn test_at(
 ) -> Result<Valued, NoMemory>
     ensures means { IfOk result (λ own. TestsOne scene.now lane.now building.old building.new first
         (term_seen test.now) own) }
-    ensures made { IfOk result (λ own. MadeTested scene.now lane.now first (term_seen test.now) building.old building.new own.next own.value) }
+    ensures made { IfOk result (λ own. MadeTested scene.now lane.now first (term_seen test.now)
+        building.old building.new own.next own.value) }
 {
     let current = building.values.current.as_slice();
     let accesses = &mut building.accesses;
@@ -46,7 +47,8 @@ pub fn test_all(
 ) -> Result<(Vec<u64>, u32), NoMemory>
     ensures means { IfOk result (λ r. TestsAll scene.now around.entry building.old building.new first r.1
         (term_seen test.now) r.0.items) }
-    ensures made { IfOk result (λ r. MadeTests scene.now around.entry first (term_seen test.now) (paths_counted around.entry) building.old building.new r.1 r.0.items) }
+    ensures made { IfOk result (λ r. MadeTests scene.now around.entry first (term_seen test.now)
+        (paths_counted around.entry) building.old building.new r.1 r.0.items) }
 {
     let mut tests = Vec::new(scene.alloc);
     let mut next = first;
