@@ -46,8 +46,8 @@ fn assign_at(
     target: &Ref,
     value: &Expr,
 ) -> Result<u32, NoMemory>
-    ensures means { IfOk result (λ next. AssignsOne scene.now lane.now building.old building.new first
-        next (entity_number target.now.entity) (term_seen value.now)) }
+    ensures means { IfOk result (λ next. AssignsOne scene.now lane.now building.old building.new
+        first next (entity_number target.now.entity) (term_seen value.now)) }
     ensures made { IfOk result (λ next. MadeAssigned scene.now lane.now first (entity_number
         target.now.entity) (term_seen value.now) building.old building.new next) }
 {
@@ -77,8 +77,8 @@ pub fn assign_all(
     target: &Ref,
     value: &Expr,
 ) -> Result<u32, NoMemory>
-    ensures means { IfOk result (λ next. AssignsAll scene.now around.entry building.old building.new first
-        next (entity_number target.now.entity) (term_seen value.now)) }
+    ensures means { IfOk result (λ next. AssignsAll scene.now around.entry building.old building.new
+        first next (entity_number target.now.entity) (term_seen value.now)) }
     ensures made { IfOk result (λ next. AssignedTo scene.now around.entry first (entity_number
         target.now.entity) (term_seen value.now) (paths_counted around.entry) building.old
         building.new next) }
@@ -101,8 +101,8 @@ fn clear_at(
     building: &mut Building,
     target: &Ref,
 ) -> Result<(), NoMemory>
-    ensures means { OnOk result (ClearsOne scene.now lane.now building.old building.new (entity_number
-        target.now.entity)) }
+    ensures means { OnOk result (ClearsOne scene.now lane.now building.old building.new
+        (entity_number target.now.entity)) }
     ensures made { OnOk result (MadeCleared scene.now lane.now (entity_number target.now.entity)
         building.old building.new) }
 {
@@ -119,8 +119,8 @@ pub fn clear_all(
     building: &mut Building,
     target: &Ref,
 ) -> Result<(), NoMemory>
-    ensures means { OnOk result (ClearsAll scene.now around.entry building.old building.new (entity_number
-        target.now.entity)) }
+    ensures means { OnOk result (ClearsAll scene.now around.entry building.old building.new
+        (entity_number target.now.entity)) }
     ensures made { OnOk result ((first : ℕ) → ClearedTo scene.now around.entry first (entity_number
         target.now.entity) (paths_counted around.entry) building.old building.new first) }
 {
@@ -136,8 +136,8 @@ pub fn clear_all(
 
 /// Adds what a variable of a kind holds, as an operand that is extended to an integer kind.
 fn push_old_operand(draft: &mut Draft, old: u64, kind: Kind, to: Kind) -> Result<u64, NoMemory>
-    ensures means { IfOk result (λ v. Gives draft.old draft.new v (λ x. old_extended kind to (shown x
-        old))) }
+    ensures means { IfOk result (λ v. Gives draft.old draft.new v (λ x. old_extended kind to (shown
+        x old))) }
     ensures made { IfOk result (λ v. MadeOldOperand kind to old draft.old draft.new v) }
 {
     match to {
@@ -184,8 +184,8 @@ fn push_reduced(
     value: &Expr,
     own: u64,
 ) -> Result<u64, NoMemory>
-    ensures means { IfOk result (λ made. GivesReduced scene.now lane.now current.now draft.old draft.new
-        own made (entity_number target.now.entity) op (term_seen value.now)) }
+    ensures means { IfOk result (λ made. GivesReduced scene.now lane.now current.now draft.old
+        draft.new own made (entity_number target.now.entity) op (term_seen value.now)) }
     ensures made { IfOk result (λ made. MadeFolded scene.now lane.now current.now (entity_number
         target.now.entity) op (term_seen value.now) own draft.old draft.new made) }
 {
@@ -208,8 +208,8 @@ fn reduce_at(
     op: Op,
     value: &Expr,
 ) -> Result<u32, NoMemory>
-    ensures means { IfOk result (λ next. ReducesOne scene.now lane.now building.old building.new first
-        next target.now op (term_seen value.now)) }
+    ensures means { IfOk result (λ next. ReducesOne scene.now lane.now building.old building.new
+        first next target.now op (term_seen value.now)) }
     ensures made { IfOk result (λ next. MadeReduced scene.now lane.now first (entity_number
         target.now.entity) op (term_seen value.now) building.old building.new next) }
 {
@@ -232,8 +232,8 @@ pub fn reduce_all(
     op: Op,
     value: &Expr,
 ) -> Result<u32, NoMemory>
-    ensures means { IfOk result (λ next. ReducesAll scene.now around.entry building.old building.new first
-        next target.now op (term_seen value.now)) }
+    ensures means { IfOk result (λ next. ReducesAll scene.now around.entry building.old building.new
+        first next target.now op (term_seen value.now)) }
     ensures made { IfOk result (λ next. ReducedTo scene.now around.entry first (entity_number
         target.now.entity) op (term_seen value.now) (paths_counted around.entry) building.old
         building.new next) }

@@ -188,8 +188,8 @@ pub fn choose(
     tests: &[u64],
     choices: &[Choice],
 ) -> Result<(), NoMemory>
-    ensures means { OnOk result (Chooses draft.old draft.new values.old values.new tests.now choices.now
-        (length choices.now)) }
+    ensures means { OnOk result (Chooses draft.old draft.new values.old values.new tests.now
+        choices.now (length choices.now)) }
     ensures made { OnOk result (MadeChoices tests.now choices.now (length choices.now) draft.old
         draft.new values.old values.new) }
 {

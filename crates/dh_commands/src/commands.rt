@@ -59,8 +59,8 @@ pub fn push_command(
     first: u32,
     command: &Command,
 ) -> Result<u32, NoMemory>
-    ensures means { IfOk result (λ next. DoesCommand scene.now around.entry (action_seen command.now)
-        first next building.old building.new) }
+    ensures means { IfOk result (λ next. DoesCommand scene.now around.entry (action_seen
+        command.now) first next building.old building.new) }
     ensures made { IfOk result (λ next. MadeCommand scene.now (action_seen command.now) around.entry
         building.old building.new first next) }
 {
@@ -167,8 +167,8 @@ fn push_parts(
     first: u32,
     parts: &[Vec<Command>],
 ) -> Result<u32, NoMemory>
-    ensures means { IfOk result (λ next. DoesGroups scene.now around.entry (all_parts_seen parts.now)
-        first next building.old building.new) }
+    ensures means { IfOk result (λ next. DoesGroups scene.now around.entry (all_parts_seen
+        parts.now) first next building.old building.new) }
     ensures made { IfOk result (λ next. MadeGroups scene.now (all_parts_seen parts.now) around.entry
         building.old building.new first next) }
 {

@@ -29,8 +29,8 @@ fn aim_at(
     first: u32,
     target: &Expr,
 ) -> Result<Option<(Aim, usize)>, NoMemory>
-    ensures means { IfOk result (λ aimed. AimsAtTarget scene.now lane.now current.now draft.old draft.new
-        accesses.old accesses.new first (term_seen target.now) aimed) }
+    ensures means { IfOk result (λ aimed. AimsAtTarget scene.now lane.now current.now draft.old
+        draft.new accesses.old accesses.new first (term_seen target.now) aimed) }
     ensures made { IfOk result (λ aimed. MadeAim scene.now lane.now current.now (form_of (term_seen
         target.now)) draft.old draft.new accesses.old accesses.new first aimed) }
 {
@@ -72,8 +72,8 @@ fn store_at(
     target: &Expr,
     value: &Expr,
 ) -> Result<u32, NoMemory>
-    ensures means { IfOk result (λ next. StoresOne scene.now lane.now building.old building.new first next
-        (term_seen target.now) (term_seen value.now)) }
+    ensures means { IfOk result (λ next. StoresOne scene.now lane.now building.old building.new
+        first next (term_seen target.now) (term_seen value.now)) }
     ensures made { IfOk result (λ next. MadeStored scene.now lane.now first (term_seen target.now)
         (term_seen value.now) building.old building.new next) }
 {
@@ -101,8 +101,8 @@ pub fn store_all(
     target: &Expr,
     value: &Expr,
 ) -> Result<u32, NoMemory>
-    ensures means { IfOk result (λ next. StoresAll scene.now around.entry building.old building.new first
-        next (term_seen target.now) (term_seen value.now)) }
+    ensures means { IfOk result (λ next. StoresAll scene.now around.entry building.old building.new
+        first next (term_seen target.now) (term_seen value.now)) }
     ensures made { IfOk result (λ next. StoredTo scene.now around.entry first (term_seen target.now)
         (term_seen value.now) (paths_counted around.entry) building.old building.new next) }
 {

@@ -45,8 +45,8 @@ pub fn test_all(
     first: u32,
     test: &Expr,
 ) -> Result<(Vec<u64>, u32), NoMemory>
-    ensures means { IfOk result (λ r. TestsAll scene.now around.entry building.old building.new first r.1
-        (term_seen test.now) r.0.items) }
+    ensures means { IfOk result (λ r. TestsAll scene.now around.entry building.old building.new
+        first r.1 (term_seen test.now) r.0.items) }
     ensures made { IfOk result (λ r. MadeTests scene.now around.entry first (term_seen test.now)
         (paths_counted around.entry) building.old building.new r.1 r.0.items) }
 {
