@@ -26,3 +26,4 @@ pub mod OtherDone
 pub mod ChoiceDone
 pub mod CommandsDone
 pub mod PartsDone
+pub mod CommandsMade

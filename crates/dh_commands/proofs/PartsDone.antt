@@ -32,7 +32,7 @@ use Rattle.dh_commands.specs.Parted.{DoesArm, DoesGroups, Leads, ShowsTests}
 use Rattle.dh_commands.proofs.CommandsDone.{nothing_done, parts_more, parts_next, parts_none}
 use Rattle.dh_commands.proofs.Tested.{quiet_stands}
 
-drop_past : {A : Type 0} (xs : List A) (n : ℕ) → length xs ≤ n → drop n xs ≡ []
+pub drop_past : {A : Type 0} (xs : List A) (n : ℕ) → length xs ≤ n → drop n xs ≡ []
 drop_past [] zero few = refl
 drop_past [] (suc n) few = refl
 drop_past (x ∷ xs) zero few = absurd (none (length xs) few)

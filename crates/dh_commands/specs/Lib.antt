@@ -9,3 +9,4 @@ pub mod Setting
 pub mod Joined
 pub mod Choosing
 pub mod Parted
+pub mod MadeCommands

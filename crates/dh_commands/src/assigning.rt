@@ -1,12 +1,15 @@
 //! Assignments and reducers, at each path in turn.
 
-ghost use Rattle.std.specs.Prelude.{IfOk, OnOk};
+ghost use Rattle.std.specs.Prelude.{ℕ, IfOk, OnOk};
 ghost use Rattle.dh_tree.specs.Seen.{term_seen};
 ghost use Rattle.dh_meaning.specs.CoreOf.{entity_number};
 ghost use Rattle.dh_expressions.specs.Drafted.{Gives, shown};
 ghost use Rattle.dh_expressions.specs.Shown.{extended_shown};
 ghost use Rattle.dh_commands.specs.Followed.{in_own_kind, old_extended};
 ghost use Rattle.dh_commands.specs.Setting.{AssignsAll, AssignsOne, ClearsAll, ClearsOne, GivesReduced, ReducesAll, ReducesOne, SetsAt};
+ghost use Rattle.dh_expressions.specs.MadeValues.{MadeConverted};
+ghost use Rattle.dh_commands.specs.LanesRun.{paths_counted};
+ghost use Rattle.dh_commands.specs.MadeCommands.{AssignedTo, ClearedTo, MadeAssigned, MadeCleared, MadeFolded, MadeOldOperand, MadeOperand, MadeReduced, ReducedTo};
 
 use crate::assignments::{Values, assign};
 use crate::buildings::Building;
@@ -43,8 +46,10 @@ fn assign_at(
     target: &Ref,
     value: &Expr,
 ) -> Result<u32, NoMemory>
-    ensures { IfOk result (λ next. AssignsOne scene.now lane.now building.old building.new first
-        next (entity_number target.now.entity) (term_seen value.now)) }
+    ensures means { IfOk result (λ next. AssignsOne scene.now lane.now building.old building.new
+        first next (entity_number target.now.entity) (term_seen value.now)) }
+    ensures made { IfOk result (λ next. MadeAssigned scene.now lane.now first (entity_number
+        target.now.entity) (term_seen value.now) building.old building.new next) }
 {
     let current = building.values.current.as_slice();
     let accesses = &mut building.accesses;
@@ -72,8 +77,11 @@ pub fn assign_all(
     target: &Ref,
     value: &Expr,
 ) -> Result<u32, NoMemory>
-    ensures { IfOk result (λ next. AssignsAll scene.now around.entry building.old building.new first
-        next (entity_number target.now.entity) (term_seen value.now)) }
+    ensures means { IfOk result (λ next. AssignsAll scene.now around.entry building.old building.new
+        first next (entity_number target.now.entity) (term_seen value.now)) }
+    ensures made { IfOk result (λ next. AssignedTo scene.now around.entry first (entity_number
+        target.now.entity) (term_seen value.now) (paths_counted around.entry) building.old
+        building.new next) }
 {
     let mut next = first;
     for i in 0..around.guards.len() {
@@ -93,8 +101,10 @@ fn clear_at(
     building: &mut Building,
     target: &Ref,
 ) -> Result<(), NoMemory>
-    ensures { OnOk result (ClearsOne scene.now lane.now building.old building.new (entity_number
-        target.now.entity)) }
+    ensures means { OnOk result (ClearsOne scene.now lane.now building.old building.new
+        (entity_number target.now.entity)) }
+    ensures made { OnOk result (MadeCleared scene.now lane.now (entity_number target.now.entity)
+        building.old building.new) }
 {
     let kind = place_of(scene.held, target).kind;
     let value = push_constant(&mut building.draft, literal(kind, false, 0))?;
@@ -109,8 +119,10 @@ pub fn clear_all(
     building: &mut Building,
     target: &Ref,
 ) -> Result<(), NoMemory>
-    ensures { OnOk result (ClearsAll scene.now around.entry building.old building.new (entity_number
-        target.now.entity)) }
+    ensures means { OnOk result (ClearsAll scene.now around.entry building.old building.new
+        (entity_number target.now.entity)) }
+    ensures made { OnOk result ((first : ℕ) → ClearedTo scene.now around.entry first (entity_number
+        target.now.entity) (paths_counted around.entry) building.old building.new first) }
 {
     for i in 0..around.guards.len() {
         let lane = Lane {
@@ -124,8 +136,9 @@ pub fn clear_all(
 
 /// Adds what a variable of a kind holds, as an operand that is extended to an integer kind.
 fn push_old_operand(draft: &mut Draft, old: u64, kind: Kind, to: Kind) -> Result<u64, NoMemory>
-    ensures { IfOk result (λ v. Gives draft.old draft.new v (λ x. old_extended kind to (shown x
-        old))) }
+    ensures means { IfOk result (λ v. Gives draft.old draft.new v (λ x. old_extended kind to (shown
+        x old))) }
+    ensures made { IfOk result (λ v. MadeOldOperand kind to old draft.old draft.new v) }
 {
     match to {
         Kind::Bool => Ok(old),
@@ -136,8 +149,9 @@ fn push_old_operand(draft: &mut Draft, old: u64, kind: Kind, to: Kind) -> Result
 
 /// Adds a value in a kind; nothing is done where it is one of that kind.
 fn push_own(draft: &mut Draft, value: u64, own: bool, to: Kind) -> Result<u64, NoMemory>
-    ensures { IfOk result (λ v. Gives draft.old draft.new v (λ x. in_own_kind own to (shown x
+    ensures means { IfOk result (λ v. Gives draft.old draft.new v (λ x. in_own_kind own to (shown x
         value))) }
+    ensures made { IfOk result (λ v. MadeConverted own to value draft.old draft.new v) }
 {
     if own {
         return Ok(value);
@@ -147,8 +161,10 @@ fn push_own(draft: &mut Draft, value: u64, own: bool, to: Kind) -> Result<u64, N
 
 /// Adds an operand, extended to an integer kind; as it is for Bool.
 fn push_operand(draft: &mut Draft, from: &Expr, value: u64, to: Kind) -> Result<u64, NoMemory>
-    ensures { IfOk result (λ v. Gives draft.old draft.new v (λ x. extended_shown (term_seen
+    ensures means { IfOk result (λ v. Gives draft.old draft.new v (λ x. extended_shown (term_seen
         from.now) to (shown x value))) }
+    ensures made { IfOk result (λ v. MadeOperand (term_seen from.now) to value draft.old draft.new
+        v) }
 {
     match to {
         Kind::Bool => Ok(value),
@@ -168,8 +184,10 @@ fn push_reduced(
     value: &Expr,
     own: u64,
 ) -> Result<u64, NoMemory>
-    ensures { IfOk result (λ made. GivesReduced scene.now lane.now current.now draft.old draft.new
-        own made (entity_number target.now.entity) op (term_seen value.now)) }
+    ensures means { IfOk result (λ made. GivesReduced scene.now lane.now current.now draft.old
+        draft.new own made (entity_number target.now.entity) op (term_seen value.now)) }
+    ensures made { IfOk result (λ made. MadeFolded scene.now lane.now current.now (entity_number
+        target.now.entity) op (term_seen value.now) own draft.old draft.new made) }
 {
     let held = place_of(scene.held, target);
     let to = extension(op, held.kind, kind_found(value.kind));
@@ -190,8 +208,10 @@ fn reduce_at(
     op: Op,
     value: &Expr,
 ) -> Result<u32, NoMemory>
-    ensures { IfOk result (λ next. ReducesOne scene.now lane.now building.old building.new first
-        next target.now op (term_seen value.now)) }
+    ensures means { IfOk result (λ next. ReducesOne scene.now lane.now building.old building.new
+        first next target.now op (term_seen value.now)) }
+    ensures made { IfOk result (λ next. MadeReduced scene.now lane.now first (entity_number
+        target.now.entity) op (term_seen value.now) building.old building.new next) }
 {
     let current = building.values.current.as_slice();
     let accesses = &mut building.accesses;
@@ -212,8 +232,11 @@ pub fn reduce_all(
     op: Op,
     value: &Expr,
 ) -> Result<u32, NoMemory>
-    ensures { IfOk result (λ next. ReducesAll scene.now around.entry building.old building.new first
-        next target.now op (term_seen value.now)) }
+    ensures means { IfOk result (λ next. ReducesAll scene.now around.entry building.old building.new
+        first next target.now op (term_seen value.now)) }
+    ensures made { IfOk result (λ next. ReducedTo scene.now around.entry first (entity_number
+        target.now.entity) op (term_seen value.now) (paths_counted around.entry) building.old
+        building.new next) }
 {
     let mut next = first;
     for i in 0..around.guards.len() {

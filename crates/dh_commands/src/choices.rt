@@ -6,6 +6,7 @@ ghost use Rattle.dh_expressions.specs.Drafted.{Gives};
 ghost use Rattle.dh_commands.specs.Undone.{EndsArm};
 ghost use Rattle.dh_commands.specs.Joined.{JoinsArms, all_unmarked, chosen_marked, chosen_noted, other_noted};
 ghost use Rattle.dh_commands.specs.Choosing.{Chooses, ChoosesOne, behind_shown};
+ghost use Rattle.dh_commands.specs.MadeCommands.{MadeBehind, MadeChoice, MadeChoices};
 
 use crate::assignments::{Values, assign};
 use dh_base::NoMemory;
@@ -152,8 +153,9 @@ fn push_behind(
     register: u64,
     behind: Option<u64>,
 ) -> Result<u64, NoMemory>
-    ensures { IfOk result (λ v. Gives draft.old draft.new v (λ x. behind_shown x current.now
+    ensures means { IfOk result (λ v. Gives draft.old draft.new v (λ x. behind_shown x current.now
         register behind)) }
+    ensures made { IfOk result (λ v. MadeBehind current.now register behind draft.old draft.new v) }
 {
     match behind {
         Some(value) => Ok(value),
@@ -168,7 +170,8 @@ fn choose_one(
     test: u64,
     choice: Choice,
 ) -> Result<(), NoMemory>
-    ensures { OnOk result (ChoosesOne draft.old draft.new values.old values.new test choice) }
+    ensures means { OnOk result (ChoosesOne draft.old draft.new values.old values.new test choice) }
+    ensures made { OnOk result (MadeChoice test choice draft.old draft.new values.old values.new) }
 {
     let current = values.current.as_slice();
     let yes = push_behind(draft, current, choice.register, choice.chosen)?;
@@ -185,8 +188,10 @@ pub fn choose(
     tests: &[u64],
     choices: &[Choice],
 ) -> Result<(), NoMemory>
-    ensures { OnOk result (Chooses draft.old draft.new values.old values.new tests.now choices.now
-        (length choices.now)) }
+    ensures means { OnOk result (Chooses draft.old draft.new values.old values.new tests.now
+        choices.now (length choices.now)) }
+    ensures made { OnOk result (MadeChoices tests.now choices.now (length choices.now) draft.old
+        draft.new values.old values.new) }
 {
     for choice in choices {
         if let Some(test) = tests.get(choice.path as usize) {

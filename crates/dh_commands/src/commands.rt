@@ -4,6 +4,7 @@ ghost use Rattle.std.specs.Prelude.{◌≡◌, IfOk, OnOk};
 ghost use Rattle.dh_tree.specs.Seen.{action_seen, all_parts_seen, maybe_block_seen};
 ghost use Rattle.dh_commands.specs.Done.{DoesCommand};
 ghost use Rattle.dh_commands.specs.Parted.{DoesArm, DoesGroups, DoesOther, JoinsAll};
+ghost use Rattle.dh_commands.specs.MadeCommands.{MadeArm, MadeCommand, MadeGroups, MadeJoined, MadeOther};
 
 use crate::assigning::{assign_all, clear_all, reduce_all};
 use crate::buildings::Building;
@@ -36,7 +37,8 @@ fn join_all(
     chosen: &[Left],
     other: &[Left],
 ) -> Result<(), NoMemory>
-    ensures { OnOk result (JoinsAll building.old building.new tests.now chosen.now other.now) }
+    ensures means { OnOk result (JoinsAll building.old building.new tests.now chosen.now other.now) }
+    ensures made { OnOk result (MadeJoined tests.now chosen.now other.now building.old building.new) }
 {
     let choices = join_arms(alloc, &mut building.values, chosen, other)?;
     choose(
@@ -57,8 +59,10 @@ pub fn push_command(
     first: u32,
     command: &Command,
 ) -> Result<u32, NoMemory>
-    ensures { IfOk result (λ next. DoesCommand scene.now around.entry (action_seen command.now)
-        first next building.old building.new) }
+    ensures means { IfOk result (λ next. DoesCommand scene.now around.entry (action_seen
+        command.now) first next building.old building.new) }
+    ensures made { IfOk result (λ next. MadeCommand scene.now (action_seen command.now) around.entry
+        building.old building.new first next) }
 {
     match &command.form {
         CommandForm::Let { name, value, .. } => match value {
@@ -111,8 +115,10 @@ fn push_other(
     tests: &[u64],
     other: &Option<Box<Command>>,
 ) -> Result<(u32, Vec<Left>), NoMemory>
-    ensures { IfOk result (λ r. DoesOther scene.now around.entry tests.now (maybe_block_seen
+    ensures means { IfOk result (λ r. DoesOther scene.now around.entry tests.now (maybe_block_seen
         other.now) first r.0 building.old building.new r.1.items) }
+    ensures made { IfOk result (λ r. MadeOther scene.now (maybe_block_seen other.now) around.entry
+        tests.now building.old building.new first r.0 r.1.items) }
 {
     match other {
         Some(block) => push_arm(scene, around, building, first, tests, false, block),
@@ -132,8 +138,10 @@ fn push_arm(
     holds: bool,
     command: &Command,
 ) -> Result<(u32, Vec<Left>), NoMemory>
-    ensures { IfOk result (λ r. DoesArm scene.now around.entry tests.now holds (action_seen
+    ensures means { IfOk result (λ r. DoesArm scene.now around.entry tests.now holds (action_seen
         command.now) first r.0 building.old building.new r.1.items) }
+    ensures made { IfOk result (λ r. MadeArm (MadeCommand scene.now (action_seen command.now))
+        around.entry holds tests.now building.old building.new first r.0 r.1.items) }
 {
     let floor = building.values.log.len();
     let guards = guards_of(
@@ -159,8 +167,10 @@ fn push_parts(
     first: u32,
     parts: &[Vec<Command>],
 ) -> Result<u32, NoMemory>
-    ensures { IfOk result (λ next. DoesGroups scene.now around.entry (all_parts_seen parts.now)
-        first next building.old building.new) }
+    ensures means { IfOk result (λ next. DoesGroups scene.now around.entry (all_parts_seen
+        parts.now) first next building.old building.new) }
+    ensures made { IfOk result (λ next. MadeGroups scene.now (all_parts_seen parts.now) around.entry
+        building.old building.new first next) }
 {
     let mut next = first;
     for part in parts {

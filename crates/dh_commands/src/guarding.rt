@@ -5,6 +5,7 @@ ghost use Rattle.dh_value.specs.Operations.{is_true};
 ghost use Rattle.dh_expressions.specs.Drafted.{Gives, shown};
 ghost use Rattle.dh_value.specs.Operations.{truth as truth_of};
 ghost use Rattle.dh_commands.specs.Choosing.{MakesGuard, MakesGuards};
+ghost use Rattle.dh_commands.specs.MadeCommands.{MadeArmGuards, MadeGuard, MadeNot};
 
 use dh_base::NoMemory;
 use dh_expressions::{Draft, guard_at, push_compute, push_constant, push_select, truth};
@@ -13,8 +14,9 @@ use std::alloc::Global;
 
 /// Adds the guard of what is done where a guard holds and a truth.
 fn push_both(draft: &mut Draft, guard: Option<u64>, truth: u64) -> Result<u64, NoMemory>
-    ensures { IfOk result (λ n. MakesGuard draft.old draft.new guard (λ x. is_true (shown x truth))
-        n) }
+    ensures means { IfOk result (λ n. MakesGuard draft.old draft.new guard (λ x. is_true (shown x
+        truth)) n) }
+    ensures made { IfOk result (λ n. MadeGuard guard truth draft.old draft.new n) }
 {
     match guard {
         Some(guard) => push_compute(draft, Op::Both, guard, truth),
@@ -24,8 +26,9 @@ fn push_both(draft: &mut Draft, guard: Option<u64>, truth: u64) -> Result<u64, N
 
 /// Adds the truth that another is not true.
 fn push_not(draft: &mut Draft, test: u64) -> Result<u64, NoMemory>
-    ensures { IfOk result (λ n. Gives draft.old draft.new n (λ x. truth_of (not (is_true (shown x
-        test))))) }
+    ensures means { IfOk result (λ n. Gives draft.old draft.new n (λ x. truth_of (not (is_true
+        (shown x test))))) }
+    ensures made { IfOk result (λ n. MadeNot test draft.old draft.new n) }
 {
     let no = push_constant(draft, truth(false))?;
     let yes = push_constant(draft, truth(true))?;
@@ -39,8 +42,10 @@ fn guards_chosen(
     guards: &[Option<u64>],
     tests: &[u64],
 ) -> Result<Vec<Option<u64>>, NoMemory>
-    ensures { IfOk result (λ arm. MakesGuards draft.old draft.new guards.now tests.now true (length
-        tests.now) arm.items) }
+    ensures means { IfOk result (λ arm. MakesGuards draft.old draft.new guards.now tests.now true
+        (length tests.now) arm.items) }
+    ensures made { IfOk result (λ arm. MadeArmGuards true guards.now tests.now (length tests.now)
+        draft.old draft.new arm.items) }
 {
     let mut all = Vec::new(alloc);
     for i in 0..tests.len() {
@@ -58,8 +63,10 @@ fn guards_other(
     guards: &[Option<u64>],
     tests: &[u64],
 ) -> Result<Vec<Option<u64>>, NoMemory>
-    ensures { IfOk result (λ arm. MakesGuards draft.old draft.new guards.now tests.now false (length
-        tests.now) arm.items) }
+    ensures means { IfOk result (λ arm. MakesGuards draft.old draft.new guards.now tests.now false
+        (length tests.now) arm.items) }
+    ensures made { IfOk result (λ arm. MadeArmGuards false guards.now tests.now (length tests.now)
+        draft.old draft.new arm.items) }
 {
     let mut all = Vec::new(alloc);
     for i in 0..tests.len() {
@@ -79,8 +86,10 @@ pub fn guards_of(
     tests: &[u64],
     holds: bool,
 ) -> Result<Vec<Option<u64>>, NoMemory>
-    ensures { IfOk result (λ arm. MakesGuards draft.old draft.new guards.now tests.now holds (length
-        tests.now) arm.items) }
+    ensures means { IfOk result (λ arm. MakesGuards draft.old draft.new guards.now tests.now holds
+        (length tests.now) arm.items) }
+    ensures made { IfOk result (λ arm. MadeArmGuards holds guards.now tests.now (length tests.now)
+        draft.old draft.new arm.items) }
 {
     if holds {
         guards_chosen(alloc, draft, guards, tests)

@@ -5,6 +5,9 @@ ghost use Rattle.dh_tree.specs.Memories.{table_of};
 ghost use Rattle.dh_tree.specs.Seen.{program_seen, term_seen};
 ghost use Rattle.dh_meaning.specs.Effects.{entry_kind};
 ghost use Rattle.dh_commands.specs.Setting.{AimsAtTarget, StoresAll, StoresOne};
+ghost use Rattle.dh_tree.specs.Indices.{form_of};
+ghost use Rattle.dh_commands.specs.LanesRun.{paths_counted};
+ghost use Rattle.dh_commands.specs.MadeCommands.{MadeAim, MadeStored, StoredTo};
 
 use crate::buildings::Building;
 use dh_accesses::behind_term;
@@ -26,8 +29,10 @@ fn aim_at(
     first: u32,
     target: &Expr,
 ) -> Result<Option<(Aim, usize)>, NoMemory>
-    ensures { IfOk result (λ aimed. AimsAtTarget scene.now lane.now current.now draft.old draft.new
-        accesses.old accesses.new first (term_seen target.now) aimed) }
+    ensures means { IfOk result (λ aimed. AimsAtTarget scene.now lane.now current.now draft.old
+        draft.new accesses.old accesses.new first (term_seen target.now) aimed) }
+    ensures made { IfOk result (λ aimed. MadeAim scene.now lane.now current.now (form_of (term_seen
+        target.now)) draft.old draft.new accesses.old accesses.new first aimed) }
 {
     match &target.form {
         ExprForm::Access { of, indices } => {
@@ -67,8 +72,10 @@ fn store_at(
     target: &Expr,
     value: &Expr,
 ) -> Result<u32, NoMemory>
-    ensures { IfOk result (λ next. StoresOne scene.now lane.now building.old building.new first next
-        (term_seen target.now) (term_seen value.now)) }
+    ensures means { IfOk result (λ next. StoresOne scene.now lane.now building.old building.new
+        first next (term_seen target.now) (term_seen value.now)) }
+    ensures made { IfOk result (λ next. MadeStored scene.now lane.now first (term_seen target.now)
+        (term_seen value.now) building.old building.new next) }
 {
     let current = building.values.current.as_slice();
     let accesses = &mut building.accesses;
@@ -94,8 +101,10 @@ pub fn store_all(
     target: &Expr,
     value: &Expr,
 ) -> Result<u32, NoMemory>
-    ensures { IfOk result (λ next. StoresAll scene.now around.entry building.old building.new first
-        next (term_seen target.now) (term_seen value.now)) }
+    ensures means { IfOk result (λ next. StoresAll scene.now around.entry building.old building.new
+        first next (term_seen target.now) (term_seen value.now)) }
+    ensures made { IfOk result (λ next. StoredTo scene.now around.entry first (term_seen target.now)
+        (term_seen value.now) (paths_counted around.entry) building.old building.new next) }
 {
     let mut next = first;
     for i in 0..around.guards.len() {

@@ -3,6 +3,8 @@
 ghost use Rattle.std.specs.Prelude.{IfOk};
 ghost use Rattle.dh_tree.specs.Seen.{term_seen};
 ghost use Rattle.dh_commands.specs.Setting.{TestsAll, TestsOne};
+ghost use Rattle.dh_commands.specs.LanesRun.{paths_counted};
+ghost use Rattle.dh_commands.specs.MadeCommands.{MadeTested, MadeTests};
 
 use crate::buildings::Building;
 use dh_base::NoMemory;
@@ -17,8 +19,10 @@ fn test_at(
     first: u32,
     test: &Expr,
 ) -> Result<Valued, NoMemory>
-    ensures { IfOk result (λ own. TestsOne scene.now lane.now building.old building.new first
+    ensures means { IfOk result (λ own. TestsOne scene.now lane.now building.old building.new first
         (term_seen test.now) own) }
+    ensures made { IfOk result (λ own. MadeTested scene.now lane.now first (term_seen test.now)
+        building.old building.new own.next own.value) }
 {
     let current = building.values.current.as_slice();
     let accesses = &mut building.accesses;
@@ -41,8 +45,10 @@ pub fn test_all(
     first: u32,
     test: &Expr,
 ) -> Result<(Vec<u64>, u32), NoMemory>
-    ensures { IfOk result (λ r. TestsAll scene.now around.entry building.old building.new first r.1
-        (term_seen test.now) r.0.items) }
+    ensures means { IfOk result (λ r. TestsAll scene.now around.entry building.old building.new
+        first r.1 (term_seen test.now) r.0.items) }
+    ensures made { IfOk result (λ r. MadeTests scene.now around.entry first (term_seen test.now)
+        (paths_counted around.entry) building.old building.new r.1 r.0.items) }
 {
     let mut tests = Vec::new(scene.alloc);
     let mut next = first;
