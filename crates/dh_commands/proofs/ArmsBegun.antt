@@ -1,5 +1,5 @@
 -- What stands at all paths stands at those of an arm: it has the same loops, and fewer paths with a guard that holds.
-use Rattle.std.proofs.Common.{◌≡◌, ℕ, ◌+◌, ◌-◌, ◌*◌, ◌<◌, ◌^◌, Bool, true, if◌then◌else◌, Some, None, List, length, map, take, ap, sym, ◌∙◌, subst}
+use Rattle.std.proofs.Common.{◌≡◌, ℕ, ◌+◌, ◌-◌, ◌*◌, ◌<◌, ◌^◌, Bool, true, if◌then◌else◌, Some, None, List, length, take, ap, sym, ◌∙◌, subst}
 use Rattle.std.specs.Prelude.{Option, min, nat_le, pos, slice_index}
 use Rattle.dh_value.specs.declared.kinds.Kind.{Kind}
 use Rattle.dh_value.specs.Words.{word_of}
@@ -18,16 +18,8 @@ use Rattle.dh_expressions.specs.Levels.{last_number, path_at, rank_number}
 use Rattle.dh_expressions.specs.Shown.{variable_shown}
 use Rattle.dh_commands.specs.declared.buildings.Building.{Building}
 use Rattle.dh_commands.specs.LanesRun.{IsArm, comes_out, is_on_at, lane_of, path_in, paths_counted}
-use Rattle.dh_commands.specs.ShownVariables.{IsHere, factors_in, Shows, depth_in, register_in, seen_path}
+use Rattle.dh_commands.specs.ShownVariables.{IsSeen, Shows, depth_in, register_in, seen_path}
 use Rattle.dh_commands.specs.Done.{Stands}
-
--- what is seen at some loops is seen wherever these loops stand round
-pub here_too : (scene : Scene) (a b : Around) (entity : ℕ) → a.levels.now ≡ b.levels.now → IsHere scene a entity → IsHere scene b entity
-here_too scene a b entity same h = record {
-  there = h.there;
-  no_counter = h.no_counter;
-  round = ap (λ (ls : List Level). take (length (factors_in scene entity)) (map (λ (l : Level). l.factor) ls)) (sym same) ∙ h.round;
-}
 
 module _ (scene : Scene) (around arm : Around) (x : Step) (holds : Bool) (test : Path → Bool) (h : IsArm x around arm holds test) where
   pub register_same : (e j : ℕ) → register_in scene arm e j ≡ register_in scene around e j
@@ -44,12 +36,18 @@ module _ (scene : Scene) (around arm : Around) (x : Step) (holds : Bool) (test :
   pub on_around : (j : ℕ) → j < paths_counted around → is_on_at x arm j ≡ true → is_on_at x around j ≡ true
   on_around j inside on = and_left (is_on_at x around j) (comes_out holds (test (path_in around j))) (sym (h.on j inside) ∙ on)
 
+  pub seen_around : (e : ℕ) → IsSeen scene arm.levels.now e → IsSeen scene around.levels.now e
+  seen_around e s = subst (λ (ls : List Level). IsSeen scene ls e) h.levels s
+
+  pub seen_inside : (e : ℕ) → IsSeen scene around.levels.now e → IsSeen scene arm.levels.now e
+  seen_inside e s = subst (λ (ls : List Level). IsSeen scene ls e) (sym h.levels) s
+
   pub shows_arm : (current : List (Option ℕ)) (variables : Variables) → Shows scene around x current variables → Shows scene arm x current variables
   shows_arm current variables s = record {
     each = λ e j there inside on.
         let within : j < paths_counted around = subst (λ (n : ℕ). j < n) h.long inside in
         shown_same (counter_of scene e) (held_at scene.held.now e) current (held_at scene.held.now e).kind j
-        ∙ (s.each e j (here_too scene arm around e h.levels there) within (on_around j within on) ∙ ap (λ (p : Path). word_of (held_at scene.held.now e).kind (variables e p)) (sym (seen_same e j)));
+        ∙ (s.each e j (seen_around e there) within (on_around j within on) ∙ ap (λ (p : Path). word_of (held_at scene.held.now e).kind (variables e p)) (sym (seen_same e j)));
   }
 
   pub stands_arm : (reads : Reads) (b : Building) (e : Effect) → Stands scene around x reads b e → Stands scene arm x reads b e
@@ -58,6 +56,6 @@ module _ (scene : Scene) (around arm : Around) (x : Step) (holds : Bool) (test :
     shows = shows_arm b.values.current.items e.variables s.shows;
     tells = s.tells;
     room = λ i j there inside.
-        subst (λ (n : ℕ). n < length b.values.current.items) (sym (register_same i j)) (s.room i j (here_too scene arm around i h.levels there) (subst (λ (n : ℕ). j < n) h.long inside));
+        subst (λ (n : ℕ). n < length b.values.current.items) (sym (register_same i j)) (s.room i j (seen_around i there) (subst (λ (n : ℕ). j < n) h.long inside));
     ready = s.ready;
   }

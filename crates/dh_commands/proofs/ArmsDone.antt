@@ -25,12 +25,12 @@ use Rattle.dh_commands.specs.declared.assignments.Values.{Values}
 use Rattle.dh_commands.specs.declared.buildings.Building.{Building}
 use Rattle.dh_commands.specs.declared.choices.Left.{Left}
 use Rattle.dh_commands.specs.LanesRun.{IsArm, comes_out, is_on_at, path_in, paths_counted, paths_on}
-use Rattle.dh_commands.specs.ShownVariables.{IsHere, IsOwn, ShowsAt, register_in, seen_path}
+use Rattle.dh_commands.specs.ShownVariables.{IsOwn, IsSeen, ShowsAt, register_in, seen_path}
 use Rattle.dh_commands.specs.Undone.{AreReady, Changes, IsChange}
 use Rattle.dh_commands.specs.Followed.{Follows, Sets, effect_of, view_of}
 use Rattle.dh_commands.specs.Done.{Stands}
 use Rattle.dh_commands.specs.Parted.{DoesArm, ShowsTests}
-use Rattle.dh_commands.proofs.ArmsBegun.{here_too, register_same, seen_same, shown_same}
+use Rattle.dh_commands.proofs.ArmsBegun.{register_same, seen_around, seen_inside, seen_same, shown_same}
 use Rattle.dh_commands.proofs.ArmsLeft.{AreSame, ArmLeft, arm_ended}
 use Rattle.dh_commands.proofs.CoreRuns.{action_any, action_deep}
 use Rattle.dh_commands.proofs.PathsKept.{commands_keep, keeps_own}
@@ -61,22 +61,22 @@ pub own_in_arm : (scene : Scene) (around arm : Around) (x : Step) (holds : Bool)
 own_in_arm scene around arm x holds test h entity own = record {
   placed = record {
     apart = λ e f i j te tf ii ij same.
-        let a = own.placed.apart e f i j (here e te) (here f tf) (inside i ii) (inside j ij) (sym (register e i) ∙ (same ∙ register f j)) in
+        let a = own.placed.apart e f i j (up e te) (up f tf) (inside i ii) (inside j ij) (sym (register e i) ∙ (same ∙ register f j)) in
         (a.0, seen e i ∙ (a.1 ∙ sym (seen f j)));
-    one = λ e i j te ii ij same. register e i ∙ (own.placed.one e i j (here e te) (inside i ii) (inside j ij) (sym (seen e i) ∙ (same ∙ seen e j)) ∙ sym (register e j));
+    one = λ e i j te ii ij same. register e i ∙ (own.placed.one e i j (up e te) (inside i ii) (inside j ij) (sym (seen e i) ∙ (same ∙ seen e j)) ∙ sym (register e j));
   };
-  there = here_too scene around arm entity (sym h.levels) own.there;
+  there = seen_inside scene around arm x holds test h entity own.there;
   own = λ i j ii ij same. own.own i j (inside i ii) (inside j ij) (sym (register entity i) ∙ (same ∙ register entity j));
 }
   where
+    up : (e : ℕ) → IsSeen scene arm.levels.now e → IsSeen scene around.levels.now e
+    up = seen_around scene around arm x holds test h
+
     register : (e j : ℕ) → register_in scene arm e j ≡ register_in scene around e j
     register e j = register_same scene around arm x holds test h e j
 
     seen : (e j : ℕ) → seen_path scene arm e j ≡ seen_path scene around e j
     seen e j = seen_same scene around arm x holds test h e j
-
-    here : (e : ℕ) → IsHere scene arm e → IsHere scene around e
-    here e there = here_too scene arm around e h.levels there
 
     inside : (i : ℕ) → i < paths_counted arm → i < paths_counted around
     inside i l = subst (λ (n : ℕ). i < n) h.long l
@@ -84,9 +84,9 @@ own_in_arm scene around arm x holds test h entity own = record {
 -- what stands of an arm's paths, before it
 pub record Halfway (scene : Scene) (around : Around) (x : Step) (reads : Reads) (truths : Path → Bool) (holds : Bool) (b : Building) (e : Effect) : Type 0 where
   pub knows : (variables : Variables) → Knows (view_of x reads variables) b.accesses
-  pub shows : (entity j : ℕ) → IsHere scene around entity → j < paths_counted around → is_on_at x around j ≡ true → truths (path_in around j) ≡ holds → ShowsAt scene around x b.values.current.items e.variables entity j
+  pub shows : (entity j : ℕ) → IsSeen scene around.levels.now entity → j < paths_counted around → is_on_at x around j ≡ true → truths (path_in around j) ≡ holds → ShowsAt scene around x b.values.current.items e.variables entity j
   pub tells : tale x b.draft ≡ told e.events
-  pub room : (entity number : ℕ) → IsHere scene around entity → number < paths_counted around → register_in scene around entity number < length b.values.current.items
+  pub room : (entity number : ℕ) → IsSeen scene around.levels.now entity → number < paths_counted around → register_in scene around entity number < length b.values.current.items
   pub ready : AreReady b.values
 
 pub halfway : (scene : Scene) (around : Around) (x : Step) (reads : Reads) (truths : Path → Bool) (holds : Bool) (b : Building) (e : Effect) → Stands scene around x reads b e → Halfway scene around x reads truths holds b e
@@ -137,6 +137,12 @@ module _ (scene : Scene) (around : Around) (tests : List ℕ) (holds : Bool) (a 
     within_arm : (j : ℕ) → j < paths_counted around → j < paths_counted arm.arm
     within_arm j l = subst (λ (n : ℕ). j < n) (sym is_arm.long) l
 
+    up : (entity : ℕ) → IsSeen scene arm.arm.levels.now entity → IsSeen scene around.levels.now entity
+    up = seen_around scene around arm.arm x holds truths is_arm
+
+    down : (entity : ℕ) → IsSeen scene around.levels.now entity → IsSeen scene arm.arm.levels.now entity
+    down = seen_inside scene around arm.arm x holds truths is_arm
+
     begins : Stands scene arm.arm x reads old e
     begins = record {
       knows = half.knows;
@@ -144,13 +150,13 @@ module _ (scene : Scene) (around : Around) (tests : List ℕ) (holds : Bool) (a 
         each = λ entity j there l on.
             let both = sym (is_arm.on j (within j l)) ∙ on in
             shown_same scene around arm.arm x holds truths is_arm (counter_of scene entity) (held_at scene.held.now entity) old.values.current.items (held_at scene.held.now entity).kind j
-            ∙ (half.shows entity j (here_too scene arm.arm around entity arm.levels there) (within j l) (and_left (is_on_at x around j) (comes_out holds (truths (path_in around j))) both)
+            ∙ (half.shows entity j (up entity there) (within j l) (and_left (is_on_at x around j) (comes_out holds (truths (path_in around j))) both)
             (comes_true holds (truths (path_in around j)) (and_right (is_on_at x around j) (comes_out holds (truths (path_in around j))) both))
             ∙ ap (λ (p : Path). word_of (held_at scene.held.now entity).kind (e.variables entity p)) (sym (seen_same scene around arm.arm x holds truths is_arm entity j)));
       };
       tells = half.tells;
       room = λ entity j there l.
-          subst (λ (n : ℕ). n < length old.values.current.items) (sym (register_same scene around arm.arm x holds truths is_arm entity j)) (half.room entity j (here_too scene arm.arm around entity arm.levels there) (within j l));
+          subst (λ (n : ℕ). n < length old.values.current.items) (sym (register_same scene around arm.arm x holds truths is_arm entity j)) (half.room entity j (up entity there) (within j l));
       ready = half.ready;
     }
 
@@ -164,19 +170,19 @@ module _ (scene : Scene) (around : Around) (tests : List ℕ) (holds : Bool) (a 
       pub ends_tells : tale x new.draft ≡ told after.events
       ends_tells = ap (λ (d : Draft). tale x d) arm.draft ∙ ends.tells
 
-      pub ends_shows : (entity j : ℕ) → IsHere scene around entity → j < paths_counted around → is_on_at x around j ≡ true → truths (path_in around j) ≡ holds → ShowsAt scene around x inside.values.current.items after.variables entity j
+      pub ends_shows : (entity j : ℕ) → IsSeen scene around.levels.now entity → j < paths_counted around → is_on_at x around j ≡ true → truths (path_in around j) ≡ holds → ShowsAt scene around x inside.values.current.items after.variables entity j
       ends_shows entity j there l on is =
           sym (shown_same scene around arm.arm x holds truths is_arm (counter_of scene entity) (held_at scene.held.now entity) inside.values.current.items (held_at scene.held.now entity).kind j)
-          ∙ (ends.shows.each entity j (here_too scene around arm.arm entity (sym arm.levels) there) (within_arm j l)
+          ∙ (ends.shows.each entity j (down entity there) (within_arm j l)
           (is_arm.on j l ∙ (ap (λ (b : Bool). b && comes_out holds (truths (path_in around j))) on ∙ comes_same holds (truths (path_in around j)) is))
           ∙ ap (λ (p : Path). word_of (held_at scene.held.now entity).kind (after.variables entity p)) (seen_same scene around arm.arm x holds truths is_arm entity j))
 
-      pub ends_kept : ((entity : ℕ) → Sets scene a entity → IsOwn scene around entity) → (entity j : ℕ) → IsHere scene around entity → j < paths_counted around → is_on_at x around j ≡ true → truths (path_in around j) ≡ not holds
+      pub ends_kept : ((entity : ℕ) → Sets scene a entity → IsOwn scene around entity) → (entity j : ℕ) → IsSeen scene around.levels.now entity → j < paths_counted around → is_on_at x around j ≡ true → truths (path_in around j) ≡ not holds
           → after.variables entity (seen_path scene around entity j) ≡ e.variables entity (seen_path scene around entity j)
       ends_kept own entity j there l on is =
           subst (λ (p : Path). after.variables entity p ≡ e.variables entity p) (seen_same scene around arm.arm x holds truths is_arm entity j)
           (commands_keep (begun_of x) entity (seen_path scene arm.arm entity j) (paths_on x arm.arm) (core_action (known_in scene) first a no_commands) e
-          (keeps_own scene arm.arm x entity j (here_too scene around arm.arm entity (sym arm.levels) there) (within_arm j l)
+          (keeps_own scene arm.arm x entity j (down entity there) (within_arm j l)
           (is_arm.on j l ∙ (ap (λ (b : Bool). b && comes_out holds (truths (path_in around j))) on ∙ comes_other holds (truths (path_in around j)) is))
           (core_action (known_in scene) first a no_commands) (action_deep scene first a no_commands tt)
           (λ other sets. own_in_arm scene around arm.arm x holds truths is_arm other

@@ -21,7 +21,7 @@ use Rattle.dh_expressions.proofs.ListPlaces.{set_long}
 use Rattle.dh_expressions.proofs.Pushing.{begun_later, extends_again, fits_before}
 use Rattle.dh_commands.specs.declared.buildings.Building.{Building}
 use Rattle.dh_commands.specs.LanesRun.{is_on_at, path_in, paths_counted, run_if}
-use Rattle.dh_commands.specs.ShownVariables.{IsHere, IsTarget, Shows, register_in, seen_path}
+use Rattle.dh_commands.specs.ShownVariables.{IsSeen, IsTarget, Shows, register_in, seen_path}
 use Rattle.dh_commands.specs.Followed.{FollowsAssigned, value_at, view_of}
 use Rattle.dh_commands.specs.Done.{Stands}
 use Rattle.dh_commands.specs.Setting.{AssignsOne, SetsAt, assigned_run}
@@ -35,7 +35,7 @@ module _ (scene : Scene) (lane : Lane) (entity value : ℕ) (old new : Building)
     (within : lane.number < paths_counted lane.around) (t : IsTarget scene lane.around entity)
     (x : Step) (reads : Reads) (e : Effect) (stands : Stands scene lane.around x reads old e)
     (knows : (variables : Variables) → Knows (view_of x reads variables) new.accesses) where
-  room_kept : (e' j : ℕ) → IsHere scene lane.around e' → j < paths_counted lane.around → register_in scene lane.around e' j < length new.values.current.items
+  room_kept : (e' j : ℕ) → IsSeen scene lane.around.levels.now e' → j < paths_counted lane.around → register_in scene lane.around e' j < length new.values.current.items
   room_kept e' j there inside =
       subst (λ (n : ℕ). register_in scene lane.around e' j < n)
       (sym (ap (λ (os : List (Option ℕ)). length os) s.current ∙ set_long old.values.current.items (register_in scene lane.around entity lane.number) (Some value)))

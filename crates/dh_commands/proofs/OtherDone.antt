@@ -14,7 +14,7 @@ use Rattle.dh_expressions.proofs.Pushing.{extends_self}
 use Rattle.dh_commands.specs.declared.buildings.Building.{Building}
 use Rattle.dh_commands.specs.declared.choices.Left.{Left}
 use Rattle.dh_commands.specs.LanesRun.{IsArm, is_on_at, path_in, paths_counted, paths_on}
-use Rattle.dh_commands.specs.ShownVariables.{IsHere, IsOwn, ShowsAt, seen_path}
+use Rattle.dh_commands.specs.ShownVariables.{IsOwn, IsSeen, ShowsAt, seen_path}
 use Rattle.dh_commands.specs.Undone.{AreReady}
 use Rattle.dh_commands.specs.Followed.{Arms, no_arms, FitOther, FollowsOther, SetsOther, effect_of, other_effect, view_of}
 use Rattle.dh_commands.specs.Parted.{DoesOther, ShowsTests}
@@ -26,8 +26,8 @@ use Rattle.dh_commands.proofs.LanesInOrder.{arm_paths}
 pub record OtherEnds (scene : Scene) (around : Around) (x : Step) (reads : Reads) (truths : Path → Bool) (new : Building) (behind : List (Option ℕ)) (e after : Effect) : Type 0 where
   pub knows : (variables : Variables) → Knows (view_of x reads variables) new.accesses
   pub tells : tale x new.draft ≡ told after.events
-  pub shows : (entity j : ℕ) → IsHere scene around entity → j < paths_counted around → is_on_at x around j ≡ true → truths (path_in around j) ≡ false → ShowsAt scene around x behind after.variables entity j
-  pub kept : (entity j : ℕ) → IsHere scene around entity → j < paths_counted around → is_on_at x around j ≡ true → truths (path_in around j) ≡ true
+  pub shows : (entity j : ℕ) → IsSeen scene around.levels.now entity → j < paths_counted around → is_on_at x around j ≡ true → truths (path_in around j) ≡ false → ShowsAt scene around x behind after.variables entity j
+  pub kept : (entity j : ℕ) → IsSeen scene around.levels.now entity → j < paths_counted around → is_on_at x around j ≡ true → truths (path_in around j) ≡ true
       → after.variables entity (seen_path scene around entity j) ≡ e.variables entity (seen_path scene around entity j)
 
 pub record OtherDone (scene : Scene) (around : Around) (tests : List ℕ) (May : ℕ → Type 0) (first : ℕ) (other : MaybeAction) (old new : Building) (lefts : List Left) (arm : Around) (arms : Arms) : Type 0 where

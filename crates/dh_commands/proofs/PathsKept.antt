@@ -1,7 +1,7 @@
 -- Commands at some paths keep a variable at a path that is none of these. By recursion on the commands; the arms of
 -- an `if` are done at fewer paths. Of an arm: a path at which its guard does not hold is none of those at which it is
 -- done, and a variable that is another at each path is set at no copy that is seen there.
-use Rattle.std.proofs.Common.{◌≡◌, ℕ, zero, suc, ◌<◌, ◌==◌, Bool, true, false, if◌then◌else◌, List, [], ◌∷◌, ◌++◌, take, refl, ap, sym, ◌∙◌, subst, arith}
+use Rattle.std.proofs.Common.{◌≡◌, ℕ, zero, suc, ◌<◌, ◌==◌, Bool, true, false, if◌then◌else◌, List, [], ◌∷◌, ◌++◌, length, take, refl, ap, sym, ◌∙◌, subst, arith}
 use Rattle.std.specs.Prelude.{◌&&◌, ◌||◌}
 use Rattle.std.specs.List.{AllByRecursion}
 use Rattle.std.proofs.lemmas.Bool.{eq-eqb, eqb-true}
@@ -15,7 +15,7 @@ use Rattle.dh_expressions.specs.declared.scenes.Around.{Around}
 use Rattle.dh_expressions.specs.declared.scenes.Scene.{Scene}
 use Rattle.dh_expressions.specs.Drafted.{Step}
 use Rattle.dh_commands.specs.LanesRun.{is_on_at, path_if, path_in, paths_counted, paths_on, paths_to}
-use Rattle.dh_commands.specs.ShownVariables.{IsHere, IsOwn, depth_in, register_in, seen_path}
+use Rattle.dh_commands.specs.ShownVariables.{IsOwn, IsSeen, depth_in, register_in, seen_path}
 
 -- a copy of a variable is not the one that is set at a path
 abbrev pub IsOther : (e : ℕ) → (p : Path) → (depth entity : ℕ) → Path → Type 0
@@ -104,7 +104,7 @@ none_both true false h = refl
 none_both false b h = refl
 
 -- a variable is set at no copy that is seen where the guard does not hold
-pub others_at : (scene : Scene) (around : Around) (x : Step) (e entity j : ℕ) → IsHere scene around e → j < paths_counted around → is_on_at x around j ≡ false
+pub others_at : (scene : Scene) (around : Around) (x : Step) (e entity j : ℕ) → IsSeen scene around.levels.now e → j < paths_counted around → is_on_at x around j ≡ false
     → IsOwn scene around entity → AllByRecursion (IsOther e (seen_path scene around e j) (depth_in scene entity) entity) (paths_on x around)
 others_at scene around x e entity j there inside off own =
     all_to x around (IsOther e (seen_path scene around e j) (depth_in scene entity) entity) (paths_counted around)
@@ -140,7 +140,7 @@ or_second : (a b : Bool) → b ≡ true → (a || b) ≡ true
 or_second true b h = refl
 or_second false b h = h
 
-module _ (scene : Scene) (around : Around) (x : Step) (e j : ℕ) (there : IsHere scene around e) (inside : j < paths_counted around) (off : is_on_at x around j ≡ false) where
+module _ (scene : Scene) (around : Around) (x : Step) (e j : ℕ) (there : IsSeen scene around.levels.now e) (inside : j < paths_counted around) (off : is_on_at x around j ≡ false) where
   mutual
     keeps_one : (c : CoreCommand) → IsDeep scene c → ((entity : ℕ) → assigns_to entity c ≡ true → IsOwn scene around entity) → KeepsAt e (seen_path scene around e j) (paths_on x around) c
     keeps_one (store r target value) deep own = tt

@@ -21,7 +21,7 @@ use Rattle.dh_expressions.specs.Evaluated.{counter_of, entity_shown, shown_by}
 use Rattle.dh_expressions.specs.Shown.{current_shown, guard_of, register_at, variable_shown}
 use Rattle.dh_expressions.proofs.ListPlaces.{set_here, set_other}
 use Rattle.dh_commands.specs.LanesRun.{is_on_at, lane_of, paths_counted}
-use Rattle.dh_commands.specs.ShownVariables.{IsHere, IsTarget, Shows, ShowsAt, register_in, seen_path}
+use Rattle.dh_commands.specs.ShownVariables.{IsSeen, IsTarget, Shows, ShowsAt, register_in, seen_path}
 
 -- what is shown of a variable follows from what its register shows
 pub shown_alike : (x : Step) (o : Option Counter) (held : Held) (lane : Lane) (current more : List (Option ℕ)) (kind : Kind) → variable_shown x more (register_at held lane) ≡ variable_shown x current (register_at held lane)
@@ -58,7 +58,7 @@ module _ (scene : Scene) (around : Around) (x : Step) (current : List (Option �
       (ap (λ o. current_shown x o (register_in scene around e j)) (set_other current register (register_in scene around e j) (Some value) differ))
 
   -- and its variable holds what it did
-  other_held : (e j : ℕ) → IsHere scene around e → j < paths_counted around → (register_in scene around e j ≡ register → ⊥)
+  other_held : (e j : ℕ) → IsSeen scene around.levels.now e → j < paths_counted around → (register_in scene around e j ≡ register → ⊥)
       → set e (seen_path scene around e j) ≡ variables e (seen_path scene around e j)
   other_held e j there inside differ =
       ap (λ (b : Bool). if b then z else variables e (seen_path scene around e j))
@@ -87,7 +87,7 @@ module _ (scene : Scene) (around : Around) (x : Step) (current : List (Option �
   pub shows_on : shown x value ≡ word_of (held_at scene.held.now entity).kind z → Shows scene around x after set
   shows_on is = record { each = λ e j there inside on. by e j there inside on (cases_Bool (register_in scene around e j == register)) }
     where
-      by : (e j : ℕ) → IsHere scene around e → j < paths_counted around → is_on_at x around j ≡ true
+      by : (e j : ℕ) → IsSeen scene around.levels.now e → j < paths_counted around → is_on_at x around j ≡ true
           → ((register_in scene around e j == register) ≡ true) ⊎ ((register_in scene around e j == register) ≡ false) → ShowsAt scene around x after set e j
       by e j there inside on (inl a) =
           let same : register_in scene around e j ≡ register = eqb-true (register_in scene around e j) register a in
@@ -105,7 +105,7 @@ module _ (scene : Scene) (around : Around) (x : Step) (current : List (Option �
   pub shows_off : is_on_at x around number ≡ false → Shows scene around x after variables
   shows_off off = record { each = λ e j there inside on. other_shown e j (differ e j there inside on) ∙ shows.each e j there inside on }
     where
-      differ : (e j : ℕ) → IsHere scene around e → j < paths_counted around → is_on_at x around j ≡ true → register_in scene around e j ≡ register → ⊥
+      differ : (e j : ℕ) → IsSeen scene around.levels.now e → j < paths_counted around → is_on_at x around j ≡ true → register_in scene around e j ≡ register → ⊥
       differ e j there inside on same =
           let one = t.placed.apart e entity j number there t.there inside within same in
           let guards : guard_of around.guards.now j ≡ guard_of around.guards.now number = t.alike j number inside within (ap (λ i. register_in scene around i j) (sym one.0) ∙ same) in

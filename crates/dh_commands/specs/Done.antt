@@ -11,7 +11,7 @@ use Rattle.dh_expressions.specs.Drafted.{Begun, Extends, Fits, Step, tale, told}
 use Rattle.dh_expressions.specs.Evaluated.{Knows, Reads}
 use Rattle.dh_commands.specs.declared.buildings.Building.{Building}
 use Rattle.dh_commands.specs.LanesRun.{is_on_at, lanes_run, path_in, paths_counted, paths_on, run_if}
-use Rattle.dh_commands.specs.ShownVariables.{IsHere, Shows, register_in}
+use Rattle.dh_commands.specs.ShownVariables.{IsSeen, Shows, register_in}
 use Rattle.dh_commands.specs.Undone.{AreReady, Changes}
 use Rattle.dh_commands.specs.Followed.{Along, Arms, FitArms, Follows, Sets, effect_of, view_of}
 
@@ -21,7 +21,7 @@ pub record Stands (scene : Scene) (around : Around) (x : Step) (reads : Reads) (
   pub knows : (variables : Variables) → Knows (view_of x reads variables) b.accesses
   pub shows : Shows scene around x b.values.current.items e.variables
   pub tells : tale x b.draft ≡ told e.events
-  pub room : (entity number : ℕ) → IsHere scene around entity → number < paths_counted around → register_in scene around entity number < length b.values.current.items
+  pub room : (entity number : ℕ) → IsSeen scene around.levels.now entity → number < paths_counted around → register_in scene around entity number < length b.values.current.items
   pub ready : AreReady b.values
 
 -- from one building to another what stood beside an effect stands beside what a run makes of it

@@ -14,8 +14,6 @@ returns-clause-means c =
     (subst (λ (os : List (Option ℕ)). EvaluatesTerm c.args.scene.now c.args.lane.now os c.args.building.now.draft c.push_term.new.draft c.args.building.now.accesses c.push_term.new.accesses c.args.first (term_seen c.args.test.now) own) c.as_slice-current.ensures.value h)
     refl)
     c.push_term.ensures.means
-<<<<<<< HEAD
-=======
 
 pub returns-clause-made : goal.returns-clause-made
 returns-clause-made c = IfOk-weaker c.push_term.result _ _ (λ own m. record {
@@ -23,4 +21,3 @@ returns-clause-made c = IfOk-weaker c.push_term.result _ _ (λ own m. record {
       subst (λ (os : List (Option ℕ)). MadeTerm c.args.scene.now c.args.lane.now os (term_seen c.args.test.now) c.args.building.now.draft c.push_term.new.draft c.args.building.now.accesses c.push_term.new.accesses c.args.first own.next own.value) c.as_slice-current.ensures.value m;
   same = refl;
 }) c.push_term.ensures.made
->>>>>>> 2e8e63c
