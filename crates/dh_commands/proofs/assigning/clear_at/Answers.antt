@@ -14,8 +14,6 @@ returns-clause-means c =
     (entity_number c.args.target.now.entity) c.in_ok-value.value c.literal.result
     (subst (λ (h : Held). IsKind h.kind → c.literal.result ≡ with_bits h.kind (bits_of h.kind false 0)) c.place_of-kind.ensures c.literal.ensures)
     c.in_ok-value.ensures.means refl c.in_ok-set.ensures
-<<<<<<< HEAD
-=======
 
 pub returns-clause-made : goal.returns-clause-made
 returns-clause-made c = record {
@@ -26,4 +24,3 @@ returns-clause-made c = record {
   same = refl;
   sets = c.in_ok-set.ensures;
 }
->>>>>>> 2e8e63c

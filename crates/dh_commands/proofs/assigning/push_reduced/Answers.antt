@@ -20,10 +20,6 @@ returns-clause-means c =
     (λ made h. reduced_made c.args.scene.now c.args.lane.now c.args.current.now c.args.draft.now c.push_shown.new.draft c.push_old_operand.new.draft c.push_operand.new.draft c.push_compute.new.draft c.push_own.new.draft
     c.in_ok-old.old c.in_ok-left.left c.in_ok-right.right c.in_ok-all.all made c.args.own (entity_number c.args.target.now.entity) c.args.op (term_seen c.args.value.now) c.place_of-held.result c.slot_at.result c.extension-to.result c.is_same.result
     c.place_of-held.ensures c.slot_at.ensures (c.extension-to.ensures ∙ ap (λ k. extension_of c.args.op c.place_of-held.result.kind k) c.kind_found.ensures) c.is_same.ensures
-<<<<<<< HEAD
-    c.in_ok-old.ensures.means c.in_ok-left.ensures c.in_ok-right.ensures c.in_ok-all.ensures.means h)
-    c.push_own.ensures
-=======
     c.in_ok-old.ensures.means c.in_ok-left.ensures.means c.in_ok-right.ensures.means c.in_ok-all.ensures.means h)
     c.push_own.ensures.means
 
@@ -49,4 +45,3 @@ returns-clause-made c =
           subst (λ (k : Kind). MadeConverted (same_kind c.place_of-held.result.kind k) c.place_of-held.result.kind c.in_ok-all.all c.push_compute.new.draft c.push_own.new.draft made) to
           (subst (λ (t : Truth). MadeConverted t c.place_of-held.result.kind c.in_ok-all.all c.push_compute.new.draft c.push_own.new.draft made) c.is_same.ensures h);
     })) c.push_own.ensures.made
->>>>>>> 2e8e63c

@@ -9,11 +9,6 @@ use Rattle.dh_commands.proofs.choices.choose_one.Goals as goal
 pub returns-clause-means : goal.returns-clause-means
 returns-clause-means c =
     chosen_one c.args.draft.now c.push_behind.new.draft c.push_behind-2.new.draft c.push_select.new.draft c.args.values.now c.assign.new.values c.args.test c.in_ok-yes.yes c.in_ok-no.no c.in_ok-value.value c.args.choice
-<<<<<<< HEAD
-    (subst (λ (os : List (Option ℕ)). Gives c.args.draft.now c.push_behind.new.draft c.in_ok-yes.yes (λ x. behind_shown x os c.args.choice.register c.args.choice.chosen)) c.as_slice-current.ensures.value c.in_ok-yes.ensures)
-    (subst (λ (os : List (Option ℕ)). Gives c.push_behind.new.draft c.push_behind-2.new.draft c.in_ok-no.no (λ x. behind_shown x os c.args.choice.register c.args.choice.other)) c.as_slice-current.ensures.value c.in_ok-no.ensures)
-    c.in_ok-value.ensures.means c.in_ok-assign.ensures
-=======
     (subst (λ (os : List (Option ℕ)). Gives c.args.draft.now c.push_behind.new.draft c.in_ok-yes.yes (λ x. behind_shown x os c.args.choice.register c.args.choice.chosen)) c.as_slice-current.ensures.value c.in_ok-yes.ensures.means)
     (subst (λ (os : List (Option ℕ)). Gives c.push_behind.new.draft c.push_behind-2.new.draft c.in_ok-no.no (λ x. behind_shown x os c.args.choice.register c.args.choice.other)) c.as_slice-current.ensures.value c.in_ok-no.ensures.means)
     c.in_ok-value.ensures.means c.in_ok-assign.ensures
@@ -30,4 +25,3 @@ returns-clause-made c = record {
   pushes = c.in_ok-value.ensures.made;
   sets = c.in_ok-assign.ensures;
 }
->>>>>>> 2e8e63c

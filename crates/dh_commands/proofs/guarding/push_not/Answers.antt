@@ -12,8 +12,6 @@ returns-clause-means c =
     (λ n h. not_made c.args.draft.now c.push_constant.new.draft c.push_constant-2.new.draft c.push_select.new.draft c.in_ok-no.no c.in_ok-yes.yes c.args.test n c.truth.result c.truth-2.result c.truth.ensures c.truth-2.ensures
     c.in_ok-no.ensures.means c.in_ok-yes.ensures.means h)
     c.push_select.ensures.means
-<<<<<<< HEAD
-=======
 
 pub returns-clause-made : goal.returns-clause-made
 returns-clause-made c = IfOk-weaker c.push_select.result _ _ (λ n p. record {
@@ -25,4 +23,3 @@ returns-clause-made c = IfOk-weaker c.push_select.result _ _ (λ n p. record {
   yes_made = subst (λ (w : Word). Pushes c.push_constant.new.draft c.push_constant-2.new.draft c.in_ok-yes.yes None (Constant w)) c.truth-2.ensures c.in_ok-yes.ensures.made;
   pushes = p;
 }) c.push_select.ensures.made
->>>>>>> 2e8e63c

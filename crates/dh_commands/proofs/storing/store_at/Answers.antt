@@ -36,11 +36,6 @@ returns-clause-means c =
     (term_seen c.args.target.now)
     (subst (λ (os : List (Option ℕ)). AimsAtTarget c.args.scene.now c.args.lane.now os c.push_term.new.draft c.aim_at.new.draft c.push_term.new.accesses c.aim_at.new.accesses c.in_ok-own.own.next (term_seen c.args.target.now) (Some (c.in-Some.aim, c.in-Some.memory))) c.as_slice-current.ensures.value
     (subst (λ (o : Option (Aim × ℕ)). AimsAtTarget c.args.scene.now c.args.lane.now c.as_slice-current.result.now c.push_term.new.draft c.aim_at.new.draft c.push_term.new.accesses c.aim_at.new.accesses c.in_ok-own.own.next (term_seen c.args.target.now) o)
-<<<<<<< HEAD
-    c.in-Some.is c.in_ok-aim.ensures))
-    (subst (λ (k : Kind). Gives c.aim_at.new.draft c.push_held.new.draft c.in_ok-held.held (λ x. held_shown (term_seen c.args.value.now) k (shown x c.in_ok-own.own.value))) c.element_kind.ensures c.in_ok-held.ensures.means)
-    c.in_ok-push_write.ensures.means)
-=======
     c.in-Some.is c.in_ok-aim.ensures.means))
     (subst (λ (k : Kind). Gives c.aim_at.new.draft c.push_held.new.draft c.in_ok-held.held (λ x. held_shown (term_seen c.args.value.now) k (shown x c.in_ok-own.own.value))) c.element_kind.ensures c.in_ok-held.ensures.means)
     c.in_ok-push_write.ensures.means)
@@ -91,4 +86,3 @@ returns-clause-made c = record {
   );
   same = refl;
 }
->>>>>>> 2e8e63c
