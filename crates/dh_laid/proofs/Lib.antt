@@ -1,0 +1,4 @@
+pub mod ValuesLaid
+pub mod ArmsLaid
+pub mod PathsLaid
+pub mod ChoicesLaid

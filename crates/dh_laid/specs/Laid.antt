@@ -1,0 +1,156 @@
+-- What is asked of the operations of commands: what variables were given in a step are values of its block, of the kinds
+-- of their registers, and so are the values that are taken back.
+use Rattle.std.specs.Prelude.{◌≡◌, ℕ, ◌+◌, ◌<◌, ◌≤◌, ◌^◌, Bool as Truth, List, length, slice_get, Option, Some}
+use Rattle.std.specs.List.{AllByRecursion}
+use Rattle.dh_value.specs.declared.kinds.Kind.TheVariants.{Bool}
+use Rattle.dh_value.specs.Words.{IsKind}
+use Rattle.dh_tree.specs.PlainTrees.{Term}
+use Rattle.dh_meaning.specs.AccessNumbers.{term_accesses}
+use Rattle.dh_code.specs.Slots.{held_at}
+use Rattle.dh_plan.specs.Blocks.{kind_at}
+use Rattle.dh_expressions.specs.declared.drafts.Draft.{Draft}
+use Rattle.dh_expressions.specs.declared.scenes.Around.{Around}
+use Rattle.dh_expressions.specs.declared.scenes.Lane.{Lane}
+use Rattle.dh_expressions.specs.Copying.{HasScopes}
+use Rattle.dh_expressions.specs.declared.scenes.Scene.{Scene}
+use Rattle.dh_expressions.specs.Drafted.{Extends}
+use Rattle.dh_expressions.specs.Shown.{kind_written, register_at}
+use Rattle.dh_formed.specs.Formed.{Agrees, Block, Forms, HasKind, HeldSuits, IsGuard, IsNoted, IsScope, Started, TermSuits}
+use Rattle.dh_commands.specs.declared.assignments.Change.{Change}
+use Rattle.dh_commands.specs.declared.assignments.Values.{Values}
+use Rattle.dh_commands.specs.declared.buildings.Building.{Building}
+use Rattle.dh_commands.specs.declared.choices.Choice.{Choice}
+use Rattle.dh_commands.specs.declared.choices.Left.{Left}
+use Rattle.dh_commands.specs.LanesRun.{lane_of, paths_counted}
+use Rattle.dh_commands.specs.MadeCommands.{AssignedTo, ClearedTo, MadeArmGuards, MadeAssigned, MadeChoices, MadeCleared, MadeTests}
+use Rattle.dh_commands.specs.Undone.{EndsArm}
+
+-- what a register was given, if it was, is a value of the block of its kind
+abbrev pub HoldsKind : Block → Draft → (register : ℕ) → Option ℕ → Type 0
+HoldsKind x d register given = (value : ℕ) → given ≡ Some value → HasKind x d (kind_at x.plan.registers register) value
+
+-- what it had before it was assigned
+abbrev pub HadKind : Block → Draft → Change → Type 0
+HadKind x d c = HoldsKind x d c.register c.before
+
+-- what variables were given, and had before, are values of the block, of the kinds of their registers
+pub record AreHeld (x : Block) (d : Draft) (v : Values) : Type 0 where
+  pub current : (register value : ℕ) → slice_get v.current.items register ≡ Some (Some value) → HasKind x d (kind_at x.plan.registers register) value
+  pub log : AllByRecursion (HadKind x d) v.log.items
+
+-- A command at one path: it forms what it adds where the scope and what is noted and held are of the block, and what
+-- is noted and held behind it is.
+pub record FormsThere (x : Block) (old new : Building) : Type 0 where
+  pub forms : Forms x old.draft new.draft
+  pub notes : IsNoted x new.draft new.accesses
+  pub held : AreHeld x new.draft new.values
+
+pub record FormsAtPath (scene : Scene) (lane : Lane) (old new : Building) (Where : Block → Type 0) : Type 0 where
+  pub extends : Extends old.draft new.draft
+  pub forms : (x : Block) → Agrees x new.draft → Started x old.draft → IsScope x old.draft scene lane old.values.current.items → IsNoted x old.draft old.accesses → AreHeld x old.draft old.values → Where x
+      → FormsThere x old new
+
+-- a value of its kind for the register of a variable at a path
+abbrev pub FitsRegister : Block → Scene → Lane → (entity : ℕ) → Type 0
+FitsRegister x scene lane entity = (held_at scene.held.now entity).kind ≡ kind_at x.plan.registers (register_at (held_at scene.held.now entity) lane)
+
+-- an assignment, and a variable that is set to 0 or false
+abbrev pub AssignmentsForm : Type 0
+AssignmentsForm =
+    (scene : Scene) (lane : Lane) (first entity : ℕ) (t : Term) (old new : Building) (next : ℕ) → MadeAssigned scene lane first entity t old new next → first + term_accesses t < 2 ^ 32
+    → FormsAtPath scene lane old new (λ x. (TermSuits x scene lane first t × HeldSuits t (held_at scene.held.now entity).kind) × FitsRegister x scene lane entity)
+
+abbrev pub ClearingsForm : Type 0
+ClearingsForm =
+    (scene : Scene) (lane : Lane) (entity : ℕ) (old new : Building) → MadeCleared scene lane entity old new
+    → FormsAtPath scene lane old new (λ x. IsKind (held_at scene.held.now entity).kind × FitsRegister x scene lane entity)
+
+-- Arms.
+
+-- these are guards, and these truths, of the block
+abbrev pub AreGuardsThere : Block → Draft → List (Option ℕ) → Type 0
+AreGuardsThere x d guards = (path : ℕ) (guard : Option ℕ) → slice_get guards path ≡ Some guard → IsGuard x d guard
+
+abbrev pub AreTruths : Block → Draft → List ℕ → Type 0
+AreTruths x d tests = (path test : ℕ) → slice_get tests path ≡ Some test → HasKind x d Bool test
+
+-- the guards of an arm
+pub record FormsGuards (old new : Draft) (guards : List (Option ℕ)) (tests : List ℕ) (arm : List (Option ℕ)) : Type 0 where
+  pub extends : Extends old new
+  pub forms : (x : Block) → Agrees x new → Started x old → AreGuardsThere x old guards → AreTruths x old tests → Forms x old new
+  pub gives : (x : Block) → Agrees x new → Started x old → AreGuardsThere x old guards → AreTruths x old tests → AreGuardsThere x new arm
+
+abbrev pub ArmGuardsForm : Type 0
+ArmGuardsForm =
+    (holds : Truth) (guards : List (Option ℕ)) (tests : List ℕ) (count : ℕ) (old new : Draft) (arm : List (Option ℕ)) → MadeArmGuards holds guards tests count old new arm
+    → FormsGuards old new guards tests arm
+
+-- an arm that is taken back
+abbrev pub ArmsEnd : Type 0
+ArmsEnd = (x : Block) (d : Draft) (old new : Values) (floor : ℕ) (lefts : List Left) → EndsArm old new floor lefts → AreHeld x d old → AreHeld x d new
+
+-- All paths.
+
+-- guards of all paths are of the block, and these are few
+pub record StandsRound (x : Block) (d : Draft) (scene : Scene) (around : Around) : Type 0 where
+  pub guards : AreGuardsThere x d around.guards.now
+  pub scopes : HasScopes scene
+  pub low : length around.levels.now < 2 ^ 63
+  pub few : length around.guards.now < 2 ^ 64
+
+-- a command at the first paths, so many
+pub record FormsAround (scene : Scene) (around : Around) (old new : Building) (Where : Block → Type 0) : Type 0 where
+  pub extends : Extends old.draft new.draft
+  pub forms : (x : Block) → Agrees x new.draft → Started x old.draft → StandsRound x old.draft scene around → IsNoted x old.draft old.accesses → AreHeld x old.draft old.values → Where x → FormsThere x old new
+
+-- assignments, and variables that are set to 0 or false
+abbrev pub AllAssignmentsForm : Type 0
+AllAssignmentsForm =
+    (scene : Scene) (around : Around) (first entity : ℕ) (t : Term) (count : ℕ) (old new : Building) (next : ℕ) → AssignedTo scene around first entity t count old new next → first + term_accesses t < 2 ^ 32
+    → count ≤ paths_counted around
+    → FormsAround scene around old new
+    (λ x. (n : ℕ) → n < count → (TermSuits x scene (lane_of around n) first t × HeldSuits t (held_at scene.held.now entity).kind) × FitsRegister x scene (lane_of around n) entity)
+
+abbrev pub AllClearingsForm : Type 0
+AllClearingsForm =
+    (scene : Scene) (around : Around) (first entity count : ℕ) (old new : Building) (next : ℕ) → ClearedTo scene around first entity count old new next → count ≤ paths_counted around
+    → FormsAround scene around old new (λ x. (n : ℕ) → n < count → IsKind (held_at scene.held.now entity).kind × FitsRegister x scene (lane_of around n) entity)
+
+-- tests at the first paths, which are truths
+pub record FormsTested (x : Block) (old new : Building) (tests : List ℕ) : Type 0 where
+  pub there : FormsThere x old new
+  pub truths : AreTruths x new.draft tests
+
+pub record FormsTests (scene : Scene) (around : Around) (first : ℕ) (t : Term) (count : ℕ) (old new : Building) (tests : List ℕ) : Type 0 where
+  pub extends : Extends old.draft new.draft
+  pub forms : (x : Block) → Agrees x new.draft → Started x old.draft → StandsRound x old.draft scene around → IsNoted x old.draft old.accesses → AreHeld x old.draft old.values
+      → ((n : ℕ) → n < count → TermSuits x scene (lane_of around n) first t) → FormsTested x old new tests
+
+abbrev pub TestsForm : Type 0
+TestsForm =
+    (scene : Scene) (around : Around) (first : ℕ) (t : Term) (count : ℕ) (old new : Building) (next : ℕ) (tests : List ℕ) → first + term_accesses t < 2 ^ 32 → kind_written t ≡ Bool
+    → count ≤ paths_counted around → MadeTests scene around first t count old new next tests → FormsTests scene around first t count old new tests
+
+-- Variables behind an `if`.
+
+-- both values of a choice are of the kind of its register
+pub record ChoiceSuits (x : Block) (d : Draft) (c : Choice) : Type 0 where
+  pub there : c.register < length x.plan.registers
+  pub chosen : HoldsKind x d c.register c.chosen
+  pub other : HoldsKind x d c.register c.other
+
+abbrev pub ChoicesSuit : Block → Draft → List Choice → Type 0
+ChoicesSuit x d choices = (k : ℕ) (c : Choice) → slice_get choices k ≡ Some c → ChoiceSuits x d c
+
+pub record FormsChosen (x : Block) (old new : Draft) (after : Values) : Type 0 where
+  pub forms : Forms x old new
+  pub held : AreHeld x new after
+
+pub record FormsChoices (tests : List ℕ) (choices : List Choice) (old new : Draft) (before after : Values) : Type 0 where
+  pub extends : Extends old new
+  pub forms : (x : Block) → Agrees x new → Started x old → AreTruths x old tests → AreHeld x old before → ChoicesSuit x old choices → FormsChosen x old new after
+
+abbrev pub ChoicesForm : Type 0
+ChoicesForm =
+    (tests : List ℕ) (choices : List Choice) (count : ℕ) (old new : Draft) (before after : Values) → MadeChoices tests choices count old new before after
+    → FormsChoices tests choices old new before after
