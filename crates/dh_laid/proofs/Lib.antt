@@ -2,3 +2,4 @@ pub mod ValuesLaid
 pub mod ArmsLaid
 pub mod PathsLaid
 pub mod ChoicesLaid
+pub mod JoinsLaid

@@ -48,7 +48,7 @@ all_by : (P Q : Change → Type 0) → ((c : Change) → P c → Q c) → (xs : 
 all_by P Q more [] a = tt
 all_by P Q more (c ∷ cs) a = (more c a.0, all_by P Q more cs a.1)
 
-all_drop : (P : Change → Type 0) (n : ℕ) (xs : List Change) → AllByRecursion P xs → AllByRecursion P (drop n xs)
+pub all_drop : (P : Change → Type 0) (n : ℕ) (xs : List Change) → AllByRecursion P xs → AllByRecursion P (drop n xs)
 all_drop P zero xs a = a
 all_drop P (suc n) [] a = tt
 all_drop P (suc n) (c ∷ cs) a = all_drop P n cs a.1

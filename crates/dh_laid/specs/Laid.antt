@@ -1,6 +1,6 @@
 -- What is asked of the operations of commands: what variables were given in a step are values of its block, of the kinds
 -- of their registers, and so are the values that are taken back.
-use Rattle.std.specs.Prelude.{◌≡◌, ℕ, ◌+◌, ◌<◌, ◌≤◌, ◌^◌, Bool as Truth, List, length, slice_get, Option, Some}
+use Rattle.std.specs.Prelude.{◌≡◌, ℕ, ◌+◌, ◌<◌, ◌≤◌, ◌^◌, Bool as Truth, List, length, slice_get, Option, Some, drop}
 use Rattle.std.specs.List.{AllByRecursion}
 use Rattle.dh_value.specs.declared.kinds.Kind.TheVariants.{Bool}
 use Rattle.dh_value.specs.Words.{IsKind}
@@ -22,8 +22,9 @@ use Rattle.dh_commands.specs.declared.buildings.Building.{Building}
 use Rattle.dh_commands.specs.declared.choices.Choice.{Choice}
 use Rattle.dh_commands.specs.declared.choices.Left.{Left}
 use Rattle.dh_commands.specs.LanesRun.{lane_of, paths_counted}
-use Rattle.dh_commands.specs.MadeCommands.{AssignedTo, ClearedTo, MadeArmGuards, MadeAssigned, MadeChoices, MadeCleared, MadeTests}
-use Rattle.dh_commands.specs.Undone.{EndsArm}
+use Rattle.dh_commands.specs.MadeCommands.{AssignedTo, ClearedTo, MadeArmGuards, MadeAssigned, MadeChoices, MadeCleared, MadeJoined, MadeTests}
+use Rattle.dh_commands.specs.Joined.{IsLeft}
+use Rattle.dh_commands.specs.Undone.{AreReady, EndsArm, HasRoom}
 
 -- what a register was given, if it was, is a value of the block of its kind
 abbrev pub HoldsKind : Block → Draft → (register : ℕ) → Option ℕ → Type 0
@@ -154,3 +155,28 @@ abbrev pub ChoicesForm : Type 0
 ChoicesForm =
     (tests : List ℕ) (choices : List Choice) (count : ℕ) (old new : Draft) (before after : Values) → MadeChoices tests choices count old new before after
     → FormsChoices tests choices old new before after
+
+-- What arms left.
+
+abbrev pub LeftHolds : Block → Draft → Left → Type 0
+LeftHolds x d l = HoldsKind x d l.register l.value
+
+-- what an arm that is taken back left is of the kinds of its registers
+abbrev pub ArmsLeave : Type 0
+ArmsLeave =
+    (x : Block) (d : Draft) (old new : Values) (floor : ℕ) (lefts : List Left) → EndsArm old new floor lefts → AllByRecursion (HasRoom old.current.items) (drop floor old.log.items) → AreHeld x d old
+    → AllByRecursion (LeftHolds x d) lefts
+
+-- what both arms of an `if` left
+pub record AreLeft (x : Block) (d : Draft) (v : Values) (lefts : List Left) : Type 0 where
+  pub left : AllByRecursion (IsLeft v.current.items) lefts
+  pub hold : AllByRecursion (LeftHolds x d) lefts
+
+-- variables behind an `if` are given values, where choices can be marked
+pub record FormsJoined (tests : List ℕ) (chosen other : List Left) (old new : Building) : Type 0 where
+  pub extends : Extends old.draft new.draft
+  pub forms : (x : Block) → Agrees x new.draft → Started x old.draft → AreTruths x old.draft tests → IsNoted x old.draft old.accesses → AreHeld x old.draft old.values → AreReady old.values
+      → length old.values.current.items ≡ length x.plan.registers → AreLeft x old.draft old.values chosen → AreLeft x old.draft old.values other → FormsThere x old new
+
+abbrev pub JoinsForm : Type 0
+JoinsForm = (tests : List ℕ) (chosen other : List Left) (old new : Building) → MadeJoined tests chosen other old new → FormsJoined tests chosen other old new

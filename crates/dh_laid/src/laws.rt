@@ -1,6 +1,6 @@
 //! Laws on the operations of commands, stated on functions that do nothing.
 
-ghost use Rattle.dh_laid.specs.Laid.{AllAssignmentsForm, AllClearingsForm, ArmGuardsForm, ArmsEnd, AssignmentsForm, ChoicesForm, ClearingsForm, TestsForm};
+ghost use Rattle.dh_laid.specs.Laid.{AllAssignmentsForm, AllClearingsForm, ArmGuardsForm, ArmsEnd, ArmsLeave, AssignmentsForm, ChoicesForm, ClearingsForm, JoinsForm, TestsForm};
 
 /// What is put down where a variable is assigned is formed, and it is given a value of the kind of its register.
 pub fn assignments_are_formed()
@@ -12,6 +12,7 @@ pub fn assignments_are_formed()
 pub fn arms_are_formed()
     ensures guards { ArmGuardsForm }
     ensures ends { ArmsEnd }
+    ensures leaves { ArmsLeave }
 {}
 
 /// What is formed at one path is formed at all paths; tests are truths of the block.
@@ -23,5 +24,6 @@ pub fn paths_are_formed()
 
 /// The choices behind an `if` give variables values of the kinds of their registers.
 pub fn choices_are_formed()
-    ensures { ChoicesForm }
+    ensures choices { ChoicesForm }
+    ensures joins { JoinsForm }
 {}

@@ -1,4 +1,5 @@
 use Rattle.dh_laid.proofs.ArmsLaid.{arm_guards_form}
+use Rattle.dh_laid.proofs.JoinsLaid.{arms_leave}
 use Rattle.dh_laid.proofs.ValuesLaid.{arms_end}
 use Rattle.dh_laid.proofs.laws.arms_are_formed.Goals as goal
 
@@ -7,3 +8,6 @@ returns-clause-guards c holds guards tests count old new arm m = arm_guards_form
 
 pub returns-clause-ends : goal.returns-clause-ends
 returns-clause-ends c x d old new floor lefts e h = arms_end x d old new floor lefts e h
+
+pub returns-clause-leaves : goal.returns-clause-leaves
+returns-clause-leaves c x d old new floor lefts e room h = arms_leave x d old new floor lefts e room h
