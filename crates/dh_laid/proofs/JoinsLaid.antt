@@ -1,6 +1,6 @@
 -- What arms left is of the kinds of its registers, and so are variables behind them.
 use Rattle.std.proofs.Common.{◌≡◌, ◌⊎◌, inl, inr, ◌<◌, ℕ, List, Some, None, refl, sym, ◌∙◌, subst, length}
-use Rattle.std.specs.Prelude.{[], ◌∷◌, ◌++◌, drop, Option, slice_get}
+use Rattle.std.specs.Prelude.{[], ◌∷◌, ◌++◌, drop, Option}
 use Rattle.std.specs.List.{AllByRecursion}
 use Rattle.dh_expressions.specs.declared.drafts.Draft.{Draft}
 use Rattle.dh_formed.specs.Formed.{Block, HasKind}
@@ -9,12 +9,10 @@ use Rattle.dh_formed.proofs.AccessesFormed.{noted_later}
 use Rattle.dh_formed.specs.Formed.{IsNoted}
 use Rattle.dh_commands.specs.declared.assignments.Change.{Change}
 use Rattle.dh_commands.specs.declared.assignments.Values.{Values}
-use Rattle.dh_commands.specs.declared.buildings.Building.{Building}
 use Rattle.dh_commands.specs.declared.choices.Choice.{Choice}
 use Rattle.dh_commands.specs.declared.choices.Left.{Left}
 use Rattle.dh_commands.specs.Joined.{IsLeft, JoinsArms}
-use Rattle.dh_commands.specs.MadeCommands.{MadeJoined}
-use Rattle.dh_commands.specs.Undone.{AreReady, given_at, left_at, lefts_of, first_left, undone, value_left}
+use Rattle.dh_commands.specs.Undone.{AreReady, left_at, lefts_of, first_left, undone, value_left}
 use Rattle.dh_commands.proofs.JoinedArms.{first_has}
 use Rattle.dh_laid.specs.Laid.{AreHeld, AreLeft, ArmsLeave, ChoicesSuit, FormsChoices, HadKind, HoldsKind, JoinsForm, LeftHolds}
 use Rattle.dh_laid.proofs.ChoicesLaid.{choices_form}

@@ -3,3 +3,4 @@ pub mod ArmsLaid
 pub mod PathsLaid
 pub mod ChoicesLaid
 pub mod JoinsLaid
+pub mod ReducersLaid

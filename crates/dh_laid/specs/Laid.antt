@@ -1,11 +1,16 @@
 -- What is asked of the operations of commands: what variables were given in a step are values of its block, of the kinds
 -- of their registers, and so are the values that are taken back.
-use Rattle.std.specs.Prelude.{◌≡◌, ℕ, ◌+◌, ◌<◌, ◌≤◌, ◌^◌, Bool as Truth, List, length, slice_get, Option, Some, drop}
+use Rattle.std.specs.Prelude.{◌≡◌, ℕ, ◌+◌, ◌<◌, ◌≤◌, ◌^◌, Bool as Truth, false, true, List, length, slice_get, Option, Some, drop}
 use Rattle.std.specs.List.{AllByRecursion}
+use Rattle.dh_value.specs.declared.kinds.Kind.{Kind}
 use Rattle.dh_value.specs.declared.kinds.Kind.TheVariants.{Bool}
-use Rattle.dh_value.specs.Words.{IsKind}
+use Rattle.dh_value.specs.declared.operators.Op.{Op}
+use Rattle.dh_value.specs.Operations.{Suits, result_of}
+use Rattle.dh_value.specs.Words.{IsInteger, IsKind}
 use Rattle.dh_tree.specs.PlainTrees.{Term}
 use Rattle.dh_meaning.specs.AccessNumbers.{term_accesses}
+use Rattle.dh_code.specs.Extended.{extension_of}
+use Rattle.dh_code.specs.Made.{same_kind}
 use Rattle.dh_code.specs.Slots.{held_at}
 use Rattle.dh_plan.specs.Blocks.{kind_at}
 use Rattle.dh_expressions.specs.declared.drafts.Draft.{Draft}
@@ -15,14 +20,14 @@ use Rattle.dh_expressions.specs.Copying.{HasScopes}
 use Rattle.dh_expressions.specs.declared.scenes.Scene.{Scene}
 use Rattle.dh_expressions.specs.Drafted.{Extends}
 use Rattle.dh_expressions.specs.Shown.{kind_written, register_at}
-use Rattle.dh_formed.specs.Formed.{Agrees, Block, Forms, HasKind, HeldSuits, IsGuard, IsNoted, IsScope, Started, TermSuits}
+use Rattle.dh_formed.specs.Formed.{Agrees, Block, Forms, HasKind, HeldSuits, IsExtension, IsGuard, IsNoted, IsScope, Started, TermSuits, operand_kind}
 use Rattle.dh_commands.specs.declared.assignments.Change.{Change}
 use Rattle.dh_commands.specs.declared.assignments.Values.{Values}
 use Rattle.dh_commands.specs.declared.buildings.Building.{Building}
 use Rattle.dh_commands.specs.declared.choices.Choice.{Choice}
 use Rattle.dh_commands.specs.declared.choices.Left.{Left}
 use Rattle.dh_commands.specs.LanesRun.{lane_of, paths_counted}
-use Rattle.dh_commands.specs.MadeCommands.{AssignedTo, ClearedTo, MadeArmGuards, MadeAssigned, MadeChoices, MadeCleared, MadeJoined, MadeTests}
+use Rattle.dh_commands.specs.MadeCommands.{AssignedTo, ClearedTo, MadeArmGuards, MadeAssigned, MadeChoices, MadeCleared, MadeJoined, MadeReduced, MadeTests, ReducedTo}
 use Rattle.dh_commands.specs.Joined.{IsLeft}
 use Rattle.dh_commands.specs.Undone.{AreReady, EndsArm, HasRoom}
 
@@ -180,3 +185,28 @@ pub record FormsJoined (tests : List ℕ) (chosen other : List Left) (old new : 
 
 abbrev pub JoinsForm : Type 0
 JoinsForm = (tests : List ℕ) (chosen other : List Left) (old new : Building) → MadeJoined tests chosen other old new → FormsJoined tests chosen other old new
+
+-- Reducers.
+
+-- operands suit a reducer, once they are extended, and its variable can hold what it gives
+pub record ReducerSuits (op : Op) (held right : Kind) : Type 0 where
+  pub extension : IsExtension (extension_of op held right)
+  pub suits : Suits op (operand_kind held (extension_of op held right)) (operand_kind right (extension_of op held right))
+  pub kept : same_kind held (extension_of op held right) ≡ true → result_of op (operand_kind held (extension_of op held right)) ≡ held
+  pub converted : same_kind held (extension_of op held right) ≡ false → IsInteger held
+
+abbrev pub ReducesForm : Type 0
+ReducesForm =
+    (scene : Scene) (lane : Lane) (first entity : ℕ) (op : Op) (t : Term) (old new : Building) (next : ℕ) → MadeReduced scene lane first entity op t old new next → first + term_accesses t < 2 ^ 32
+    → FormsAtPath scene lane old new
+    (λ x. (TermSuits x scene lane first t × ReducerSuits op (held_at scene.held.now entity).kind (kind_written t))
+    × ((register_at (held_at scene.held.now entity) lane < length x.plan.registers) × FitsRegister x scene lane entity))
+
+abbrev pub AllReducesForm : Type 0
+AllReducesForm =
+    (scene : Scene) (around : Around) (first entity : ℕ) (op : Op) (t : Term) (count : ℕ) (old new : Building) (next : ℕ) → ReducedTo scene around first entity op t count old new next
+    → first + term_accesses t < 2 ^ 32 → count ≤ paths_counted around
+    → FormsAround scene around old new
+    (λ x. (n : ℕ) → n < count
+    → (TermSuits x scene (lane_of around n) first t × ReducerSuits op (held_at scene.held.now entity).kind (kind_written t))
+    × ((register_at (held_at scene.held.now entity) (lane_of around n) < length x.plan.registers) × FitsRegister x scene (lane_of around n) entity))

@@ -1,11 +1,12 @@
 //! Laws on the operations of commands, stated on functions that do nothing.
 
-ghost use Rattle.dh_laid.specs.Laid.{AllAssignmentsForm, AllClearingsForm, ArmGuardsForm, ArmsEnd, ArmsLeave, AssignmentsForm, ChoicesForm, ClearingsForm, JoinsForm, TestsForm};
+ghost use Rattle.dh_laid.specs.Laid.{AllAssignmentsForm, AllClearingsForm, AllReducesForm, ArmGuardsForm, ArmsEnd, ArmsLeave, AssignmentsForm, ChoicesForm, ClearingsForm, JoinsForm, ReducesForm, TestsForm};
 
 /// What is put down where a variable is assigned is formed, and it is given a value of the kind of its register.
 pub fn assignments_are_formed()
     ensures assigned { AssignmentsForm }
     ensures cleared { ClearingsForm }
+    ensures reduced { ReducesForm }
 {}
 
 /// The guards of an arm are truths of the block; and where it is taken back, variables have values of their kinds.
@@ -19,6 +20,7 @@ pub fn arms_are_formed()
 pub fn paths_are_formed()
     ensures assigned { AllAssignmentsForm }
     ensures cleared { AllClearingsForm }
+    ensures reduced { AllReducesForm }
     ensures tests { TestsForm }
 {}
 

@@ -1,3 +1,4 @@
+use Rattle.dh_laid.proofs.ReducersLaid.{reduces_form}
 use Rattle.dh_laid.proofs.ValuesLaid.{assignments_form, clearings_form}
 use Rattle.dh_laid.proofs.laws.assignments_are_formed.Goals as goal
 
@@ -6,3 +7,6 @@ returns-clause-assigned c scene lane first entity t old new next m few = assignm
 
 pub returns-clause-cleared : goal.returns-clause-cleared
 returns-clause-cleared c scene lane entity old new m = clearings_form scene lane entity old new m
+
+pub returns-clause-reduced : goal.returns-clause-reduced
+returns-clause-reduced c scene lane first entity op t old new next m few = reduces_form scene lane first entity op t old new next m few

@@ -1,3 +1,4 @@
+use Rattle.dh_laid.proofs.ReducersLaid.{all_reduces_form}
 use Rattle.dh_laid.proofs.PathsLaid.{all_assignments_form, all_clearings_form, tests_form}
 use Rattle.dh_laid.proofs.laws.paths_are_formed.Goals as goal
 
@@ -9,3 +10,6 @@ returns-clause-cleared c scene around first entity count old new next m within =
 
 pub returns-clause-tests : goal.returns-clause-tests
 returns-clause-tests c scene around first t count old new next tests few bool within m = tests_form scene around first t count old new next tests few bool within m
+
+pub returns-clause-reduced : goal.returns-clause-reduced
+returns-clause-reduced c scene around first entity op t count old new next m few within = all_reduces_form scene around first entity op t count old new next m few within
