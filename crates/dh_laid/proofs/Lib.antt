@@ -4,3 +4,4 @@ pub mod PathsLaid
 pub mod ChoicesLaid
 pub mod JoinsLaid
 pub mod ReducersLaid
+pub mod StoresLaid

@@ -7,8 +7,15 @@ use Rattle.dh_value.specs.declared.kinds.Kind.TheVariants.{Bool}
 use Rattle.dh_value.specs.declared.operators.Op.{Op}
 use Rattle.dh_value.specs.Operations.{Suits, result_of}
 use Rattle.dh_value.specs.Words.{IsInteger, IsKind}
+use Rattle.dh_tree.specs.Elements.{dims_at}
+use Rattle.dh_tree.specs.Indices.{form_of}
+use Rattle.dh_tree.specs.Memories.{table_of}
+use Rattle.dh_tree.specs.PlainTrees as plain
 use Rattle.dh_tree.specs.PlainTrees.{Term}
-use Rattle.dh_meaning.specs.AccessNumbers.{term_accesses}
+use Rattle.dh_tree.specs.Seen.{program_seen}
+use Rattle.dh_meaning.specs.AccessNumbers.{term_accesses, terms_accesses}
+use Rattle.dh_meaning.specs.CoreOf.{memory_of}
+use Rattle.dh_meaning.specs.Effects.{kind_in}
 use Rattle.dh_code.specs.Extended.{extension_of}
 use Rattle.dh_code.specs.Made.{same_kind}
 use Rattle.dh_code.specs.Slots.{held_at}
@@ -19,15 +26,17 @@ use Rattle.dh_expressions.specs.declared.scenes.Lane.{Lane}
 use Rattle.dh_expressions.specs.Copying.{HasScopes}
 use Rattle.dh_expressions.specs.declared.scenes.Scene.{Scene}
 use Rattle.dh_expressions.specs.Drafted.{Extends}
+use Rattle.dh_expressions.specs.Evaluated.{known_in}
+use Rattle.dh_expressions.specs.Reaching.{place_written}
 use Rattle.dh_expressions.specs.Shown.{kind_written, register_at}
-use Rattle.dh_formed.specs.Formed.{Agrees, Block, Forms, HasKind, HeldSuits, IsExtension, IsGuard, IsNoted, IsScope, Started, TermSuits, operand_kind}
+use Rattle.dh_formed.specs.Formed.{AccessSuits, Agrees, AreNumbers, Block, Forms, HasKind, HeldSuits, IsExtension, IsGuard, IsNoted, IsScope, Started, TermSuits, TermsSuit, count_of, operand_kind}
 use Rattle.dh_commands.specs.declared.assignments.Change.{Change}
 use Rattle.dh_commands.specs.declared.assignments.Values.{Values}
 use Rattle.dh_commands.specs.declared.buildings.Building.{Building}
 use Rattle.dh_commands.specs.declared.choices.Choice.{Choice}
 use Rattle.dh_commands.specs.declared.choices.Left.{Left}
 use Rattle.dh_commands.specs.LanesRun.{lane_of, paths_counted}
-use Rattle.dh_commands.specs.MadeCommands.{AssignedTo, ClearedTo, MadeArmGuards, MadeAssigned, MadeChoices, MadeCleared, MadeJoined, MadeReduced, MadeTests, ReducedTo}
+use Rattle.dh_commands.specs.MadeCommands.{AssignedTo, ClearedTo, MadeArmGuards, MadeAssigned, MadeChoices, MadeCleared, MadeJoined, MadeReduced, MadeStored, MadeTests, ReducedTo, StoredTo}
 use Rattle.dh_commands.specs.Joined.{IsLeft}
 use Rattle.dh_commands.specs.Undone.{AreReady, EndsArm, HasRoom}
 
@@ -210,3 +219,44 @@ AllReducesForm =
     (λ x. (n : ℕ) → n < count
     → (TermSuits x scene (lane_of around n) first t × ReducerSuits op (held_at scene.held.now entity).kind (kind_written t))
     × ((register_at (held_at scene.held.now entity) (lane_of around n) < length x.plan.registers) × FitsRegister x scene (lane_of around n) entity))
+
+-- Stores.
+
+-- the accesses of what names the element that is stored
+abbrev pub aim_accesses : plain.TermForm → ℕ
+aim_accesses (plain.accessed r ts) = terms_accesses ts
+aim_accesses (plain.in_bank r bank at row) = term_accesses row
+aim_accesses form = 0
+
+-- what names the element that is stored is there, and of integer kinds
+abbrev pub AimingSuits : Block → Scene → Lane → (n : ℕ) → plain.TermForm → Type 0
+AimingSuits x scene lane n (plain.accessed r ts) = (TermsSuit x scene lane n ts × AreNumbers ts) × (count_of ts ≡ length (dims_at x.plan.table (memory_of (known_in scene) r)))
+AimingSuits x scene lane n (plain.in_bank r bank at row) = TermSuits x scene lane n row × IsInteger (kind_written row)
+AimingSuits x scene lane n form = Unit {0}
+
+-- the access stands in the block, and its memory can hold the value
+pub record WritingSuits (x : Block) (scene : Scene) (lane : Lane) (memory number : ℕ) (target t : Term) : Type 0 where
+  pub access : AccessSuits x scene lane memory number (place_written target) (form_of target) true
+  pub holds : HeldSuits t (kind_in (table_of (program_seen scene.program.now)) memory)
+  pub same : kind_in (table_of (program_seen scene.program.now)) memory ≡ kind_in x.plan.table memory
+
+abbrev pub StoringSuits : Block → Scene → Lane → (n : ℕ) → (target t : Term) → plain.TermForm → Type 0
+StoringSuits x scene lane n target t (plain.accessed r ts) = WritingSuits x scene lane (memory_of (known_in scene) r) (n + terms_accesses ts) target t
+StoringSuits x scene lane n target t (plain.in_bank r bank at row) = WritingSuits x scene lane (memory_of (known_in scene) r) (n + term_accesses row) target t
+StoringSuits x scene lane n target t form = Unit {0}
+
+abbrev pub StoresForm : Type 0
+StoresForm =
+    (scene : Scene) (lane : Lane) (first : ℕ) (target t : Term) (old new : Building) (next : ℕ) → MadeStored scene lane first target t old new next
+    → (first + term_accesses t) + aim_accesses (form_of target) < 2 ^ 32
+    → FormsAtPath scene lane old new
+    (λ x. TermSuits x scene lane first t × (AimingSuits x scene lane (first + term_accesses t) (form_of target) × StoringSuits x scene lane (first + term_accesses t) target t (form_of target)))
+
+abbrev pub AllStoresForm : Type 0
+AllStoresForm =
+    (scene : Scene) (around : Around) (first : ℕ) (target t : Term) (count : ℕ) (old new : Building) (next : ℕ) → StoredTo scene around first target t count old new next
+    → (first + term_accesses t) + aim_accesses (form_of target) < 2 ^ 32 → count ≤ paths_counted around
+    → FormsAround scene around old new
+    (λ x. (n : ℕ) → n < count
+    → TermSuits x scene (lane_of around n) first t
+    × (AimingSuits x scene (lane_of around n) (first + term_accesses t) (form_of target) × StoringSuits x scene (lane_of around n) (first + term_accesses t) target t (form_of target)))

@@ -1,3 +1,4 @@
+use Rattle.dh_laid.proofs.StoresLaid.{all_stores_form}
 use Rattle.dh_laid.proofs.ReducersLaid.{all_reduces_form}
 use Rattle.dh_laid.proofs.PathsLaid.{all_assignments_form, all_clearings_form, tests_form}
 use Rattle.dh_laid.proofs.laws.paths_are_formed.Goals as goal
@@ -13,3 +14,6 @@ returns-clause-tests c scene around first t count old new next tests few bool wi
 
 pub returns-clause-reduced : goal.returns-clause-reduced
 returns-clause-reduced c scene around first entity op t count old new next m few within = all_reduces_form scene around first entity op t count old new next m few within
+
+pub returns-clause-stored : goal.returns-clause-stored
+returns-clause-stored c scene around first target t count old new next m few within = all_stores_form scene around first target t count old new next m few within
