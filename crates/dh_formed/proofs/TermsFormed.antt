@@ -257,10 +257,10 @@ module _ (scene : Scene) (lane : Lane) (current : List (Option ℕ)) where
           r.gives x at (started_later x old middle f.extends s) (scope_later x old middle scene lane current f.extends sc) (f.notes x before_at s sc no (first x w)) (aims x before_at s sc no w, moved x (suits x w));
     }
 
-  aim_of_indices : (x : Block) (d : Draft) (memory count : ℕ) (aim : Aim) → aim.row ≡ None → count ≡ length (dims_at x.plan.table memory) → HasNumbers x d count aim.indices → AimSuits x d memory aim
+  pub aim_of_indices : (x : Block) (d : Draft) (memory count : ℕ) (aim : Aim) → aim.row ≡ None → count ≡ length (dims_at x.plan.table memory) → HasNumbers x d count aim.indices → AimSuits x d memory aim
   aim_of_indices x d memory count aim none all h = record { indices = h.each; row = subst (λ (o : Option ℕ). RowSuits x d memory aim.indices o) (sym none) (h.long ∙ all) }
 
-  aim_of_row : (x : Block) (d : Draft) (memory value : ℕ) (aim : Aim) → aim.indices ≡ [] → aim.row ≡ Some value → IsNumberThere x d value → AimSuits x d memory aim
+  pub aim_of_row : (x : Block) (d : Draft) (memory value : ℕ) (aim : Aim) → aim.indices ≡ [] → aim.row ≡ Some value → IsNumberThere x d value → AimSuits x d memory aim
   aim_of_row x d memory value aim none is h = record {
     indices = subst (λ (vs : List ℕ). AllByRecursion (IsNumberThere x d) vs) (sym none) tt;
     row = subst (λ (o : Option ℕ). RowSuits x d memory aim.indices o) (sym is) h;

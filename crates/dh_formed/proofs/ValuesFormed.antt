@@ -186,7 +186,7 @@ convert_forms old new v a to kind p =
 numbers_same : (m n : ℕ) → (m == n) ≡ true → m ≡ n
 numbers_same m n e = grind (arith, nat_tests, e)
 
-kinds_same : (j k : Kind) → same_kind j k ≡ true → j ≡ k
+pub kinds_same : (j k : Kind) → same_kind j k ≡ true → j ≡ k
 kinds_same kind.Bool kind.Bool e = refl
 kinds_same kind.Bool (kind.Unsigned n) e = absurd (cc)
 kinds_same kind.Bool (kind.Signed n) e = absurd (cc)
