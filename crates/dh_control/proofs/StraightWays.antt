@@ -1,11 +1,16 @@
 -- A graph of one group has ways of one thread: its decisions are those ways, and lead where `push_way` can go.
-use Rattle.std.proofs.Common.{◌≡◌, ℕ, zero, suc, ◌<◌, Some, None, List, [], ◌∷◌, refl, sym, ap, subst}
-use Rattle.std.specs.Prelude.{Option, slice_get}
+use Rattle.std.proofs.Common.{◌≡◌, ℕ, zero, suc, ◌<◌, inl, inr, Some, None, List, [], ◌∷◌, length, map, refl, sym, ap, subst, ◌∙◌, arith}
+use Rattle.std.proofs.lemmas.List.{ext_get_or, length-map}
+use Rattle.std.proofs.lemmas.Option.{get_or_from_slice_get, slice_get-map, slice_get_cases}
+use Rattle.std.specs.Prelude.{Option, get_or, option_map, slice_get}
 use Rattle.dh_plan.specs.declared.graphs.Decision.{Decision}
 use Rattle.dh_plan.specs.declared.graphs.Decision.TheVariants.{Go, Test', Count', Fork, Rest}
+use Rattle.dh_plan.specs.declared.graphs.Graph.{Graph}
 use Rattle.dh_plan.specs.declared.graphs.Group.{Group}
-use Rattle.dh_plan.specs.SeenGraphs.{IsWay, WayWithin, StaysInGroup, BeginsGroups, HasFirst}
-use Rattle.dh_plan.specs.Ways.{Way, to_state, by_flag, by_count, to_fork, to_end, AllWays, no_ways, way_then}
+use Rattle.dh_plan.specs.declared.graphs.State.{State}
+use Rattle.dh_plan.specs.SeenGraphs.{IsWay, IsFlowOf, WayWithin, StaysInGroup, BeginsGroups, HasFirst}
+use Rattle.dh_plan.specs.Ways.{Way, to_state, by_flag, by_count, to_fork, to_end, AllWays, no_ways, way_then, Stop, Flow}
+use Rattle.dh_control.specs.AllBlocks.{ways_of}
 use Rattle.dh_control.specs.WayMoves.{FitsThread, way_of_decision}
 use Rattle.dh_control.specs.WiredNets.{IsStraight}
 
@@ -79,3 +84,53 @@ way_straight groups homes parents group n r (Fork forked) (by_count c l w v) one
 way_straight groups homes parents group n r Rest (by_flag f w v) one h stays within = absurd h
 way_straight groups homes parents group n r Rest (by_count c l w v) one h stays within = absurd h
 way_straight groups homes parents group n r Rest (to_fork f ws) one h stays within = absurd h
+
+-- The lists of a graph of one group.
+
+module _ (g : Graph) (f : Flow) (registers : ℕ) (shows : IsFlowOf g f)
+    (so : (i : ℕ) (s : Stop) → slice_get f.states i ≡ Some s → IsStraight (length f.states) s.way × WayWithin (length f.states) registers s.way) where
+  way_at_index : (i : ℕ) → i < length f.states → get_or (ways_of g.states.items) i to_end ≡ get_or (map (λ (s : Stop). s.way) f.states) i to_end
+  way_at_index i less =
+      elim (slice_get_cases g.states.items i).1 [
+        | inl found ↦ elim (slice_get_cases f.states i).1 [
+          | inl stop ↦
+              let each = shows.each i found.0 stop.0 found.2 stop.2 in
+              let p = so i stop.0 stop.2 in
+              get_or_from_slice_get (ways_of g.states.items) i (way_of_decision found.0.next) to_end
+              (slice_get-map (λ (s : State). way_of_decision s.next) g.states.items i ∙ ap (option_map (λ (s : State). way_of_decision s.next)) found.2)
+              ∙ ((way_is g.groups.items (length f.states) registers found.0.next stop.0.way each.next p.0 p.1).0
+              ∙ sym (get_or_from_slice_get (map (λ (s : Stop). s.way) f.states) i stop.0.way to_end
+              (slice_get-map (λ (s : Stop). s.way) f.states i ∙ ap (option_map (λ (s : Stop). s.way)) stop.2)))
+          | inr past ↦ absurd (let beyond = past.0 in omega (arith, beyond, less))
+        ]
+        | inr past ↦ absurd (let beyond = past.0 in let l = shows.states in omega (arith, beyond, less, l))
+      ]
+
+  pub flow_ways : ways_of g.states.items ≡ map (λ (s : Stop). s.way) f.states
+  flow_ways =
+      let a = length-map g.states.items (λ (s : State). way_of_decision s.next) in
+      let b = length-map f.states (λ (s : Stop). s.way) in
+      let l = shows.states in
+      ext_get_or to_end (ways_of g.states.items) (map (λ (s : Stop). s.way) f.states) (omega (arith, a, b, l)) (λ i less. way_at_index i (omega (arith, less, a, l)))
+
+  block_at_index : (i : ℕ) → i < length f.states → get_or (map (λ (s : State). s.block) g.states.items) i 0 ≡ get_or (map (λ (s : Stop). s.block) f.states) i 0
+  block_at_index i less =
+      elim (slice_get_cases g.states.items i).1 [
+        | inl found ↦ elim (slice_get_cases f.states i).1 [
+          | inl stop ↦
+              get_or_from_slice_get (map (λ (s : State). s.block) g.states.items) i found.0.block 0
+              (slice_get-map (λ (s : State). s.block) g.states.items i ∙ ap (option_map (λ (s : State). s.block)) found.2)
+              ∙ ((shows.each i found.0 stop.0 found.2 stop.2).block
+              ∙ sym (get_or_from_slice_get (map (λ (s : Stop). s.block) f.states) i stop.0.block 0
+              (slice_get-map (λ (s : Stop). s.block) f.states i ∙ ap (option_map (λ (s : Stop). s.block)) stop.2)))
+          | inr past ↦ absurd (let beyond = past.0 in omega (arith, beyond, less))
+        ]
+        | inr past ↦ absurd (let beyond = past.0 in let l = shows.states in omega (arith, beyond, less, l))
+      ]
+
+  pub flow_blocks : map (λ (s : State). s.block) g.states.items ≡ map (λ (s : Stop). s.block) f.states
+  flow_blocks =
+      let a = length-map g.states.items (λ (s : State). s.block) in
+      let b = length-map f.states (λ (s : Stop). s.block) in
+      let l = shows.states in
+      ext_get_or 0 (map (λ (s : State). s.block) g.states.items) (map (λ (s : Stop). s.block) f.states) (omega (arith, a, b, l)) (λ i less. block_at_index i (omega (arith, less, a, l)))
