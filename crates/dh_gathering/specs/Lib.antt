@@ -8,3 +8,4 @@ pub mod Cutting
 pub mod Registers
 pub mod LoopCounters
 pub mod ProgramMade
+pub mod MadeLaws
