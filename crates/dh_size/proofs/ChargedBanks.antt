@@ -1,5 +1,5 @@
 -- The banks that an access charges are those that it reaches, where it does not share.
-use Rattle.std.proofs.Common.{◌≡◌, ℕ, zero, suc, add-one, ◌+◌, ◌*◌, ◌<◌, ◌≤◌, ◌==◌, ◌&&◌, nat_lt, Bool, true, false, if◌then◌else◌, List, [], ◌∷◌, length, map, refl, ap, sym, ◌∙◌, subst, arith, ◌⊎◌, inl, inr}
+use Rattle.std.proofs.Common.{◌≡◌, ℕ, zero, suc, add-one, ◌+◌, ◌*◌, ◌≤◌, ◌==◌, ◌&&◌, nat_lt, Bool, true, false, if◌then◌else◌, List, [], ◌∷◌, length, map, refl, ap, sym, ◌∙◌, arith, ◌⊎◌, inl, inr}
 use mathlib.Core.Path.{fun_ext}
 use Rattle.std.specs.Prelude.{Option, Some, None, option_map, slice_get}
 use Rattle.std.specs.List.{filter, list_any}
@@ -7,7 +7,6 @@ use Rattle.std.specs.Option.{is_some}
 use Rattle.std.specs.Set.{distinct_count}
 use Rattle.std.proofs.lemmas.Bool.{cases_Bool, eq-eqb}
 use Rattle.std.proofs.lemmas.Bool.Decides.{nat_tests}
-use Rattle.dh_base.specs.declared.places.Place.{Place}
 use Rattle.dh_tree.specs.declared.tables.Dim.{Dim}
 use Rattle.dh_tree.specs.declared.tables.MemEntry.{MemEntry}
 use Rattle.dh_tree.specs.declared.trees.programs.Tree.{Tree}
@@ -24,7 +23,7 @@ use Rattle.dh_meets.specs.Sharing.{shared}
 use Rattle.dh_meets.specs.SourceEvents.{Element, with_indices, in_row, SourceAccess, accesses_in, trace}
 use Rattle.dh_plan.specs.PlanSizes.{access_size, banks_charged, entity_banks_charged, memory_banks}
 use Rattle.dh_ports.specs.Claims.{access_of}
-use Rattle.dh_ports.specs.Wholes.{of_access, touched_by}
+use Rattle.dh_ports.specs.Wholes.{of_access, touched_by, Touched}
 use Rattle.dh_ports.proofs.ClaimedBanks.{kept_some, some_kept}
 use Rattle.dh_ports.proofs.ClaimFacts.{found}
 use Rattle.dh_size.specs.Sizes.{banks_met, banks_reached, count_below, is_reached, marked, size_by}
@@ -164,7 +163,7 @@ module _ (p : Program) (number : ℕ) (a : SourceAccess) (stands : slice_get (ac
 -- Accesses as the code knows them.
 
 abbrev pub bare : SourceAccess → SourceAccess
-bare a = record { place = a.place; entity = a.entity; element = a.element; writes = a.writes; site = record { command = 0; arms = []; loops = a.site.loops } }
+bare a = record { place = a.place; entity = a.entity; element = a.element; writes = false; site = record { command = 0; arms = []; loops = a.site.loops } }
 
 element_same : (p : Program) (a : SourceAccess) (m : Memory) (path : Path) (e : Element) → bank_reached (counters_of p) m.shape.dims (bare a) path e ≡ bank_reached (counters_of p) m.shape.dims a path e
 element_same p a m path (with_indices indices) = refl
@@ -185,10 +184,12 @@ bare_size p shares a = ap (λ n. length (paths_of a) * suc (if shares then 0 els
     by_memory None = refl
     by_memory (Some m) = count_same (is_reached p m.shape.dims (bare a)) (is_reached p m.shape.dims a) (banks_of m.shape.dims) (reached_same p a m)
 
-pub same_access : (loops : List Counter) (t : Term) (writes : Bool) (a : SourceAccess) → touched_by t writes ≡ of_access a → loops ≡ a.site.loops → access_of loops writes t ≡ bare a
+abbrev as_access : Touched → List Counter → SourceAccess
+as_access x loops = record { place = x.place; entity = x.entity; element = x.element; writes = false; site = record { command = 0; arms = []; loops = loops } }
+
+pub same_access : (loops : List Counter) (t : Term) (writes : Bool) (a : SourceAccess) → touched_by t writes ≡ of_access a → loops ≡ a.site.loops → access_of loops false t ≡ bare a
 same_access loops (term place kind form) writes a e f =
-    ap (λ x. record { place = x.place; entity = x.entity; element = x.element; writes = x.writes; site = record { command = 0; arms = []; loops = loops } }) e
-    ∙ ap (λ (l : List Counter). record { place = a.place; entity = a.entity; element = a.element; writes = a.writes; site = record { command = 0; arms = []; loops = l } }) f
+    ap (λ (x : Touched). as_access x loops) e ∙ ap (λ (l : List Counter). as_access (of_access a) l) f
 
 -- Marks of the banks of a memory that is there.
 

@@ -1,11 +1,9 @@
 -- The sizes of accesses by what happens, and of whole programs.
-use Rattle.std.proofs.Common.{◌≡◌, ℕ, zero, suc, add-one, ◌+◌, ◌-◌, ◌*◌, ◌^◌, ◌<◌, ◌≤◌, min, Bool, List, [], ◌∷◌, length, drop, map, get_or, refl, ap, sym, ◌∙◌, subst, arith, inl, inr}
+use Rattle.std.proofs.Common.{◌≡◌, ℕ, suc, add-one, ◌+◌, ◌-◌, ◌^◌, ◌<◌, ◌≤◌, min, Bool, false, List, [], ◌∷◌, length, drop, map, get_or, refl, ap, sym, ◌∙◌, subst, arith}
 use mathlib.Core.Path.{fun_ext}
-use Rattle.std.specs.Prelude.{Option, Some, None, option_map, slice_get, Vec}
+use Rattle.std.specs.Prelude.{Option, Some, None, slice_get, Vec}
 use Rattle.std.specs.Global.{Global}
 use Rattle.std.specs.Option.{is_some}
-use Rattle.std.proofs.Math.Nat.{add_assoc}
-use Rattle.std.proofs.lemmas.Bool.{cases_lt}
 use Rattle.dh_tree.specs.declared.trees.counters.Counter.{Counter}
 use Rattle.dh_tree.specs.PlainTrees.{Term, Program}
 use Rattle.dh_tree.specs.Numbers.{IsNumbered}
@@ -22,11 +20,11 @@ use Rattle.dh_events.specs.Noted.{all_seen, event_seen}
 use Rattle.dh_events.specs.Rounds.{rounds_in, rounds_of}
 use Rattle.dh_events.proofs.Turns.{at_place}
 use Rattle.dh_lengths.specs.SharedReads.{told, TellsShares}
-use Rattle.dh_plan.specs.PlanSizes.{accesses_size, access_size, plan_size_of, size_reported, action_size}
+use Rattle.dh_plan.specs.PlanSizes.{accesses_size, access_size, size_reported, action_size}
 use Rattle.dh_ports.specs.Claims.{access_of}
 use Rattle.dh_ports.specs.Copies.{copies_round}
 use Rattle.dh_ports.specs.Layouts.{no_rounds}
-use Rattle.dh_ports.specs.Wholes.{happenings_of, loops_known, of_access, sites_in, touched, touched_by, Touched, TellsLoops}
+use Rattle.dh_ports.specs.Wholes.{happenings_of, loops_known, of_access, sites_in, touched, touched_by, Touched}
 use Rattle.dh_ports.proofs.SitesTold.{tells_loops}
 use Rattle.dh_ports.proofs.SpentTold.{IsWhole, whole_is}
 use Rattle.dh_size.specs.Sizes.{size_by, sizes_from, AreFew}
@@ -145,9 +143,6 @@ pub sizes_last : (p : Program) (loops : Option ℕ → List Counter) (shares : L
 sizes_last p loops shares left all sum number none l = sym (summed_none sum l.fits) ∙ (ap (λ es. summed sum (sizes_from p loops shares number (all_seen es))) (sym none) ∙ l.summed_so)
 
 module _ (p : Program) (loops : Option ℕ → List Counter) (shares : List (Option ℕ)) (all : List Event) (i : ℕ) (d : Event) (inside : i < length all) (sum number : ℕ) (l : SizesLeft p loops shares (drop i all) all sum number) where
-  abbrev here_all : List Event
-  here_all = drop (i + 1) all
-
   here : drop i all ≡ get_or all i d ∷ drop (i + 1) all
   here = at_place all i d inside
 
@@ -157,7 +152,7 @@ module _ (p : Program) (loops : Option ℕ → List Counter) (shares : List (Opt
   pub few_here : (t : Term) (w : Bool) (s : Site) → event_seen (get_or all i d) ≡ touches t w s → copies_round (loops s.round) ≤ most_copies
   few_here t w s e = (subst (λ (xs : List Incident). AreFew loops xs) (seen_here (touches t w s) e) l.few).0
 
-  pub touch_turn : (t : Term) (w : Bool) (s : Site) (size sum1 number1 : ℕ) → event_seen (get_or all i d) ≡ touches t w s → size ≡ size_by p (is_some (told shares number)) (access_of (loops s.round) w t) → sum1 ≡ min (sum + size) (2 ^ 64 - 1) → number1 ≡ number + 1
+  pub touch_turn : (t : Term) (w : Bool) (s : Site) (size sum1 number1 : ℕ) → event_seen (get_or all i d) ≡ touches t w s → size ≡ size_by p (is_some (told shares number)) (access_of (loops s.round) false t) → sum1 ≡ min (sum + size) (2 ^ 64 - 1) → number1 ≡ number + 1
       → SizesLeft p loops shares (drop (i + 1) all) all sum1 number1
   touch_turn t w s size sum1 number1 e sized added next_is = record {
     fits = subst (λ (n : ℕ). n ≤ 2 ^ 64 - 1) (sym added) (summed_small sum size);
@@ -171,10 +166,18 @@ module _ (p : Program) (loops : Option ℕ → List Counter) (shares : List (Opt
   }
 
   -- an event that is no access
-  pub other_turn : (x : Incident) → event_seen (get_or all i d) ≡ x → (AreFew loops (x ∷ all_seen (drop (i + 1) all)) → AreFew loops (all_seen (drop (i + 1) all)))
-      → sizes_from p loops shares number (all_seen (drop (i + 1) all)) ≡ sizes_from p loops shares number (x ∷ all_seen (drop (i + 1) all)) → SizesLeft p loops shares (drop (i + 1) all) all sum number
-  other_turn x e few same = record {
-    fits = l.fits;
-    few = few (subst (λ (xs : List Incident). AreFew loops xs) (seen_here x e) l.few);
-    summed_so = ap (summed sum) same ∙ (ap (λ xs. summed sum (sizes_from p loops shares number xs)) (sym (seen_here x e)) ∙ l.summed_so);
-  }
+  pub other_turn : (x : Incident) (sum1 number1 : ℕ) → event_seen (get_or all i d) ≡ x → (AreFew loops (x ∷ all_seen (drop (i + 1) all)) → AreFew loops (all_seen (drop (i + 1) all)))
+      → sizes_from p loops shares number (all_seen (drop (i + 1) all)) ≡ sizes_from p loops shares number (x ∷ all_seen (drop (i + 1) all)) → sum1 ≡ sum → number1 ≡ number → SizesLeft p loops shares (drop (i + 1) all) all sum1 number1
+  other_turn x sum1 number1 e few same sum_is number_is =
+      subst (λ (n : ℕ). SizesLeft p loops shares (drop (i + 1) all) all n number1) (sym sum_is)
+      (subst (λ (n : ℕ). SizesLeft p loops shares (drop (i + 1) all) all sum n) (sym number_is) (record {
+        fits = l.fits;
+        few = few (subst (λ (xs : List Incident). AreFew loops xs) (seen_here x e) l.few);
+        summed_so = ap (summed sum) same ∙ (ap (λ xs. summed sum (sizes_from p loops shares number xs)) (sym (seen_here x e)) ∙ l.summed_so);
+      }))
+
+pub number_more : (number i number1 : ℕ) → number ≤ i → number1 ≡ number + 1 → number1 ≤ i + 1
+number_more number i number1 e f = omega (arith, e, f)
+
+pub number_same : (number i number1 : ℕ) → number ≤ i → number1 ≡ number → number1 ≤ i + 1
+number_same number i number1 e f = omega (arith, e, f)

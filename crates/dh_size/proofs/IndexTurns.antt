@@ -21,7 +21,7 @@ use Rattle.dh_meets.specs.SourceEvents.{with_indices}
 use Rattle.dh_events.specs.Accesses.{element_in}
 use Rattle.dh_ports.specs.Banks.{bank_at_path, counters_in}
 use Rattle.dh_ports.specs.Claims.{source_of}
-use Rattle.dh_ports.proofs.BankTurns.{has_banks, banks_more, banks_few, no_bank}
+use Rattle.dh_ports.proofs.BankTurns.{has_banks, banks_few, no_bank}
 use Rattle.dh_ports.proofs.ClaimedBanks.{bank_told}
 use Rattle.dh_events.proofs.Turns.{at_place}
 

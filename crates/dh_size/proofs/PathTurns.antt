@@ -1,5 +1,5 @@
 -- Copies of loops, while the loops are gone through from the outside.
-use Rattle.std.proofs.Common.{◌≡◌, ℕ, zero, suc, ◌+◌, ◌-◌, ◌*◌, ◌/◌, ◌%◌, ◌^◌, ◌≤◌, min, Bool, true, false, if◌then◌else◌, List, [], ◌∷◌, drop, refl, ap, sym, ◌∙◌, subst, arith}
+use Rattle.std.proofs.Common.{◌≡◌, ℕ, suc, ◌+◌, ◌-◌, ◌*◌, ◌/◌, ◌%◌, ◌^◌, ◌≤◌, min, Bool, true, false, if◌then◌else◌, List, [], ◌∷◌, drop, refl, ap, sym, ◌∙◌, subst, arith}
 use Rattle.std.specs.Prelude.{Option, Some, None, slice_index_or}
 use Rattle.std.specs.Option.{option_eq}
 use lib.Dec.{eqb}
@@ -7,7 +7,6 @@ use Rattle.std.proofs.Math.Nat.{min-eq_left, mul_comm}
 use Rattle.std.proofs.lemmas.Nat.{div-mul-add}
 use Rattle.dh_tree.specs.declared.trees.counters.Counter.{Counter}
 use Rattle.dh_tree.specs.Memories.{same_entity}
-use Rattle.dh_meaning.specs.Paths.{copies_in}
 use Rattle.dh_meets.specs.Charges.{factors_of, level_of_loop}
 use Rattle.dh_ports.specs.Banks.{copy_of, path_at}
 use Rattle.dh_ports.specs.Copies.{copies_round}

@@ -6,7 +6,7 @@ use Rattle.std.proofs.lemmas.Bool.{cases_lt}
 use Rattle.std.proofs.Math.Nat.{add_assoc, add-zero, min-eq_left, min-eq_right, min-le_right}
 use Rattle.dh_base.proofs.ListItems.{at_item}
 use Rattle.dh_plan.specs.PlanSizes.{term_operators, terms_operators, own_operators}
-use Rattle.dh_tree.specs.PlainTrees.{Term, Action, ActionForm, decides, counts, MaybeAction}
+use Rattle.dh_tree.specs.PlainTrees.{Term, Action, ActionForm, decides, MaybeAction}
 use Rattle.dh_tree.specs.declared.trees.commands.Command.{Command}
 use Rattle.dh_tree.specs.declared.trees.expressions.Expr.{Expr}
 use Rattle.dh_tree.specs.Seen.{term_seen, all_terms_seen, action_seen, actions, all_parts_seen}

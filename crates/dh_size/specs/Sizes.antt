@@ -1,5 +1,5 @@
 -- The size of accesses, from what the code knows of each: whether it shares, and the unrolled loops round it.
-use Rattle.std.specs.Prelude.{◌≡◌, ℕ, zero, suc, ◌+◌, ◌*◌, ◌≤◌, ◌==◌, Bool, false, if◌then◌else◌, List, [], ◌∷◌, length, Option, Some, None, slice_get}
+use Rattle.std.specs.Prelude.{ℕ, zero, suc, ◌+◌, ◌*◌, ◌≤◌, ◌==◌, Bool, false, if◌then◌else◌, List, [], ◌∷◌, length, Option, Some, None}
 use Rattle.std.specs.List.{list_any}
 use Rattle.std.specs.Option.{is_some}
 use Rattle.dh_tree.specs.declared.tables.Dim.{Dim}
@@ -49,7 +49,7 @@ size_by p shares a = length (paths_of a) * suc (if shares then 0 else banks_met 
 -- the sizes of the accesses among incidents, numbered from one on, by the loops that are known and by a list of shares
 abbrev pub sizes_from : Program → (loops : Option ℕ → List Counter) → (shares : List (Option ℕ)) → (number : ℕ) → List Incident → ℕ
 sizes_from p loops shares number [] = 0
-sizes_from p loops shares number (touches access writes site ∷ xs) = size_by p (is_some (told shares number)) (access_of (loops site.round) writes access) + sizes_from p loops shares (suc number) xs
+sizes_from p loops shares number (touches access writes site ∷ xs) = size_by p (is_some (told shares number)) (access_of (loops site.round) false access) + sizes_from p loops shares (suc number) xs
 sizes_from p loops shares number (assigned entity ∷ xs) = sizes_from p loops shares number xs
 sizes_from p loops shares number (arm_begins ∷ xs) = sizes_from p loops shares number xs
 sizes_from p loops shares number (arm_ends ∷ xs) = sizes_from p loops shares number xs

@@ -56,7 +56,8 @@ fn access_sizes(
             Event::Touch { access, round, .. } => {
                 let loops = loops_round(rounds, round);
                 let shared = does_share(shares, number);
-                sum = sum.saturating_add(access_size(alloc, typed, loops, access, shared)?);
+                let size = access_size(alloc, typed, loops, access, shared)?;
+                sum = sum.saturating_add(size);
                 number = number + 1;
             }
             Event::Assigned { .. } => {}

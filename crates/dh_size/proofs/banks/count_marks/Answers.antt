@@ -1,4 +1,4 @@
-use Rattle.std.proofs.Common.{false, arith}
+use Rattle.std.proofs.Common.{arith}
 use Rattle.dh_size.proofs.MarkTurns.{marks_most}
 use Rattle.dh_size.proofs.banks.count_marks.Goals as goal
 

@@ -1,7 +1,7 @@
-use Rattle.std.proofs.Common.{false, replicate, ap, sym, ◌∙◌}
+use Rattle.std.proofs.Common.{false, replicate, ap, ◌∙◌}
 use Rattle.dh_tree.specs.Elements.{banks_of}
 use Rattle.dh_ports.specs.Claims.{source_of}
-use Rattle.dh_size.proofs.MarkTurns.{marks_none, marks_set, marks_beyond}
+use Rattle.dh_size.proofs.MarkTurns.{marks_none}
 use Rattle.dh_size.proofs.banks.reached_banks.Goals as goal
 
 pub loop-number-init : goal.loop-number-init

@@ -1,5 +1,4 @@
-use Rattle.std.proofs.Common.{ap, ◌∙◌, refl, subst}
-use Rattle.dh_tree.specs.PlainTrees.{ActionForm}
+use Rattle.std.proofs.Common.{ap, ◌∙◌}
 use Rattle.dh_tree.specs.Seen.{action_seen, action_form_seen, maybe_block_seen, term_seen}
 use Rattle.dh_tree.proofs.SeenActions.{if_is, for_is}
 use Rattle.dh_plan.specs.PlanSizes.{own_operators}

@@ -1,8 +1,8 @@
-use Rattle.std.proofs.Common.{◌≡◌, ℕ, ◌*◌, ◌+◌, ◌-◌, ◌%◌, ◌<◌, ◌≤◌, get_or, ap, ◌∙◌, sym, subst, arith}
+use Rattle.std.proofs.Common.{ℕ, ◌*◌, ◌+◌, ◌<◌, ◌≤◌, sym, subst, arith}
 use Rattle.dh_meets.specs.Charges.{factors_of}
 use Rattle.dh_ports.specs.Banks.{path_at}
 use Rattle.dh_ports.proofs.BankTurns.{banks_few, banks_more}
-use Rattle.dh_size.proofs.IndexTurns.{all_past, some_banks, told_few, times_few, told_more, told_one, told_same, value_at}
+use Rattle.dh_size.proofs.IndexTurns.{told_few, times_few, told_more, told_one, told_same, value_at}
 use Rattle.dh_size.proofs.paths.bank_at.Goals.{then-i-indices+then-banks-gt1, else-i-indices, else-i-indices-via-then-i-indices+else-banks-gt1, else-i-indices-via-else-i-indices}
 use Rattle.dh_size.proofs.paths.bank_at.Goals as goal
 

@@ -10,19 +10,19 @@ loop-counter-init c = copy_first c.args.loops.now c.args.number c.args.iterator 
 pub nonzero_div-stride : goal.nonzero_div-stride
 nonzero_div-stride c =
     let some = factor_some c.args.loops.now c.loop-counter.counter-index (get_or c.args.loops.now c.loop-counter.counter-index (record { entity = None; low = 0; high = 0; factor = 0 })) c.args.number c.args.iterator c.loop-counter.stride
-        (at_place c.args.loops.now c.loop-counter.counter-index (record { entity = None; low = 0; high = 0; factor = 0 }) c.loop-counter-test.true) c.loop-counter.invariant in
+    (at_place c.args.loops.now c.loop-counter.counter-index (record { entity = None; low = 0; high = 0; factor = 0 }) c.loop-counter-test.true) c.loop-counter.invariant in
     omega (arith, some)
 
 pub nonzero_div-result : goal.nonzero_div-result
 nonzero_div-result c =
     let some = stride_some c.args.loops.now c.loop-counter.counter-index (get_or c.args.loops.now c.loop-counter.counter-index (record { entity = None; low = 0; high = 0; factor = 0 })) c.args.number c.args.iterator c.loop-counter.stride
-        (at_place c.args.loops.now c.loop-counter.counter-index (record { entity = None; low = 0; high = 0; factor = 0 }) c.loop-counter-test.true) c.loop-counter.invariant _ refl in
+    (at_place c.args.loops.now c.loop-counter.counter-index (record { entity = None; low = 0; high = 0; factor = 0 }) c.loop-counter-test.true) c.loop-counter.invariant _ refl in
     omega (arith, some)
 
 pub nonzero_rem-result : goal.nonzero_rem-result
 nonzero_rem-result c =
     let some = factor_some c.args.loops.now c.loop-counter.counter-index (get_or c.args.loops.now c.loop-counter.counter-index (record { entity = None; low = 0; high = 0; factor = 0 })) c.args.number c.args.iterator c.loop-counter.stride
-        (at_place c.args.loops.now c.loop-counter.counter-index (record { entity = None; low = 0; high = 0; factor = 0 }) c.loop-counter-test.true) c.loop-counter.invariant in
+    (at_place c.args.loops.now c.loop-counter.counter-index (record { entity = None; low = 0; high = 0; factor = 0 }) c.loop-counter-test.true) c.loop-counter.invariant in
     omega (arith, some)
 
 pub returns-then-eq : goal.returns-then-eq

@@ -1,9 +1,9 @@
-use Rattle.std.proofs.Common.{◌≡◌, ◌+◌, ◌%◌, sym, ◌∙◌, ap, arith, Some, pos, ◌+ℤ◌, unsigned_abs, to_z, of_z, to_z-of_z}
+use Rattle.std.proofs.Common.{◌≡◌, ◌+◌, ◌%◌, sym, ◌∙◌, ap, arith, pos, ◌+ℤ◌, unsigned_abs, to_z, of_z, to_z-of_z}
 use Rattle.std.specs.Int.{w128}
 use Rattle.dh_tree.specs.Indices.{index_kind}
 use Rattle.dh_tree.specs.Seen.{form_seen}
 use Rattle.dh_meets.specs.Charges.{factors_of}
-use Rattle.dh_ports.specs.Banks.{copy_of, counters_in, path_at}
+use Rattle.dh_ports.specs.Banks.{counters_in, path_at}
 use Rattle.dh_ports.proofs.StartFacts.{constant_start, dynamic_start, iterator_start, no_iterator}
 use Rattle.dh_size.proofs.paths.residue_at.Goals as goal
 
