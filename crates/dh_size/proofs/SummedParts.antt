@@ -46,9 +46,6 @@ cut_times (suc f) x most = elim (cases_lt most x) [
 pub summed_twice : (n a b : ℕ) → summed (summed n a) b ≡ summed n (a + b)
 summed_twice n a b = cut_twice n a b (2 ^ 64 - 1)
 
-few_kept : (k most : ℕ) → k < suc most → min k most ≡ k
-few_kept k most few = min-eq_left {n = k} {m = most} (omega (arith, few))
-
 -- a number of the code is none that is cut
 pub summed_none : (n : ℕ) → n ≤ 2 ^ 64 - 1 → summed n 0 ≡ n
 summed_none n small = ap (λ k. min k (2 ^ 64 - 1)) (add-zero n) ∙ min-eq_left small
