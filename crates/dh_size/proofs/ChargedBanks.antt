@@ -1,5 +1,5 @@
 -- The banks that an access charges are those that it reaches, where it does not share.
-use Rattle.std.proofs.Common.{◌≡◌, ℕ, zero, suc, add-one, ◌+◌, ◌*◌, ◌≤◌, ◌==◌, ◌&&◌, nat_lt, Bool, true, false, if◌then◌else◌, List, [], ◌∷◌, length, map, refl, ap, sym, ◌∙◌, arith, ◌⊎◌, inl, inr}
+use Rattle.std.proofs.Common.{◌≡◌, ℕ, zero, suc, add-one, ◌+◌, ◌*◌, ◌≤◌, ◌==◌, ◌&&◌, nat_lt, Bool, true, false, if◌then◌else◌, List, [], ◌∷◌, length, map, refl, ap, sym, ◌∙◌, arith, ◌⊎◌, inl, inr, subst, ◌<◌}
 use mathlib.Core.Path.{fun_ext}
 use Rattle.std.specs.Prelude.{Option, Some, None, option_map, slice_get}
 use Rattle.std.specs.List.{filter, list_any}
@@ -26,9 +26,10 @@ use Rattle.dh_ports.specs.Claims.{access_of}
 use Rattle.dh_ports.specs.Wholes.{of_access, touched_by, Touched}
 use Rattle.dh_ports.proofs.ClaimedBanks.{kept_some, some_kept}
 use Rattle.dh_ports.proofs.ClaimFacts.{found}
-use Rattle.dh_size.specs.Sizes.{banks_met, banks_reached, count_below, is_reached, marked, size_by}
+use Rattle.dh_ports.specs.Banks.{bank_at_path, path_at}
+use Rattle.dh_size.specs.Sizes.{banks_met, banks_reached, banks_within, count_below, is_reached, marked, size_by}
 use Rattle.dh_size.specs.Marks.{AreMarked}
-use Rattle.dh_size.proofs.MarkTurns.{all_reached, marked_most, marks_counted, paths_counted}
+use Rattle.dh_size.proofs.MarkTurns.{all_reached, marks_counted, paths_counted}
 
 absurd : {A : Type 0} → ⊥ → A
 absurd e = elim e [ ]
@@ -191,22 +192,62 @@ pub same_access : (loops : List Counter) (t : Term) (writes : Bool) (a : SourceA
 same_access loops (term place kind form) writes a e f =
     ap (λ (x : Touched). as_access x loops) e ∙ ap (λ (l : List Counter). as_access (of_access a) l) f
 
--- Marks of the banks of a memory that is there.
+-- Banks of a memory that is there.
 
-pub met_done : (tree : Tree) (a : SourceAccess) (dims : List Dim) (number : ℕ) (entry : MemEntry) (marks shown : List Bool) (copies result : ℕ) → number_in (memories_of (program_seen tree)) a.entity ≡ Some number
-    → slice_get (table_of (program_seen tree)) number ≡ Some entry → dims ≡ entry.shape.dims → copies ≡ copies_in (factors_of a.site.loops) → AreMarked tree dims a (banks_of dims) copies marks → shown ≡ marks → result ≡ marked shown
-    → result ≡ banks_met (program_seen tree) a
-met_done tree a dims number entry marks shown copies result known stands same copied so shown_is counted =
+pub marks_done : (tree : Tree) (a : SourceAccess) (dims : List Dim) (marks shown : List Bool) (copies result : ℕ) → copies ≡ copies_in (factors_of a.site.loops) → AreMarked tree dims a (banks_of dims) copies marks → shown ≡ marks → result ≡ marked shown
+    → result ≡ banks_within (program_seen tree) dims a
+marks_done tree a dims marks shown copies result copied so shown_is counted =
     counted
-    ∙ (ap marked shown_is
-    ∙ (marks_counted marks (banks_of dims) (is_reached (program_seen tree) dims a) so.long (λ b within. so.each b within ∙ all_reached tree dims a copies b copied)
-    ∙ (ap (λ ds. count_below (is_reached (program_seen tree) ds a) (banks_of ds)) same ∙ sym (entry_reached (program_seen tree) a number entry known stands))))
+    ∙ (ap marked shown_is ∙ marks_counted marks (banks_of dims) (is_reached (program_seen tree) dims a) so.long (λ b within. so.each b within ∙ all_reached tree dims a copies b copied))
 
-pub met_few : (tree : Tree) (a : SourceAccess) (dims : List Dim) (marks shown : List Bool) (copies result : ℕ) → banks_of dims ≤ 64 → AreMarked tree dims a (banks_of dims) copies marks → shown ≡ marks → result ≡ marked shown → result ≤ 64
-met_few tree a dims marks shown copies result few so shown_is counted = within result (marked marks) (length marks) (banks_of dims) (counted ∙ ap marked shown_is) (marked_most marks) so.long few
+pub marks_few : (tree : Tree) (a : SourceAccess) (dims : List Dim) (marks shown : List Bool) (copies : ℕ) → banks_of dims ≤ 64 → AreMarked tree dims a (banks_of dims) copies marks → shown ≡ marks → length shown ≤ 64
+marks_few tree a dims marks shown copies few so shown_is = subst (λ (n : ℕ). n ≤ 64) (sym (ap length shown_is ∙ so.long)) few
+
+-- of one copy
+one_counted : (bank n : ℕ) → count_below (λ b. bank == b) n ≡ (if nat_lt bank n then 1 else 0)
+one_counted bank zero = grind (arith, nat_tests)
+one_counted bank (suc n) = ap (λ k. (if bank == n then 1 else 0) + k) (one_counted bank n) ∙ more bank n
   where
-    within : (r m n b : ℕ) → r ≡ m → m ≤ n → n ≡ b → b ≤ 64 → r ≤ 64
-    within r m n b e f g h = omega (arith, e, f, g, h)
+    more : (bank n : ℕ) → (if bank == n then 1 else 0) + (if nat_lt bank n then 1 else 0) ≡ (if nat_lt bank (suc n) then 1 else 0)
+    more bank n = grind (arith, nat_tests)
+
+one_within : (tree : Tree) (a : SourceAccess) (dims : List Dim) (copies bank : ℕ) → copies ≡ copies_in (factors_of a.site.loops) → copies ≡ 1 → bank ≡ bank_at_path tree dims a (path_at (factors_of a.site.loops) 0)
+    → (if nat_lt bank (banks_of dims) then 1 else 0) ≡ banks_within (program_seen tree) dims a
+one_within tree a dims copies bank copied one is =
+    sym (one_counted bank (banks_of dims))
+    ∙ count_same (λ b. bank == b) (is_reached (program_seen tree) dims a) (banks_of dims) (λ b. ap (λ n. n == b) is ∙ all_reached tree dims a 1 b (sym one ∙ copied))
+
+pub one_there : (tree : Tree) (a : SourceAccess) (dims : List Dim) (copies bank banks : ℕ) → copies ≡ copies_in (factors_of a.site.loops) → copies ≡ 1 → bank ≡ bank_at_path tree dims a (path_at (factors_of a.site.loops) 0) → banks ≡ banks_of dims → bank < banks
+    → 1 ≡ banks_within (program_seen tree) dims a
+one_there tree a dims copies bank banks copied one is counted less = ap (λ b. if b then 1 else 0) (sym (below bank (banks_of dims) (subst (λ (n : ℕ). bank < n) counted less))) ∙ one_within tree a dims copies bank copied one is
+  where
+    below : (b n : ℕ) → b < n → nat_lt b n ≡ true
+    below b n e = grind (arith, nat_tests)
+
+pub one_missing : (tree : Tree) (a : SourceAccess) (dims : List Dim) (copies bank banks : ℕ) → copies ≡ copies_in (factors_of a.site.loops) → copies ≡ 1 → bank ≡ bank_at_path tree dims a (path_at (factors_of a.site.loops) 0) → banks ≡ banks_of dims → banks ≤ bank
+    → 0 ≡ banks_within (program_seen tree) dims a
+one_missing tree a dims copies bank banks copied one is counted past = ap (λ b. if b then 1 else 0) (sym (beyond bank (banks_of dims) (subst (λ (n : ℕ). n ≤ bank) counted past))) ∙ one_within tree a dims copies bank copied one is
+  where
+    beyond : (b n : ℕ) → n ≤ b → nat_lt b n ≡ false
+    beyond b n e = grind (arith, nat_tests)
+
+pub met_done : (p : Program) (a : SourceAccess) (dims : List Dim) (number : ℕ) (entry : MemEntry) (result : ℕ) → number_in (memories_of p) a.entity ≡ Some number → slice_get (table_of p) number ≡ Some entry → dims ≡ entry.shape.dims → result ≡ banks_within p dims a → result ≡ banks_met p a
+met_done p a dims number entry result known stands same so = so ∙ (ap (λ ds. banks_within p ds a) same ∙ sym (entry_reached p a number entry known stands))
+
+-- no more than the memory has
+pub within_few : (p : Program) (a : SourceAccess) (dims : List Dim) (result : ℕ) → banks_of dims ≤ 64 → result ≡ banks_within p dims a → result ≤ 64
+within_few p a dims result few so = at_most result (banks_within p dims a) (banks_of dims) so (most (is_reached p dims a) (banks_of dims)) few
+  where
+    at_most : (r n b : ℕ) → r ≡ n → n ≤ b → b ≤ 64 → r ≤ 64
+    at_most r n b e f g = omega (arith, e, f, g)
+
+    most : (t : ℕ → Bool) (n : ℕ) → count_below t n ≤ n
+    most t zero = omega arith
+    most t (suc n) = by (t n) (most t n)
+      where
+        by : (b : Bool) → count_below t n ≤ n → (if b then 1 else 0) + count_below t n ≤ suc n
+        by true h = omega (arith, h)
+        by false h = omega (arith, h)
 
 pub shared_size : (p : Program) (a : SourceAccess) (copies : ℕ) (shares : Bool) → copies ≡ copies_in (factors_of a.site.loops) → shares ≡ true → copies ≡ size_by p shares a
 shared_size p a copies shares e f = e ∙ (sym (paths_counted a) ∙ (once (length (paths_of a)) ∙ sym (ap (λ b. length (paths_of a) * suc (if b then 0 else banks_met p a)) f)))

@@ -27,10 +27,14 @@ abbrev pub count_below : (ℕ → Bool) → (n : ℕ) → ℕ
 count_below test zero = 0
 count_below test (suc n) = (if test n then 1 else 0) + count_below test n
 
+-- the banks of a memory of these dimensions that it reaches
+abbrev pub banks_within : Program → List Dim → SourceAccess → ℕ
+banks_within p dims a = count_below (is_reached p dims a) (banks_of dims)
+
 -- the banks of its memory that it reaches
 abbrev pub banks_reached : Program → Option Memory → SourceAccess → ℕ
 banks_reached p None a = 0
-banks_reached p (Some m) a = count_below (is_reached p m.shape.dims a) (banks_of m.shape.dims)
+banks_reached p (Some m) a = banks_within p m.shape.dims a
 
 abbrev pub banks_met : Program → SourceAccess → ℕ
 banks_met p a = banks_reached p (memory_in (memories_of p) a.entity) a

@@ -139,6 +139,42 @@ fn count_marks(marks: &[bool]) -> u64
     count
 }
 
+/// The banks of a memory that an access of one copy reaches: one, if the memory has it.
+fn one_bank(typed: &Typed, loops: &[Counter], copies: u64, dims: &[Dim], access: &Expr) -> u64
+    requires dims { AllByRecursion IsDim dims.now }
+    requires few { banks_of dims.now ≤ most_banks }
+    requires copies { copies ≡ copies_round loops.now }
+    requires one { copies ≡ 1 }
+    ensures { result ≡ definitions.banks_within (program_seen typed.now) dims.now
+        (source_of loops.now false access.now) }
+{
+    let bank = bank_reached(typed, loops, copies, 0, dims, access);
+    if bank < bank_count(dims) { 1 } else { 0 }
+}
+
+/// The banks of a memory that the copies of an access reach.
+fn banks_within(
+    alloc: Global,
+    typed: &Typed,
+    loops: &[Counter],
+    copies: u64,
+    dims: &[Dim],
+    access: &Expr,
+) -> Result<u64, NoMemory>
+    requires dims { AllByRecursion IsDim dims.now }
+    requires few { banks_of dims.now ≤ most_banks }
+    requires copies { copies ≡ copies_round loops.now }
+    ensures { IfOk result (λ banks. banks ≡ definitions.banks_within (program_seen typed.now)
+        dims.now (source_of loops.now false access.now)) }
+{
+    // no marks are made for the many accesses outside every unrolled loop
+    if copies == 1 {
+        return Ok(one_bank(typed, loops, copies, dims, access));
+    }
+    let marks = reached_banks(alloc, typed, loops, copies, dims, access)?;
+    Ok(count_marks(marks.as_slice()))
+}
+
 /// The banks of its memory that the copies of an access reach.
 fn banks_met(
     alloc: Global,
@@ -160,8 +196,8 @@ fn banks_met(
         return Ok(0);
     };
     let dims = entry.shape.dims.as_slice();
-    let marks = reached_banks(alloc, typed, loops, copies, dims, access)?;
-    Ok(count_marks(marks.as_slice()))
+    let banks = banks_within(alloc, typed, loops, copies, dims, access)?;
+    Ok(banks)
 }
 
 /// The size of an access in these loops, which shares an earlier read or does not: in each copy it is 1, and 1 more
