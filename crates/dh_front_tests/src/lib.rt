@@ -15,4 +15,6 @@ mod phase_lengths;
 #[cfg(test)]
 mod phasing;
 #[cfg(test)]
+mod plan_sizes;
+#[cfg(test)]
 mod texts;

@@ -1,0 +1,261 @@
+-- The banks that an access charges are those that it reaches, where it does not share.
+use Rattle.std.proofs.Common.{◌≡◌, ℕ, zero, suc, add-one, ◌+◌, ◌*◌, ◌≤◌, ◌==◌, ◌&&◌, nat_lt, Bool, true, false, if◌then◌else◌, List, [], ◌∷◌, length, map, refl, ap, sym, ◌∙◌, arith, ◌⊎◌, inl, inr, subst, ◌<◌}
+use mathlib.Core.Path.{fun_ext}
+use Rattle.std.specs.Prelude.{Option, Some, None, option_map, slice_get}
+use Rattle.std.specs.List.{filter, list_any}
+use Rattle.std.specs.Option.{is_some}
+use Rattle.std.specs.Set.{distinct_count}
+use Rattle.std.proofs.lemmas.Bool.{cases_Bool, eq-eqb}
+use Rattle.std.proofs.lemmas.Bool.Decides.{nat_tests}
+use Rattle.dh_tree.specs.declared.tables.Dim.{Dim}
+use Rattle.dh_tree.specs.declared.tables.MemEntry.{MemEntry}
+use Rattle.dh_tree.specs.declared.trees.programs.Tree.{Tree}
+use Rattle.dh_tree.specs.declared.trees.counters.Counter.{Counter}
+use Rattle.dh_tree.specs.Counters.{counters_of}
+use Rattle.dh_tree.specs.Elements.{banks_of}
+use Rattle.dh_tree.specs.Memories.{Memory, memories_of, memory_in, number_in, same_entity, table_of, entry_of}
+use Rattle.dh_tree.specs.PlainTrees.{Term, term, Program}
+use Rattle.dh_meaning.specs.Bindings.{bindings_of}
+use Rattle.dh_tree.specs.Seen.{program_seen}
+use Rattle.dh_meaning.specs.Paths.{Path, copies_in, same_path}
+use Rattle.dh_meets.specs.Charges.{bank_reached, charge, charge_of, factors_of, key_of, keys_reaching, paths_of, reaches, reaches_in}
+use Rattle.dh_meets.specs.Sharing.{shared}
+use Rattle.dh_meets.specs.SourceEvents.{Element, with_indices, in_row, SourceAccess, accesses_in, trace}
+use Rattle.dh_plan.specs.PlanSizes.{access_size, banks_charged, entity_banks_charged, memory_banks}
+use Rattle.dh_ports.specs.Claims.{access_of}
+use Rattle.dh_ports.specs.Wholes.{of_access, touched_by, Touched}
+use Rattle.dh_ports.proofs.ClaimedBanks.{kept_some, some_kept}
+use Rattle.dh_ports.proofs.ClaimFacts.{found}
+use Rattle.dh_ports.specs.Banks.{bank_at_path, path_at}
+use Rattle.dh_size.specs.Sizes.{banks_met, banks_reached, banks_within, count_below, is_reached, marked, size_by}
+use Rattle.dh_size.specs.Marks.{AreMarked}
+use Rattle.dh_size.proofs.MarkTurns.{all_reached, marks_counted, paths_counted}
+
+absurd : {A : Type 0} → ⊥ → A
+absurd e = elim e [ ]
+
+clash : (b : Bool) → b ≡ true → b ≡ false → ⊥
+clash b e f = cc
+
+-- Keys.
+
+-- some key is there where some path is
+keys_some : (g : Path → List ℕ) (t : Path → Bool) (paths : List Path) → nat_lt 0 (distinct_count same_path (map g (filter t paths))) ≡ list_any t paths
+keys_some g t paths = by (cases_Bool (list_any t paths)) (cases_Bool (nat_lt 0 (distinct_count same_path (map g (filter t paths)))))
+  where
+    positive : (n : ℕ) → 1 ≤ n → nat_lt 0 n ≡ true
+    positive n e = grind (arith, nat_tests)
+
+    told : (n : ℕ) → nat_lt 0 n ≡ true → 1 ≤ n
+    told n e = grind (arith, nat_tests)
+
+    by : (list_any t paths ≡ true) ⊎ (list_any t paths ≡ false) → (nat_lt 0 (distinct_count same_path (map g (filter t paths))) ≡ true) ⊎ (nat_lt 0 (distinct_count same_path (map g (filter t paths))) ≡ false)
+        → nat_lt 0 (distinct_count same_path (map g (filter t paths))) ≡ list_any t paths
+    by (inl e) f = positive _ (kept_some same_path g t paths e) ∙ sym e
+    by (inr e) (inl f) = absurd (clash (list_any t paths) (some_kept same_path g t paths (told _ f)) e)
+    by (inr e) (inr f) = f ∙ sym e
+
+-- Memories.
+
+-- the memory of what is none
+pub no_memory : (ms : List Memory) (entity : Option ℕ) → number_in ms entity ≡ None → memory_in ms entity ≡ None
+no_memory [] entity e = refl
+no_memory (m ∷ ms) entity e = by (cases_Bool (same_entity m.name.entity entity)) e (no_memory ms entity)
+  where
+    some_none : (n : ℕ) → ◌≡◌ {A = Option ℕ} (Some n) None → ⊥
+    some_none n e = cc
+
+    rest_none : (o : Option ℕ) → option_map suc o ≡ None → o ≡ None
+    rest_none None e = refl
+    rest_none (Some n) e = absurd (some_none (suc n) e)
+
+    by : (same_entity m.name.entity entity ≡ true) ⊎ (same_entity m.name.entity entity ≡ false) → (if same_entity m.name.entity entity then Some 0 else option_map suc (number_in ms entity)) ≡ None
+        → (number_in ms entity ≡ None → memory_in ms entity ≡ None) → (if same_entity m.name.entity entity then Some m else memory_in ms entity) ≡ None
+    by (inl f) e rest = absurd (some_none 0 (sym (ap (λ b. if b then Some 0 else option_map suc (number_in ms entity)) f) ∙ e))
+    by (inr f) e rest = ap (λ b. if b then Some m else memory_in ms entity) f ∙ rest (rest_none (number_in ms entity) (sym (ap (λ b. if b then Some 0 else option_map suc (number_in ms entity)) f) ∙ e))
+
+-- the banks of a memory by its entry in the table
+pub entry_reached : (p : Program) (a : SourceAccess) (number : ℕ) (entry : MemEntry) → number_in (memories_of p) a.entity ≡ Some number → slice_get (table_of p) number ≡ Some entry
+    → banks_met p a ≡ count_below (is_reached p entry.shape.dims a) (banks_of entry.shape.dims)
+entry_reached p a number entry known stands =
+    let mine = found (memories_of p) a.entity number known in
+    let same : entry_of mine.memory ≡ entry = some_same (entry_of mine.memory) entry (sym mine.entry ∙ stands) in
+    ap (λ o. banks_reached p o a) mine.is ∙ ap (λ (e : MemEntry). count_below (is_reached p e.shape.dims a) (banks_of e.shape.dims)) same
+  where
+    some_same : (x y : MemEntry) → Some x ≡ Some y → x ≡ y
+    some_same x y e = cc
+
+-- a number of a memory is one of the table
+pub entry_missing : {A : Type 0} (p : Program) (a : SourceAccess) (number : ℕ) → number_in (memories_of p) a.entity ≡ Some number → slice_get (table_of p) number ≡ None → A
+entry_missing p a number known none = absurd (some_none (entry_of (found (memories_of p) a.entity number known).memory) (sym (found (memories_of p) a.entity number known).entry ∙ none))
+  where
+    some_none : (x : MemEntry) → ◌≡◌ {A = Option MemEntry} (Some x) None → ⊥
+    some_none x e = cc
+
+pub none_met : (p : Program) (a : SourceAccess) → number_in (memories_of p) a.entity ≡ None → banks_met p a ≡ 0
+none_met p a e = ap (λ o. banks_reached p o a) (no_memory (memories_of p) a.entity e)
+
+-- Charges.
+
+module _ (p : Program) (number : ℕ) (a : SourceAccess) (stands : slice_get (accesses_in (trace p)) number ≡ Some a) where
+  -- nothing where it shares
+  abbrev unless : Bool → ℕ → ℕ
+  unless shares n = if shares then 0 else n
+
+  module _ (memory : ℕ) (m : Memory) (named : a.entity ≡ Some memory) (is : memory_in (memories_of p) (Some memory) ≡ Some m) where
+    reaches_so : (bank : ℕ) (path : Path) → reaches p a path memory bank ≡ (bank_reached (counters_of p) m.shape.dims a path a.element == bank)
+    reaches_so bank path =
+        ap (λ o. same_entity o (Some memory) && reaches_in (counters_of p) (memory_in (memories_of p) (Some memory)) a path bank) named
+        ∙ (ap (λ b. b && reaches_in (counters_of p) (memory_in (memories_of p) (Some memory)) a path bank) (eq-eqb memory memory refl)
+        ∙ ap (λ o. reaches_in (counters_of p) o a path bank) is)
+
+    one_bank : (bank : ℕ) (shares : Bool) → is_some (shared p number) ≡ shares → (if nat_lt 0 (charge p memory bank number) then 1 else 0) ≡ unless shares (if is_reached p m.shape.dims a bank then 1 else 0)
+    one_bank bank shares e = ap (λ n. if nat_lt 0 n then 1 else 0) (ap (charge_of p memory bank number) stands ∙ ap (λ b. if b then 0 else distinct_count same_path (keys_reaching p a memory bank)) e) ∙ by shares
+      where
+        not_less : nat_lt 0 0 ≡ false
+        not_less = grind (arith, nat_tests)
+
+        by : (b : Bool) → (if nat_lt 0 (if b then 0 else distinct_count same_path (keys_reaching p a memory bank)) then 1 else 0) ≡ unless b (if is_reached p m.shape.dims a bank then 1 else 0)
+        by true = ap (λ b. if b then 1 else 0) not_less
+        by false =
+            ap (λ b. if b then 1 else 0)
+            (keys_some (key_of (bindings_of p) a) (λ path. reaches p a path memory bank) (paths_of a) ∙ ap (λ t. list_any t (paths_of a)) (fun_ext (reaches_so bank)))
+
+    some_banks : (n : ℕ) (shares : Bool) → is_some (shared p number) ≡ shares → banks_charged p memory number n ≡ unless shares (count_below (is_reached p m.shape.dims a) n)
+    some_banks zero shares e = none shares
+      where
+        none : (b : Bool) → 0 ≡ unless b 0
+        none true = refl
+        none false = refl
+    some_banks (suc n) shares e = ap (λ k. k + banks_charged p memory number n) (one_bank n shares e) ∙ (ap (λ k. unless shares (if is_reached p m.shape.dims a n then 1 else 0) + k) (some_banks n shares e) ∙ both shares (if is_reached p m.shape.dims a n then 1 else 0) (count_below (is_reached p m.shape.dims a) n))
+      where
+        both : (b : Bool) (x y : ℕ) → unless b x + unless b y ≡ unless b (x + y)
+        both true x y = nothing
+          where
+            nothing : 0 + 0 ≡ 0
+            nothing = omega arith
+        both false x y = refl
+
+  none_unless : (b : Bool) → 0 ≡ unless b 0
+  none_unless true = refl
+  none_unless false = refl
+
+  none_named : (ms : List Memory) → memory_in ms None ≡ None
+  none_named [] = refl
+  none_named (m ∷ ms) = ap (λ b. if b then Some m else memory_in ms None) (none m.name.entity) ∙ none_named ms
+    where
+      none : (o : Option ℕ) → same_entity o None ≡ false
+      none None = refl
+      none (Some n) = refl
+
+  by_entity : (entity : Option ℕ) (shares : Bool) → a.entity ≡ entity → is_some (shared p number) ≡ shares → entity_banks_charged p number entity ≡ unless shares (banks_reached p (memory_in (memories_of p) entity) a)
+  by_entity None shares e f = none_unless shares ∙ ap (λ o. unless shares (banks_reached p o a)) (sym (none_named (memories_of p)))
+  by_entity (Some memory) shares e f = by_memory (memory_in (memories_of p) (Some memory)) refl
+    where
+      by_memory : (o : Option Memory) → memory_in (memories_of p) (Some memory) ≡ o → banks_charged p memory number (memory_banks (memory_in (memories_of p) (Some memory))) ≡ unless shares (banks_reached p (memory_in (memories_of p) (Some memory)) a)
+      by_memory None g = ap (λ o. banks_charged p memory number (memory_banks o)) g ∙ (none_unless shares ∙ ap (λ o. unless shares (banks_reached p o a)) (sym g))
+      by_memory (Some m) g =
+          ap (λ o. banks_charged p memory number (memory_banks o)) g
+          ∙ (some_banks memory m e g (banks_of m.shape.dims) shares f ∙ ap (λ o. unless shares (banks_reached p o a)) (sym g))
+
+  pub size_told : (shares : Bool) → shares ≡ is_some (shared p number) → size_by p shares a ≡ access_size p number a
+  size_told shares e = ap (λ n. length (paths_of a) * suc n) (sym (by_entity a.entity shares refl (sym e)))
+
+-- Accesses as the code knows them.
+
+abbrev pub bare : SourceAccess → SourceAccess
+bare a = record { place = a.place; entity = a.entity; element = a.element; writes = false; site = record { command = 0; arms = []; loops = a.site.loops } }
+
+element_same : (p : Program) (a : SourceAccess) (m : Memory) (path : Path) (e : Element) → bank_reached (counters_of p) m.shape.dims (bare a) path e ≡ bank_reached (counters_of p) m.shape.dims a path e
+element_same p a m path (with_indices indices) = refl
+element_same p a m path (in_row bank row) = refl
+
+reached_same : (p : Program) (a : SourceAccess) (m : Memory) (bank : ℕ) → is_reached p m.shape.dims (bare a) bank ≡ is_reached p m.shape.dims a bank
+reached_same p a m bank = ap (λ t. list_any t (paths_of a)) (fun_ext (λ path. ap (λ n. n == bank) (element_same p a m path a.element)))
+
+count_same : (s t : ℕ → Bool) (n : ℕ) → ((k : ℕ) → s k ≡ t k) → count_below s n ≡ count_below t n
+count_same s t zero h = refl
+count_same s t (suc n) h = ap (λ b. (if b then 1 else 0) + count_below s n) (h n) ∙ ap (λ k. (if t n then 1 else 0) + k) (count_same s t n h)
+
+-- an access by its element and the loops round it alone
+pub bare_size : (p : Program) (shares : Bool) (a : SourceAccess) → size_by p shares (bare a) ≡ size_by p shares a
+bare_size p shares a = ap (λ n. length (paths_of a) * suc (if shares then 0 else n)) (by_memory (memory_in (memories_of p) a.entity))
+  where
+    by_memory : (o : Option Memory) → banks_reached p o (bare a) ≡ banks_reached p o a
+    by_memory None = refl
+    by_memory (Some m) = count_same (is_reached p m.shape.dims (bare a)) (is_reached p m.shape.dims a) (banks_of m.shape.dims) (reached_same p a m)
+
+abbrev as_access : Touched → List Counter → SourceAccess
+as_access x loops = record { place = x.place; entity = x.entity; element = x.element; writes = false; site = record { command = 0; arms = []; loops = loops } }
+
+pub same_access : (loops : List Counter) (t : Term) (writes : Bool) (a : SourceAccess) → touched_by t writes ≡ of_access a → loops ≡ a.site.loops → access_of loops false t ≡ bare a
+same_access loops (term place kind form) writes a e f =
+    ap (λ (x : Touched). as_access x loops) e ∙ ap (λ (l : List Counter). as_access (of_access a) l) f
+
+-- Banks of a memory that is there.
+
+pub marks_done : (tree : Tree) (a : SourceAccess) (dims : List Dim) (marks shown : List Bool) (copies result : ℕ) → copies ≡ copies_in (factors_of a.site.loops) → AreMarked tree dims a (banks_of dims) copies marks → shown ≡ marks → result ≡ marked shown
+    → result ≡ banks_within (program_seen tree) dims a
+marks_done tree a dims marks shown copies result copied so shown_is counted =
+    counted
+    ∙ (ap marked shown_is ∙ marks_counted marks (banks_of dims) (is_reached (program_seen tree) dims a) so.long (λ b within. so.each b within ∙ all_reached tree dims a copies b copied))
+
+pub marks_few : (tree : Tree) (a : SourceAccess) (dims : List Dim) (marks shown : List Bool) (copies : ℕ) → banks_of dims ≤ 64 → AreMarked tree dims a (banks_of dims) copies marks → shown ≡ marks → length shown ≤ 64
+marks_few tree a dims marks shown copies few so shown_is = subst (λ (n : ℕ). n ≤ 64) (sym (ap length shown_is ∙ so.long)) few
+
+-- of one copy
+one_counted : (bank n : ℕ) → count_below (λ b. bank == b) n ≡ (if nat_lt bank n then 1 else 0)
+one_counted bank zero = grind (arith, nat_tests)
+one_counted bank (suc n) = ap (λ k. (if bank == n then 1 else 0) + k) (one_counted bank n) ∙ more bank n
+  where
+    more : (bank n : ℕ) → (if bank == n then 1 else 0) + (if nat_lt bank n then 1 else 0) ≡ (if nat_lt bank (suc n) then 1 else 0)
+    more bank n = grind (arith, nat_tests)
+
+one_within : (tree : Tree) (a : SourceAccess) (dims : List Dim) (copies bank : ℕ) → copies ≡ copies_in (factors_of a.site.loops) → copies ≡ 1 → bank ≡ bank_at_path tree dims a (path_at (factors_of a.site.loops) 0)
+    → (if nat_lt bank (banks_of dims) then 1 else 0) ≡ banks_within (program_seen tree) dims a
+one_within tree a dims copies bank copied one is =
+    sym (one_counted bank (banks_of dims))
+    ∙ count_same (λ b. bank == b) (is_reached (program_seen tree) dims a) (banks_of dims) (λ b. ap (λ n. n == b) is ∙ all_reached tree dims a 1 b (sym one ∙ copied))
+
+pub one_there : (tree : Tree) (a : SourceAccess) (dims : List Dim) (copies bank banks : ℕ) → copies ≡ copies_in (factors_of a.site.loops) → copies ≡ 1 → bank ≡ bank_at_path tree dims a (path_at (factors_of a.site.loops) 0) → banks ≡ banks_of dims → bank < banks
+    → 1 ≡ banks_within (program_seen tree) dims a
+one_there tree a dims copies bank banks copied one is counted less = ap (λ b. if b then 1 else 0) (sym (below bank (banks_of dims) (subst (λ (n : ℕ). bank < n) counted less))) ∙ one_within tree a dims copies bank copied one is
+  where
+    below : (b n : ℕ) → b < n → nat_lt b n ≡ true
+    below b n e = grind (arith, nat_tests)
+
+pub one_missing : (tree : Tree) (a : SourceAccess) (dims : List Dim) (copies bank banks : ℕ) → copies ≡ copies_in (factors_of a.site.loops) → copies ≡ 1 → bank ≡ bank_at_path tree dims a (path_at (factors_of a.site.loops) 0) → banks ≡ banks_of dims → banks ≤ bank
+    → 0 ≡ banks_within (program_seen tree) dims a
+one_missing tree a dims copies bank banks copied one is counted past = ap (λ b. if b then 1 else 0) (sym (beyond bank (banks_of dims) (subst (λ (n : ℕ). n ≤ bank) counted past))) ∙ one_within tree a dims copies bank copied one is
+  where
+    beyond : (b n : ℕ) → n ≤ b → nat_lt b n ≡ false
+    beyond b n e = grind (arith, nat_tests)
+
+pub met_done : (p : Program) (a : SourceAccess) (dims : List Dim) (number : ℕ) (entry : MemEntry) (result : ℕ) → number_in (memories_of p) a.entity ≡ Some number → slice_get (table_of p) number ≡ Some entry → dims ≡ entry.shape.dims → result ≡ banks_within p dims a → result ≡ banks_met p a
+met_done p a dims number entry result known stands same so = so ∙ (ap (λ ds. banks_within p ds a) same ∙ sym (entry_reached p a number entry known stands))
+
+-- no more than the memory has
+pub within_few : (p : Program) (a : SourceAccess) (dims : List Dim) (result : ℕ) → banks_of dims ≤ 64 → result ≡ banks_within p dims a → result ≤ 64
+within_few p a dims result few so = at_most result (banks_within p dims a) (banks_of dims) so (most (is_reached p dims a) (banks_of dims)) few
+  where
+    at_most : (r n b : ℕ) → r ≡ n → n ≤ b → b ≤ 64 → r ≤ 64
+    at_most r n b e f g = omega (arith, e, f, g)
+
+    most : (t : ℕ → Bool) (n : ℕ) → count_below t n ≤ n
+    most t zero = omega arith
+    most t (suc n) = by (t n) (most t n)
+      where
+        by : (b : Bool) → count_below t n ≤ n → (if b then 1 else 0) + count_below t n ≤ suc n
+        by true h = omega (arith, h)
+        by false h = omega (arith, h)
+
+pub shared_size : (p : Program) (a : SourceAccess) (copies : ℕ) (shares : Bool) → copies ≡ copies_in (factors_of a.site.loops) → shares ≡ true → copies ≡ size_by p shares a
+shared_size p a copies shares e f = e ∙ (sym (paths_counted a) ∙ (once (length (paths_of a)) ∙ sym (ap (λ b. length (paths_of a) * suc (if b then 0 else banks_met p a)) f)))
+  where
+    once : (n : ℕ) → n ≡ n * suc 0
+    once n = omega arith
+
+pub own_size : (p : Program) (a : SourceAccess) (copies banks : ℕ) (shares : Bool) → copies ≡ copies_in (factors_of a.site.loops) → shares ≡ false → banks ≡ banks_met p a → copies * (banks + 1) ≡ size_by p shares a
+own_size p a copies banks shares e f g =
+    ap (λ n. n * (banks + 1)) (e ∙ sym (paths_counted a))
+    ∙ (ap (λ n. length (paths_of a) * n) (add-one banks ∙ ap suc g) ∙ sym (ap (λ b. length (paths_of a) * suc (if b then 0 else banks_met p a)) f))

@@ -1,0 +1,17 @@
+-- Which banks are reached, as marks, while paths are gone through.
+use Rattle.std.specs.Prelude.{◌≡◌, ℕ, zero, suc, ◌<◌, ◌==◌, ◌||◌, Bool, false, List, length, get_or}
+use Rattle.dh_tree.specs.declared.tables.Dim.{Dim}
+use Rattle.dh_tree.specs.declared.trees.programs.Tree.{Tree}
+use Rattle.dh_meets.specs.Charges.{factors_of}
+use Rattle.dh_meets.specs.SourceEvents.{SourceAccess}
+use Rattle.dh_ports.specs.Banks.{bank_at_path, path_at}
+
+-- some path below a number reaches a bank
+abbrev pub reached_below : Tree → List Dim → SourceAccess → (number bank : ℕ) → Bool
+reached_below tree dims a zero bank = false
+reached_below tree dims a (suc number) bank = reached_below tree dims a number bank || (bank_at_path tree dims a (path_at (factors_of a.site.loops) number) == bank)
+
+-- marks of so many banks, of which those are set that paths below a number reach
+pub record AreMarked (tree : Tree) (dims : List Dim) (a : SourceAccess) (banks number : ℕ) (marks : List Bool) : Type 0 where
+  pub long : length marks ≡ banks
+  pub each : (bank : ℕ) → bank < banks → get_or marks bank false ≡ reached_below tree dims a number bank

@@ -1,0 +1,73 @@
+-- The size of accesses, from what the code knows of each: whether it shares, and the unrolled loops round it.
+use Rattle.std.specs.Prelude.{ℕ, zero, suc, ◌+◌, ◌*◌, ◌≤◌, ◌==◌, Bool, false, if◌then◌else◌, List, [], ◌∷◌, length, Option, Some, None}
+use Rattle.std.specs.List.{list_any}
+use Rattle.std.specs.Option.{is_some}
+use Rattle.dh_tree.specs.declared.tables.Dim.{Dim}
+use Rattle.dh_tree.specs.declared.trees.counters.Counter.{Counter}
+use Rattle.dh_tree.specs.Counters.{counters_of}
+use Rattle.dh_tree.specs.Elements.{banks_of}
+use Rattle.dh_tree.specs.Memories.{Memory, memories_of, memory_in}
+use Rattle.dh_tree.specs.PlainTrees.{Program}
+use Rattle.dh_meets.specs.Charges.{bank_reached, paths_of}
+use Rattle.dh_meets.specs.FewCopies.{most_copies}
+use Rattle.dh_meets.specs.SourceEvents.{SourceAccess}
+use Rattle.dh_events.specs.Incidents.{Incident, touches, assigned, arm_begins, arm_ends, begins, next, ends}
+use Rattle.dh_ports.specs.Claims.{access_of}
+use Rattle.dh_ports.specs.Copies.{copies_round}
+use Rattle.dh_lengths.specs.SharedReads.{told}
+
+-- Banks.
+
+-- an access reaches this bank of a memory of these dimensions at some path
+abbrev pub is_reached : Program → List Dim → SourceAccess → (bank : ℕ) → Bool
+is_reached p dims a bank = list_any (λ path. bank_reached (counters_of p) dims a path a.element == bank) (paths_of a)
+
+-- of how many numbers below a number a test is true
+abbrev pub count_below : (ℕ → Bool) → (n : ℕ) → ℕ
+count_below test zero = 0
+count_below test (suc n) = (if test n then 1 else 0) + count_below test n
+
+-- the banks of a memory of these dimensions that it reaches
+abbrev pub banks_within : Program → List Dim → SourceAccess → ℕ
+banks_within p dims a = count_below (is_reached p dims a) (banks_of dims)
+
+-- the banks of its memory that it reaches
+abbrev pub banks_reached : Program → Option Memory → SourceAccess → ℕ
+banks_reached p None a = 0
+banks_reached p (Some m) a = banks_within p m.shape.dims a
+
+abbrev pub banks_met : Program → SourceAccess → ℕ
+banks_met p a = banks_reached p (memory_in (memories_of p) a.entity) a
+
+-- how many marks are set
+abbrev pub marked : List Bool → ℕ
+marked [] = 0
+marked (m ∷ ms) = (if m then 1 else 0) + marked ms
+
+-- Accesses.
+
+-- the size of an access that shares or does not
+abbrev pub size_by : Program → (shares : Bool) → SourceAccess → ℕ
+size_by p shares a = length (paths_of a) * suc (if shares then 0 else banks_met p a)
+
+-- the sizes of the accesses among incidents, numbered from one on, by the loops that are known and by a list of shares
+abbrev pub sizes_from : Program → (loops : Option ℕ → List Counter) → (shares : List (Option ℕ)) → (number : ℕ) → List Incident → ℕ
+sizes_from p loops shares number [] = 0
+sizes_from p loops shares number (touches access writes site ∷ xs) = size_by p (is_some (told shares number)) (access_of (loops site.round) false access) + sizes_from p loops shares (suc number) xs
+sizes_from p loops shares number (assigned entity ∷ xs) = sizes_from p loops shares number xs
+sizes_from p loops shares number (arm_begins ∷ xs) = sizes_from p loops shares number xs
+sizes_from p loops shares number (arm_ends ∷ xs) = sizes_from p loops shares number xs
+sizes_from p loops shares number (begins ∷ xs) = sizes_from p loops shares number xs
+sizes_from p loops shares number (next ∷ xs) = sizes_from p loops shares number xs
+sizes_from p loops shares number (ends ∷ xs) = sizes_from p loops shares number xs
+
+-- each of them stands in few copies
+abbrev pub AreFew : (loops : Option ℕ → List Counter) → List Incident → Type 0
+AreFew loops [] = Unit {0}
+AreFew loops (touches access writes site ∷ xs) = (copies_round (loops site.round) ≤ most_copies) × AreFew loops xs
+AreFew loops (assigned entity ∷ xs) = AreFew loops xs
+AreFew loops (arm_begins ∷ xs) = AreFew loops xs
+AreFew loops (arm_ends ∷ xs) = AreFew loops xs
+AreFew loops (begins ∷ xs) = AreFew loops xs
+AreFew loops (next ∷ xs) = AreFew loops xs
+AreFew loops (ends ∷ xs) = AreFew loops xs

@@ -1,0 +1,125 @@
+//! Copies in unrolled loops, by the numbers of their paths: the copies of the last loop change first.
+
+ghost use Rattle.std.specs.Prelude.{◌≡◌, ◌≤◌, ◌+◌, ◌%◌, ◌<◌, ◌^◌, Some, pos, ◌+ℤ◌, unsigned_abs};
+ghost use Rattle.std.specs.List.{AllByRecursion};
+ghost use Rattle.dh_tree.specs.Elements.{bank_of, banks_of};
+ghost use Rattle.dh_tree.specs.Indices.{index_kind};
+ghost use Rattle.dh_tree.specs.Seen.{form_seen, all_terms_seen};
+ghost use Rattle.dh_tree.specs.Shapes.{most_banks, IsDim};
+ghost use Rattle.dh_meets.specs.Charges.{factors_of, index_in, indices_in};
+ghost use Rattle.dh_meets.specs.FewCopies.{most_copies};
+ghost use Rattle.dh_ports.specs.Banks.{copy_of, counters_in, path_at};
+ghost use Rattle.dh_ports.specs.Copies.{copies_round};
+
+use dh_shape::{IndexKind, classify};
+use dh_tree::{Counter, Dim, Expr, Typed};
+
+/// The copies of what stands in these loops.
+pub fn copies_in(loops: &[Counter]) -> u64
+    requires few { copies_round loops.now ≤ most_copies }
+    ensures { result ≡ copies_round loops.now }
+{
+    let mut copies: u64 = 1;
+    for counter in loops {
+        copies = copies.saturating_mul(counter.factor);
+    }
+    copies
+}
+
+/// The copy of the loop of an iterator at the path of a number; 0 where no loop has it.
+fn copy_at(loops: &[Counter], copies: u64, number: u64, iterator: u32) -> u64
+    requires copies { copies ≡ copies_round loops.now }
+    requires some { 1 ≤ copies }
+    ensures { result ≡ copy_of loops.now (path_at (factors_of loops.now) number) (Some iterator) }
+{
+    let mut stride = copies;
+    for counter in loops {
+        stride = stride / counter.factor;
+        if counter.entity == Some(iterator) {
+            return number / stride % counter.factor;
+        }
+    }
+    0
+}
+
+/// The size of a number with an offset added.
+fn size_of(number: u128, offset: i128) -> u128
+    requires few { number < 2 ^ 66 }
+    ensures { result ≡ unsigned_abs (pos number +ℤ offset) }
+{
+    let size = offset.unsigned_abs();
+    if offset >= 0 {
+        number + size
+    } else if size <= number {
+        number - size
+    } else {
+        size - number
+    }
+}
+
+/// A number with a copy and an offset added, its size modulo a number of banks.
+fn residue_of(low: u64, copy: u64, offset: i128, banks: u64) -> u64
+    requires banks { 1 ≤ banks }
+    ensures { result ≡ unsigned_abs (pos (low + copy) +ℤ offset) % banks }
+{
+    let size = size_of(u128::from(low) + u128::from(copy), offset);
+    (size % u128::from(banks)) as u64
+}
+
+/// Which of so many banks of a dimension an index tells at the path of a number.
+fn residue_at(
+    typed: &Typed,
+    loops: &[Counter],
+    copies: u64,
+    number: u64,
+    index: &Expr,
+    banks: u64,
+) -> u64
+    requires copies { copies ≡ copies_round loops.now }
+    requires some { 1 ≤ copies }
+    requires banks { 1 ≤ banks }
+    ensures { result ≡ index_in loops.now (path_at (factors_of loops.now) number)
+        (index_kind (counters_in typed.now) index.now.kind (form_seen index.now.form)) % banks }
+{
+    match classify(typed, index) {
+        IndexKind::Constant(value) => residue_of(0, 0, value, banks),
+        IndexKind::Iterator { entity, offset } => match typed.counter(entity) {
+            Some(counter) => {
+                let copy = copy_at(loops, copies, number, entity);
+                residue_of(counter.low, copy, offset, banks)
+            }
+            None => 0,
+        },
+        IndexKind::Dynamic => residue_of(0, 0, 0, banks),
+    }
+}
+
+/// The bank that indices tell at the path of a number, row-major over the dimensions. Where a dimension has one
+/// bank, its index tells nothing.
+pub fn bank_at(
+    typed: &Typed,
+    loops: &[Counter],
+    copies: u64,
+    number: u64,
+    dims: &[Dim],
+    indices: &[Expr],
+) -> u64
+    requires dims { AllByRecursion IsDim dims.now }
+    requires few { banks_of dims.now ≤ most_banks }
+    requires copies { copies ≡ copies_round loops.now }
+    requires some { 1 ≤ copies }
+    ensures { result ≡ bank_of dims.now (indices_in (counters_in typed.now) loops.now
+        (path_at (factors_of loops.now) number) (all_terms_seen indices.now)) }
+{
+    let mut bank: u64 = 0;
+    let mut count: u64 = 1;
+    for i in (0..dims.len()).rev() {
+        let banks = dims[i].banks;
+        if i < indices.len() && banks > 1 {
+            let residue = residue_at(typed, loops, copies, number, &indices[i], banks);
+            bank = residue * count + bank;
+        }
+        count = banks * count;
+    }
+    bank
+}

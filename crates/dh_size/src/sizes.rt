@@ -1,0 +1,97 @@
+//! The size of a whole program's plan.
+
+ghost use Rattle.std.specs.Prelude.{◌≡◌, IfOk};
+ghost use Rattle.std.specs.Option.{is_some};
+ghost use Rattle.dh_tree.specs.Memories.{table_of};
+ghost use Rattle.dh_tree.specs.Ready.{IsReady};
+ghost use Rattle.dh_tree.specs.Seen.{program_seen};
+ghost use Rattle.dh_tree.specs.Shapes.{IsProgramTable};
+ghost use Rattle.dh_events.specs.Accesses.{loops_in};
+ghost use Rattle.dh_events.specs.Noted.{all_seen};
+ghost use Rattle.dh_lengths.specs.SharedReads.{told};
+ghost use Rattle.dh_plan.specs.PlanSizes.{size_reported};
+ghost use Rattle.dh_size.specs.Sizes.{sizes_from, AreFew};
+ghost use Rattle.dh_size.specs.Summed.{summed};
+
+use crate::banks::access_size;
+use crate::commands::with_command;
+use dh_base::NoMemory;
+use dh_events::{Event, Notes, loops_round, note_body, note_rounds, note_stages};
+use dh_lengths::shared_reads;
+use dh_sound::ready_accesses_are_told;
+use dh_tree::{Counter, Typed, kept_programs_have_tables};
+use std::alloc::Global;
+
+/// What is reported of a size stops here.
+const GREATEST_SIZE: u64 = 1_000_000_000;
+
+/// Whether the access of a number shares an earlier read.
+fn does_share(shares: &[Option<usize>], number: usize) -> bool
+    ensures { result ≡ is_some (told shares.now number) }
+{
+    if number < shares.len() {
+        shares[number].is_some()
+    } else {
+        false
+    }
+}
+
+/// The sizes of all accesses among events.
+fn access_sizes(
+    alloc: Global,
+    typed: &Typed,
+    rounds: &[Vec<Counter>],
+    shares: &[Option<usize>],
+    events: &[Event<'_>],
+) -> Result<u64, NoMemory>
+    requires table { IsProgramTable (table_of (program_seen typed.now)) }
+    requires few { AreFew (loops_in rounds.now) (all_seen events.now) }
+    ensures { IfOk result (λ size. size ≡ summed 0 (sizes_from (program_seen typed.now)
+        (loops_in rounds.now) shares.now 0 (all_seen events.now))) }
+{
+    let mut sum: u64 = 0;
+    let mut number: usize = 0;
+    for event in events {
+        match *event {
+            Event::Touch { access, round, .. } => {
+                let loops = loops_round(rounds, round);
+                let shared = does_share(shares, number);
+                let size = access_size(alloc, typed, loops, access, shared)?;
+                sum = sum.saturating_add(size);
+                number = number + 1;
+            }
+            Event::Assigned { .. } => {}
+            Event::ArmBegins => {}
+            Event::ArmEnds => {}
+            Event::Begins => {}
+            Event::Next => {}
+            Event::Ends => {}
+        }
+    }
+    Ok(sum)
+}
+
+/// The size of the plan of a program that is ready; 1,000,000,000 where it is greater. A program is compiled where its
+/// size is at most 200,000.
+///
+/// # Errors
+///
+/// `NoMemory` where an allocation was refused.
+pub fn plan_size(alloc: Global, program: &Typed) -> Result<u64, NoMemory>
+    requires ready { IsReady (program_seen program.now) }
+    ensures { IfOk result (λ size. size ≡ size_reported (program_seen program.now)) }
+{
+    ready_accesses_are_told();
+    kept_programs_have_tables();
+    let body = &program.tree().body;
+    let shares = shared_reads(alloc, body)?;
+    let mut rounds = Vec::new(alloc);
+    note_rounds(alloc, &mut rounds, &[], body)?;
+    let mut stages = Vec::new(alloc);
+    note_stages(&mut stages, body)?;
+    let mut notes = Notes::new(alloc);
+    note_body(&mut notes, stages.as_slice(), body)?;
+    let events = notes.events.as_slice();
+    let accesses = access_sizes(alloc, program, rounds.as_slice(), shares.as_slice(), events)?;
+    Ok(with_command(accesses, body).min(GREATEST_SIZE))
+}
