@@ -1,0 +1,4 @@
+pub mod MemoriesRise
+pub mod TotalsWithin
+pub mod PortsCarried
+pub mod ShortBlocks
