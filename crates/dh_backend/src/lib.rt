@@ -5,4 +5,4 @@
 
 mod laws;
 
-pub use laws::{blocks_are_short, plans_keep_ports};
+pub use laws::{accepted_runs_go_on, blocks_are_short, faults_are_few, plans_keep_ports};
