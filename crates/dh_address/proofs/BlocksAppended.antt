@@ -2,10 +2,10 @@
 use Rattle.std.proofs.Common.{◌≡◌, ℕ, zero, suc, ◌+◌, ◌-◌, ◌<◌, ◌≤◌, ◌⊎◌, inl, inr, List, refl, sym, ap, ◌∙◌, subst, arith, length, drop, take, min, get_or}
 use Rattle.std.specs.Prelude.{[], ◌∷◌, ◌++◌, slice_index, reverse}
 use Rattle.std.proofs.Math.ListN.{get_or-append}
-use Rattle.std.proofs.Math.Seq.{get_or-append_seam, take-append_seam, drop-append_seam, drop-cons, drop-length}
+use Rattle.std.proofs.Math.Seq.{get_or-append_seam, take-append_seam, drop-append_seam, drop-cons}
 use Rattle.std.proofs.lemmas.Bool.{cases_lt}
 use Rattle.std.proofs.lemmas.Grind.{reverse_onto}
-use Rattle.std.proofs.lemmas.List.{append_assoc, append-nil, length-append, reverse-reverse}
+use Rattle.std.proofs.lemmas.List.{append_assoc, append-nil, length-append}
 use Rattle.dh_plan.specs.declared.operations.Operation.{Operation}
 use Rattle.dh_plan.specs.declared.operations.PlanBlock.{PlanBlock}
 use Rattle.dh_address.specs.Images.{operations_until}
@@ -63,14 +63,6 @@ starts_more bs c starts s h is = record { as_many = length-append starts (s ∷ 
 pub record HasCut (blocks : List PlanBlock) (k : ℕ) (os : List Operation) (found : List PlanBlock) : Type 0 where
   pub left : os ≡ operations_until blocks k
   pub right : found ≡ reverse (drop k blocks)
-
-pub cut_first : (blocks : List PlanBlock) (starts : List ℕ) (n : ℕ) (os : List Operation) → AreStarts blocks starts → os ≡ operations_until blocks (length blocks) → n ≡ length starts → HasCut blocks n os []
-cut_first blocks starts n os h is e =
-    subst (λ k. HasCut blocks k os []) (sym (e ∙ h.as_many)) (record { left = is; right = sym (ap (λ (bs : List PlanBlock). reverse bs) (drop-length blocks)) })
-
-pub cut_last : (blocks : List PlanBlock) (k : ℕ) (os : List Operation) (found : List PlanBlock) → k ≤ 0 → HasCut blocks k os found → reverse found ≡ blocks
-cut_last blocks zero os found l h = ap (λ (bs : List PlanBlock). reverse bs) h.right ∙ reverse-reverse blocks
-cut_last blocks (suc k) os found l h = absurd (omega (arith, l))
 
 -- one block more
 cut_turn : (blocks : List PlanBlock) (starts : List ℕ) (k : ℕ) (os : List Operation) (found : List PlanBlock) (at : ℕ) (rest own : List Operation) → AreStarts blocks starts

@@ -1,6 +1,6 @@
 -- Why a check is put down: the old operation is a check of the same fault, or a probe of it of which some value is no
 -- literal in range. So no check has a fault of literals alone.
-use Rattle.std.proofs.Common.{◌≡◌, ℕ, zero, suc, true, false, List, refl, sym, ap, ◌∙◌, subst}
+use Rattle.std.proofs.Common.{◌≡◌, ℕ, suc, true, false, List, refl, sym, ap, ◌∙◌, subst}
 use Rattle.std.specs.Prelude.{Option, Some, None, [], ◌∷◌, slice_get}
 use Rattle.std.specs.List.{AllByRecursion}
 use Rattle.std.proofs.lemmas.List.{append_cancel_left}
@@ -17,7 +17,7 @@ use Rattle.dh_rows.specs.Readings.{is_plain}
 use Rattle.dh_rows.specs.MadeOperations.{IsMade, pushed}
 use Rattle.dh_address.specs.Pieces.{Around, Range, IsFormMade, new_number, new_or_none, ranges_in, ranges_of}
 use Rattle.dh_address.specs.Images.{IsImage, ArePieces, and_known, around_block, operations_until}
-use Rattle.dh_address.proofs.PiecesBy.{GrowsBy, AllowsCheck, by_on, by_self, checked_by, value_by, access_by, range_literal}
+use Rattle.dh_address.proofs.PiecesBy.{GrowsBy, each_at, AllowsCheck, by_on, by_self, checked_by, value_by, access_by, range_literal}
 use Rattle.dh_address.proofs.PartsSeen.{until_block}
 use Rattle.dh_address.proofs.LiteralsFound.{IsLiteral, literal_ranges}
 
@@ -131,11 +131,6 @@ pieces_checks registers (o ∷ os) a old new numbers h =
     by_on (ChecksOf a.table a.operations a.first (o ∷ os)) (plain_of a.table a.operations a.first (o ∷ os)) old h.mid new
     (record { more = first.more; appended = first.appended; each = each_first a o os first.more first.each })
     (record { more = rest.more; appended = rest.appended; each = each_later a o os rest.more rest.each })
-
-each_at : (P : Operation → Type 0) (os : List Operation) (i : ℕ) (x : Operation) → AllByRecursion P os → slice_get os i ≡ Some x → P x
-each_at P [] i x h e = absurd (cc)
-each_at P (o ∷ os) zero x h e = let same : o ≡ x = cc in subst P same h.0
-each_at P (o ∷ os) (suc i) x h e = each_at P os i x h.1 e
 
 module _ (p q : PlainPlan) (h : IsImage p q) where
   -- each check of a block has a reason

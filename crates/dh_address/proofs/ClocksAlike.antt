@@ -168,8 +168,8 @@ module _ (p : PlainPlan) (none : p.views ≡ []) (tables : IsProgramTable p.tabl
     inputs =
         all_two IsKnownInTime (λ v. (SameClock v (renumbered old_first ns v)) × (old_clock v ≤ needed)) Input (operation_takes o)
         (λ v h t. record {
-            earlier = record { begun = h.known.begun; before = h.known.before; there = (let c = t.0 in let l = t.1 in omega (arith, c, l)) };
-            kind_is = h.known.kind_is ∙ sym h.kind_same;
+          earlier = record { begun = h.known.begun; before = h.known.before; there = (let c = t.0 in let l = t.1 in omega (arith, c, l)) };
+          kind_is = h.known.kind_is ∙ sym h.kind_same;
         })
         (all_two (λ v. IsKnownValue p none tables bs block front begins formed (length old) v (renumbered old_first ns v)) (λ v. kind_of_value old_first ks v ≡ kind_of_value old_first (kinds_of p block) v)
         IsKnownInTime (operation_takes o) (λ v h e. record { known = h; kind_same = e }) at.known at.kinds_same)
@@ -232,7 +232,7 @@ module _ (p : PlainPlan) (none : p.views ≡ []) (tables : IsProgramTable p.tabl
         ∙ (ap (λ (vs : List ℕ). there_at f' (greatest_of (map x.clock (one_or_none (new_or_none a o.guard) ++ vs)))) mapped
         ∙ (ap (λ (vs : List ℕ). there_at f' (greatest_of (map x.clock vs))) (new_list a o.guard (form_takes f))
         ∙ (ap (λ (cs : List ℕ). there_at f' (greatest_of cs))
-          (clocks_mapped x.clock old_clock (new_number a) (one_or_none o.guard ++ form_takes f) (all_join Timed (one_or_none o.guard) (form_takes f) guard_timed (form_timed f e)))
+        (clocks_mapped x.clock old_clock (new_number a) (one_or_none o.guard ++ form_takes f) (all_join Timed (one_or_none o.guard) (form_takes f) guard_timed (form_timed f e)))
         ∙ (form_same (greatest_of (map old_clock (one_or_none o.guard ++ form_takes f)))
         ∙ (ap (λ (c : ℕ). there_at f c) (sym (needed_of f e)) ∙ sym (time_of f e)))))))
 
@@ -321,12 +321,15 @@ module _ (p : PlainPlan) (none : p.views ≡ []) (tables : IsProgramTable p.tabl
           → AllBetween (λ m u. x.clock m ≤ needed) old last × (AllByRecursion (λ v. x.clock v ≤ needed) (one_or_none on) × AllByRecursion (λ v. x.clock v ≤ needed) (reach_takes t))
       of_access here last on t guards access grows =
           let whole = obeys_before x last all grows obeys in
-          let P = λ (v : ℕ). x.clock v ≤ needed in
-          ( added_by needed old last (adds_on x needed old here last guards.adds access.adds) grows at.begun
-          , ( on_bound last on whole (maybe_later x needed here last kind.Bool on access.adds.grows guards.stands)
-            , aimed_bound access.taken access.row access.select access.reach
-              (all_join P access.taken _ (all_map (IsNumberThere x needed a last) P access.taken (λ v k. (k whole).0.there) access.taken_there)
-              (all_join P (one_or_none access.select) _ (all_map (IsCountThere x needed a last) P (one_or_none access.select) (λ v k. (k whole).0.there) access.select_there) ((access.row_there whole).0.there, tt)))))
+          let P = λ (v : ℕ). x.clock v ≤ needed in (
+            added_by needed old last (adds_on x needed old here last guards.adds access.adds) grows at.begun,
+            (
+              on_bound last on whole (maybe_later x needed here last kind.Bool on access.adds.grows guards.stands),
+              aimed_bound access.taken access.row access.select access.reach
+                  (all_join P access.taken _ (all_map (IsNumberThere x needed a last) P access.taken (λ v k. (k whole).0.there) access.taken_there)
+                  (all_join P (one_or_none access.select) _ (all_map (IsCountThere x needed a last) P (one_or_none access.select) (λ v k. (k whole).0.there) access.select_there) ((access.row_there whole).0.there, tt))),
+            ),
+          )
         where
           aimed_bound : (vs : List ℕ) (row : ℕ) (select : Option ℕ) → t ≡ aimed r vs row select → AllByRecursion (λ v. x.clock v ≤ needed) (reach_takes (aimed r vs row select))
               → AllByRecursion (λ v. x.clock v ≤ needed) (reach_takes t)

@@ -1,47 +1,21 @@
--- The memories of a program have few elements, and so few rows in a bank; and products that wrap.
-use Rattle.std.proofs.Common.{◌≡◌, ℕ, zero, suc, ◌+◌, ◌*◌, ◌/◌, ◌%◌, ◌^◌, ◌<◌, ◌≤◌, List, refl, sym, ap, ◌∙◌, subst, arith, add-one}
-use Rattle.std.specs.Prelude.{Option, Some, None, [], ◌∷◌, slice_get, slice_index_or, length, drop}
-use Rattle.std.specs.List.{AllByRecursion}
-use Rattle.std.proofs.Math.Nat.{mul-le-mul, div-le_self}
+-- The memories of a program have few rows in a bank; and products that wrap.
+use Rattle.std.proofs.Common.{◌≡◌, ℕ, ◌+◌, ◌*◌, ◌/◌, ◌%◌, ◌^◌, ◌<◌, List, refl, sym, ap, ◌∙◌, arith, add-one}
+use Rattle.std.specs.Prelude.{◌∷◌, slice_index_or, length, drop}
 use Rattle.std.proofs.Math.Seq.{drop-cons}
 use Rattle.std.proofs.lemmas.Nat.{mul-mod_first}
 use Rattle.dh_tree.specs.declared.tables.Dim.{Dim}
 use Rattle.dh_tree.specs.declared.tables.MemEntry.{MemEntry}
-use Rattle.dh_tree.specs.Elements.{dims_at, entry_dims, rows_of}
-use Rattle.dh_tree.specs.Shapes.{IsDim, IsMemory, IsProgramTable}
-use Rattle.dh_tree.specs.Tables.{elements_of, elements_in}
-
-rows_within : (ds : List Dim) → rows_of ds ≤ elements_of ds
-rows_within [] = omega arith
-rows_within (d ∷ ds) = mul-le-mul (div-le_self d.size d.banks) (rows_within ds)
-
-entry_within : (table : List MemEntry) (m : ℕ) (e : MemEntry) → slice_get table m ≡ Some e → elements_of e.shape.dims ≤ elements_in table
-entry_within [] m e h = absurd (cc)
-entry_within (d ∷ table) zero e h = let same : d ≡ e = cc in subst (λ (x : MemEntry). elements_of x.shape.dims ≤ elements_in (d ∷ table)) same (omega arith)
-entry_within (d ∷ table) (suc m) e h = let rest = entry_within table m e h in omega (arith, rest)
-
-entry_dims_are : (table : List MemEntry) (m : ℕ) (e : MemEntry) → AllByRecursion IsMemory table → slice_get table m ≡ Some e → AllByRecursion IsDim e.shape.dims
-entry_dims_are [] m e h at = absurd (cc)
-entry_dims_are (d ∷ table) zero e h at = let same : d ≡ e = cc in subst (λ (x : MemEntry). AllByRecursion IsDim x.shape.dims) same h.0.shape.dims
-entry_dims_are (d ∷ table) (suc m) e h at = entry_dims_are table m e h.1 at
+use Rattle.dh_tree.specs.Elements.{dims_at, rows_of}
+use Rattle.dh_tree.specs.Shapes.{IsProgramTable}
+use Rattle.dh_tree.specs.Tables.{elements_of}
+use Rattle.dh_address.proofs.LiteralMeans.{dims_formed, elements_below, rows_few}
 
 module _ (table : List MemEntry) (m : ℕ) (h : IsProgramTable table) where
-  pub dims_are : AllByRecursion IsDim (dims_at table m)
-  dims_are = of (slice_get table m) refl
-    where
-      of : (e : Option MemEntry) → slice_get table m ≡ e → AllByRecursion IsDim (entry_dims e)
-      of None at = tt
-      of (Some e) at = entry_dims_are table m e h.entries at
-
-  pub elements_few : elements_of (dims_at table m) < 2 ^ 64
-  elements_few = of (slice_get table m) refl
-    where
-      of : (e : Option MemEntry) → slice_get table m ≡ e → elements_of (entry_dims e) < 2 ^ 64
-      of None at = omega arith
-      of (Some e) at = let within = entry_within table m e at in let most = h.elements in omega (arith, within, most)
-
-  pub rows_few : rows_of (dims_at table m) < 2 ^ 64
-  rows_few = let within = rows_within (dims_at table m) in let few = elements_few in omega (arith, within, few)
+  pub rows_below : rows_of (dims_at table m) < 2 ^ 64
+  rows_below =
+      let within = rows_few (dims_at table m) (dims_formed table m h.entries) in
+      let few = elements_below table m h in
+      omega (arith, within, few)
 
 -- a product so far times the rest
 pub product_turn : (count next size rest whole : ℕ) → next ≡ count * size % 2 ^ 64 → (count * (size * rest)) % 2 ^ 64 ≡ whole → (next * rest) % 2 ^ 64 ≡ whole

@@ -12,12 +12,12 @@ use Rattle.dh_rows.specs.MadeOperations.{bits_in, constant_made}
 use Rattle.dh_address.specs.declared.literals.LiteralPlace.{LiteralPlace}
 use Rattle.dh_address.specs.LiteralPlaces.{literal_places}
 use Rattle.dh_address.specs.Pieces.{Around, IsAim, IsAimBut, IsIndexAim, IsSpreadOut, IsAimed, aim_width, aimed, is_banked, new_number, new_or_none}
-use Rattle.dh_address.proofs.FewElements.{elements_few}
+use Rattle.dh_address.proofs.LiteralMeans.{elements_below}
 
 module _ (a : Around) (r : Reach) (dims : List Dim) (total width : ℕ) (banked : Bool) (old new : List Operation) (row : ℕ) (select : Option ℕ) (t : IsProgramTable a.table)
     (is : dims ≡ dims_at a.table r.memory) (total_is : total ≡ elements_of dims % 2 ^ 64) (width_is : width ≡ bits_in total) (banked_is : banked ≡ is_banked r) where
   wide : width ≡ aim_width (dims_at a.table r.memory)
-  wide = width_is ∙ ap bits_in (total_is ∙ (ap (λ (ds : List Dim). elements_of ds % 2 ^ 64) is ∙ mod-eq_of_lt (elements_few a.table r.memory t)))
+  wide = width_is ∙ ap bits_in (total_is ∙ (ap (λ (ds : List Dim). elements_of ds % 2 ^ 64) is ∙ mod-eq_of_lt (elements_below a.table r.memory t)))
 
   as_seen : (place : Option LiteralPlace) → place ≡ literal_places a.operations a.first dims r.indices 0 0
       → IsAimBut place width dims (map (new_number a) r.indices) banked old new row select → IsIndexAim a r old new row select

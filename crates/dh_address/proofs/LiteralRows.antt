@@ -21,7 +21,8 @@ use Rattle.dh_rows.specs.MadeOperations.{IsMade, pushed}
 use Rattle.dh_rows.proofs.Growing.{grown_length, grows_on, kept_there, was_there}
 use Rattle.dh_address.specs.Pieces.{Around, IsAccessMade, IsFormMade, IsPiece, new_number, new_or_none, ranges_of}
 use Rattle.dh_address.specs.Images.{ArePieces, and_known}
-use Rattle.dh_address.proofs.PiecesBy.{GrowsBy, AllowsCheck, by_on, checked_by, value_by, access_by}
+use Rattle.dh_address.proofs.ImageReadings.{at_last}
+use Rattle.dh_address.proofs.PiecesBy.{GrowsBy, each_at, AllowsCheck, by_on, checked_by, value_by, access_by}
 use Rattle.dh_address.proofs.PiecesGrow.{piece_grows, pieces_grow}
 
 -- Operations that come behind.
@@ -31,18 +32,9 @@ behind_at [] more j x l e = (j, e)
 behind_at (o ∷ a) more zero x l e = absurd (omega (arith, l))
 behind_at (o ∷ a) more (suc j) x l e = behind_at a more j x (omega (arith, l)) e
 
-each_at : (P : Operation → Type 0) (os : List Operation) (i : ℕ) (x : Operation) → AllByRecursion P os → slice_get os i ≡ Some x → P x
-each_at P [] i x h e = absurd (cc)
-each_at P (o ∷ os) zero x h e = let same : o ≡ x = cc in subst P same h.0
-each_at P (o ∷ os) (suc i) x h e = each_at P os i x h.1 e
-
 by_at : (P : Operation → Type 0) (a b : List Operation) → GrowsBy P a b → (j : ℕ) (x : Operation) → length a ≤ j → slice_get b j ≡ Some x → P x
 by_at P a b g j x l e =
     let found = behind_at a g.more j x l (subst (λ (os : List Operation). slice_get os j ≡ Some x) g.appended e) in each_at P g.more found.0 x g.each found.1
-
-at_end : (os : List Operation) (o : Operation) → slice_get (os ++ o ∷ []) (length os) ≡ Some o
-at_end [] o = refl
-at_end (p ∷ os) o = at_end os o
 
 -- Reads and writes.
 
@@ -103,7 +95,7 @@ module _ (a : Around) where
           let long : length new ≡ length last + 1 = ap (λ (os : List Operation). length os) made.0 ∙ length-append last _ in
           let at : j ≡ length last = omega (arith, within, long, m) in
           let two : Some x ≡ Some (record { guard = on; form = h })
-          = sym e ∙ (ap (λ k. slice_get new k) at ∙ (ap (λ (os : List Operation). slice_get os (length last)) made.0 ∙ at_end last _)) in
+          = sym e ∙ (ap (λ k. slice_get new k) at ∙ (ap (λ (os : List Operation). slice_get os (length last)) made.0 ∙ at_last last _)) in
           let same : x ≡ record { guard = on; form = h } = cc in
           let given : Some u ≡ Some t = sym own ∙ (sym (ap (λ (y : Operation). use_in y.form) same) ∙ used) in
           here cc
@@ -162,7 +154,7 @@ module _ (base : List Operation) where
           subst (λ m. IsKept mid m w) (sym (ap (λ m. slice_index (a.numbers ++ n ∷ []) m) last ∙ get_or-append_seam a.numbers n [] 0))
           (record {
             begun = let g = grown_length base list begun in let is = made.1 in omega (arith, g, is);
-            there = ap (λ m. slice_get mid m) made.1 ∙ (ap (λ (os : List Operation). slice_get os (length list)) made.0 ∙ at_end list _);
+            there = ap (λ m. slice_get mid m) made.1 ∙ (ap (λ (os : List Operation). slice_get os (length list)) made.0 ∙ at_last list _);
           })
 
   -- the read or write of some operation of a block, and what is known there

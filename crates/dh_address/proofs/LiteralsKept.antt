@@ -26,6 +26,7 @@ use Rattle.dh_address.specs.declared.literals.LiteralPlace.{LiteralPlace}
 use Rattle.dh_address.specs.LiteralPlaces.{literal_places}
 use Rattle.dh_address.specs.Pieces.{Around, IsAim, IsAimBut, IsAimed, IsAimedByIndices, aim_width, is_banked, new_number, new_or_none, ranges_in, ranges_of, waited}
 use Rattle.dh_address.specs.Images.{IsImage, around_block, operations_until}
+use Rattle.dh_address.proofs.ImageReadings.{at_last, behind_front}
 use Rattle.dh_address.proofs.PiecesGrow.{access_grows, guarded_grows, waited_grows}
 use Rattle.dh_address.proofs.PiecesQuiet.{IsRowOf, row_aimed}
 use Rattle.dh_address.proofs.PartsSeen.{until_block}
@@ -34,20 +35,6 @@ use Rattle.dh_address.proofs.LiteralRows.{HasUsePut, IsKept, IsUsePut, KeepsCons
 use Rattle.dh_address.proofs.ChecksPut.{checks_unliteral}
 
 -- Lists.
-
-behind_front : (xs ys : List Operation) (j : ℕ) → slice_get (xs ++ ys) (length xs + j) ≡ slice_get ys j
-behind_front [] ys j = ap (λ n. slice_get ys n) (none j)
-  where
-    none : (j : ℕ) → 0 + j ≡ j
-    none j = omega arith
-behind_front (x ∷ xs) ys j = ap (λ n. slice_get (x ∷ (xs ++ ys)) n) (next (length xs) j) ∙ behind_front xs ys j
-  where
-    next : (n j : ℕ) → suc n + j ≡ suc (n + j)
-    next n j = omega arith
-
-at_end : (os : List Operation) (o : Operation) → slice_get (os ++ o ∷ []) (length os) ≡ Some o
-at_end [] o = refl
-at_end (p ∷ os) o = at_end os o
 
 all_front : (P : ℕ → Type 0) (xs ys : List ℕ) → AllByRecursion P (xs ++ ys) → AllByRecursion P xs
 all_front P [] ys h = tt
@@ -148,7 +135,7 @@ module _ (p q : PlainPlan) (h : IsImage p q) (formed : (block : ℕ) → IsForme
   made_constant : (old new : List Operation) (width number : ℕ) → Grows base old → Grows (constant_made old width number).operations new → Grows new whole → IsConstantAt q c (length old)
   made_constant old new width number begun put grows = kept_constant (length old) (with_bits (kind.Unsigned width) number) (record {
     begun = grown_length base old begun;
-    there = kept_there new whole grows (length old) _ (kept_there _ new put (length old) _ (at_end old _));
+    there = kept_there new whole grows (length old) _ (kept_there _ new put (length old) _ (at_last old _));
   })
 
   aim_constants : (banked : Bool) (width row bank : ℕ) (old new : List Operation) (n : ℕ) (select : Option ℕ) → Grows base old → Grows new whole

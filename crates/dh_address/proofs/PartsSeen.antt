@@ -1,7 +1,6 @@
 -- What stands in a block that the pass makes: quiet operations, and the images of those of the old block.
 use Rattle.std.proofs.Common.{◌≡◌, ℕ, zero, suc, ◌⊎◌, inl, inr, List, refl, sym, ap, ◌∙◌, subst}
 use Rattle.std.specs.Prelude.{Some, [], ◌∷◌, ◌++◌, slice_get}
-use Rattle.std.specs.List.{AllByRecursion}
 use Rattle.std.proofs.lemmas.List.{append_assoc, append-nil, append_cancel_left}
 use Rattle.dh_plan.specs.declared.operations.Operation.{Operation}
 use Rattle.dh_plan.specs.declared.operations.OperationForm.{OperationForm}
@@ -9,6 +8,7 @@ use Rattle.dh_plan.specs.declared.operations.OperationForm.TheVariants.{Constant
 use Rattle.dh_plan.specs.declared.operations.PlanBlock.{PlanBlock}
 use Rattle.dh_plan.specs.PlainPlans.{PlainPlan, operations_in, block_operations}
 use Rattle.dh_address.specs.Images.{IsImage, around_block, operations_until}
+use Rattle.dh_address.proofs.PiecesBy.{each_at}
 use Rattle.dh_address.proofs.PiecesQuiet.{IsQuiet, SameForm, HasMain, IsMain, AreParts, PutsParts, pieces_parts}
 
 -- a block's operations lie between its start and the next one
@@ -65,11 +65,6 @@ back_seen (y ∷ xs) ys i x e = of (back_seen xs ys i x e)
     of : (j : ℕ) × (slice_get (xs ++ ys) j ≡ Some x) → (j : ℕ) × (slice_get (y ∷ (xs ++ ys)) j ≡ Some x)
     of (j, h) = (suc j, h)
 
-quiet_at : (os : List Operation) (i : ℕ) (x : Operation) → AllByRecursion IsQuiet os → slice_get os i ≡ Some x → IsQuiet x
-quiet_at [] i x h e = absurd (cc)
-quiet_at (o ∷ os) zero x h e = let same : o ≡ x = cc in subst IsQuiet same h.0
-quiet_at (o ∷ os) (suc i) x h e = quiet_at os i x h.1 e
-
 main_at : (f : OperationForm) (main : List Operation) (i : ℕ) (x : Operation) → IsMain f main → slice_get main i ≡ Some x → SameForm f x.form
 main_at f main i x h e = of f h
   where
@@ -103,7 +98,7 @@ part_seen [] more h j x e = let a : slice_get [] j ≡ Some x = subst (λ (l : L
 part_seen (o ∷ os) more h j x e = both (λ i a. part_seen os h.rest h.parts i x a) (seen_in_front h.first h.rest j x (subst (λ (l : List Operation). slice_get l j ≡ Some x) h.joined e))
   where
     own : ((i : ℕ) × (slice_get h.part.quiet i ≡ Some x)) ⊎ ((i : ℕ) × (slice_get h.part.main i ≡ Some x)) → IsQuiet x ⊎ IsImageOf (o ∷ os) x
-    own (inl (i, a)) = inl (quiet_at h.part.quiet i x h.part.all a)
+    own (inl (i, a)) = inl (each_at IsQuiet h.part.quiet i x h.part.all a)
     own (inr (i, a)) = inr (record { place = 0; old = o; there = refl; same = main_at o.form h.part.main i x h.part.image a })
 
     later : IsQuiet x ⊎ IsImageOf os x → IsQuiet x ⊎ IsImageOf (o ∷ os) x

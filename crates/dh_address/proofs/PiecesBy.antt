@@ -1,7 +1,7 @@
 -- What is put down of an operation but for its own image: plain operations, and checks of a probe. Whatever holds of
 -- these holds of all that comes behind.
-use Rattle.std.proofs.Common.{◌≡◌, ℕ, Bool, true, false, List, refl, sym, ap, ◌∙◌, subst}
-use Rattle.std.specs.Prelude.{Option, Some, None, [], ◌∷◌, ◌++◌}
+use Rattle.std.proofs.Common.{◌≡◌, ℕ, zero, suc, Bool, true, false, List, refl, sym, ap, ◌∙◌, subst}
+use Rattle.std.specs.Prelude.{Option, Some, None, [], ◌∷◌, ◌++◌, slice_get}
 use Rattle.std.specs.List.{AllByRecursion}
 use Rattle.std.proofs.lemmas.List.{append_assoc, append-nil}
 use Rattle.dh_value.specs.declared.kinds.Kind.{Kind}
@@ -22,6 +22,11 @@ pub record GrowsBy (P : Operation → Type 0) (old new : List Operation) : Type 
   pub more : List Operation
   pub appended : new ≡ old ++ more
   pub each : AllByRecursion P more
+
+pub each_at : (P : Operation → Type 0) (os : List Operation) (i : ℕ) (x : Operation) → AllByRecursion P os → slice_get os i ≡ Some x → P x
+each_at P [] i x h e = absurd (cc)
+each_at P (o ∷ os) zero x h e = let same : o ≡ x = cc in subst P same h.0
+each_at P (o ∷ os) (suc i) x h e = each_at P os i x h.1 e
 
 -- a range is of a constant that is in it
 abbrev pub range_literal : Around → Range → Option ℕ

@@ -1,6 +1,6 @@
 -- What a plan sees, sets, reaches and multiplies is told by the images of its operations alone, so of the plan that the
--- pass makes it is as of the old one. And all its accesses are of rows.
-use Rattle.std.proofs.Common.{◌≡◌, ℕ, suc, ◌+◌, ◌==◌, ◌&&◌, ◌⊎◌, ◌↔◌, inl, inr, max, Bool, true, false, List, refl, sym, ap, ◌∙◌, subst, arith, length}
+-- pass makes it is as of the old one.
+use Rattle.std.proofs.Common.{◌≡◌, ℕ, suc, ◌+◌, ◌==◌, ◌&&◌, ◌⊎◌, ◌↔◌, inl, inr, max, Bool, true, false, List, refl, sym, ap, ◌∙◌, arith, length}
 use Rattle.std.specs.Prelude.{Option, Some, None, [], ◌∷◌, ◌++◌, slice_get, if◌then◌else◌}
 use Rattle.std.specs.List.{AllByRecursion}
 use Rattle.dh_value.specs.declared.operators.Op.{Op}
@@ -13,40 +13,11 @@ use Rattle.dh_plan.specs.declared.operations.Reach.{Reach}
 use Rattle.dh_plan.specs.DoneProgram.{Sees, SetsRegister, block_products}
 use Rattle.dh_plan.specs.LegalSchedules.{is_product}
 use Rattle.dh_plan.specs.PlainPlans.{PlainPlan, operations_in, block_operations}
-use Rattle.dh_plan.specs.SoundPlans.{FormAddressed, use_in, use_charge, place_charge, operations_charge, blocks_charge, plan_charge}
+use Rattle.dh_plan.specs.SoundPlans.{use_in, use_charge, place_charge, operations_charge, blocks_charge, plan_charge}
 use Rattle.dh_rows.specs.Readings.{is_cheap}
 use Rattle.dh_address.specs.Images.{IsImage}
 use Rattle.dh_address.proofs.PiecesQuiet.{IsQuiet, is_quiet, IsRowOf, SameForm, HasMain, IsMain, AreParts}
 use Rattle.dh_address.proofs.PartsSeen.{block_parts, IsImageOf, part_seen, main_seen}
-
--- Forms.
-
-quiet_addressed : (f : OperationForm) → is_quiet f ≡ true → FormAddressed f
-quiet_addressed (Constant w) e = tt
-quiet_addressed (Old register) e = tt
-quiet_addressed (Compute o left right) e = tt
-quiet_addressed (Convert inner to) e = tt
-quiet_addressed (Select test a b) e = tt
-quiet_addressed (Check ok fault) e = tt
-quiet_addressed (Probe r fault) e = absurd (cc)
-quiet_addressed (Read r) e = absurd (cc)
-quiet_addressed (Write r value) e = absurd (cc)
-quiet_addressed (Set register value) e = tt
-
-as_form : (f g : OperationForm) → f ≡ g → FormAddressed g → FormAddressed f
-as_form f g e h = subst FormAddressed (sym e) h
-
-same_addressed : (f x : OperationForm) → SameForm f x → FormAddressed x
-same_addressed (Constant w) x e = as_form x _ e tt
-same_addressed (Old register) x e = as_form x _ e tt
-same_addressed (Compute o left right) x (m, (n, e)) = as_form x _ e tt
-same_addressed (Convert inner to) x (m, e) = as_form x _ e tt
-same_addressed (Select test a b) x (m, (n, (l, e))) = as_form x _ e tt
-same_addressed (Check ok fault) x (m, e) = as_form x _ e tt
-same_addressed (Probe r fault) x h = elim h [ ]
-same_addressed (Read r) x (t, (e, h)) = as_form x (Read t) e (h.row, h.in_row)
-same_addressed (Write r value) x (t, (m, (e, h))) = as_form x (Write t m) e (h.row, h.in_row)
-same_addressed (Set register value) x (m, e) = as_form x _ e tt
 
 -- Registers.
 
@@ -297,13 +268,6 @@ as_operation : (os : List Operation) (i : ℕ) (o : Operation) (f : OperationFor
 as_operation os i o f at is = at ∙ ap (λ (g : OperationForm). Some (record { guard = o.guard; form = g })) is
 
 module _ (p q : PlainPlan) (h : IsImage p q) where
-  pub forms_addressed : (block i : ℕ) (o : Operation) → slice_get (operations_in q block) i ≡ Some o → FormAddressed o.form
-  forms_addressed block i o at = of (part_seen (operations_in p block) (operations_in q block) (block_parts p q h block) i o at)
-    where
-      of : IsQuiet o ⊎ IsImageOf (operations_in p block) o → FormAddressed o.form
-      of (inl e) = quiet_addressed o.form e
-      of (inr s) = same_addressed s.old.form o.form s.same
-
   pub sees_same : (block register : ℕ) → Sees q block register ↔ Sees p block register
   sees_same block register = (back, on)
     where

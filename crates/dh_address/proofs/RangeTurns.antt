@@ -1,8 +1,7 @@
 -- Ranges one after the other: what the rest of them add from here is what all add from the start.
-use Rattle.std.proofs.Common.{◌≡◌, ℕ, zero, suc, ◌+◌, ◌%◌, ◌^◌, ◌<◌, ◌≤◌, List, refl, sym, ap, ◌∙◌, subst, arith, length, drop, min, get_or}
+use Rattle.std.proofs.Common.{◌≡◌, ℕ, zero, suc, ◌%◌, ◌^◌, ◌≤◌, List, refl, sym, ◌∙◌, subst, arith, length, drop, min}
 use Rattle.std.specs.Prelude.{Option, Some, [], ◌∷◌}
 use Rattle.std.proofs.Math.Nat.{mod-eq_of_lt}
-use Rattle.dh_base.proofs.ListItems.{at_item}
 use Rattle.dh_tree.specs.declared.tables.Dim.{Dim}
 use Rattle.dh_tree.specs.Elements.{dims_at, rows_of}
 use Rattle.dh_tree.specs.Shapes.{IsProgramTable}
@@ -10,12 +9,7 @@ use Rattle.dh_plan.specs.declared.operations.Reach.{Reach}
 use Rattle.dh_plan.specs.declared.operations.Operation.{Operation}
 use Rattle.dh_address.specs.Pieces.{Around, Range, IsGuarded, AreChecked, both_made, ranges_by, ranges_in, ranges_of}
 use Rattle.dh_address.specs.SeenAround.{IsGuardedOne, IsCheckedOne, range_of}
-use Rattle.dh_address.proofs.FewElements.{rows_few}
-
-pub ranges_turn : (dims : List Dim) (indices : List ℕ) (k : ℕ) (d : Dim) (i : ℕ) → k < length dims → k < length indices → d ≡ get_or dims k d → i ≡ get_or indices k i
-    → ranges_by (drop k dims) (drop k indices) ≡ range_of i d.size ∷ ranges_by (drop (k + 1) dims) (drop (k + 1) indices)
-ranges_turn dims indices k d i few less d_is i_is =
-    ap (λ (ds : List Dim). ranges_by ds (drop k indices)) (at_item dims k d few d_is) ∙ ap (λ (is : List ℕ). ranges_by (d ∷ drop (k + 1) dims) is) (at_item indices k i less i_is)
+use Rattle.dh_address.proofs.FewElements.{rows_below}
 
 pub ranges_end : (dims : List Dim) (indices : List ℕ) (k : ℕ) → min (length dims) (length indices) ≤ k → ranges_by (drop k dims) (drop k indices) ≡ []
 ranges_end [] indices zero l = refl
@@ -50,13 +44,6 @@ module _ (a : Around) where
   guarded_row guard value size rows old new on is h =
       subst (λ n. IsGuarded a guard (range_of value n ∷ []) old new on) is (guarded_then guard (range_of value size) [] old new on h new on (refl, refl))
 
-  pub guarded_turn : (guard first : Option ℕ) (r : Range) (now rest all : List Range) (start old mid : List Operation) (on : Option ℕ) → now ≡ r ∷ rest
-      → ((new : List Operation) (last : Option ℕ) → IsGuarded a guard now old new last → IsGuarded a first all start new last)
-      → IsGuardedOne a guard r old mid on
-      → (new : List Operation) (last : Option ℕ) → IsGuarded a on rest mid new last → IsGuarded a first all start new last
-  guarded_turn guard first r now rest all start old mid on is so h new last g =
-      so new last (subst (λ (rs : List Range). IsGuarded a guard rs old new last) (sym is) (guarded_then guard r rest old mid on h new last g))
-
   pub guarded_end : (guard first : Option ℕ) (now all : List Range) (start old : List Operation) → now ≡ []
       → ((new : List Operation) (last : Option ℕ) → IsGuarded a guard now old new last → IsGuarded a first all start new last) → IsGuarded a first all start old guard
   guarded_end guard first now all start old is so = so old guard (subst (λ (rs : List Range). IsGuarded a guard rs old old guard) (sym is) (refl, refl))
@@ -66,7 +53,7 @@ module _ (a : Around) where
       → size ≡ rows_of (dims_at a.table r.memory) % 2 ^ 64 → IsGuardedOne a guard (range_of row size) old new on → IsGuarded a guard (ranges_of a r) old new on
   guarded_in_row guard r row size old new on t is size_is h =
       subst (λ (o : Option ℕ). IsGuarded a guard (ranges_in (dims_at a.table r.memory) o r.indices) old new on) (sym is)
-      (guarded_row guard row size (rows_of (dims_at a.table r.memory)) old new on (size_is ∙ mod-eq_of_lt (rows_few a.table r.memory t)) h)
+      (guarded_row guard row size (rows_of (dims_at a.table r.memory)) old new on (size_is ∙ mod-eq_of_lt (rows_below a.table r.memory t)) h)
 
   -- Checks.
   module _ (guard : Option ℕ) (fault : ℕ) where
@@ -79,12 +66,6 @@ module _ (a : Around) where
     checked_row value size rows old new is h =
         subst (λ n. AreChecked a guard fault (range_of value n ∷ []) old new) is (checked_then (range_of value size) [] old new h new refl)
 
-    pub checked_turn : (r : Range) (now rest all : List Range) (start old mid : List Operation) → now ≡ r ∷ rest
-        → ((new : List Operation) → AreChecked a guard fault now old new → AreChecked a guard fault all start new)
-        → IsCheckedOne a guard fault r old mid → (new : List Operation) → AreChecked a guard fault rest mid new → AreChecked a guard fault all start new
-    checked_turn r now rest all start old mid is so h new g =
-        so new (subst (λ (rs : List Range). AreChecked a guard fault rs old new) (sym is) (checked_then r rest old mid h new g))
-
     pub checked_end : (now all : List Range) (start old : List Operation) → now ≡ []
         → ((new : List Operation) → AreChecked a guard fault now old new → AreChecked a guard fault all start new) → AreChecked a guard fault all start old
     checked_end now all start old is so = so old (subst (λ (rs : List Range). AreChecked a guard fault rs old old) (sym is) refl)
@@ -93,4 +74,4 @@ module _ (a : Around) where
         → size ≡ rows_of (dims_at a.table r.memory) % 2 ^ 64 → IsCheckedOne a guard fault (range_of row size) old new → AreChecked a guard fault (ranges_of a r) old new
     checked_in_row r row size old new t is size_is h =
         subst (λ (o : Option ℕ). AreChecked a guard fault (ranges_in (dims_at a.table r.memory) o r.indices) old new) (sym is)
-        (checked_row row size (rows_of (dims_at a.table r.memory)) old new (size_is ∙ mod-eq_of_lt (rows_few a.table r.memory t)) h)
+        (checked_row row size (rows_of (dims_at a.table r.memory)) old new (size_is ∙ mod-eq_of_lt (rows_below a.table r.memory t)) h)

@@ -25,15 +25,6 @@ use Rattle.dh_address.proofs.PieceForms.{image_of}
 use Rattle.dh_address.proofs.UsesAlike.{IsSameAccess, IsLed, use_led, part_addressed}
 use Rattle.dh_address.proofs.WordsPass.{SameWord, ReachesListed}
 
-same_or_not : (b c : ℕ) → (b ≡ c) ⊎ ((b ≡ c) → ⊥)
-same_or_not b c = elim (cases_lt b c) [ inl l ↦ inr (less l) | inr m ↦ elim (cases_lt c b) [ inl l ↦ inr (more l) | inr k ↦ inl (omega (arith, m, k)) ] ]
-  where
-    less : b < c → b ≡ c → ⊥
-    less l e = omega (arith, l, e)
-
-    more : c < b → b ≡ c → ⊥
-    more l e = omega (arith, l, e)
-
 module _ (p : PlainPlan) (none : p.views ≡ []) (sound : IsSound p) (bs : List PlanBlock) (images : (block : ℕ) → IsBlockImage p bs block) where
   abbrev q : PlainPlan
   q = image_of p bs

@@ -213,10 +213,6 @@ module _ (p : PlainPlan) (none : p.views ≡ []) (tables : IsProgramTable p.tabl
     pub memory : u.memory ≡ r.memory
     pub leads : (spot : Spot) → spot_of_reach s old_first ws r ≡ Some spot → ((place : ℕ) × IsListed spot.bank place r.banks) → spot_of_reach t first vs u ≡ Some spot
 
-  aimed_spot : (r : Reach) (taken : List ℕ) (row : ℕ) (select : Option ℕ)
-      → spot_of_reach t first vs (aimed r taken row select) ≡ spot_by_row p.table r.memory (bank_picked first vs r.banks select) (value_of (word_at first vs row))
-  aimed_spot r taken row select = refl
-
   chosen_some : (b : Bool) (v spot : Spot) → (if b then Some v else None) ≡ Some spot → (b ≡ true) × (v ≡ spot)
   chosen_some true v spot e = (refl, cc)
   chosen_some false v spot e = absurd (cc)
