@@ -4,3 +4,6 @@ pub mod PortsCarried
 pub mod ShortBlocks
 pub mod FaultsFew
 pub mod Unstuck
+pub mod OneThreads
+pub mod SmallTimes
+pub mod PartsPlay
