@@ -1,14 +1,17 @@
 -- All clocks and lengths of a least schedule without limits are small: those of its blocks, one after the other.
-use Rattle.std.proofs.Common.{◌≡◌, ℕ, zero, suc, ◌+◌, ◌<◌, ◌≤◌, ◌^◌, List, [], ◌∷◌, ◌++◌, length, get_or, take, drop, refl, sym, ap, ◌∙◌, subst, arith}
+use Rattle.std.proofs.Common.{◌≡◌, ℕ, zero, suc, ◌+◌, ◌<◌, ◌≤◌, ◌^◌, ◌%◌, List, [], ◌∷◌, ◌++◌, length, get_or, take, drop, refl, sym, ap, ◌∙◌, subst, arith}
 use Rattle.std.specs.Prelude.{slice_get}
+use Rattle.std.proofs.Math.Nat.{mod-eq_of_lt}
 use Rattle.std.specs.List.{AllByRecursion}
-use Rattle.std.proofs.lemmas.List.{take-append-drop, length-drop}
+use Rattle.std.proofs.lemmas.List.{take-append-drop, length-drop, length-map}
 use Rattle.dh_plan.specs.declared.operations.PlanBlock.{PlanBlock}
 use Rattle.dh_plan.specs.LegalSchedules.{Timing, IsLeastSchedule, clocks_in, least_clocks}
 use Rattle.dh_plan.specs.PlainPlans.{PlainPlan, operations_before, block_operations, operations_in, first_in, operation_count}
 use Rattle.dh_plan.specs.ScheduleLaws.{without_limits}
 use Rattle.dh_plan.proofs.LeastLengths.{same_clocks, blocks_within, clocks_long, has_least_lengths}
-use Rattle.dh_backend.specs.SuitedPlans.{AreUpTo, AreWords, TimesAreSmall}
+use Rattle.dh_backend.specs.NetParts.{times_seen, AreTimesOf}
+use Rattle.dh_backend.specs.SuitedPlans.{AreUpTo, AreWords, low_words, TimesAreSmall}
+use Rattle.dh_backend.specs.declared.times.Times.{Times}
 use Rattle.dh_backend.proofs.ShortBlocks.{least_clocks_early, blocks_are_short}
 
 by_places : (most : ℕ) (ns : List ℕ) → ((k : ℕ) → k < length ns → get_or ns k 0 ≤ most) → AreUpTo most ns
@@ -24,7 +27,8 @@ drop_twice zero n xs = let e : 0 + n ≡ n = omega arith in ap (λ k. drop k xs)
 drop_twice (suc m) n [] = no_more (suc m + n) ∙ sym (no_more n)
   where
     no_more : (k : ℕ) → ◌≡◌ {A = List ℕ} (drop k []) []
-    no_more k = refl
+    no_more zero = refl
+    no_more (suc k) = refl
 drop_twice (suc m) n (x ∷ xs) = let e : suc m + n ≡ suc (m + n) = omega arith in ap (λ k. drop k (x ∷ xs)) e ∙ drop_twice m n xs
 
 -- numbers that are so block by block
@@ -62,7 +66,43 @@ times_are_small plan t h = (
   omega (arith, is, short, few)),
 )
 
+-- one number more
+low_more : (ns : List ℕ) (i : ℕ) → i < length ns → low_words (take (suc i) ns) ≡ low_words (take i ns) ++ (get_or ns i 0 % 2 ^ 64) ∷ []
+low_more [] i h = absurd (omega (arith, h))
+low_more (n ∷ ns) zero h = refl
+low_more (n ∷ ns) (suc i) h = ap (λ xs. (n % 2 ^ 64) ∷ xs) (low_more ns i (omega (arith, h)))
+
+pub low_turn : (ns : List ℕ) (i : ℕ) (ws vs : List ℕ) → i < length ns → ws ≡ low_words (take i ns) → vs ≡ ws ++ (get_or ns i 0 % 2 ^ 64) ∷ [] → vs ≡ low_words (take (i + 1) ns)
+low_turn ns i ws vs h e p =
+    let next : suc i ≡ i + 1 = omega arith in
+    p ∙ (ap (λ xs. xs ++ (get_or ns i 0 % 2 ^ 64) ∷ []) e ∙ (sym (low_more ns i h) ∙ ap (λ k. low_words (take k ns)) next))
+
+-- words are their lowest bits
+low_same : (ns : List ℕ) → AreWords ns → low_words ns ≡ ns
+low_same [] h = refl
+low_same (n ∷ ns) h =
+    let x : n % 2 ^ 64 ≡ n = mod-eq_of_lt h.0 in
+    let y = low_same ns h.1 in
+    cc
+
 -- numbers up to one below 2^64 are words
 pub up_to_words : (most : ℕ) (ns : List ℕ) → most < 2 ^ 64 → AreUpTo most ns → AreWords ns
 up_to_words most [] small h = tt
 up_to_words most (n ∷ ns) small h = let l = h.0 in (omega (arith, l, small), up_to_words most ns small h.1)
+
+-- clocks and lengths of a schedule that are few are words
+pub times_told : (plan : PlainPlan) (timing : Timing) (t : Times) → IsLeastSchedule plan without_limits timing → t.clocks ≡ low_words timing.clocks → t.lengths ≡ low_words timing.lengths
+    → length t.clocks < 2 ^ 63 → AreTimesOf timing t
+times_told plan timing t h clocks lengths few =
+    let long = ap length clocks ∙ length-map timing.clocks (λ n. n % 2 ^ 64) in
+    let all = h.legal.all_clocks in
+    let small = times_are_small plan timing h in
+    let c = up_to_words (operation_count plan) timing.clocks (omega (arith, long, all, few)) small.0 in
+    let l = up_to_words (suc (operation_count plan)) timing.lengths (omega (arith, long, all, few)) small.1 in
+    let is_clocks = clocks ∙ low_same timing.clocks c in
+    let is_lengths = lengths ∙ low_same timing.lengths l in
+    record {
+      same = λ i. record { clocks = is_clocks i; lengths = is_lengths i };
+      clocks = subst AreWords (sym is_clocks) c;
+      lengths = subst AreWords (sym is_lengths) l;
+    }

@@ -1,5 +1,5 @@
 -- What a netlist asks of a plan beside its meaning: registers of 1 to 64 bits, and few faults and clocks.
-use Rattle.std.specs.Prelude.{◌≡◌, ℕ, suc, ◌<◌, ◌≤◌, ◌^◌, List, [], length}
+use Rattle.std.specs.Prelude.{◌≡◌, ℕ, suc, ◌<◌, ◌≤◌, ◌^◌, ◌%◌, List, [], length, map}
 use Rattle.std.specs.List.{AllByRecursion}
 use Rattle.dh_value.specs.Words.{IsKind}
 use Rattle.dh_tree.specs.PlainTrees.{Program}
@@ -34,6 +34,10 @@ AreWords ns = AllByRecursion (λ n. n < 2 ^ 64) ns
 -- numbers up to a greatest
 abbrev pub AreUpTo : (most : ℕ) → List ℕ → Type 0
 AreUpTo most ns = AllByRecursion (λ n. n ≤ most) ns
+
+-- the lowest 64 bits of each
+abbrev pub low_words : List ℕ → List ℕ
+low_words ns = map (λ n. n % 2 ^ 64) ns
 
 -- without limits a block is no longer than it has operations, and one clock more
 abbrev pub BlocksAreShort : PlainPlan → Type 0

@@ -1,12 +1,12 @@
 //! Schedules without limits in words of 64 bits: no clock is greater than there are operations.
 
-ghost use Rattle.std.specs.Prelude.{◌≡◌, IfOk};
+ghost use Rattle.std.specs.Prelude.{◌≡◌, ◌<◌, ◌^◌, length, IfOk};
 ghost use Rattle.dh_plan.specs.LegalSchedules.{IsLeastSchedule};
 ghost use Rattle.dh_plan.specs.Passes.{timing_seen};
 ghost use Rattle.dh_plan.specs.ScheduleLaws.{without_limits};
 ghost use Rattle.dh_plan.specs.SeenPlans.{plan_seen};
 ghost use Rattle.dh_backend.specs.NetParts.{AreTimesOf};
-ghost use Rattle.dh_backend.specs.SuitedPlans.{AreWords};
+ghost use Rattle.dh_backend.specs.SuitedPlans.{low_words};
 
 use dh_base::{Items, NoMemory};
 use dh_plan::{Plan, Schedule};
@@ -21,16 +21,19 @@ pub struct Times {
     pub lengths: Items<u64>,
 }
 
-// Numbers in words of 64 bits.
+// One more than the greatest number of 64 bits.
+const WORD: u128 = 18446744073709551616;
+
+// The lowest 64 bits of numbers.
 fn narrow(alloc: Global, numbers: &[u128]) -> Result<Items<u64>, NoMemory>
-    requires { AreWords numbers.now }
-    ensures { IfOk result (λ words. words ≡ numbers.now) }
+    ensures low { IfOk result (λ words. words ≡ low_words numbers.now) }
+    ensures few { IfOk result (λ words. length words < 2 ^ 63) }
 {
-    let mut words = Items::new(alloc);
+    let mut words = Vec::new(alloc);
     for number in numbers {
-        words.push(*number as u64)?;
+        words.push((*number % WORD) as u64)?;
     }
-    Ok(words)
+    Ok(Items::from_vec(words))
 }
 
 /// A least schedule without limits, in words of 64 bits.

@@ -1,7 +1,11 @@
+use Rattle.std.proofs.Common.{ap, ◌∙◌}
+use Rattle.dh_plan.specs.Passes.{timing_seen}
+use Rattle.dh_plan.specs.SeenPlans.{plan_seen}
+use Rattle.dh_backend.specs.SuitedPlans.{low_words}
+use Rattle.dh_backend.proofs.SmallTimes.{times_told}
 use Rattle.dh_backend.proofs.times.times_of.Goals as goal
 
-pub narrow-clocks-requires : goal.narrow-clocks-requires
-narrow-clocks-requires c = let h = c.as_slice in ?
-
-pub narrow-lengths-requires : goal.narrow-lengths-requires
-narrow-lengths-requires c = ?
+pub returns : goal.returns
+returns c =
+    times_told (plan_seen c.args.plan.now) (timing_seen c.args.schedule.now) _ c.requires (c.in_ok-clocks.ensures.low ∙ ap low_words c.as_slice.ensures)
+    (c.in_ok-lengths.ensures.low ∙ ap low_words c.as_slice-2.ensures) c.in_ok-clocks.ensures.few
