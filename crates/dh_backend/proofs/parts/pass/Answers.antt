@@ -3,11 +3,11 @@ use Rattle.dh_plan.specs.SeenPlans.{plan_seen}
 use Rattle.dh_backend.proofs.PartsPlay.{are_passed}
 use Rattle.dh_backend.proofs.parts.pass.Goals as goal
 
-pub schedule-least-requires : goal.schedule-least-requires
-schedule-least-requires c = λ block. (c.requires.sound.formed.blocks block).ordered
+pub schedule-requires : goal.schedule-requires
+schedule-requires c = λ block. (c.requires.sound.formed.blocks block).ordered
 
-pub times_of-times-requires : goal.times_of-times-requires
-times_of-times-requires c = c.in_ok-least.ensures
+pub times_of-requires : goal.times_of-requires
+times_of-requires c = c.in_ok-least.ensures
 
 pub bind-requires-clause-plan : goal.bind-requires-clause-plan
 bind-requires-clause-plan c = c.requires
