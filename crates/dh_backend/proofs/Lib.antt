@@ -6,4 +6,5 @@ pub mod FaultsFew
 pub mod Unstuck
 pub mod OneThreads
 pub mod SmallTimes
+pub mod WaysWithin
 pub mod PartsPlay

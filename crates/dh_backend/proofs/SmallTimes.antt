@@ -66,6 +66,18 @@ times_are_small plan t h = (
   omega (arith, is, short, few)),
 )
 
+-- no block takes no clock
+at_least_one : (ns : List ℕ) → ((k : ℕ) → k < length ns → 1 ≤ get_or ns k 0) → AllByRecursion (λ (n : ℕ). 1 ≤ n) ns
+at_least_one [] h = tt
+at_least_one (n ∷ ns) h = (h 0 (omega arith), at_least_one ns (λ k l. h (suc k) (omega (arith, l))))
+
+pub some_lengths : (plan : PlainPlan) (t : Timing) → IsLeastSchedule plan without_limits t → AllByRecursion (λ (n : ℕ). 1 ≤ n) t.lengths
+some_lengths plan t h =
+    at_least_one t.lengths (λ b l.
+    let within : b < length plan.blocks = let e = h.legal.all_lengths in omega (arith, e, l) in
+    let ends = (h.legal.blocks b within).ends in
+    omega (arith, ends))
+
 -- one number more
 low_more : (ns : List ℕ) (i : ℕ) → i < length ns → low_words (take (suc i) ns) ≡ low_words (take i ns) ++ (get_or ns i 0 % 2 ^ 64) ∷ []
 low_more [] i h = absurd (omega (arith, h))

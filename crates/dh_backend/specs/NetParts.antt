@@ -1,5 +1,6 @@
 -- What the netlist of a plan is made of: what the passes behind `unroll` make of it, and what they promise together.
-use Rattle.std.specs.Prelude.{◌≡◌}
+use Rattle.std.specs.Prelude.{◌≡◌, ◌≤◌}
+use Rattle.std.specs.List.{AllByRecursion}
 use Rattle.dh_tree.specs.PlainTrees.{Program}
 use Rattle.dh_net.specs.declared.nets.Net.{Net}
 use Rattle.dh_plan.specs.BoundPorts.{IsBinding}
@@ -11,7 +12,8 @@ use Rattle.dh_plan.specs.PlayedPlans.{PlaysPlan, PlaysItsProgram}
 use Rattle.dh_plan.specs.ScheduleLaws.{without_limits}
 use Rattle.dh_plan.specs.SeenGraphs.{IsGraphOf}
 use Rattle.dh_plan.specs.SeenPlans.{plan_seen}
-use Rattle.dh_backend.specs.OneThread.{IsOneThread}
+use Rattle.dh_flow.specs.StraightGraphs.{IsOneThread, NeverForks, StaysOneThread}
+use Rattle.dh_backend.specs.OneThread.{GoesWithin}
 use Rattle.dh_backend.specs.SuitedPlans.{FitsNets, AreWords}
 use Rattle.dh_backend.specs.declared.parts.NetParts.{NetParts}
 use Rattle.dh_backend.specs.declared.parts.Passed.{Passed}
@@ -31,9 +33,12 @@ pub record ArePassed (plan : PlainPlan) (m : Passed) : Type 0 where
   pub graph : IsGraphOf plan m.graph
   pub least : IsLeastSchedule plan without_limits (times_seen m.times)
   pub bound : IsBinding plan (times_seen m.times) (uses_seen m.binding)
-  -- in words of 64 bits
+  -- in words of 64 bits; no block takes no clock
   pub clocks : AreWords m.times.clocks
   pub lengths : AreWords m.times.lengths
+  pub some : AllByRecursion (λ n. 1 ≤ n) m.times.lengths
+  -- of a plan of one thread no way forks
+  pub thread : StaysOneThread plan m.graph
 
 -- all that a netlist is made of, with all that is asked of it
 pub record ArePartsOf (plan : PlainPlan) (parts : NetParts) : Type 0 where
@@ -43,6 +48,8 @@ pub record ArePartsOf (plan : PlainPlan) (parts : NetParts) : Type 0 where
   -- beside that, of a net with registers of 64 bits and of one thread
   pub fits : FitsNets (plan_seen parts.plan)
   pub one_thread : IsOneThread (plan_seen parts.plan).body
+  pub never_forks : NeverForks parts.passed.graph
+  pub goes_within : GoesWithin (plan_seen parts.plan) parts.passed.graph
 
 -- a net that plays the parts of a program's plan plays the program
 abbrev pub PartsPlayPrograms : Program → Type 0

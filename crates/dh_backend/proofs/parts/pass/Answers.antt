@@ -20,4 +20,4 @@ flow-requires c = c.requires.sound.formed
 
 pub returns : goal.returns
 returns c =
-    are_passed (plan_seen c.args.plan.now) (timing_seen c.in_ok-least.least) _ c.in_ok-least.ensures c.in_ok-times.ensures c.in_ok-binding.ensures c.in_ok-graph.ensures
+    are_passed (plan_seen c.args.plan.now) (timing_seen c.in_ok-least.least) _ c.in_ok-least.ensures c.in_ok-times.ensures c.in_ok-binding.ensures c.in_ok-graph.ensures.graph c.in_ok-graph.ensures.thread
