@@ -1,6 +1,6 @@
 -- A program within the limit on plans has few accesses, since each is counted in each copy in which it stands, and it
 -- stands in one copy at least: so its plan has few faults.
-use Rattle.std.proofs.Common.{◌≡◌, ℕ, zero, suc, ◌+◌, ◌*◌, ◌<◌, ◌≤◌, ◌^◌, nat_lt, Bool, true, false, if◌then◌else◌, List, [], ◌∷◌, ◌++◌, length, map, Option, Some, None, refl, sym, ap, ◌∙◌, subst, arith, length-append}
+use Rattle.std.proofs.Common.{◌≡◌, ℕ, zero, suc, ◌*◌, ◌≤◌, nat_lt, Bool, true, false, if◌then◌else◌, List, [], ◌∷◌, ◌++◌, length, Option, Some, None, refl, arith, length-append}
 use Rattle.std.proofs.lemmas.Bool.Decides.{nat_tests}
 use Rattle.std.specs.List.{AllByRecursion}
 use Rattle.dh_tree.specs.declared.trees.counters.Counter.{Counter}
@@ -10,9 +10,7 @@ use Rattle.dh_meaning.specs.Paths.{Path, outer_paths, copies_of, all_copies, pat
 use Rattle.dh_meaning.specs.Sites.{Around, nothing_around, in_arm, in_loop, loop_of}
 use Rattle.dh_meets.specs.Charges.{factors_of, paths_of}
 use Rattle.dh_meets.specs.SourceEvents.{Site, SourceAccess, SourceEvent, accesses, assigned, term_events, terms_events, maybe_events, write_events, site_of, events, command_events, other_events, groups_events, part_events, accesses_in, trace}
-use Rattle.dh_plan.specs.DoneProgram.{IsPlanOf}
-use Rattle.dh_plan.specs.Passes.{IsToCompile}
-use Rattle.dh_plan.specs.PlanSizes.{action_size, entity_banks_charged, access_size, accesses_size, plan_size_of, most_plan}
+use Rattle.dh_plan.specs.PlanSizes.{entity_banks_charged, accesses_size, plan_size_of}
 use Rattle.dh_sound.proofs.EventCounts.{events_counted}
 use Rattle.dh_backend.specs.SuitedPlans.{FaultsAreFew}
 

@@ -109,9 +109,17 @@ decls_rise n [] e = omega arith
 decls_rise n (d ∷ ds) e =
     let named : Some n ≡ d.name.entity = ap first_entity e in
     let rest : resolved_decls (n + 1) ds ≡ ds = ap (drop 1) e in
-    let more : n + 1 + length ds ≡ n + suc (length ds) = omega arith in
-    (n, (sym named, (omega arith, from_lower (suc n) (n + 1) (n + suc (length ds)) (map outside_memory ds) (omega arith)
-    (subst (λ (k : ℕ). Rise (n + 1) k (map outside_memory ds)) more (decls_rise (n + 1) ds rest)))))
+    let more : n + 1 + length ds ≡ n + suc (length ds) = omega arith in (
+      n,
+      (
+        sym named,
+        (
+          omega arith,
+          from_lower (suc n) (n + 1) (n + suc (length ds)) (map outside_memory ds) (omega arith)
+              (subst (λ (k : ℕ). Rise (n + 1) k (map outside_memory ds)) more (decls_rise (n + 1) ds rest)),
+        ),
+      ),
+    )
 
 no_functions : (fs : List Defined) (bs : List Breach) → unbuilt_functions fs ++ bs ≡ [] → fs ≡ []
 no_functions [] bs e = refl

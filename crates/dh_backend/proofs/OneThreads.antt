@@ -5,7 +5,7 @@ use Rattle.dh_meaning.specs.Core.{CorePhase, straightly, turning, looping, choos
 use Rattle.dh_meaning.specs.CoreOf.{core_of}
 use Rattle.dh_plan.specs.Correspondence.{Round}
 use Rattle.dh_plan.specs.DoneProgram.{has_lengths}
-use Rattle.dh_plan.specs.PlainPlans.{Node, block_node, turns_node, loop_node, choice_node, threads_node, Nodes, no_nodes, node_then, PlainPlan}
+use Rattle.dh_plan.specs.PlainPlans.{Node, block_node, turns_node, loop_node, choice_node, threads_node, Nodes, no_nodes, node_then}
 use Rattle.dh_plan.specs.PlanPhases.{Tie, AreNodesOf, IsNodeOf}
 use Rattle.dh_flow.specs.StraightGraphs.{IsOneThread, NodeIsOneThread}
 use Rattle.dh_backend.specs.OneThread.{PlansAreOneThread}

@@ -1,17 +1,16 @@
 -- What the passes promise together.
-use Rattle.std.proofs.Common.{◌≡◌, ℕ, List, length, sym, ap, subst, arith, ◌<◌, ◌^◌}
+use Rattle.std.proofs.Common.{List, length, sym, subst, ◌<◌, ◌^◌}
 use Rattle.std.specs.List.{AllByRecursion}
 use Rattle.dh_base.specs.declared.outcomes.FaultKind.{FaultKind}
 use Rattle.dh_base.specs.declared.places.Place.{Place}
 use Rattle.dh_value.specs.declared.kinds.Kind.{Kind}
 use Rattle.dh_value.specs.Words.{IsKind}
 use Rattle.dh_tree.specs.PlainTrees.{Program}
-use Rattle.dh_plan.specs.declared.schedules.Binding.{Binding}
 use Rattle.dh_plan.specs.BoundPorts.{IsBinding}
 use Rattle.dh_plan.specs.DoneProgram.{IsAddressingOf}
 use Rattle.dh_plan.specs.LegalSchedules.{Timing, IsLeastSchedule}
 use Rattle.dh_plan.specs.Passes.{MayBind, uses_seen}
-use Rattle.dh_plan.specs.PlainPlans.{Nodes, PlainPlan}
+use Rattle.dh_plan.specs.PlainPlans.{PlainPlan}
 use Rattle.dh_plan.specs.ScheduleLaws.{without_limits}
 use Rattle.dh_plan.specs.SeenGraphs.{IsGraphOf}
 use Rattle.dh_plan.specs.SeenPlans.{plan_seen}

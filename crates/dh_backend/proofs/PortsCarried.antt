@@ -1,6 +1,6 @@
 -- The plan of a program that keeps its ports keeps its own: a set of accesses of which any two may meet in the plan is
 -- one of the program, where each charges no less; and no access charges a memory that is not there.
-use Rattle.std.proofs.Common.{◌≡◌, ◌⊎◌, inl, inr, ℕ, zero, suc, ◌<◌, ◌≤◌, ◌==◌, ◌&&◌, max, Bool, true, false, IsTrue, if◌then◌else◌, List, [], ◌∷◌, length, map, Option, Some, None, option_map, refl, sym, ap, ◌∙◌, subst, arith}
+use Rattle.std.proofs.Common.{◌≡◌, inl, inr, ℕ, suc, ◌<◌, ◌≤◌, ◌==◌, ◌&&◌, max, Bool, true, false, if◌then◌else◌, List, [], ◌∷◌, length, Option, Some, None, option_map, refl, sym, ap, ◌∙◌, subst, arith}
 use Rattle.std.specs.Prelude.{slice_get}
 use Rattle.std.proofs.lemmas.List.{length-map}
 use Rattle.std.proofs.lemmas.Option.{slice_get-map, slice_get_cases}
@@ -8,22 +8,21 @@ use Rattle.std.proofs.lemmas.Bool.Decides.{nat_tests}
 use Rattle.dh_value.specs.declared.kinds.Kind.{Kind}
 use Rattle.dh_tree.specs.declared.tables.MemEntry.{MemEntry}
 use Rattle.dh_tree.specs.Elements.{entry_ports, ports_at}
-use Rattle.dh_tree.specs.Meets.{Meets, In, Apart, Together, total}
+use Rattle.dh_tree.specs.Meets.{Meets, Together, total}
 use Rattle.dh_tree.specs.Memories.{Memory, memories_of, entry_of, table_of}
 use Rattle.dh_tree.specs.PlainTrees.{Program}
-use Rattle.dh_tree.specs.Ready.{IsReady}
 use Rattle.dh_meets.specs.Charges.{charge}
 use Rattle.dh_meets.specs.MayMeet.{meets_in}
-use Rattle.dh_meets.specs.Ports.{memory_ports, ports_of, KeepsPorts, KeepsPortRules}
+use Rattle.dh_meets.specs.Ports.{memory_ports, ports_of, KeepsPorts}
 use Rattle.dh_plan.specs.declared.operations.Operation.{Operation}
 use Rattle.dh_plan.specs.declared.operations.OperationForm.{OperationForm}
 use Rattle.dh_plan.specs.declared.operations.OperationForm.TheVariants.{Constant, Old, Compute, Convert, Select, Check, Probe, Read, Write, Set}
 use Rattle.dh_plan.specs.declared.operations.PlanBlock.{PlanBlock}
 use Rattle.dh_plan.specs.declared.operations.Reach.{Reach}
-use Rattle.dh_plan.specs.DoneProgram.{MeetsAs, IsPlanOf, IsAddressingOf}
+use Rattle.dh_plan.specs.DoneProgram.{MeetsAs, IsPlanOf}
 use Rattle.dh_plan.specs.PlainPlans.{PlainPlan, first_in, block_operations, operations_in}
-use Rattle.dh_plan.specs.PlanKinds.{FormSuits, OperationSuits, IsFormedBlock, kinds_of}
-use Rattle.dh_plan.specs.SoundPlans.{use_in, place_charge, use_charge, operations_charge, blocks_charge, plan_charge, KeepsItsPorts}
+use Rattle.dh_plan.specs.PlanKinds.{FormSuits, IsFormedBlock, kinds_of}
+use Rattle.dh_plan.specs.SoundPlans.{use_in, place_charge, use_charge, operations_charge, blocks_charge, plan_charge}
 use Rattle.dh_backend.specs.PlanLaws.{PlansKeepPorts, AddressesKeepPorts}
 use Rattle.dh_backend.proofs.MemoriesRise.{IsOfEntity, memory_of_place}
 use Rattle.dh_backend.proofs.TotalsWithin.{both_true, has_in, less_total, none_total, chosen_in, within_total}
@@ -119,9 +118,9 @@ plans_keep_ports p plan ready rules of chosen together memory bank =
     elim (slice_get_cases (memories_of p) memory).1 [
       | inl (m, within, there, is) ↦ inside_kept p plan rules.ports of memory m there (memory_of_place p ready memory m there) chosen together bank
       | inr (past, none) ↦ (
-        let long = ap length of.table in
-        let mapped = length-map (memories_of p) entry_of in
-        outside_kept plan of.sound.formed.blocks memory (omega (arith, long, mapped, past)) chosen bank)
+          let long = ap length of.table in
+          let mapped = length-map (memories_of p) entry_of in
+          outside_kept plan of.sound.formed.blocks memory (omega (arith, long, mapped, past)) chosen bank)
     ]
 
 pub addresses_keep_ports : AddressesKeepPorts

@@ -1,14 +1,14 @@
 -- Without limits the clock of an operation is no greater than the number of operations before it, since each clock that
 -- an operation waits is one that a read takes. So a block is no longer than it has operations, and one clock more.
-use Rattle.std.proofs.Common.{◌≡◌, ◌⊎◌, inl, inr, ℕ, zero, suc, ◌+◌, ◌-◌, ◌<◌, ◌≤◌, max, Bool, true, false, if◌then◌else◌, List, [], ◌∷◌, ◌++◌, length, map, get_or, Option, Some, None, refl, sym, ap, ◌∙◌, subst, arith}
-use Rattle.std.specs.Prelude.{slice_get, slice_index}
+use Rattle.std.proofs.Common.{◌≡◌, inl, inr, ℕ, suc, ◌+◌, ◌-◌, ◌<◌, ◌≤◌, Bool, true, false, if◌then◌else◌, List, [], ◌∷◌, ◌++◌, length, map, get_or, Option, refl, sym, ap, subst, arith}
+use Rattle.std.specs.Prelude.{slice_get}
 use Rattle.std.proofs.Math.Seq.{get_or-append_seam}
 use Rattle.std.proofs.lemmas.List.{get_or_append_left, get_or_past}
 use Rattle.std.proofs.lemmas.Bool.{cases_lt}
 use Rattle.std.proofs.lemmas.Option.{slice_get_cases}
 use Rattle.dh_plan.specs.declared.operations.Operation.{Operation}
 use Rattle.dh_plan.specs.declared.operations.OperationForm.{OperationForm}
-use Rattle.dh_plan.specs.LegalSchedules.{is_read, there_at, there_from, value_clock, greatest_of, needed_clock, last_clock, least_clocks, least_length, block_clocks}
+use Rattle.dh_plan.specs.LegalSchedules.{is_read, there_at, there_from, value_clock, greatest_of, needed_clock, last_clock, least_clocks, least_length}
 use Rattle.dh_plan.specs.Ordered.{operation_takes}
 use Rattle.dh_plan.specs.PlainPlans.{PlainPlan, first_in, operations_in}
 use Rattle.dh_plan.proofs.LeastLegal.{length_one_more}
@@ -29,12 +29,12 @@ value_early : (os : List Operation) (cs : List ℕ) → length os ≡ length cs 
 value_early os cs long early k =
     elim (slice_get_cases os k).1 [
       | inl (o, within, there, is) ↦ (
-        let soon = there_soon o.form (get_or cs k 0) in
-        let low = early k in
-        subst (λ (x : Option Operation). there_from x (get_or cs k 0) ≤ length os) (sym there) (omega (arith, soon, low, within)))
+          let soon = there_soon o.form (get_or cs k 0) in
+          let low = early k in
+          subst (λ (x : Option Operation). there_from x (get_or cs k 0) ≤ length os) (sym there) (omega (arith, soon, low, within)))
       | inr (past, none) ↦ (
-        let zero_clock = get_or_past cs k 0 (omega (arith, past, long)) in
-        subst (λ (x : Option Operation). there_from x (get_or cs k 0) ≤ length os) (sym none) (omega (arith, zero_clock)))
+          let zero_clock = get_or_past cs k 0 (omega (arith, past, long)) in
+          subst (λ (x : Option Operation). there_from x (get_or cs k 0) ≤ length os) (sym none) (omega (arith, zero_clock)))
     ]
 
 greatest_within : (f : ℕ → ℕ) (most : ℕ) → ((n : ℕ) → f n ≤ most) → (ns : List ℕ) → greatest_of (map f ns) ≤ most

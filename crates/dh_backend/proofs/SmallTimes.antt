@@ -5,11 +5,11 @@ use Rattle.std.proofs.Math.Nat.{mod-eq_of_lt}
 use Rattle.std.specs.List.{AllByRecursion}
 use Rattle.std.proofs.lemmas.List.{take-append-drop, length-drop, length-map}
 use Rattle.dh_plan.specs.declared.operations.PlanBlock.{PlanBlock}
-use Rattle.dh_plan.specs.LegalSchedules.{Timing, IsLeastSchedule, clocks_in, least_clocks}
+use Rattle.dh_plan.specs.LegalSchedules.{Timing, IsLeastSchedule, clocks_in}
 use Rattle.dh_plan.specs.PlainPlans.{PlainPlan, operations_before, block_operations, operations_in, first_in, operation_count}
 use Rattle.dh_plan.specs.ScheduleLaws.{without_limits}
 use Rattle.dh_plan.proofs.LeastLengths.{same_clocks, blocks_within, clocks_long, has_least_lengths}
-use Rattle.dh_backend.specs.NetParts.{times_seen, AreTimesOf}
+use Rattle.dh_backend.specs.NetParts.{AreTimesOf}
 use Rattle.dh_backend.specs.SuitedPlans.{AreUpTo, AreWords, low_words, TimesAreSmall}
 use Rattle.dh_backend.specs.declared.times.Times.{Times}
 use Rattle.dh_backend.proofs.ShortBlocks.{least_clocks_early, blocks_are_short}
@@ -59,11 +59,11 @@ pub times_are_small : (plan : PlainPlan) → TimesAreSmall plan
 times_are_small plan t h = (
   block_by_block (operation_count plan) plan.blocks t.clocks h.legal.all_clocks (λ b l. block_clocks_up plan t h b l),
   by_places (suc (operation_count plan)) t.lengths (λ b l.
-  let within : b < length plan.blocks = let e = h.legal.all_lengths in omega (arith, e, l) in
-  let is = has_least_lengths plan t h b within in
-  let short = blocks_are_short plan b in
-  let few = blocks_within plan.blocks b within in
-  omega (arith, is, short, few)),
+      let within : b < length plan.blocks = let e = h.legal.all_lengths in omega (arith, e, l) in
+      let is = has_least_lengths plan t h b within in
+      let short = blocks_are_short plan b in
+      let few = blocks_within plan.blocks b within in
+      omega (arith, is, short, few)),
 )
 
 -- no block takes no clock

@@ -1,15 +1,15 @@
 -- Of a graph that never forks each way leads to what is there, since it is that of a plain graph whose ways do.
-use Rattle.std.proofs.Common.{◌≡◌, ℕ, zero, suc, ◌+◌, ◌<◌, ◌≤◌, List, [], ◌∷◌, length, Option, Some, None, refl, sym, ap, subst, arith}
+use Rattle.std.proofs.Common.{◌≡◌, ℕ, zero, suc, ◌<◌, List, [], ◌∷◌, length, Some, refl, sym, subst, arith}
 use Rattle.std.specs.Prelude.{slice_get}
 use Rattle.std.specs.List.{AllByRecursion}
-use Rattle.std.proofs.lemmas.Option.{slice_get_cases, slice_get_within}
+use Rattle.std.proofs.lemmas.Option.{slice_get_within}
 use Rattle.dh_plan.specs.declared.graphs.Decision.{Decision}
 use Rattle.dh_plan.specs.declared.graphs.Decision.TheVariants.{Go, Test', Count', Fork, Rest}
 use Rattle.dh_plan.specs.declared.graphs.Graph.{Graph}
 use Rattle.dh_plan.specs.declared.graphs.Group.{Group}
 use Rattle.dh_plan.specs.declared.graphs.State.{State}
 use Rattle.dh_plan.specs.PlainPlans.{PlainPlan}
-use Rattle.dh_plan.specs.SeenGraphs.{IsWay, OfFirst, IsStop, IsFlowOf, WayWithin, FlowWithin, IsGraphOf}
+use Rattle.dh_plan.specs.SeenGraphs.{IsWay, OfFirst, WayWithin, IsGraphOf}
 use Rattle.dh_plan.specs.Ways.{Way, to_state, by_flag, by_count, to_fork, to_end, Stop}
 use Rattle.dh_flow.specs.StraightGraphs.{DoesNotFork, NeverForks}
 use Rattle.dh_backend.specs.OneThread.{LeadsWithin, GoesWithin}

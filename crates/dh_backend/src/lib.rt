@@ -7,8 +7,6 @@ mod laws;
 mod parts;
 mod times;
 
-pub use laws::{
-    accepted_runs_go_on, parts_play_programs, plans_are_small, plans_keep_ports,
-};
+pub use laws::{accepted_runs_go_on, parts_play_programs, plans_are_small, plans_keep_ports};
 pub use parts::{NetParts, Passed, parts_of};
 pub use times::{Times, times_of};

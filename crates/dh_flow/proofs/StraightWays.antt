@@ -1,6 +1,6 @@
 -- Of a plan of one thread no way forks, and there is no group but the program's own. By recursion on nodes: the way into
 -- them does not, where the way past them does not; and what is told of the code's ways is told of these.
-use Rattle.std.proofs.Common.{◌≡◌, ℕ, suc, ◌+◌, ◌-◌, ◌==◌, Bool, true, false, if◌then◌else◌, List, [], ◌∷◌, ◌++◌, length, map, refl, sym, ap, ◌∙◌, subst}
+use Rattle.std.proofs.Common.{◌≡◌, ℕ, ◌+◌, ◌==◌, Bool, true, false, if◌then◌else◌, List, [], ◌∷◌, ◌++◌, length, map, refl, sym, ap, ◌∙◌, subst}
 use Rattle.std.specs.List.{AllByRecursion}
 use Rattle.std.proofs.lemmas.List.{length-map}
 use Rattle.dh_plan.specs.declared.graphs.Decision.{Decision}
@@ -9,14 +9,14 @@ use Rattle.dh_plan.specs.declared.graphs.Graph.{Graph}
 use Rattle.dh_plan.specs.declared.graphs.Group.{Group}
 use Rattle.dh_plan.specs.declared.graphs.State.{State}
 use Rattle.dh_plan.specs.PlainPlans.{Node, block_node, turns_node, loop_node, choice_node, threads_node, Nodes, no_nodes, node_then, PlainPlan}
-use Rattle.dh_plan.specs.PlanRuns.{Todo, over, nodes_then, turn_then, test_then, again_then, pick_then}
+use Rattle.dh_plan.specs.PlanRuns.{Todo, over, nodes_then, turn_then, again_then}
 use Rattle.dh_plan.specs.Ways.{Way, to_state, by_flag, by_count, to_fork, to_end}
 use Rattle.dh_flow.specs.declared.measuring.Entry.{Entry}
 use Rattle.dh_flow.specs.declared.measuring.Entry.TheVariants.{Nothing, State as at_state, Threads}
 use Rattle.dh_flow.specs.Footprints.{states_in, states_of, groups_in, groups_of, node_entry}
-use Rattle.dh_flow.specs.PlainFlows.{way_or, way_in, way_in_node, Placed, Forked, loop_way, choice_way, turn_way, states, node_placed, groups, node_forked, plan_states, own_group, plan_groups}
+use Rattle.dh_flow.specs.PlainFlows.{way_or, way_in, way_in_node, Placed, Forked, turn_way, states, node_placed, groups, node_forked, plan_states, own_group, plan_groups}
 use Rattle.dh_flow.specs.StraightGraphs.{IsOneThread, NodeIsOneThread, DoesNotFork, NeverForks}
-use Rattle.dh_flow.specs.ToldWays.{Told, told_go, told_test, told_count, told_fork, told_rest, decision_told, told, state_told, group_told, states_told, groups_told, placed_told, forked_told}
+use Rattle.dh_flow.specs.ToldWays.{Told, told_go, told_test, told_count, told_fork, told_rest, decision_told, told, group_told, states_told, groups_told, placed_told, forked_told}
 
 -- Plain ways.
 

@@ -1,5 +1,3 @@
-use Rattle.std.proofs.lemmas.Nat.{mod_below}
-use Rattle.std.proofs.Common.{◌≡◌, ◌∙◌, arith}
 use Rattle.dh_backend.proofs.SmallTimes.{low_turn}
 use Rattle.dh_backend.proofs.times.narrow.Goals as goal
 
