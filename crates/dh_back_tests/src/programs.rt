@@ -18,21 +18,24 @@ pub const OUTSIDE: &str = "decl A: ubit<32>[1]; let x = A[0] + 1 --- A[x] := 1;"
 /// A zero for its memory.
 pub const ZERO: &str = "{\"A\":{\"data\":[0]}}";
 
-/// A program of so many stores, of n to the element n, each in a logical step of its own.
+/// A program of so many stores, of n to the memory `An`, each in a logical step of its own.
 pub fn stores(alloc: Global, count: u64) -> Result<String, AllocError> {
-    let mut text = format!(in alloc; "decl A: ubit<32>[{count}];\n")?;
+    let mut text = String::new(alloc);
     for n in 0..count {
-        write!(text, "A[{n}] := {n} ---\n")?;
+        write!(text, "decl A{n}: ubit<32>[1];\n")?;
+    }
+    for n in 0..count {
+        write!(text, "A{n}[0] := {n} ---\n")?;
     }
     Ok(text)
 }
 
-/// A data file of so many zeros for one memory.
+/// A data file of a zero for each of these memories.
 pub fn zeros(alloc: Global, count: u64) -> Result<String, AllocError> {
-    let mut text = String::from_str(alloc, "{\"A\":{\"data\":[0")?;
-    for _ in 1..count {
-        text.push_str(",0")?;
+    let mut text = String::from_str(alloc, "{\"A0\":{\"data\":[0]}")?;
+    for n in 1..count {
+        write!(text, ",\"A{n}\":{{\"data\":[0]}}")?;
     }
-    text.push_str("]}}")?;
+    text.push_str("}")?;
     Ok(text)
 }

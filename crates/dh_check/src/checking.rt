@@ -197,9 +197,17 @@ fn ready_tree(alloc: Global, tree: Tree, forms: Forms) -> Result<Typed, CheckFau
     requires written { IsWrittenIfBuilt (program_seen tree) }
     ensures { TellsTree forms (program_seen tree) result }
 {
-    built_for(forms, &tree)?;
-    let named = resolve(alloc, tree)?;
-    ready_named(alloc, named)
+    match built_for(forms, &tree) {
+        Ok(()) => {
+            let named = resolve(alloc, tree)?;
+            ready_named(alloc, named)
+        }
+        Err(breach) => {
+            // a call, in the place of the drop of each part of the tree
+            tree.let_go();
+            Err(CheckFault::from(breach))
+        }
+    }
 }
 
 /// The passes over a tree whose names are resolved, before that over ports.

@@ -85,10 +85,14 @@ abbrev pub clocks_first : Option ℕ → Members → Members
 clocks_first None ms = ms
 clocks_first (Some clocks) ms = member (codes "clocks") (number (unsigned clocks)) ms
 
+-- how a run ended, with the contents of its memories
+abbrev pub of_run : Data → (outcome : List ℕ) → (steps : ℕ) → Members
+of_run memories outcome steps =
+    member (codes "memories") memories (member (codes "outcome") (string outcome) (member (codes "steps") (number (unsigned steps)) no_members))
+
 abbrev pub report_data : List MemEntry → List (List ℕ) → Ending → Data
 report_data table memories ending =
-    object (clocks_first ending.clocks (member (codes "memories") (object (outside_data table memories no_members))
-    (member (codes "outcome") (string (outcome_text table ending.outcome)) (member (codes "steps") (number (unsigned ending.steps)) no_members))))
+    object (clocks_first ending.clocks (of_run (object (outside_data table memories no_members)) (outcome_text table ending.outcome) ending.steps))
 
 -- with the end of the line
 abbrev pub report_text : List MemEntry → List (List ℕ) → Ending → List ℕ

@@ -1,6 +1,6 @@
 //! Writes a report: how a run stands and the contents of its outside memories, as a line of JSON.
 
-ghost use Rattle.std.specs.Prelude.{◌≡◌, ◌<◌, ◌≤◌, ◌^◌, false, [], map, length, min, ◌-◌, IfOk, IsOk, OnOk, string_bytes};
+ghost use Rattle.std.specs.Prelude.{◌≡◌, ◌<◌, ◌≤◌, ◌^◌, false, [], map, length, min, ◌-◌, IfOk, IsOk, OnOk, string_bytes, Some, None};
 ghost use Rattle.std.specs.List.{AllByRecursion};
 ghost use Rattle.serde_json.specs.Data.{object, no_members};
 ghost use Rattle.serde_json.specs.View.{view, members_view};
@@ -9,7 +9,7 @@ ghost use Rattle.dh_tree.specs.Tables.{FitsEntry, Fits, elements_of};
 ghost use Rattle.dh_value.specs.Words.{IsInteger, width_of};
 ghost use Rattle.dh_value.specs.declared.kinds.Kind.TheVariants as kind;
 ghost use Rattle.dh_data.specs.Reading.{IsHeld};
-ghost use Rattle.dh_data.specs.Reports.{report_text, report_data, outside_data, with_outside, memory_data, nested_data, element_data, number_of, is_signed, outcome_text as outcome_bytes, name_at, fault_name as fault_bytes};
+ghost use Rattle.dh_data.specs.Reports.{report_text, report_data, clocks_first, of_run, outside_data, with_outside, memory_data, nested_data, element_data, number_of, is_signed, outcome_text as outcome_bytes, name_at, fault_name as fault_bytes};
 
 use dh_base::{FaultKind, NoMemory, Outcome, Place};
 use dh_tree::{Dim, Kind, MemEntry, MemTable, Memories};
@@ -60,18 +60,45 @@ fn report_value(
     let memories = memories_value(alloc, table.as_slice(), m.lists())?;
     let outcome = outcome_text(alloc, table.as_slice(), ending.outcome)?;
     match ending.clocks {
-        Some(clocks) => json!(in alloc; {
-            "clocks": clocks,
-            "memories": memories,
-            "outcome": outcome,
-            "steps": ending.steps
-        }),
-        None => json!(in alloc; {
-            "memories": memories,
-            "outcome": outcome,
-            "steps": ending.steps
-        }),
+        Some(clocks) => counted_run(alloc, clocks, memories, outcome, ending.steps),
+        None => uncounted_run(alloc, memories, outcome, ending.steps),
     }
+}
+
+/// The report of a run that took clocks.
+fn counted_run(
+    alloc: Global,
+    clocks: u64,
+    memories: Value,
+    outcome: String,
+    steps: u64,
+) -> Result<Value, AllocError>
+    ensures { IfOk result (λ v. view v
+        ≡ object (clocks_first (Some clocks) (of_run (view memories) (string_bytes outcome) steps))) }
+{
+    json!(in alloc; {
+        "clocks": clocks,
+        "memories": memories,
+        "outcome": outcome,
+        "steps": steps
+    })
+}
+
+/// The report of a run that took none.
+fn uncounted_run(
+    alloc: Global,
+    memories: Value,
+    outcome: String,
+    steps: u64,
+) -> Result<Value, AllocError>
+    ensures { IfOk result (λ v. view v
+        ≡ object (clocks_first None (of_run (view memories) (string_bytes outcome) steps))) }
+{
+    json!(in alloc; {
+        "memories": memories,
+        "outcome": outcome,
+        "steps": steps
+    })
 }
 
 fn memories_value(

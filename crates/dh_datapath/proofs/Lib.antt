@@ -2,3 +2,11 @@ pub mod ShownValueWords
 pub mod BankTests
 pub mod BankChoices
 pub mod ListedBanks
+pub mod RegistersMade
+pub mod FormsMade
+pub mod RowsMade
+pub mod PartsByBlock
+pub mod PortsOfRows
+pub mod BlocksMade
+pub mod PlanWiresKept
+pub mod ShownAtClocks

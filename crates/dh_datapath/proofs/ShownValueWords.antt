@@ -16,7 +16,7 @@ use Rattle.dh_cells.specs.PlainCircuits.{PlainCircuit}
 use Rattle.dh_cells.specs.Settled.{Signals, IsWire, Adds, shown}
 use Rattle.dh_cells.specs.ShownValues.{operator_shown, converted_shown, choice_shown, guarded_shown, is_one}
 use Rattle.dh_cells.proofs.WiresMade.{adds_as}
-use Rattle.dh_datapath.specs.ValueWires.{AreValueWires, GuardIsThere, value_words, computed_shown, turned_shown, selected_shown, guarded_value_shown}
+use Rattle.dh_datapath.specs.ValueWires.{AreValueWires, GuardIsThere, SelectIsThere, value_words, computed_shown, turned_shown, selected_shown, guarded_value_shown}
 
 pub same_length : (d : PlainCircuit) (ks : List Kind) (ws : List ℕ) → AreValueWires d ks ws → length ks ≡ length ws
 same_length d [] [] h = refl
@@ -114,3 +114,7 @@ module _ (d : PlainCircuit) (first : ℕ) (ks : List Kind) (ws : List ℕ) (h : 
 pub guard_there : (first : ℕ) (ks : List Kind) (ws : List ℕ) (guard : Option ℕ) (number : ℕ) → guard ≡ Some number → GuardIsThere first ks ws guard
     → IsBetween first (first + length ws) number × (kind_of_value first ks number ≡ kind.Bool)
 guard_there first ks ws guard number is h = subst (λ (o : Option ℕ). GuardIsThere first ks ws o) is h
+
+-- and a select
+pub select_there : (first : ℕ) (ws : List ℕ) (select : Option ℕ) (number : ℕ) → select ≡ Some number → SelectIsThere first ws select → IsBetween first (first + length ws) number
+select_there first ws select number is h = subst (λ (o : Option ℕ). SelectIsThere first ws o) is h

@@ -1,2 +1,5 @@
 pub mod ValueWires
 pub mod ReadWires
+pub mod RegistersShown
+pub mod BlockWires
+pub mod ShownNumbers

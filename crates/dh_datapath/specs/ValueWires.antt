@@ -26,6 +26,11 @@ abbrev pub GuardIsThere : (first : ℕ) → List Kind → (wires : List ℕ) →
 GuardIsThere first ks ws None = Unit {0}
 GuardIsThere first ks ws (Some number) = IsBetween first (first + length ws) number × (kind_of_value first ks number ≡ kind.Bool)
 
+-- the number of a bank is a value that is there
+abbrev pub SelectIsThere : (first : ℕ) → (wires : List ℕ) → Option ℕ → Type 0
+SelectIsThere first ws None = Unit {0}
+SelectIsThere first ws (Some number) = IsBetween first (first + length ws) number
+
 -- the words that are shown of values
 abbrev pub value_words : List Kind → (wires : List ℕ) → Signals → List Word
 value_words ks ws x = words_shown ks ws x.wires

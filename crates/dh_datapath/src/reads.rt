@@ -1,16 +1,21 @@
 //! Wires for what reads show: of the banks that an access lists, that which its select shows, or else the first.
 //! Each is what the port holds there that the operation uses.
 
-ghost use Rattle.std.specs.Prelude.{◌≡◌, ◌<◌, ◌≤◌, ◌^◌, ◌↔◌, IsTrue};
+ghost use Rattle.std.specs.Prelude.{◌≡◌, ◌+◌, ◌<◌, ◌≤◌, ◌^◌, ◌↔◌, IsTrue};
 ghost use Rattle.dh_value.specs.Words.{IsWidth};
 ghost use Rattle.dh_plan.specs.BoundPorts.{port_among};
 ghost use Rattle.dh_lower.specs.ShownWords.{port_or_first};
 ghost use Rattle.dh_cells.specs.Settled.{IsWire, WireAdded};
 ghost use Rattle.dh_cells.specs.ShownValues.{match_shown};
+ghost use Rattle.dh_datapath.specs.BlockWires.{read_bits};
 ghost use Rattle.dh_datapath.specs.ReadWires.{HasPort, HavePorts, bank_choice_shown, bank_shown, banks_shown, selected_bank_shown};
+ghost use Rattle.dh_datapath.specs.ValueWires.{AreValueWires, SelectIsThere};
 
+use crate::values::{kind_of, wire_of};
 use dh_base::NoMemory;
 use dh_cells::{Circuit, push_choice, push_match};
+use dh_plan::Reach;
+use dh_value::{Kind, width};
 
 /// The port of a bank, among pairs of a bank and a port: 0 where there is no such pair.
 pub fn port_of_bank(ports: &[(u32, u32)], bank: u32) -> u32
@@ -163,4 +168,45 @@ pub fn push_selected_bank(
         others,
         default,
     )
+}
+
+/// Adds a wire for what a read shows, behind values of these kinds and wires: what the port holds that is used of the
+/// bank that it picks. Where it lists no bank that is 0.
+pub fn push_read(
+    circuit: &mut Circuit,
+    element: u8,
+    ports: &[(u32, u32)],
+    first: u64,
+    kinds: &[Kind],
+    wires: &[u64],
+    access: &Reach,
+) -> Result<u64, NoMemory>
+    requires width { IsWidth element }
+    requires ports { HavePorts circuit.old.table access.now.memory element ports.now
+        access.now.banks }
+    requires values { AreValueWires circuit.old kinds.now wires.now }
+    requires select { SelectIsThere first wires.now access.now.select }
+    ensures { WireAdded result circuit.old circuit.new element
+        (read_bits circuit.old.table ports.now first kinds.now wires.now access.now) }
+{
+    let Some((bank, others)) = access.banks.as_slice().split_first() else {
+        return circuit.push_constant(element, 0);
+    };
+    match access.select {
+        None => push_bank(circuit, element, access.memory, ports, bank.0),
+        Some(number) => {
+            let select_width = width(kind_of(first, kinds, number));
+            let select = wire_of(first, wires, number);
+            push_selected_bank(
+                circuit,
+                element,
+                access.memory,
+                ports,
+                select_width,
+                select,
+                *bank,
+                others,
+            )
+        }
+    }
 }

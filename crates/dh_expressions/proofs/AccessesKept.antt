@@ -16,12 +16,12 @@ use Rattle.dh_expressions.specs.declared.copies.AccessAt.{AccessAt}
 use Rattle.dh_expressions.specs.declared.drafts.Draft.{Draft}
 use Rattle.dh_expressions.specs.declared.scenes.Around.{Around}
 use Rattle.dh_expressions.specs.declared.scenes.Scene.{Scene}
-use Rattle.dh_expressions.specs.Copying.{AreCopies, AreNone}
+use Rattle.dh_expressions.specs.Copying.{AddsAllCopies, AreCopies, AreNone}
 use Rattle.dh_expressions.specs.Drafted.{Begun, Extends, Fits, Names, Step, shown, tale, told_block}
 use Rattle.dh_expressions.specs.Evaluated.{Knows, View}
 use Rattle.dh_expressions.specs.Noted.{Notes, given_in, given_then, given_to, is_bare, is_bare_of, noted_in, touched_in, touched_of}
 use Rattle.dh_expressions.specs.Standings.{IsTouched, Standing}
-use Rattle.dh_expressions.specs.Touching.{IsNew, MakesCopies, TouchesAt}
+use Rattle.dh_expressions.specs.Touching.{AddsTouched, IsNew, MakesCopies, TouchesAt}
 use Rattle.dh_expressions.proofs.ListPlaces.{place_of_more, place_within, set_here, set_long, set_other, some_same, there}
 use Rattle.dh_expressions.proofs.Pushing.{at_seam, begun_later, extends_again, extends_self, in_front}
 
@@ -58,6 +58,7 @@ bare_within a number e = by (slice_get a.touched.items number) refl e
 
 pub touched_already : (scene : Scene) (around : Around) (s : Standing) (d : Draft) (a : Accesses) (number : ℕ) → is_bare a number ≡ false → TouchesAt scene around s d d a a number
 touched_already scene around s d a number e = record {
+  adds = inl refl;
   extends = extends_self d;
   quiet = λ x f b. refl;
   long = refl;
@@ -80,6 +81,7 @@ pub touched_first : (scene : Scene) (around : Around) (s : Standing) (d e k : Dr
     → t.fault ≡ fault → t.copies ≡ copies → t.given ≡ [] → after.touched.items ≡ slice_set before.touched.items number (Some t) → after.counts.items ≡ numbers
     → TouchesAt scene around s d k before after number
 touched_first scene around s d e k before after number fault copies numbers t bare named made fault_is copies_are given_none put counts = record {
+  adds = inr (t, added);
   extends = extends_again d e k (named_extends d e fault s.place named) made.extends;
   quiet = λ x f b. made.quiet x f (begun_later d e x (named_extends d e fault s.place named) b) ∙ named_quiet d e fault s.place named x;
   long = ap length put ∙ set_long before.touched.items number (Some t);
@@ -89,6 +91,13 @@ touched_first scene around s d e k before after number fault copies numbers t ba
   none = λ h. subst (λ (ns : List ℕ). AreNone ns) (sym counts) (made.none h);
 }
   where
+    added : AddsTouched d k scene around s before t
+    added = record {
+      middle = e;
+      names = subst (λ (n : ℕ). Names d e n s.place) (sym fault_is) named;
+      copies = λ scopes low. subst (λ (cs : List AccessAt). AddsAllCopies s.leader s.bank s.guards e k before.counts.items cs) (sym copies_are) (made.adds scopes low);
+    }
+
     within : number < length before.touched.items
     within = bare_within before number bare
 
@@ -113,6 +122,7 @@ touched_first scene around s d e k before after number fault copies numbers t ba
     newest m u same there =
         let own : u ≡ t = some_same u t (sym there ∙ (ap (λ n. touched_of (slice_get after.touched.items n)) same ∙ ap touched_of here)) in
         record {
+          adds = subst (λ (v : Touched). AddsTouched d k scene around s before v) (sym own) added;
           own = same;
           none = ap (λ (v : Touched). v.given) own ∙ given_none;
           is = λ none scopes low x f b. subst (λ (v : Touched). IsTouched x s v) (sym own) (record {
@@ -153,11 +163,11 @@ given_known given path value q n is = by (length given == path) refl is
     by false e is = inl is
     by true e is = ⊎_elim inl (λ p. inr (p.0 ∙ let same : length given ≡ path = grind (arith, nat_tests, e) in same, p.1)) (place_of_more given value n q is)
 
-noted_given : (o : Option Touched) (path value q n : ℕ) → given_to (noted_in o path value) q ≡ Some n → (given_to o q ≡ Some n) ⊎ ((q ≡ path) × (n ≡ value))
+pub noted_given : (o : Option Touched) (path value q n : ℕ) → given_to (noted_in o path value) q ≡ Some n → (given_to o q ≡ Some n) ⊎ ((q ≡ path) × (n ≡ value))
 noted_given None path value q n is = absurd (cc)
 noted_given (Some t) path value q n is = given_known t.given path value q n is
 
-noted_touched : (o : Option Touched) (path value : ℕ) (u : Touched) → noted_in o path value ≡ Some u → (t : Touched) × ((o ≡ Some t) × ((t.fault ≡ u.fault) × (t.copies ≡ u.copies)))
+pub noted_touched : (o : Option Touched) (path value : ℕ) (u : Touched) → noted_in o path value ≡ Some u → (t : Touched) × ((o ≡ Some t) × ((t.fault ≡ u.fault) × (t.copies ≡ u.copies)))
 noted_touched None path value u is = absurd (cc)
 noted_touched (Some t) path value u is = (t, (refl, (ap (λ (v : Touched). v.fault) same, ap (λ (v : Touched). v.copies) same)))
   where
@@ -165,7 +175,7 @@ noted_touched (Some t) path value u is = (t, (refl, (ap (λ (v : Touched). v.fau
     same = some_same _ u is
 
 module _ (before after : Accesses) (number path value : ℕ) (h : Notes before after number path value) where
-  place_noted : (m : ℕ) → (touched_in after m ≡ touched_in before m) ⊎ ((m ≡ number) × (touched_in after m ≡ noted_in (touched_in before m) path value))
+  pub place_noted : (m : ℕ) → (touched_in after m ≡ touched_in before m) ⊎ ((m ≡ number) × (touched_in after m ≡ noted_in (touched_in before m) path value))
   place_noted m = ⊎_elim own (λ other. inl (ap (λ os. touched_of (slice_get os m)) h.touched ∙ ap touched_of (set_other before.touched.items number m _ other))) (cases_eq m number)
     where
       within_or_past : (number < length before.touched.items) ⊎ (length before.touched.items ≤ number) → m ≡ number

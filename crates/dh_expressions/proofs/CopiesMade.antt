@@ -12,11 +12,12 @@ use Rattle.dh_value.specs.Operations.{binary_of, is_true, truth}
 use Rattle.dh_tree.specs.PlainTrees.{TermForm}
 use Rattle.dh_events.specs.Scopes.{IsLow}
 use Rattle.dh_events.specs.Tables.{numbered, with_number}
+use Rattle.dh_plan.specs.declared.operations.OperationForm.TheVariants.{Compute}
 use Rattle.dh_expressions.specs.declared.copies.AccessAt.{AccessAt}
 use Rattle.dh_expressions.specs.declared.drafts.Draft.{Draft}
 use Rattle.dh_expressions.specs.declared.scenes.Scene.{Scene}
-use Rattle.dh_expressions.specs.Copying.{AddsCopy, AddsLeader, AddsOther, AreCopies, AreNone, CopiesSoFar, Counts, DoneBy, Forgets, HasScopes, depends_at, IsCopy, JoinsGuards, JoinsLeader, MakesCopiesBy, forgotten, guard_put, leaders_at, with_guard}
-use Rattle.dh_expressions.specs.Drafted.{Begun, Computes, Extends, Fits, Step, holds, shown, tale}
+use Rattle.dh_expressions.specs.Copying.{AddsCopies, AddsCopy, AddsEither, AddsLeader, AddsOther, AreCopies, AreNone, CopiesSoFar, Counts, DoneBy, Forgets, HasScopes, IsCopy, JoinsGuards, JoinsLeader, MakesCopiesBy, depends_at, forgotten, guard_put, leaders_at, with_guard}
+use Rattle.dh_expressions.specs.Drafted.{Begun, Computes, Extends, Fits, Pushes, Step, holds, shown, tale}
 use Rattle.dh_expressions.specs.Levels.{counted}
 use Rattle.dh_expressions.specs.Numbers.{narrowed}
 use Rattle.dh_expressions.specs.Shown.{guard_of}
@@ -38,8 +39,10 @@ or_by : (a b : Bool) → (a || b) ≡ true → (a ≡ true) ⊎ (b ≡ true)
 or_by true b e = inl refl
 or_by false b e = inr e
 
-pub either_made : (d e : Draft) (one other n : ℕ) → Computes d e n (λ x. binary_of Either (shown x one) (shown x other)) → JoinsGuards d e (Some one) (Some other) (Some n)
-either_made d e one other n c = record {
+pub either_made : (d e : Draft) (one other n : ℕ) → Pushes d e n None (Compute Either one other) → Computes d e n (λ x. binary_of Either (shown x one) (shown x other))
+    → JoinsGuards d e (Some one) (Some other) (Some n)
+either_made d e one other n p c = record {
+  adds = (n, (refl, p));
   extends = c.extends;
   quiet = c.quiet;
   none = λ e. absurd (cc);
@@ -52,6 +55,7 @@ either_made d e one other n c = record {
 
 pub first_always : (d : Draft) (one other : Option ℕ) → one ≡ None → JoinsGuards d d one other None
 first_always d one other e = record {
+  adds = subst (λ (o : Option ℕ). AddsEither d d o other None) (sym e) (refl, refl);
   extends = extends_self d;
   quiet = λ x f b. refl;
   none = λ h. refl;
@@ -61,12 +65,17 @@ first_always d one other e = record {
 
 pub second_always : (d : Draft) (one other : Option ℕ) → other ≡ None → JoinsGuards d d one other None
 second_always d one other e = record {
+  adds = subst (λ (o : Option ℕ). AddsEither d d one o None) (sym e) (by one);
   extends = extends_self d;
   quiet = λ x f b. refl;
   none = λ h. refl;
   on = λ x f b h. refl;
   by = λ x f b h. inr (subst (λ (g : Option ℕ). holds x g) (sym e) refl);
 }
+  where
+    by : (one : Option ℕ) → AddsEither d d one None None
+    by None = (refl, refl)
+    by (Some one) = (refl, refl)
 
 abbrev guarded_by : AccessAt → Option ℕ → AccessAt
 guarded_by c g = record { leader = c.leader; bank = c.bank; place = c.place; guard = g }
@@ -114,7 +123,7 @@ guard_place copies at k g z e = by (slice_get copies at) refl e
         (λ other. inl (sym (set_other copies at k (guarded_by c g) other) ∙ e, other))
         (cases_eq k at)
 
-guard_long : (copies : List AccessAt) (at : ℕ) (g : Option ℕ) → length (with_guard copies at g) ≡ length copies
+pub guard_long : (copies : List AccessAt) (at : ℕ) (g : Option ℕ) → length (with_guard copies at g) ≡ length copies
 guard_long copies at g = by (slice_get copies at)
   where
     by : (o : Option AccessAt) → length (guard_put o copies at g) ≡ length copies
@@ -152,7 +161,7 @@ module _ (leader bank : ℕ → ℕ) where
           less l = omega (arith, l)
 
   -- a leader more
-  counted_more : (f : ℕ → ℕ) (n own b : ℕ) → leader n ≡ n → own ≡ bank n → n < 2 ^ 64 - 1 → ((b : ℕ) → f b ≡ leaders_at leader bank b n)
+  pub counted_more : (f : ℕ → ℕ) (n own b : ℕ) → leader n ≡ n → own ≡ bank n → n < 2 ^ 64 - 1 → ((b : ℕ) → f b ≡ leaders_at leader bank b n)
       → with_number f own (min (f own + 1) (2 ^ 64 - 1)) b ≡ leaders_at leader bank b (suc n)
   counted_more f n own b leads is few so = by (own == b) refl
     where
@@ -180,7 +189,7 @@ module _ (leader bank : ℕ → ℕ) where
           second false q e = refl
 
   -- no leader more
-  counted_still : (n b : ℕ) → (leader n ≡ n → ⊥) → leaders_at leader bank b n ≡ leaders_at leader bank b (suc n)
+  pub counted_still : (n b : ℕ) → (leader n ≡ n → ⊥) → leaders_at leader bank b n ≡ leaders_at leader bank b (suc n)
   counted_still n b other = ap (λ t. if t && (bank n == b) then suc (leaders_at leader bank b n) else leaders_at leader bank b n) (sym (differs (leader n) n other))
     where
       differs : (a b : ℕ) → (a ≡ b → ⊥) → (a == b) ≡ false
@@ -245,6 +254,7 @@ counts_more scene n form writes counts more b is added h = record {
 module _ (leader bank : ℕ → ℕ) (guards : List (Option ℕ)) where
   pub copies_first : (d : Draft) (numbers : List ℕ) → CopiesSoFar d d numbers numbers guards leader bank 0 []
   copies_first d numbers = record {
+    adds = (refl, (refl, refl));
     extends = extends_self d;
     quiet = λ x f b. refl;
     long = refl;
@@ -272,12 +282,30 @@ module _ (leader bank : ℕ → ℕ) (guards : List (Option ℕ)) where
     abbrev placed : Option ℕ → AccessAt
     placed o = record { leader = l; bank = b; place = narrowed (slice_index ms b); guard = o }
 
+    -- the copies so far and this one
+    added : AddsCopy d e copies more ms after n l b g → AddsCopies leader bank guards (suc n) old e numbers after more
+    added s = (
+      d,
+      (
+        ms,
+        (
+          copies,
+          (
+            h.adds,
+            subst (λ (o : Option ℕ). AddsCopy d e copies more ms after n (leader n) (bank n) o) guard
+                (subst (λ (m : ℕ). AddsCopy d e copies more ms after n (leader n) m g) at (subst (λ (m : ℕ). AddsCopy d e copies more ms after n m b g) is s)),
+          ),
+        ),
+      ),
+    )
+
     place_told : AreNone numbers → narrowed (slice_index ms b) ≡ narrowed (leaders_at leader bank (bank n) n)
     place_told none = ap narrowed (h.counts none b ∙ ap (λ m. leaders_at leader bank m n) at)
 
     -- where the path leads itself
     leads_itself : AddsLeader d e copies more ms after n l b g → CopiesSoFar old e numbers after guards leader bank (suc n) more
     leads_itself s = record {
+      adds = added (inl s);
       extends = subst (λ (k : Draft). Extends old k) (sym s.same) h.extends;
       quiet = subst (λ (k : Draft). (x : Step) → Fits x k → Begun x old → tale x k ≡ tale x old) (sym s.same) h.quiet;
       long = ap length s.copies_are ∙ (length-append copies _ ∙ (ap (λ m. m + 1) h.long ∙ add-one n));
@@ -344,6 +372,7 @@ module _ (leader bank : ℕ → ℕ) (guards : List (Option ℕ)) where
     -- where an earlier path leads it
     is_led : AddsOther d e copies more ms after n l b g → CopiesSoFar old e numbers after guards leader bank (suc n) more
     is_led s = record {
+      adds = added (inr s);
       extends = extends_again old d e h.extends s.joins.extends;
       quiet = λ x f s0. s.joins.quiet x f (begun_later old d x h.extends s0) ∙ h.quiet x (fits_before d e x s.joins.extends f) s0;
       long = long_now;
@@ -449,6 +478,7 @@ module _ (leader bank : ℕ → ℕ) (guards : List (Option ℕ)) where
   pub copies_made : (old d : Draft) (numbers ms after : List ℕ) (n : ℕ) (copies : List AccessAt) → n ≡ length guards → CopiesSoFar old d numbers ms guards leader bank n copies
       → Forgets ms after copies → MakesCopiesBy old d numbers after guards leader bank copies
   copies_made old d numbers ms after n copies all h gone = record {
+    adds = (ms, subst (λ (m : ℕ). AddsCopies leader bank guards m old d numbers ms copies) all h.adds);
     extends = h.extends;
     quiet = h.quiet;
     none = λ none b. ap (λ (f : ℕ → ℕ). f b) gone ∙ forgotten_none copies (numbered ms) b (by b none (leaders_some leader bank b n));

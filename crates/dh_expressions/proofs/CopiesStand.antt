@@ -11,7 +11,7 @@ use Rattle.dh_expressions.specs.declared.copies.AccessAt.{AccessAt}
 use Rattle.dh_expressions.specs.declared.drafts.Draft.{Draft}
 use Rattle.dh_expressions.specs.declared.scenes.Around.{Around}
 use Rattle.dh_expressions.specs.declared.scenes.Scene.{Scene}
-use Rattle.dh_expressions.specs.Copying.{AreCopies, Counts, HasScopes, MakesCopiesBy, banks_by, depends_at, leaders_by}
+use Rattle.dh_expressions.specs.Copying.{AddsAllCopies, AreCopies, Counts, HasScopes, MakesCopiesBy, banks_by, depends_at, leaders_by}
 use Rattle.dh_expressions.specs.Levels.{counted, leader_number, parts_from}
 use Rattle.dh_expressions.specs.Numbers.{narrowed}
 use Rattle.dh_expressions.specs.ReachedBanks.{TellsBank, bank_by, spans_number}
@@ -28,6 +28,9 @@ pub copies_stand : (scene : Scene) (around : Around) (memory : ℕ) (place : Pla
     → MakesCopiesBy old new numbers after around.guards.now (leaders_by around.levels.now flags) (banks_by extents around.levels.now own) copies
     → MakesCopies old new scene around numbers after (standing_at scene around memory place form writes) copies
 copies_stand scene around memory place form writes old new numbers after counts flags spans extents own copies same alike c tells m = record {
+  adds = λ scopes low.
+      subst (λ (leader : ℕ → ℕ). AddsAllCopies leader (standing_at scene around memory place form writes).bank around.guards.now old new numbers copies) (fun_ext (λ path. leader_is scopes low path))
+      (subst (λ (bank : ℕ → ℕ). AddsAllCopies (leaders_by around.levels.now flags) bank around.guards.now old new numbers copies) (fun_ext (λ path. bank_is path)) m.adds);
   extends = m.extends;
   quiet = m.quiet;
   none = m.none;

@@ -10,3 +10,4 @@ pub mod AccessesKept
 pub mod CopiesStand
 pub mod ElementsReached
 pub mod BankSpans
+pub mod PartsMade

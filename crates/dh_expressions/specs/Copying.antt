@@ -1,6 +1,7 @@
 -- The copies of an access. `leader` is for each path the first one with its key, `bank` the bank that is reached
 -- there, and `guards` are those of the paths.
 use Rattle.std.specs.Prelude.{◌≡◌, ◌⊎◌, ℕ, zero, suc, ◌+◌, ◌-◌, ◌<◌, ◌^◌, ◌==◌, ◌&&◌, ◌||◌, min, Bool, if◌then◌else◌, List, [], ◌∷◌, ◌++◌, length, slice_get, slice_index, slice_set, Option, Some, None}
+use Rattle.dh_value.specs.declared.operators.Op.TheVariants.{Either}
 use Rattle.dh_tree.specs.PlainTrees.{TermForm}
 use Rattle.dh_tree.specs.Seen.{program_seen}
 use Rattle.dh_meaning.specs.Bindings.{bindings_of}
@@ -8,12 +9,13 @@ use Rattle.dh_meets.specs.Charges.{element_depends}
 use Rattle.dh_events.specs.Accesses.{element_in}
 use Rattle.dh_events.specs.Scopes.{AreScopes, IsLow}
 use Rattle.dh_events.specs.Tables.{numbered, with_number}
+use Rattle.dh_plan.specs.declared.operations.OperationForm.TheVariants.{Compute}
 use Rattle.dh_expressions.specs.declared.banks.Span.{Span}
 use Rattle.dh_expressions.specs.declared.copies.AccessAt.{AccessAt}
 use Rattle.dh_expressions.specs.declared.drafts.Draft.{Draft}
 use Rattle.dh_expressions.specs.declared.paths.Level.{Level}
 use Rattle.dh_expressions.specs.declared.scenes.Scene.{Scene}
-use Rattle.dh_expressions.specs.Drafted.{Begun, Extends, Fits, Step, holds, tale}
+use Rattle.dh_expressions.specs.Drafted.{Begun, Extends, Fits, Pushes, Step, holds, tale}
 use Rattle.dh_expressions.specs.Levels.{counted, leader_number}
 use Rattle.dh_expressions.specs.Numbers.{narrowed}
 use Rattle.dh_expressions.specs.ReachedBanks.{spans_number}
@@ -73,17 +75,17 @@ pub record AreCopies (x : Step) (leader bank : ℕ → ℕ) (guards : List (Opti
 abbrev pub AreNone : List ℕ → Type 0
 AreNone numbers = (b : ℕ) → slice_index numbers b ≡ 0
 
--- the copies at all paths are made
-pub record MakesCopiesBy (old new : Draft) (numbers after : List ℕ) (guards : List (Option ℕ)) (leader bank : ℕ → ℕ) (copies : List AccessAt) : Type 0 where
-  pub extends : Extends old new
-  pub quiet : (x : Step) → Fits x new → Begun x old → tale x new ≡ tale x old
-  pub none : AreNone numbers → AreNone after
-  pub are : AreNone numbers → (x : Step) → Fits x new → Begun x old → AreCopies x leader bank guards (length guards) copies
-
 -- Inside: one copy after the other.
+
+-- nothing is added where one of them always holds, else one operation
+abbrev pub AddsEither : (old new : Draft) → (one other joined : Option ℕ) → Type 0
+AddsEither old new None other joined = (new ≡ old) × (joined ≡ None)
+AddsEither old new (Some one) None joined = (new ≡ old) × (joined ≡ None)
+AddsEither old new (Some one) (Some other) joined = (number : ℕ) × ((joined ≡ Some number) × Pushes old new number None (Compute Either one other))
 
 -- the guard of what is done where one of two is
 pub record JoinsGuards (old new : Draft) (one other joined : Option ℕ) : Type 0 where
+  pub adds : AddsEither old new one other joined
   pub extends : Extends old new
   pub quiet : (x : Step) → Fits x new → Begun x old → tale x new ≡ tale x old
   pub none : one ≡ None → joined ≡ None
@@ -125,6 +127,24 @@ abbrev pub AddsCopy : (old new : Draft) → (copies more : List AccessAt) → (n
 AddsCopy old new copies more numbers after number leader bank guard =
     AddsLeader old new copies more numbers after number leader bank guard ⊎ AddsOther old new copies more numbers after number leader bank guard
 
+-- the copies at the first n paths are made, one after the other
+abbrev pub AddsCopies : (leader bank : ℕ → ℕ) → (guards : List (Option ℕ)) → (n : ℕ) → (old new : Draft) → (numbers after : List ℕ) → (copies : List AccessAt) → Type 0
+AddsCopies leader bank guards zero old new numbers after copies = (new ≡ old) × ((after ≡ numbers) × (copies ≡ []))
+AddsCopies leader bank guards (suc n) old new numbers after copies =
+    (d : Draft) × ((ns : List ℕ) × ((cs : List AccessAt) × (AddsCopies leader bank guards n old d numbers ns cs × AddsCopy d new cs copies ns after n (leader n) (bank n) (guard_of guards n))))
+
+-- the same at all paths, whatever is counted then
+abbrev pub AddsAllCopies : (leader bank : ℕ → ℕ) → (guards : List (Option ℕ)) → (old new : Draft) → (numbers : List ℕ) → (copies : List AccessAt) → Type 0
+AddsAllCopies leader bank guards old new numbers copies = (after : List ℕ) × AddsCopies leader bank guards (length guards) old new numbers after copies
+
+-- the copies at all paths are made
+pub record MakesCopiesBy (old new : Draft) (numbers after : List ℕ) (guards : List (Option ℕ)) (leader bank : ℕ → ℕ) (copies : List AccessAt) : Type 0 where
+  pub adds : AddsAllCopies leader bank guards old new numbers copies
+  pub extends : Extends old new
+  pub quiet : (x : Step) → Fits x new → Begun x old → tale x new ≡ tale x old
+  pub none : AreNone numbers → AreNone after
+  pub are : AreNone numbers → (x : Step) → Fits x new → Begun x old → AreCopies x leader bank guards (length guards) copies
+
 -- the numbers when the banks of copies are forgotten
 abbrev pub forgotten : List AccessAt → (ℕ → ℕ) → ℕ → ℕ
 forgotten [] f = f
@@ -135,6 +155,7 @@ Forgets numbers after copies = numbered after ≡ forgotten copies (numbered num
 
 -- the copies at the first n paths, with the leaders counted on their banks
 pub record CopiesSoFar (old new : Draft) (numbers after : List ℕ) (guards : List (Option ℕ)) (leader bank : ℕ → ℕ) (n : ℕ) (copies : List AccessAt) : Type 0 where
+  pub adds : AddsCopies leader bank guards n old new numbers after copies
   pub extends : Extends old new
   pub quiet : (x : Step) → Fits x new → Begun x old → tale x new ≡ tale x old
   pub long : length copies ≡ n

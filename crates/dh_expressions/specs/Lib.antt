@@ -12,3 +12,6 @@ pub mod Reaching
 -- what functions inside the crate promise one another
 pub mod Multiples
 pub mod Touching
+-- which operations are put down
+pub mod MadeValues
+pub mod MadeTerms

@@ -7,6 +7,7 @@ ghost use Rattle.dh_plan.specs.declared.operations.OperationForm.TheVariants.{Pr
 ghost use Rattle.dh_tree.specs.Seen.{term_seen};
 ghost use Rattle.dh_expressions.specs.Drafted.{Pushes};
 ghost use Rattle.dh_expressions.specs.Evaluated.{lane_guard, source_at};
+ghost use Rattle.dh_expressions.specs.MadeTerms.{MadeRead, MadeWrite};
 ghost use Rattle.dh_expressions.specs.Noted.{given_by};
 ghost use Rattle.dh_expressions.specs.Reaching.{Finds, ReadsAt, StoresAt, reach_told};
 
@@ -122,8 +123,10 @@ pub fn push_read(
     memory: usize,
     aim: &Aim,
 ) -> Result<u64, NoMemory>
-    ensures { IfOk result (λ n. ReadsAt scene.now lane.now draft.old draft.new accesses.old
+    ensures means { IfOk result (λ n. ReadsAt scene.now lane.now draft.old draft.new accesses.old
         accesses.new (term_seen access.now) memory aim.now n) }
+    ensures made { IfOk result (λ n. MadeRead scene.now lane.now (term_seen access.now) memory
+        aim.now draft.old draft.new accesses.old accesses.new n) }
 {
     let number = aim.number;
     touch(
@@ -156,8 +159,10 @@ pub fn push_write(
     aim: &Aim,
     value: u64,
 ) -> Result<(), NoMemory>
-    ensures { OnOk result (StoresAt scene.now lane.now draft.old draft.new accesses.old
+    ensures means { OnOk result (StoresAt scene.now lane.now draft.old draft.new accesses.old
         accesses.new (term_seen access.now) memory aim.now value) }
+    ensures made { OnOk result (MadeWrite scene.now lane.now (term_seen access.now) memory aim.now
+        value draft.old draft.new accesses.old accesses.new) }
 {
     let number = aim.number;
     touch(

@@ -2,6 +2,7 @@
 //! off the loop's counter. No multiplier is used for it: a multiple is a sum of shifts.
 
 ghost use Rattle.std.specs.Prelude.{◌≡◌, ◌<◌, ◌≤◌, ◌/◌, ◌%◌, ◌^◌, true, false, IfOk};
+ghost use Rattle.dh_expressions.specs.MadeValues.{MadeBit, MadeIterator, MadeMultiple, MadeShifted, MadeSum};
 ghost use Rattle.dh_expressions.specs.Multiples.{AddsBit, IsCounterWidth, Multiplies, Sums, width_told};
 ghost use Rattle.dh_meaning.specs.Phases.{turn_count as turns_counted};
 ghost use Rattle.dh_expressions.specs.Evaluated.{GivesWhere, IsTurning, copy_in_turn, iterator_shown};
@@ -51,7 +52,8 @@ pub fn counter_width(count: u64) -> u8
 
 /// Adds a value of a kind, shifted left by so many bits.
 fn push_shifted(draft: &mut Draft, value: u64, by: u8) -> Result<u64, NoMemory>
-    ensures { IfOk result (λ n. by < 64 → Multiplies draft.old draft.new value n (2 ^ by)) }
+    ensures means { IfOk result (λ n. by < 64 → Multiplies draft.old draft.new value n (2 ^ by)) }
+    ensures made { IfOk result (λ n. MadeShifted value by draft.old draft.new n) }
 {
     if by == 0 {
         return Ok(value);
@@ -62,7 +64,8 @@ fn push_shifted(draft: &mut Draft, value: u64, by: u8) -> Result<u64, NoMemory>
 
 /// Adds the sum of a value and one that may lack.
 fn push_sum(draft: &mut Draft, sum: Option<u64>, value: u64) -> Result<u64, NoMemory>
-    ensures { IfOk result (λ n. Sums draft.old draft.new sum value n) }
+    ensures means { IfOk result (λ n. Sums draft.old draft.new sum value n) }
+    ensures made { IfOk result (λ n. MadeSum sum value draft.old draft.new n) }
 {
     match sum {
         Some(sum) => push_compute(draft, Op::Add, sum, value),
@@ -86,7 +89,8 @@ fn push_bit(
     factor: u64,
     by: u8,
 ) -> Result<Option<u64>, NoMemory>
-    ensures { IfOk result (λ more. AddsBit draft.old draft.new sum value factor by more) }
+    ensures means { IfOk result (λ more. AddsBit draft.old draft.new sum value factor by more) }
+    ensures made { IfOk result (λ more. MadeBit sum value by draft.old draft.new more) }
 {
     if !has_bit(factor, by) {
         return Ok(sum);
@@ -97,7 +101,8 @@ fn push_bit(
 
 /// Adds a multiple of a value of a kind.
 fn push_multiple(draft: &mut Draft, kind: Kind, value: u64, factor: u64) -> Result<u64, NoMemory>
-    ensures { IfOk result (λ n. 1 ≤ factor → Multiplies draft.old draft.new value n factor) }
+    ensures means { IfOk result (λ n. 1 ≤ factor → Multiplies draft.old draft.new value n factor) }
+    ensures made { IfOk result (λ n. MadeMultiple kind value draft.old draft.new n) }
 {
     let mut sum = None;
     for by in 0..64u8 {
@@ -128,8 +133,9 @@ pub fn push_iterator(
     held: Held,
     kind: Kind,
 ) -> Result<u64, NoMemory>
-    ensures { IfOk result (λ n. GivesWhere draft.old draft.new n (λ x. IsTurning x counter held
-        kind) (λ x. iterator_shown x counter held lane.now kind)) }
+    ensures means { IfOk result (λ n. GivesWhere draft.old draft.new n (λ x. IsTurning x counter
+        held kind) (λ x. iterator_shown x counter held lane.now kind)) }
+    ensures made { IfOk result (λ n. MadeIterator held kind draft.old draft.new n) }
 {
     let start = counter.low.wrapping_add(copy_of(counter, held, lane));
     if turn_count(counter.low, counter.high, counter.factor) <= 1 {

@@ -5,8 +5,10 @@ ghost use Rattle.dh_tree.specs.Seen.{program_seen, term_seen, terms};
 ghost use Rattle.dh_meaning.specs.CoreOf.{entity_number, known_of, memory_of as memory_found};
 ghost use Rattle.dh_expressions.specs.Evaluated.{AimsByIndices, AimsByRow, EvaluatesTerm, ShowsVariable};
 ghost use Rattle.dh_expressions.specs.Drafted.{Gives, shown};
+ghost use Rattle.dh_expressions.specs.MadeTerms.{MadeIndices, MadeNext, MadeRow, MadeTerm};
+ghost use Rattle.dh_expressions.specs.MadeValues.{MadeConverted, MadeExtended, MadeHeld, MadeLowestBit, MadeOperation, MadeShown, MadeVariable};
 ghost use Rattle.dh_expressions.specs.Reaching.{ReadsNext};
-ghost use Rattle.dh_expressions.specs.Shown.{applied_shown, converted_shown, extended_shown, held_shown, lowest_bit, register_at, variable_shown};
+ghost use Rattle.dh_expressions.specs.Shown.{applied_shown, converted_shown, extended_shown, held_shown, is_kept, lowest_bit, register_at, variable_shown};
 
 use crate::accesses::Accesses;
 use crate::drafts::{Draft, push_compute, push_constant, push_convert, push_old};
@@ -57,8 +59,9 @@ pub fn push_shown(
     current: &[Option<u64>],
     register: u64,
 ) -> Result<u64, NoMemory>
-    ensures { IfOk result (λ v. Gives draft.old draft.new v (λ x. variable_shown x current.now
-        register)) }
+    ensures means { IfOk result (λ v. Gives draft.old draft.new v (λ x. variable_shown x
+        current.now register)) }
+    ensures made { IfOk result (λ v. MadeShown current.now register draft.old draft.new v) }
 {
     match current.get(register as usize) {
         Some(given) => match *given {
@@ -78,8 +81,10 @@ pub fn push_variable(
     of: &Ref,
     kind: Kind,
 ) -> Result<u64, NoMemory>
-    ensures { IfOk result (λ n. ShowsVariable scene.now lane.now current.now draft.old draft.new n
-        (entity_number of.now.entity) kind) }
+    ensures means { IfOk result (λ n. ShowsVariable scene.now lane.now current.now draft.old
+        draft.new n (entity_number of.now.entity) kind) }
+    ensures made { IfOk result (λ n. MadeVariable scene.now lane.now current.now (entity_number
+        of.now.entity) kind draft.old draft.new n) }
 {
     let held = place_of(scene.held, of);
     match scene.program.counter(entity_of(of)) {
@@ -90,8 +95,10 @@ pub fn push_variable(
 
 /// Adds a value in an integer kind: nothing is done where it is a word of that kind already.
 pub fn push_converted(draft: &mut Draft, from: &Expr, value: u64, to: Kind) -> Result<u64, NoMemory>
-    ensures { IfOk result (λ v. Gives draft.old draft.new v (λ x. converted_shown (term_seen
+    ensures means { IfOk result (λ v. Gives draft.old draft.new v (λ x. converted_shown (term_seen
         from.now) to (shown x value))) }
+    ensures made { IfOk result (λ v. MadeConverted (is_kept (term_seen from.now) to) to value
+        draft.old draft.new v) }
 {
     if is_same(kind_found(from.kind), to) && !is_read(from) {
         return Ok(value);
@@ -101,8 +108,10 @@ pub fn push_converted(draft: &mut Draft, from: &Expr, value: u64, to: Kind) -> R
 
 /// Adds an operand, extended to an integer kind; as it is for Bool.
 pub fn push_extended(draft: &mut Draft, from: &Expr, value: u64, to: Kind) -> Result<u64, NoMemory>
-    ensures { IfOk result (λ v. Gives draft.old draft.new v (λ x. extended_shown (term_seen
+    ensures means { IfOk result (λ v. Gives draft.old draft.new v (λ x. extended_shown (term_seen
         from.now) to (shown x value))) }
+    ensures made { IfOk result (λ v. MadeExtended (term_seen from.now) to value draft.old draft.new
+        v) }
 {
     match to {
         Kind::Bool => Ok(value),
@@ -113,7 +122,9 @@ pub fn push_extended(draft: &mut Draft, from: &Expr, value: u64, to: Kind) -> Re
 
 /// Adds a truth that a memory held, as a word: its lowest bit.
 fn push_lowest_bit(draft: &mut Draft, value: u64) -> Result<u64, NoMemory>
-    ensures { IfOk result (λ v. Gives draft.old draft.new v (λ x. lowest_bit (shown x value))) }
+    ensures means { IfOk result (λ v. Gives draft.old draft.new v (λ x. lowest_bit (shown x
+        value))) }
+    ensures made { IfOk result (λ v. MadeLowestBit value draft.old draft.new v) }
 {
     let bit = push_convert(draft, value, Kind::Unsigned(1))?;
     let one = push_constant(draft, literal(Kind::Unsigned(1), false, 1))?;
@@ -122,8 +133,9 @@ fn push_lowest_bit(draft: &mut Draft, value: u64) -> Result<u64, NoMemory>
 
 /// Adds a value as a variable or a memory of a kind holds it.
 pub fn push_held(draft: &mut Draft, from: &Expr, value: u64, to: Kind) -> Result<u64, NoMemory>
-    ensures { IfOk result (λ v. Gives draft.old draft.new v (λ x. held_shown (term_seen from.now)
-        to (shown x value))) }
+    ensures means { IfOk result (λ v. Gives draft.old draft.new v (λ x. held_shown (term_seen
+        from.now) to (shown x value))) }
+    ensures made { IfOk result (λ v. MadeHeld (term_seen from.now) to value draft.old draft.new v) }
 {
     match to {
         Kind::Bool => {
@@ -147,8 +159,10 @@ pub fn push_operation(
     a: u64,
     b: u64,
 ) -> Result<u64, NoMemory>
-    ensures { IfOk result (λ v. Gives draft.old draft.new v (λ x. applied_shown op (term_seen
+    ensures means { IfOk result (λ v. Gives draft.old draft.new v (λ x. applied_shown op (term_seen
         left.now) (term_seen right.now) (shown x a) (shown x b))) }
+    ensures made { IfOk result (λ v. MadeOperation op (term_seen left.now) (term_seen right.now) a b
+        draft.old draft.new v) }
 {
     let to = extension(op, kind_found(left.kind), kind_found(right.kind));
     let x = push_extended(draft, left, a, to)?;
@@ -166,8 +180,10 @@ fn push_element(
     of: &Ref,
     aim: &Aim,
 ) -> Result<Valued, NoMemory>
-    ensures { IfOk result (λ r. ReadsNext scene.now lane.now draft.old draft.new accesses.old
+    ensures means { IfOk result (λ r. ReadsNext scene.now lane.now draft.old draft.new accesses.old
         accesses.new (term_seen access.now) of.now aim.now r) }
+    ensures made { IfOk result (λ r. MadeNext scene.now lane.now (term_seen access.now) of.now
+        aim.now draft.old draft.new accesses.old accesses.new r) }
 {
     let memory = memory_of(scene, of);
     let next = aim.number.saturating_add(1);
@@ -187,8 +203,10 @@ pub fn push_term(
     first: u32,
     value: &Expr,
 ) -> Result<Valued, NoMemory>
-    ensures { IfOk result (λ r. EvaluatesTerm scene.now lane.now current.now draft.old draft.new
-        accesses.old accesses.new first (term_seen value.now) r) }
+    ensures means { IfOk result (λ r. EvaluatesTerm scene.now lane.now current.now draft.old
+        draft.new accesses.old accesses.new first (term_seen value.now) r) }
+    ensures made { IfOk result (λ r. MadeTerm scene.now lane.now current.now (term_seen value.now)
+        draft.old draft.new accesses.old accesses.new first r.next r.value) }
 {
     let kind = kind_found(value.kind);
     match &value.form {
@@ -243,8 +261,10 @@ pub fn push_indices(
     first: u32,
     indices: &[Expr],
 ) -> Result<Aim, NoMemory>
-    ensures { IfOk result (λ aim. AimsByIndices scene.now lane.now current.now draft.old draft.new
-        accesses.old accesses.new first (terms (map term_seen indices.now)) aim) }
+    ensures means { IfOk result (λ aim. AimsByIndices scene.now lane.now current.now draft.old
+        draft.new accesses.old accesses.new first (terms (map term_seen indices.now)) aim) }
+    ensures made { IfOk result (λ aim. MadeIndices scene.now lane.now current.now (terms (map
+        term_seen indices.now)) draft.old draft.new accesses.old accesses.new first aim) }
 {
     let mut values = Items::new(scene.alloc);
     let mut number = first;
@@ -271,8 +291,10 @@ pub fn push_row(
     first: u32,
     row: &Expr,
 ) -> Result<Aim, NoMemory>
-    ensures { IfOk result (λ aim. AimsByRow scene.now lane.now current.now draft.old draft.new
-        accesses.old accesses.new first (term_seen row.now) aim) }
+    ensures means { IfOk result (λ aim. AimsByRow scene.now lane.now current.now draft.old
+        draft.new accesses.old accesses.new first (term_seen row.now) aim) }
+    ensures made { IfOk result (λ aim. MadeRow scene.now lane.now current.now (term_seen row.now)
+        draft.old draft.new accesses.old accesses.new first aim) }
 {
     let valued = push_term(scene, lane, current, accesses, draft, first, row)?;
     Ok(Aim {

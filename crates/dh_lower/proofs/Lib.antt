@@ -19,3 +19,5 @@ pub mod SilentPorts
 pub mod NetInStep
 pub mod NetSimulates
 pub mod StoreMakeable
+pub mod ReadNetMade
+pub mod ReadMakeable

@@ -34,7 +34,7 @@ use Rattle.dh_plan.specs.PlanRuns.{start_at, block_values}
 use Rattle.dh_plan.specs.SoundPlans.{IsOneOf, IsListed, use_in}
 use Rattle.dh_plan.proofs.ValuesAlike.{all_right}
 use Rattle.dh_lower.specs.PortUsers.{User, HasUser, Moment, user_asks, row_bits, SaysForm, SaysOperation, DrivesFor, DriveFor}
-use Rattle.dh_lower.specs.ShownWords.{port_bound, is_bank_listed, bank_or_first, in_ports, ReadsAreMade}
+use Rattle.dh_lower.specs.ShownWords.{port_bound, is_bank_listed, bank_or_first, if_listed, in_ports, ReadsAreMade}
 use Rattle.dh_lower.specs.StepFacts.{HasPortUsers, Acts, IsMoment}
 use Rattle.dh_lower.proofs.AsksMeant.{Asking, asking, read_asks, both}
 use Rattle.dh_lower.proofs.BoundPortFacts.{IsBound, bound_port}
@@ -98,6 +98,10 @@ listed_is bank place (b ∷ bs) h = elim h [
     or_true : (t u : Bool) → u ≡ true → (t || u) ≡ true
     or_true true u e = refl
     or_true false u e = e
+
+shows_if_listed : (bank place : ℕ) (banks : List (ℕ × ℕ)) (bits : ℕ) → IsListed bank place banks → if_listed banks bits ≡ bits
+shows_if_listed bank place [] bits h = absurd h
+shows_if_listed bank place (b ∷ bs) bits h = refl
 
 -- lists of ports
 pub no_clashes : (wires : List ℕ) (dss : List (List Driver)) → ((q : ℕ) (ds : List Driver) → slice_get dss q ≡ Some ds → has_clash wires ds ≡ false) → has_clashes wires dss ≡ false
@@ -247,7 +251,8 @@ module _ (plan : PlainPlan) (t : Timing) (u : Uses) (users : (port : ℕ) → Li
         let inside : q < length held = (let w = slice_get_within dss q ds.0 ds.1 in omega (arith, w, full)) in
         let place : first + i - first ≡ i = add-sub_cancel_left first i in
         let picked : bank_or_first r.banks bank ≡ bank = ap (λ (b : Bool). if b then bank else first_bank r.banks) (listed_is bank listed.0 r.banks listed.1) in
-        let look : (hs : List ℕ) → in_ports plan u hs block (first + i) r vs ≡ slice_index hs q = λ hs. (λ n. slice_index hs (port_bound plan u block (place n) (picked n) r)) in
+        let look : (hs : List ℕ) → in_ports plan u hs block (first + i) r vs ≡ slice_index hs q
+        = λ hs. ap (λ (n : ℕ). if_listed r.banks n) (λ n. slice_index hs (port_bound plan u block (place n) (picked n) r)) ∙ shows_if_listed bank listed.0 r.banks (slice_index hs q) listed.1 in
         let new : slice_index new_held q ≡ held_by plan.table wires bound.0 (served wires ds.0) memories (slice_index held q)
         = held_at plan.table wires dss (ports_of plan.table) memories held q ds.0 bound.0 ds.1 bound.1.there inside in
         look new_held ∙ (new ∙ by_served q bound.0 ds.0 v guard r acts bound.1.there user before

@@ -22,7 +22,7 @@ use Rattle.dh_plan.specs.LegalSchedules.{there_at, there_from, value_clock, grea
 use Rattle.dh_plan.specs.Ordered.{operation_takes, offsets_taken, one_or_none, IsBetween}
 use Rattle.dh_plan.specs.PlainPlans.{PlainPlan, first_in}
 use Rattle.dh_plan.proofs.ValuesAlike.{all_left, all_right, bank_same, word_same}
-use Rattle.dh_lower.specs.ShownWords.{bank_or_first, in_ports, port_bound, ReadsAreMade, IsAtClock}
+use Rattle.dh_lower.specs.ShownWords.{bank_or_first, if_listed, in_ports, port_bound, ReadsAreMade, IsAtClock}
 
 -- the greatest of numbers is no less than each
 greatest_is : (f : ℕ → ℕ) (ns : List ℕ) (c : ℕ) → greatest_of (map f ns) ≤ c → AllByRecursion (λ (n : ℕ). f n ≤ c) ns
@@ -161,5 +161,5 @@ ports_look_back plan u held block = record {
       let P = SameAt first ws vs in
       let behind = all_right P r.indices _ h in
       let last = all_right P (offsets_taken r.steps) _ behind in
-      ap (λ (bank : ℕ). slice_index held (port_bound plan u block (number - first) (bank_or_first r.banks bank) r)) (bank_same first ws vs r.banks r.select (all_left P (one_or_none r.select) _ last));
+      ap (λ (bank : ℕ). if_listed r.banks (slice_index held (port_bound plan u block (number - first) (bank_or_first r.banks bank) r))) (bank_same first ws vs r.banks r.select (all_left P (one_or_none r.select) _ last));
 }

@@ -11,3 +11,4 @@ pub mod StepLaws
 pub mod FitsLaws
 pub mod ExampleNets
 pub mod MadeNets
+pub mod ExampleSelects

@@ -51,10 +51,16 @@ is_bank_listed bank (b ∷ bs) = (b.0 == bank) || is_bank_listed bank bs
 abbrev pub bank_or_first : List (ℕ × ℕ) → (bank : ℕ) → ℕ
 bank_or_first banks bank = if is_bank_listed bank banks then bank else first_bank banks
 
+-- A read that lists no bank is in no step done, and uses no port: it shows 0.
+abbrev pub if_listed : List (ℕ × ℕ) → (bits : ℕ) → ℕ
+if_listed [] bits = 0
+if_listed (b ∷ bs) bits = bits
+
 -- in a net a read shows what the port holds that it uses of the bank that it picks
 abbrev pub in_ports : PlainPlan → Uses → (held : List ℕ) → (block : ℕ) → Look
 in_ports plan u held block number r ws =
-    slice_index held (port_bound plan u block (number - first_in plan block) (bank_or_first r.banks (bank_picked (first_in plan block) ws r.banks r.select)) r)
+    if_listed r.banks
+    (slice_index held (port_bound plan u block (number - first_in plan block) (bank_or_first r.banks (bank_picked (first_in plan block) ws r.banks r.select)) r))
 
 -- each read of a block that was made before a clock, and whose guard holds, shows its element
 pub record ReadsAreMade (s : StepStart) (look : Look) (first : ℕ) (os : List Operation) (clocks : List ℕ) (vs : List Word) (clock : ℕ) : Type 0 where

@@ -2,8 +2,10 @@
 
 ghost use Rattle.std.specs.Prelude.{◌≡◌, IfOk};
 ghost use Rattle.dh_tree.specs.Seen.{program_seen};
+ghost use Rattle.dh_events.specs.Noted.{all_seen};
 ghost use Rattle.dh_ports.specs.Scanned as scanned;
 ghost use Rattle.dh_ports.specs.Told.{IsToldBefore, JudgesPorts, TellsFirst, TellsPorts};
+ghost use Rattle.dh_ports.specs.Wholes.{happenings_of, AreEventsOf};
 
 use crate::accepted::Accepted;
 use crate::laws::{
@@ -14,7 +16,7 @@ use crate::ordering::keep_late;
 use crate::sharing::find_shared;
 use crate::spending::first_spent;
 use dh_base::{NoMemory, PassFault, Place, Rule};
-use dh_events::{Notes, note_body, note_stages};
+use dh_events::{Event, Notes, note_body, note_stages};
 use dh_tree::{Breach, Typed};
 use std::alloc::Global;
 
@@ -31,21 +33,21 @@ fn spent_at(place: Option<Place>) -> Option<Breach>
     }
 }
 
-/// The first breach of the rules on ports in a program's body, if there is one.
-fn first_breach(alloc: Global, typed: &Typed) -> Result<Option<Breach>, NoMemory>
+/// The first breach of the rules on ports, if there is one, by what happens in a program's body.
+fn first_among(
+    alloc: Global,
+    typed: &Typed,
+    events: &[Event<'_>],
+) -> Result<Option<Breach>, NoMemory>
     requires told { IsToldBefore (program_seen typed.now) }
-    ensures { IfOk result (λ first. TellsFirst (program_seen typed.now) first) }
+    requires seen { all_seen events.now ≡ happenings_of (program_seen typed.now) }
+    ensures { IfOk result (λ first. AreEventsOf (program_seen typed.now) events.now
+        → TellsFirst (program_seen typed.now) first) }
 {
     incidents_tell_sites();
     shared_reads_are_found();
     spent_ports_are_told();
     late_reads_are_told();
-    let body = &typed.tree().body;
-    let mut stages = Vec::new(alloc);
-    note_stages(&mut stages, body)?;
-    let mut notes = Notes::new(alloc);
-    note_body(&mut notes, stages.as_slice(), body)?;
-    let events = notes.events.as_slice();
     let shared = find_shared(alloc, events)?;
     let layout = layout_of(alloc, typed)?;
     let moves = all_moves(alloc, typed, &layout, events)?;
@@ -53,6 +55,20 @@ fn first_breach(alloc: Global, typed: &Typed) -> Result<Option<Breach>, NoMemory
     let mut kept = spent_at(spent);
     keep_late(alloc, &mut kept, events, moves.as_slice())?;
     Ok(kept)
+}
+
+/// The first breach of the rules on ports in a program's body, if there is one.
+fn first_breach(alloc: Global, typed: &Typed) -> Result<Option<Breach>, NoMemory>
+    requires told { IsToldBefore (program_seen typed.now) }
+    ensures { IfOk result (λ first. TellsFirst (program_seen typed.now) first) }
+{
+    let body = &typed.tree().body;
+    let mut stages = Vec::new(alloc);
+    note_stages(&mut stages, body)?;
+    let mut notes = Notes::new(alloc);
+    note_body(&mut notes, stages.as_slice(), body)?;
+    // the notes are dropped at one place: what comes of them is found in a function of its own
+    first_among(alloc, typed, notes.events.as_slice())
 }
 
 /// The answer for a program, by the first breach of the rules on ports, if there is one.

@@ -26,7 +26,6 @@ pub enum Loose<'a> {
 }
 
 /// What is made of a program.
-#[derive(Drop)]
 pub struct Made {
     /// The code of its commands.
     pub code: Code,
@@ -34,6 +33,18 @@ pub struct Made {
     pub phases: Vec<Phase>,
     /// The paths at which they are done.
     pub lanes: Vec<Lanes>,
+}
+
+/// A call, and not the drop of each list where it is dropped: that would stand in the proof of each such
+/// function.
+impl Drop for Made {
+    fn drop(self) {
+        let Made {
+            code: _code,
+            phases: _phases,
+            lanes: _lanes,
+        } = self;
+    }
 }
 
 /// A list of one phase.

@@ -27,9 +27,9 @@ returns-in-Ok-read_program-clause-comes g c =
     let P : Bool → Type 0 = λ u. IsProgram (g.F.Files.seen c.args.files.now) (interpreted u) c.args.file.now (program_seen c.in-Ok-read_program.accepted) in
     let Q : Tree → Type 0 = λ t. IsProgram (g.F.Files.seen c.args.files.now) (interpreted c.args.unchecked) c.args.file.now (program_seen t) in
     inr (
-      program_seen c.typed-in-Ok-read_program.result.now,
+      program_seen c.typed.result.now,
       (
-        subst Q (sym c.typed-in-Ok-read_program.ensures.typed) (subst P (sym c.if-unchecked.false) read.0),
+        subst Q (sym c.typed.ensures.typed) (subst P (sym c.if-unchecked.false) read.0),
         c.interpret_typed-in-Ok-read_program.ensures.comes (g.F.Files.seen c.args.files.now) engine (record { keeps = c.in-Ok-read_program.ensures.files; read = read.1 }),
       ),
     )

@@ -10,7 +10,7 @@ returns-in_ok-push_compute-in-Some-other c =
     let e = c.push_compute.new.draft in
     let n = c.in_ok-push_compute-in-Some-other.field-0 in
     subst (λ (o : Option ℕ). JoinsGuards d e o c.args.other (Some n)) (sym c.in-Some.is)
-    (subst (λ (o : Option ℕ). JoinsGuards d e (Some c.in-Some.one) o (Some n)) (sym c.in-Some-other.is) (either_made d e c.in-Some.one c.in-Some-other.other n c.in_ok-push_compute-in-Some-other.ensures))
+    (subst (λ (o : Option ℕ). JoinsGuards d e (Some c.in-Some.one) o (Some n)) (sym c.in-Some-other.is) (either_made d e c.in-Some.one c.in-Some-other.other n c.in_ok-push_compute-in-Some-other.ensures.made c.in_ok-push_compute-in-Some-other.ensures.means))
 
 pub returns-in-None : goal.returns-in-None
 returns-in-None c = first_always c.args.draft.now c.args.one c.args.other c.in-None.is

@@ -4,5 +4,8 @@ use Rattle.dh_plan.specs.declared.operations.OperationForm.TheVariants.{Constant
 use Rattle.dh_expressions.proofs.Pushing.{computes}
 use Rattle.dh_expressions.proofs.drafts.push_constant.Goals as goal
 
-pub returns : goal.returns
-returns c = IfOk-weaker c.push.result _ _ (λ v p. computes c.args.draft.now c.push.new.draft v (Constant c.args.word) p (λ s first ws. refl)) c.push.ensures
+pub returns-clause-means : goal.returns-clause-means
+returns-clause-means c = IfOk-weaker c.push.result _ _ (λ v p. computes c.args.draft.now c.push.new.draft v (Constant c.args.word) p (λ s first ws. refl)) c.push.ensures
+
+pub returns-clause-made : goal.returns-clause-made
+returns-clause-made c = c.push.ensures

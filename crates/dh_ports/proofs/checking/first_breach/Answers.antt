@@ -1,29 +1,19 @@
 use Rattle.std.proofs.Common.{ap}
+use Rattle.std.proofs.lemmas.Result.{IfOk-weaker}
 use Rattle.dh_tree.specs.Seen.{program_seen}
-use Rattle.dh_ports.proofs.FirstTold.{are_events, events_seen, few_copies, first_done}
+use Rattle.dh_ports.proofs.FirstTold.{are_events, events_seen}
 use Rattle.dh_ports.proofs.checking.first_breach.Goals as goal
 
-pub all_moves-requires-clause-copies : goal.all_moves-requires-clause-copies
-all_moves-requires-clause-copies c =
-    let p = program_seen c.args.typed.now in
-    let h = c.requires.told in
-    few_copies p c.as_slice-events.result.now c.in_ok-layout.layout h.copies (c.incidents_tell_sites.ensures.loops h.ready.of_text.first p h.ready.of_text.numbered)
-    (events_seen p (program_seen c.tree.result.now) (ap program_seen c.tree.ensures.tree) c.new-stages.result.items c.note_stages.new.stages.items c.as_slice.result.now c.new-notes.result.events.items c.note_body.new.notes.events.items c.as_slice-events.result.now
-    c.new-stages.ensures.items c.in_ok-note_stages.ensures.noted c.as_slice.ensures.value c.new-notes.ensures.empty c.in_ok-note_body.ensures.adds c.as_slice-events.ensures.value)
-    c.in_ok-layout.ensures
+pub first_among-requires-clause-seen : goal.first_among-requires-clause-seen
+first_among-requires-clause-seen c =
+    events_seen (program_seen c.args.typed.now) (program_seen c.tree.result.now) (ap program_seen c.tree.ensures.tree) c.new-stages.result.items c.note_stages.new.stages.items c.as_slice.result.now c.new-notes.result.events.items c.note_body.new.notes.events.items c.as_slice-2.result.now
+    c.new-stages.ensures.items c.in_ok-note_stages.ensures.noted c.as_slice.ensures.value c.new-notes.ensures.empty c.in_ok-note_body.ensures.adds c.as_slice-2.ensures.value
 
 pub returns : goal.returns
 returns c =
     let p = program_seen c.args.typed.now in
-    let h = c.requires.told in
-    let events = c.as_slice-events.result.now in
-    let flags = c.in_ok-shared.shared.items in
-    let phases = c.incidents_tell_sites.ensures.phases h.ready.of_text.first p h.ready.of_text.numbered in
-    let loops = c.incidents_tell_sites.ensures.loops h.ready.of_text.first p h.ready.of_text.numbered in
+    let events = c.as_slice-2.result.now in
     let seen = events_seen p (program_seen c.tree.result.now) (ap program_seen c.tree.ensures.tree) c.new-stages.result.items c.note_stages.new.stages.items c.as_slice.result.now c.new-notes.result.events.items c.note_body.new.notes.events.items events
-    c.new-stages.ensures.items c.in_ok-note_stages.ensures.noted c.as_slice.ensures.value c.new-notes.ensures.empty c.in_ok-note_body.ensures.adds c.as_slice-events.ensures.value in
-    let are = are_events p c.note_body.new.notes events c.as_slice-events.ensures.value seen c.drop-2.inside.known.keys c.drop-2.view_is c.drop-2.invariant (c.in_ok-note_body.ensures.noted.noted c.new-notes.ensures.noted) in
-    let told = c.shared_reads_are_found.ensures h.ready.of_text.first p events flags h.ready.of_text.numbered phases are c.in_ok-shared.ensures.found in
-    first_done p events c.in_ok-layout.layout c.in_ok-layout.ensures flags c.as_slice-2.result.now c.in_ok-moves.moves.items c.as_slice-3.result.now c.as_slice-4.result.now c.in_ok-moves.ensures.moves
-    (c.spent_ports_are_told.ensures p events flags h loops are c.in_ok-shared.ensures.long told) (λ late. c.late_reads_are_told.ensures p events late h loops phases are)
-    c.as_slice-2.ensures.value c.as_slice-3.ensures.value c.as_slice-4.ensures.value c.in_ok-spent.spent c.in_ok-spent.ensures c.spent_at-kept.result c.keep_late.new.kept c.spent_at-kept.ensures c.in_ok-keep_late.ensures
+    c.new-stages.ensures.items c.in_ok-note_stages.ensures.noted c.as_slice.ensures.value c.new-notes.ensures.empty c.in_ok-note_body.ensures.adds c.as_slice-2.ensures.value in
+    let are = are_events p c.note_body.new.notes events c.as_slice-2.ensures.value seen c.drop-2.inside.known.keys c.drop-2.view_is c.drop-2.invariant (c.in_ok-note_body.ensures.noted.noted c.new-notes.ensures.noted) in
+    IfOk-weaker c.first_among.result _ _ (λ first told. told are) c.first_among.ensures

@@ -1,0 +1,68 @@
+-- What is known of the names of commands may be known in another way.
+use Rattle.std.proofs.Common.{ℕ, List, Some, None}
+use Rattle.dh_value.specs.declared.kinds.Kind.{Kind}
+use Rattle.dh_tree.specs.declared.tables.MemEntry.{MemEntry}
+use Rattle.dh_tree.specs.declared.trees.expressions.Ref.{Ref}
+use Rattle.dh_tree.specs.PlainTrees.{Term, term, number, truth_value, named, accessed, in_bank, applied, converted, Terms, no_terms, term_then, Action, action, lets, lets_memory, views, assigns, stores, reduces, calls, blocks, decides, repeats, counts, MaybeAction, no_action, one_action, Actions, no_actions, action_then, Groups, no_groups, group_then}
+use Rattle.dh_meaning.specs.Bindings.{kind_or_first}
+use Rattle.dh_meaning.specs.CoreOf.{Known}
+use Rattle.dh_expressions.specs.declared.paths.Level.{Level}
+use Rattle.dh_expressions.specs.declared.scenes.Scene.{Scene}
+use Rattle.dh_expressions.specs.Evaluated.{known_in}
+use Rattle.dh_blocks.specs.SoundTerms.{AreSound, IsSound, IsSoundTarget}
+use Rattle.dh_blocks.specs.SoundCommands.{SoundAction, SoundGroups, SoundOther, SoundPart}
+
+module _ (known : Known) (table : List MemEntry) (N M : Ref → Kind → Type 0) (to : (r : Ref) (k : Kind) → N r k → M r k) where
+  mutual
+    pub term_mapped : (t : Term) → IsSound known table N t → IsSound known table M t
+    term_mapped (term place k (number negative z)) s = s
+    term_mapped (term place k (truth_value b)) s = s
+    term_mapped (term place k (named r)) s = (to r (kind_or_first k) s.0, s.1)
+    term_mapped (term place k (accessed r ts)) s = (terms_mapped ts s.0, s.1)
+    term_mapped (term place k (in_bank r bank at row)) s = (term_mapped row s.0, s.1)
+    term_mapped (term place k (applied o left right)) s = ((term_mapped left s.0.0, term_mapped right s.0.1), s.1)
+    term_mapped (term place k (converted inner kind)) s = (term_mapped inner s.0, s.1)
+
+    pub terms_mapped : (ts : Terms) → AreSound known table N ts → AreSound known table M ts
+    terms_mapped no_terms s = tt
+    terms_mapped (term_then t ts) s = (term_mapped t s.0, terms_mapped ts s.1)
+
+  target_mapped : (t : Term) → IsSoundTarget known table N t → IsSoundTarget known table M t
+  target_mapped (term place k (accessed r ts)) s = (terms_mapped ts s.0, s.1)
+  target_mapped (term place k (in_bank r bank at row)) s = (term_mapped row s.0, s.1)
+  target_mapped (term place k (number negative z)) s = absurd s
+  target_mapped (term place k (truth_value b)) s = absurd s
+  target_mapped (term place k (named r)) s = absurd s
+  target_mapped (term place k (applied o left right)) s = absurd s
+  target_mapped (term place k (converted inner kind)) s = absurd s
+
+module _ (scene : Scene) (levels : List Level) (table : List MemEntry) (N M : Ref → Kind → Type 0) (to : (r : Ref) (k : Kind) → N r k → M r k) where
+  abbrev of_term : (t : Term) → IsSound (known_in scene) table N t → IsSound (known_in scene) table M t
+  of_term t s = term_mapped (known_in scene) table N M to t s
+
+  mutual
+    pub action_mapped : (Folds : ℕ → Type 0) (a : Action) → SoundAction scene levels table N Folds a → SoundAction scene levels table M Folds a
+    action_mapped Folds (action id place (lets r declared None)) s = s
+    action_mapped Folds (action id place (lets r declared (Some t))) s = (of_term t s.0, s.1)
+    action_mapped Folds (action id place (assigns r t)) s = (of_term t s.0, s.1)
+    action_mapped Folds (action id place (stores target t)) s = ((of_term t s.0.0, target_mapped (known_in scene) table N M to target s.0.1), s.1)
+    action_mapped Folds (action id place (reduces r o t)) s = ((of_term t s.0.0, s.0.1), s.1)
+    action_mapped Folds (action id place (decides t chosen other)) s = (of_term t s.0, (action_mapped (λ i. ⊥) chosen s.1.0, other_mapped (λ i. ⊥) other s.1.1))
+    action_mapped Folds (action id place (blocks body)) s = groups_mapped Folds body s
+    action_mapped Folds (action id place (lets_memory name shape shape_places value)) s = tt
+    action_mapped Folds (action id place (views name parent form)) s = tt
+    action_mapped Folds (action id place (calls function arguments)) s = tt
+    action_mapped Folds (action id place (repeats test body)) s = tt
+    action_mapped Folds (action id place (counts iterator declared low high factor body combine combine_place)) s = tt
+
+    other_mapped : (Folds : ℕ → Type 0) (a : MaybeAction) → SoundOther scene levels table N Folds a → SoundOther scene levels table M Folds a
+    other_mapped Folds no_action s = tt
+    other_mapped Folds (one_action a) s = action_mapped Folds a s
+
+    groups_mapped : (Folds : ℕ → Type 0) (gs : Groups) → SoundGroups scene levels table N Folds gs → SoundGroups scene levels table M Folds gs
+    groups_mapped Folds no_groups s = tt
+    groups_mapped Folds (group_then part rest) s = (part_mapped Folds part s.0, groups_mapped Folds rest s.1)
+
+    part_mapped : (Folds : ℕ → Type 0) (q : Actions) → SoundPart scene levels table N Folds q → SoundPart scene levels table M Folds q
+    part_mapped Folds no_actions s = tt
+    part_mapped Folds (action_then a rest) s = (action_mapped Folds a s.0, part_mapped Folds rest s.1)

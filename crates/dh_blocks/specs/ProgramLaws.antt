@@ -1,0 +1,24 @@
+-- What a program tells of its blocks, where the scene is of it.
+use Rattle.std.specs.Prelude.{◌≡◌, List, Some}
+use Rattle.std.specs.List.{AllByRecursion}
+use Rattle.dh_tree.specs.PlainTrees.{Term}
+use Rattle.dh_tree.specs.Seen.{program_seen}
+use Rattle.dh_meaning.specs.Core.{Turning}
+use Rattle.dh_meaning.specs.CoreOf.{form_of, test_of}
+use Rattle.dh_meaning.specs.Effects.{Block}
+use Rattle.dh_meaning.specs.Phases.{Located}
+use Rattle.dh_sound.specs.BlocksOfPhases.{OfStraight, OfTest}
+use Rattle.dh_sound.specs.SimpleForms.{IsSimple}
+use Rattle.dh_expressions.specs.declared.scenes.Scene.{Scene}
+use Rattle.dh_blocks.specs.BlockTraced.{IsTraced, TellsShares}
+use Rattle.dh_blocks.specs.TestMade.{IsTestTraced}
+
+-- a block of straight commands stands along the trace
+abbrev pub StraightsAreTraced : Scene → List Turning → Block → Type 0
+StraightsAreTraced scene loops block =
+    (found : OfStraight (program_seen scene.program.now) loops block) → AllByRecursion (λ (c : Located). IsSimple c.command) found.done → TellsShares scene → IsTraced scene found.done found.folds
+
+-- and so does a test
+abbrev pub TestsAreTraced : Scene → List Turning → Block → Type 0
+TestsAreTraced scene loops block =
+    (found : OfTest (program_seen scene.program.now) loops block) (t : Term) → test_of (form_of found.tested.command) ≡ Some t → TellsShares scene → IsTestTraced scene found.tested.first t

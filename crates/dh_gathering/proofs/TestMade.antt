@@ -1,0 +1,133 @@
+-- The block of a test, and its flag: a register that was not there before.
+use Rattle.std.proofs.Common.{◌≡◌, ℕ, ◌+◌, ◌<◌, ◌≤◌, ◌^◌, List, [], ◌∷◌, ◌++◌, length, Some, None, replicate, refl, ap, sym, ◌∙◌, subst, arith}
+use Rattle.std.specs.Prelude.{Option, slice_get, slice_index}
+use Rattle.std.specs.List.{AllByRecursion}
+use Rattle.std.proofs.lemmas.List.{append-nil, length-append}
+use Rattle.dh_value.specs.declared.kinds.Kind.{Kind}
+use Rattle.dh_value.specs.declared.kinds.Kind.TheVariants as kind
+use Rattle.dh_tree.specs.PlainTrees as tree
+use Rattle.dh_meaning.specs.AccessNumbers.{term_accesses}
+use Rattle.dh_plan.specs.Correspondence.{Round}
+use Rattle.dh_plan.specs.declared.operations.OperationForm.TheVariants.{Set}
+use Rattle.dh_expressions.specs.declared.drafts.Draft.{Draft}
+use Rattle.dh_expressions.specs.declared.paths.Paths.{Paths}
+use Rattle.dh_expressions.specs.declared.scenes.Around.{Around}
+use Rattle.dh_expressions.specs.declared.scenes.Scene.{Scene}
+use Rattle.dh_expressions.specs.Drafted.{Extends}
+use Rattle.dh_expressions.proofs.Pushing.{at_seam, extends_again, in_front, pushed_extends}
+use Rattle.dh_commands.specs.declared.assignments.Change.{Change}
+use Rattle.dh_commands.specs.declared.assignments.Values.{Values}
+use Rattle.dh_commands.specs.declared.buildings.Building.{Building}
+use Rattle.dh_commands.specs.LanesRun.{paths_counted}
+use Rattle.dh_commands.specs.Setting.{NoVariable, TestsAll}
+use Rattle.dh_commands.specs.Undone.{Changes, IsChange, given_at, undone}
+use Rattle.dh_gathering.specs.declared.blocks.Made.{Made}
+use Rattle.dh_gathering.specs.Growing.{Grows, IsAtRest, IsClear, registers_given}
+use Rattle.dh_gathering.specs.MadeBlocks.{ArePathsOf, IsFlagOf, SetsFlag, StandsAt}
+use Rattle.dh_gathering.specs.Gathered.{MakesTest, MakesTestIn, SetsFirst}
+use Rattle.dh_gathering.proofs.MadeGrows.{AddsBlock, block_grows, block_rests, block_stands}
+use Rattle.dh_gathering.proofs.StraightMade.{some_counted}
+
+module _ (scene : Scene) (around : Around) where
+  none_changed : (cs : List Change) → AllByRecursion (IsChange scene around NoVariable) cs → cs ≡ []
+  none_changed [] a = refl
+  none_changed (c ∷ cs) a = absurd a.0.may
+
+  module _ (old new : Values) (h : Changes scene around NoVariable old new) where
+    none : h.more ≡ []
+    none = none_changed h.more h.each
+
+    same_current : new.current.items ≡ old.current.items
+    same_current = sym (ap (λ (l : List Change). undone l new.current.items) none) ∙ h.back
+
+    pub clear_still : IsClear old → IsClear new
+    clear_still clear = record {
+      ready = record {
+        unmarked = λ register. ap (λ (ms : List ℕ). slice_index ms register) h.marks ∙ clear.ready.unmarked register;
+        long = ap (λ (ms : List ℕ). length ms) h.marks ∙ (clear.ready.long ∙ sym h.long);
+      };
+      log = h.log ∙ (ap (λ (l : List Change). old.log.items ++ l) none ∙ (append-nil old.log.items ∙ clear.log));
+      none = λ register. ap (λ (os : List (Option ℕ)). given_at os register) same_current ∙ clear.none register;
+    }
+
+pub flag_extends : (old new : Draft) (t : tree.Term) (value flag : ℕ) → SetsFlag old new t value flag → Extends old new
+flag_extends old new t value flag h = extends_again old h.mid new h.gives.extends (pushed_extends h.mid new h.number None (Set flag h.made) h.set)
+
+one_more : (n m : ℕ) → m ≡ n + 1 → n ≤ m
+one_more n m e = omega (arith, e)
+
+module _ (scene : Scene) (paths : Paths) (old new : Made) (between : Building) (draft : Draft) (n next : ℕ) (t : tree.Term) (tests : List ℕ) (flag block start : ℕ) (around : Around)
+    (levels : around.levels.now ≡ paths.levels.items) (guards : around.guards.now ≡ replicate paths.count None)
+    (does : TestsAll scene around old.building between n next t tests) where
+  -- there is a value
+  pub never_none : (rounds : List Round) → ArePathsOf rounds paths.levels.items paths.count → slice_get tests 0 ≡ None → ⊥
+  never_none rounds inside none = by tests does.long (some_counted around paths.count guards inside.some) none
+    where
+      zero_none : (n : ℕ) → 0 ≡ n → 0 < n → ⊥
+      zero_none n e l = omega (arith, e, l)
+
+      by : (ts : List ℕ) → length ts ≡ paths_counted around → 0 < paths_counted around → slice_get ts 0 ≡ None → ⊥
+      by [] long some e = zero_none (paths_counted around) long some
+      by (x ∷ ts) long some e = absurd cc
+
+  module _ (value : ℕ) (first : slice_get tests 0 ≡ Some value) (sets : SetsFlag between.draft draft t value flag)
+      (draft_is : new.building.draft ≡ draft) (accesses_are : new.building.accesses ≡ between.accesses) (values_are : new.building.values ≡ between.values)
+      (starts : new.starts.items ≡ old.starts.items ++ start ∷ []) (registers : new.registers ≡ old.registers ++ kind.Bool ∷ [])
+      (flag_is : flag ≡ length old.registers) (number_is : block ≡ length old.starts.items) (start_is : start ≡ length old.building.draft.operations.items) where
+    module _ (rounds : List Round) (inside : ArePathsOf rounds paths.levels.items paths.count) (rest : IsAtRest old) (few : n + term_accesses t < 2 ^ 32) where
+      changes : Changes scene around NoVariable old.building.values between.values
+      changes = (does.does.so few).changes rest.clear.ready
+
+      variables : registers_given new ≡ registers_given old
+      variables = ap (λ (v : Values). length v.current.items) values_are ∙ changes.long
+
+      adds : AddsBlock old new
+      adds = record {
+        draft = subst (λ (d : Draft). Extends old.building.draft d) (sym draft_is) (extends_again old.building.draft between.draft draft (does.does.so few).extends (flag_extends between.draft draft t value flag sets));
+        starts = starts ∙ ap (λ (n : ℕ). old.starts.items ++ n ∷ []) start_is;
+        registers = λ register k at. ap (λ (l : List Kind). slice_get l register) registers ∙ in_front old.registers (kind.Bool ∷ []) register k at;
+        longer = one_more (length old.registers) (length new.registers) (ap (λ (l : List Kind). length l) registers ∙ length-append old.registers (kind.Bool ∷ []));
+        variables = variables;
+        clear = subst (λ (v : Values). IsClear v) (sym values_are) (clear_still scene around old.building.values between.values changes rest.clear);
+      }
+
+      is_flag : (final : Made) → Grows new final → IsFlagOf final flag
+      is_flag final more = record {
+        truth = more.registers flag kind.Bool (ap (λ (l : List Kind). slice_get l flag) registers ∙ (ap (λ (i : ℕ). slice_get (old.registers ++ kind.Bool ∷ []) i) flag_is ∙ at_seam old.registers kind.Bool));
+        fresh = subst (λ (m : ℕ). m ≤ flag) (sym (more.variables ∙ variables)) (subst (λ (m : ℕ). registers_given old ≤ m) (sym flag_is) rest.variables);
+      }
+
+      pub test_made : MakesTest scene rounds old new n t flag block
+      test_made = record {
+        grows = block_grows old new adds;
+        rest = block_rests old new adds rest;
+        made = λ final more. record {
+          around = around;
+          round = record { paths = paths.count; levels = subst (λ ls. ArePathsOf rounds ls paths.count) (sym levels) inside; guards = guards };
+          before = old.building;
+          between = between;
+          after = new.building;
+          stands = subst (λ (n : ℕ). StandsAt final n old.building new.building) (sym number_is) (block_stands old new adds rest final more);
+          few = few;
+          next = next;
+          tests = tests;
+          value = value;
+          does = does;
+          first = first;
+          sets = subst (λ (d : Draft). SetsFlag between.draft d t value flag) (sym draft_is) sets;
+          is_flag = is_flag final more;
+        };
+      }
+
+    pub test_makes : MakesTestIn scene paths old new n t flag block
+    test_makes rounds inside rest few = test_made rounds inside rest few
+
+  -- by the list of the values
+  pub tests_make : (draft_is : SetsFirst between.draft draft t tests flag) → new.building.draft ≡ draft → new.building.accesses ≡ between.accesses → new.building.values ≡ between.values
+      → new.starts.items ≡ old.starts.items ++ start ∷ [] → new.registers ≡ old.registers ++ kind.Bool ∷ [] → flag ≡ length old.registers → block ≡ length old.starts.items → start ≡ length old.building.draft.operations.items
+      → MakesTestIn scene paths old new n t flag block
+  tests_make sets draft_is accesses_are values_are starts registers flag_is number_is start_is = by tests refl sets
+    where
+      by : (ts : List ℕ) → tests ≡ ts → SetsFirst between.draft draft t ts flag → MakesTestIn scene paths old new n t flag block
+      by [] e s = λ rounds inside rest few. absurd (never_none rounds inside (ap (λ (l : List ℕ). slice_get l 0) e))
+      by (value ∷ ts) e s = test_makes value (ap (λ (l : List ℕ). slice_get l 0) e) s draft_is accesses_are values_are starts registers flag_is number_is start_is

@@ -1,0 +1,12 @@
+use Rattle.std.proofs.lemmas.Result.{IfOk-weaker}
+use Rattle.dh_plan.specs.SeenPlans.{nodes_seen}
+use Rattle.dh_tree.specs.Seen.{action_seen}
+use Rattle.dh_gathering.specs.Gathered.{all_kept}
+use Rattle.dh_gathering.proofs.PhasesGathered.{makes_body}
+use Rattle.dh_gathering.proofs.gathering.nodes_in.Goals as goal
+
+pub returns : goal.returns
+returns c =
+    IfOk-weaker c.nodes_of.result _ _
+    (λ nodes h. makes_body c.args.scene.now c.args.paths.now c.args.made.now c.gather.new.made c.nodes_of.new.made (all_kept c.in_ok-forms.forms.items) (action_seen c.args.body.now) (nodes_seen nodes.items) c.in_ok-forms.ensures.gathers h)
+    c.nodes_of.ensures

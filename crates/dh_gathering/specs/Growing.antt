@@ -1,0 +1,42 @@
+-- What is made of a program grows: operations, starts of blocks and registers are only added. Between two blocks no
+-- variable is given a value.
+use Rattle.std.specs.Prelude.{◌≡◌, ℕ, suc, ◌≤◌, List, [], length, slice_get, slice_index_or, Some, None}
+use Rattle.dh_value.specs.declared.kinds.Kind.{Kind}
+use Rattle.dh_plan.specs.declared.operations.Operation.{Operation}
+use Rattle.dh_expressions.specs.Drafted.{Extends}
+use Rattle.dh_commands.specs.declared.assignments.Values.{Values}
+use Rattle.dh_commands.specs.Undone.{AreReady, given_at}
+use Rattle.dh_gathering.specs.declared.blocks.Made.{Made}
+
+-- no variable is given a value
+pub record IsClear (v : Values) : Type 0 where
+  pub ready : AreReady v
+  pub log : v.log.items ≡ []
+  pub none : (register : ℕ) → given_at v.current.items register ≡ None
+
+-- the place in the list of operations where a block begins: behind all where it is not there yet
+abbrev pub place_among : List Operation → (starts : List ℕ) → (block : ℕ) → ℕ
+place_among operations starts block = slice_index_or starts block (length operations)
+
+abbrev pub place_in : Made → (block : ℕ) → ℕ
+place_in m block = place_among m.building.draft.operations.items m.starts.items block
+
+-- how many registers variables have
+abbrev pub registers_given : Made → ℕ
+registers_given m = length m.building.values.current.items
+
+-- what is made at the end of a block, or at the begin
+pub record IsAtRest (m : Made) : Type 0 where
+  pub clear : IsClear m.building.values
+  pub first : place_in m 0 ≡ 0
+  pub rising : (block : ℕ) → place_in m block ≤ place_in m (suc block)
+  pub variables : registers_given m ≤ length m.registers
+
+-- more behind what was made
+pub record Grows (old new : Made) : Type 0 where
+  pub draft : Extends old.building.draft new.building.draft
+  pub starts : length old.starts.items ≤ length new.starts.items
+  -- a block that was begun or is to be begun next begins where it did
+  pub places : (block : ℕ) → block ≤ length old.starts.items → place_in new block ≡ place_in old block
+  pub registers : (register : ℕ) (k : Kind) → slice_get old.registers register ≡ Some k → slice_get new.registers register ≡ Some k
+  pub variables : registers_given new ≡ registers_given old

@@ -1,0 +1,11 @@
+pub mod KeptPhases
+pub mod Growing
+pub mod PushedSets
+pub mod PlacedPhases
+pub mod MadeBlocks
+pub mod Gathered
+pub mod Cutting
+pub mod Registers
+pub mod LoopCounters
+pub mod ProgramMade
+pub mod MadeLaws

@@ -1,0 +1,170 @@
+-- The blocks of a plan as they stand in its one list of operations: which commands each is made of, inside which
+-- loops, and where it begins and ends. This ties nodes to phases.
+use Rattle.std.specs.Prelude.{◌≡◌, ℕ, suc, ◌+◌, ◌*◌, ◌-◌, ◌<◌, ◌≤◌, ◌^◌, nat_le, if◌then◌else◌, min, List, [], ◌∷◌, ◌++◌, length, replicate, slice_get, Option, Some, None}
+use Rattle.std.specs.List.{AllByRecursion}
+use Rattle.dh_value.specs.declared.kinds.Kind.TheVariants as kind
+use Rattle.dh_value.specs.declared.operators.Op.TheVariants.{Both}
+use Rattle.dh_value.specs.declared.words.Word.{Word}
+use Rattle.dh_value.specs.Operations.{binary_of}
+use Rattle.dh_tree.specs.PlainTrees as plain
+use Rattle.dh_meaning.specs.AccessNumbers.{accesses_of, term_accesses}
+use Rattle.dh_meaning.specs.Core.{CoreCommands, CoreTerm, Turning}
+use Rattle.dh_meaning.specs.CoreOf.{core_commands, core_test, entity_number, form_of, test_of}
+use Rattle.dh_meaning.specs.Phases.{Located, phases_of}
+use Rattle.dh_tree.specs.Seen.{program_seen}
+use Rattle.dh_sound.specs.PhaseFacts.{HasStraight, HasTest}
+use Rattle.dh_code.specs.Slots.{held_at}
+use Rattle.dh_plan.specs.declared.operations.OperationForm.TheVariants.{Set}
+use Rattle.dh_plan.specs.Correspondence.{Round}
+use Rattle.dh_plan.specs.PlanPhases.{Tie}
+use Rattle.dh_expressions.specs.declared.drafts.Draft.{Draft}
+use Rattle.dh_expressions.specs.declared.paths.Level.{Level}
+use Rattle.dh_expressions.specs.declared.scenes.Around.{Around}
+use Rattle.dh_expressions.specs.declared.scenes.Scene.{Scene}
+use Rattle.dh_expressions.specs.Drafted.{Extends, Gives, Pushes, shown}
+use Rattle.dh_expressions.specs.Evaluated.{known_in}
+use Rattle.dh_expressions.specs.Levels.{levels_inside}
+use Rattle.dh_expressions.specs.Shown.{is_read_term}
+use Rattle.dh_commands.specs.declared.buildings.Building.{Building}
+use Rattle.dh_commands.specs.Done.{DoesCommand}
+use Rattle.dh_commands.specs.Setting.{TestsAll}
+use Rattle.dh_commands.specs.Undone.{given_at}
+use Rattle.dh_gathering.specs.declared.blocks.Made.{Made}
+use Rattle.dh_gathering.specs.Growing.{IsClear, place_in, registers_given}
+use Rattle.dh_gathering.specs.PushedSets.{SetsLogged, settings}
+
+-- Paths.
+
+-- how many paths there are inside a loop of so many copies
+abbrev pub count_inside : (count factor : ℕ) → ℕ
+count_inside count factor = if nat_le factor 1 then count else min (count * factor) (2 ^ 64 - 1)
+
+-- These levels and so many paths are those inside loops that stand one in the other, from these levels on.
+abbrev pub AreWithin : List Level → (count : ℕ) → List Round → List Level → ℕ → Type 0
+AreWithin levels count [] inner paths = (inner ≡ levels) × (paths ≡ count)
+AreWithin levels count (r ∷ rs) inner paths =
+    (entity : Option ℕ) × ((entity_number entity ≡ r.loop.iterator) × AreWithin (levels_inside levels entity r.loop.factor) (count_inside count r.loop.factor) rs inner paths)
+
+-- those of these loops, of which there is at least one path
+pub record ArePathsOf (rounds : List Round) (levels : List Level) (paths : ℕ) : Type 0 where
+  pub within : AreWithin [] 1 rounds levels paths
+  pub some : 0 < paths
+
+-- what stands round a block: these loops, and no arm
+pub record IsRoundBlock (rounds : List Round) (around : Around) : Type 0 where
+  pub paths : ℕ
+  pub levels : ArePathsOf rounds around.levels.now paths
+  pub guards : around.guards.now ≡ replicate paths None
+
+-- Blocks.
+
+-- where a block begins and ends: it is all that was added from one building to another
+pub record StandsAt (final : Made) (block : ℕ) (before after : Building) : Type 0 where
+  pub begins : place_in final block ≡ length before.draft.operations.items
+  pub ends : place_in final (suc block) ≡ length after.draft.operations.items
+  pub there : suc block ≤ length final.starts.items
+  pub kept : Extends after.draft final.building.draft
+  -- as it begins no variable is given a value, and those that can be are the same as ever
+  pub clear : IsClear before.values
+  pub variables : length before.values.current.items ≡ registers_given final
+
+-- straight commands at all paths, one after the other
+abbrev pub DoesCommands : Scene → Around → List Located → (old new : Building) → Type 0
+DoesCommands scene around [] old new = new ≡ old
+DoesCommands scene around (l ∷ ls) old new =
+    (mid : Building) × ((next : ℕ) × (DoesCommand scene around l.command l.first next old mid × DoesCommands scene around ls mid new))
+
+-- the numbers of a command's accesses are few
+abbrev pub AreFew : Located → Type 0
+AreFew l = l.first + accesses_of l.command < 2 ^ 32
+
+-- it is among these
+abbrev pub IsAmong : {A : Type 0} → List A → A → Type 0
+IsAmong xs x = (i : ℕ) × (slice_get xs i ≡ Some x)
+
+-- each register of a variable that was given a value is set to it, and no other
+pub record SetsGiven (old new : Building) : Type 0 where
+  pub sets : List (ℕ × ℕ)
+  pub operations : new.draft.operations.items ≡ old.draft.operations.items ++ settings sets
+  pub faults : new.draft.faults ≡ old.draft.faults
+  pub accesses : new.accesses ≡ old.accesses
+  pub given : AllByRecursion (λ s. given_at old.values.current.items s.0 ≡ Some s.1) sets
+  pub all : (register value : ℕ) → given_at old.values.current.items register ≡ Some value → IsAmong sets (register, value)
+
+-- the block of straight commands
+pub record MadeStraight (scene : Scene) (final : Made) (rounds : List Round) (ls : List Located) (block : ℕ) : Type 0 where
+  pub around : Around
+  pub round : IsRoundBlock rounds around
+  pub before : Building
+  pub between : Building
+  pub after : Building
+  pub stands : StandsAt final block before after
+  pub few : AllByRecursion AreFew ls
+  pub does : DoesCommands scene around ls before between
+  -- from the log of what was given, and so of all that was given
+  pub logged : SetsLogged between after
+  pub sets : SetsGiven between after
+
+-- a test as its flag shows it: what a memory holds need be no word of its kind
+abbrev pub flag_shown : plain.Term → Word → Word
+flag_shown t w = if is_read_term t then binary_of Both w w else w
+
+-- a flag is set to the value of a test
+pub record SetsFlag (old new : Draft) (t : plain.Term) (value flag : ℕ) : Type 0 where
+  pub mid : Draft
+  pub made : ℕ
+  pub number : ℕ
+  pub gives : Gives old mid made (λ x. flag_shown t (shown x value))
+  pub set : Pushes mid new number None (Set flag made)
+
+-- a flag is a truth, and the register of no variable
+pub record IsFlagOf (final : Made) (flag : ℕ) : Type 0 where
+  pub truth : slice_get final.registers flag ≡ Some kind.Bool
+  pub fresh : registers_given final ≤ flag
+
+-- the block of a test whose accesses are numbered from n on
+pub record MadeTest (scene : Scene) (final : Made) (rounds : List Round) (n : ℕ) (t : plain.Term) (flag block : ℕ) : Type 0 where
+  pub around : Around
+  pub round : IsRoundBlock rounds around
+  pub before : Building
+  pub between : Building
+  pub after : Building
+  pub stands : StandsAt final block before after
+  pub few : n + term_accesses t < 2 ^ 32
+  pub next : ℕ
+  pub tests : List ℕ
+  pub value : ℕ
+  pub does : TestsAll scene around before between n next t tests
+  pub first : slice_get tests 0 ≡ Some value
+  pub sets : SetsFlag between.draft after.draft t value flag
+  pub is_flag : IsFlagOf final flag
+
+-- The tie.
+
+-- a block does the commands of a straight phase of the program
+pub record IsStraightBlock (scene : Scene) (final : Made) (rounds : List Round) (cs : CoreCommands) (block : ℕ) : Type 0 where
+  pub located : List Located
+  pub are : cs ≡ core_commands (known_in scene) located
+  pub placed : HasStraight (phases_of (program_seen scene.program.now)) located
+  pub made : MadeStraight scene final rounds located block
+
+-- and the test of one of its commands
+pub record IsTestBlock (scene : Scene) (final : Made) (rounds : List Round) (test : CoreTerm) (flag block : ℕ) : Type 0 where
+  pub tested : Located
+  pub term : plain.Term
+  pub is : test ≡ core_test (known_in scene) tested
+  pub placed : HasTest (phases_of (program_seen scene.program.now)) tested
+  -- the test that the command has
+  pub term_is : test_of (form_of tested.command) ≡ Some term
+  pub made : MadeTest scene final rounds tested.first term flag block
+
+-- the counter of a loop is the first register of its iterator
+abbrev pub counter_in : Scene → Turning → ℕ
+counter_in scene loop = (held_at scene.held.now loop.iterator).first
+
+abbrev pub made_tie : Scene → Made → Tie
+made_tie scene final = record {
+  of_block = λ rounds cs block. IsStraightBlock scene final rounds cs block;
+  of_test = λ rounds test flag block. IsTestBlock scene final rounds test flag block;
+  of_loop = λ rounds loop counter. counter ≡ counter_in scene loop;
+}

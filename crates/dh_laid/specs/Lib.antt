@@ -1,0 +1,2 @@
+-- what is asked of the operations of commands, and that they are so
+pub mod Laid

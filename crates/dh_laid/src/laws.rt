@@ -1,0 +1,33 @@
+//! Laws on the operations of commands, stated on functions that do nothing.
+
+ghost use Rattle.dh_laid.specs.Laid.{AllAssignmentsForm, AllClearingsForm, AllReducesForm, AllStoresForm, ArmGuardsForm, ArmsEnd, ArmsLeave, AssignmentsForm, ChoicesForm, ClearingsForm, JoinsForm, ReducesForm, StoresForm, TestsForm};
+
+/// What is put down where a variable is assigned is formed, and it is given a value of the kind of its register.
+pub fn assignments_are_formed()
+    ensures assigned { AssignmentsForm }
+    ensures cleared { ClearingsForm }
+    ensures reduced { ReducesForm }
+    ensures stored { StoresForm }
+{}
+
+/// The guards of an arm are truths of the block; and where it is taken back, variables have values of their kinds.
+pub fn arms_are_formed()
+    ensures guards { ArmGuardsForm }
+    ensures ends { ArmsEnd }
+    ensures leaves { ArmsLeave }
+{}
+
+/// What is formed at one path is formed at all paths; tests are truths of the block.
+pub fn paths_are_formed()
+    ensures assigned { AllAssignmentsForm }
+    ensures cleared { AllClearingsForm }
+    ensures reduced { AllReducesForm }
+    ensures stored { AllStoresForm }
+    ensures tests { TestsForm }
+{}
+
+/// The choices behind an `if` give variables values of the kinds of their registers.
+pub fn choices_are_formed()
+    ensures choices { ChoicesForm }
+    ensures joins { JoinsForm }
+{}
