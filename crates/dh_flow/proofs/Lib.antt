@@ -13,5 +13,6 @@ pub mod WaysStay
 pub mod WaysShown
 pub mod MarksCover
 pub mod GraphShown
+pub mod StraightWays
 pub mod GraphMade
 pub mod GraphStarted

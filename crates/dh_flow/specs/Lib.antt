@@ -3,3 +3,4 @@ pub mod Measured
 pub mod PlainFlows
 pub mod ToldWays
 pub mod GraphWalks
+pub mod StraightGraphs

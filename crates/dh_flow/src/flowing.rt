@@ -5,6 +5,7 @@ ghost use Rattle.dh_plan.specs.SeenGraphs.{IsGraphOf};
 ghost use Rattle.dh_plan.specs.SeenPlans.{plan_seen};
 ghost use Rattle.dh_plan.specs.SoundPlans.{IsFormed};
 ghost use Rattle.dh_flow.specs.GraphWalks.{Starts};
+ghost use Rattle.dh_flow.specs.StraightGraphs.{StaysOneThread};
 
 use crate::deciding::way_into;
 use crate::measuring::{Footprint, measure};
@@ -30,10 +31,11 @@ fn start(alloc: Global, whole: Footprint) -> Result<Graph, NoMemory>
     })
 }
 
-/// The graph that does the phases of a plan.
+/// The graph that does the phases of a plan. That of a plan of one thread has one group, and no way forks.
 pub fn flow(alloc: Global, plan: &Plan) -> Result<Graph, NoMemory>
     requires { IsFormed (plan_seen plan.now) }
-    ensures { IfOk result (λ g. IsGraphOf (plan_seen plan.now) g) }
+    ensures graph { IfOk result (λ g. IsGraphOf (plan_seen plan.now) g) }
+    ensures thread { IfOk result (λ g. StaysOneThread (plan_seen plan.now) g) }
 {
     let body = plan.body.as_slice();
     let mut marks = Vec::new(alloc);

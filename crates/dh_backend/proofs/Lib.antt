@@ -1,0 +1,10 @@
+pub mod MemoriesRise
+pub mod TotalsWithin
+pub mod PortsCarried
+pub mod ShortBlocks
+pub mod FaultsFew
+pub mod Unstuck
+pub mod OneThreads
+pub mod SmallTimes
+pub mod WaysWithin
+pub mod PartsPlay

@@ -1,0 +1,4 @@
+pub mod PlanLaws
+pub mod SuitedPlans
+pub mod OneThread
+pub mod NetParts

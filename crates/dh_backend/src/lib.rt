@@ -1,0 +1,12 @@
+//! From the plan of a program to what its netlist is made of: banks and rows, the graph of states, the schedule without
+//! limits and the ports of operations, each by the pass that makes it; and the laws that tie these to the program.
+//! Nothing of the program stands on this crate yet.
+#![tactic(auto)]
+
+mod laws;
+mod parts;
+mod times;
+
+pub use laws::{accepted_runs_go_on, parts_play_programs, plans_are_small, plans_keep_ports};
+pub use parts::{NetParts, Passed, parts_of};
+pub use times::{Times, times_of};
