@@ -3,10 +3,12 @@
 //! Nothing of the program stands on this crate yet.
 #![tactic(auto)]
 
+mod examples;
 mod laws;
 mod parts;
 mod times;
 
+pub use examples::storing_plan_suits_nets;
 pub use laws::{accepted_runs_go_on, parts_play_programs, plans_are_small, plans_keep_ports};
 pub use parts::{NetParts, Passed, parts_of};
 pub use times::{Times, times_of};
