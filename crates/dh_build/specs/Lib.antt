@@ -1,0 +1,2 @@
+pub mod MemoryTables
+pub mod DrivenUsers
