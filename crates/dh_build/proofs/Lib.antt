@@ -1,0 +1,3 @@
+pub mod MemoriesListed
+pub mod UsersDriven
+pub mod PlanDriven
