@@ -1,3 +1,5 @@
 pub mod MemoriesListed
 pub mod UsersDriven
 pub mod PlanDriven
+pub mod PortsDriven
+pub mod DrivesWired

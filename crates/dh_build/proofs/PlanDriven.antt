@@ -18,7 +18,8 @@ use Rattle.dh_datapath.specs.BlockWires.{part_in}
 use Rattle.dh_control.specs.declared.driving.MemoryPorts.{MemoryPorts}
 use Rattle.dh_control.specs.declared.driving.Times.{Times}
 use Rattle.dh_control.specs.declared.gathering.Keyed.{Keyed}
-use Rattle.dh_control.specs.BlockUses.{BlockDriven}
+use Rattle.dh_datapath.proofs.BlocksMade.{own_operations}
+use Rattle.dh_control.specs.BlockUses.{BlockDriven, DriveAll, block_uses}
 use Rattle.dh_control.specs.PlanUsers.{operations_users, blocks_users}
 use Rattle.dh_build.specs.DrivenUsers.{DriveUsers, UsesDriven, UsesSuit}
 use Rattle.dh_build.specs.MemoryTables.{AreMemoryPorts}
@@ -37,24 +38,26 @@ module _ (plan : PlainPlan) (u : Uses) (kinds : List Kind) (wires : List ℕ) (t
   pub driven_starts : (d : PlainCircuit) (before : List (Keyed Driver)) → DrivenSoFar d d plan u kinds wires times 0 before before
   driven_starts d before = record { grows = grows_none d; users = []; whole = refl; added = []; behind = sym (append-nil before); drive = tt }
 
-  pub driven_goes : (ms : List MemoryPorts) → AreMemoryPorts plan.table ms → (start d e : PlainCircuit) → UsesSuit start plan u kinds wires ms → (n : ℕ) (b : PlanBlock) (own : ℕ → Times) (pairs : List (List (ℕ × ℕ))) (os : List Operation)
-      (before now after : List (Keyed Driver)) → n < length plan.blocks → b ≡ get_or plan.blocks n b → os ≡ operations_in plan n → b.operations ≡ operations_in plan n → own ≡ times n → pairs ≡ part_in plan u.ports n
+  pub driven_goes : (ms : List MemoryPorts) → AreMemoryPorts plan.table ms → (start d e : PlainCircuit) → UsesSuit start plan u kinds wires ms → (n : ℕ) (blocks : List PlanBlock) (b : PlanBlock) (own : ℕ → Times) (pairs : List (List (ℕ × ℕ))) (os : List Operation)
+      (before now after : List (Keyed Driver)) → blocks ≡ plan.blocks → n < length blocks → b ≡ get_or blocks n b → os ≡ b.operations → own ≡ times n → pairs ≡ part_in plan u.ports n
       → DrivenSoFar start d plan u kinds wires times n before now → BlockDriven d e kinds wires own ms pairs os now after → DrivenSoFar start e plan u kinds wires times (n + 1) before after
-  driven_goes ms memories start d e suit n b own pairs os before now after less is os_are own_operations own_is pairs_are h g =
+  driven_goes ms memories start d e suit n blocks b own pairs os before now after same less is os_are own_is pairs_are h g =
+      let os_here : os ≡ operations_in plan n = own_operations plan blocks n b os same less is os_are in
       let drives = of_block plan u kinds wires times ms memories start e suit n g.added
-      (subst (λ (l : List Operation). BlockDriven d e kinds wires (times n) ms (part_in plan u.ports n) l now after) os_are
-      (subst (λ (l : List (List (ℕ × ℕ))). BlockDriven d e kinds wires (times n) ms l os now after) pairs_are
-      (subst (λ (t : ℕ → Times). BlockDriven d e kinds wires t ms pairs os now after) own_is g))).drive in
+      (subst (λ (l : List Operation). DriveAll e kinds wires (times n) ms (part_in plan u.ports n) (block_uses 0 l) g.added) os_here
+      (subst (λ (l : List (List (ℕ × ℕ))). DriveAll e kinds wires (times n) ms l (block_uses 0 os) g.added) pairs_are
+      (subst (λ (t : ℕ → Times). DriveAll e kinds wires t ms pairs (block_uses 0 os) g.added) own_is g.drive))) in
       let more = operations_users plan u n 0 (operations_in plan n) in
       let next : n + 1 ≡ suc n = omega arith in
+      let left : drop n plan.blocks ≡ b ∷ drop (n + 1) plan.blocks = subst (λ (l : List PlanBlock). drop n l ≡ b ∷ drop (n + 1) l) same (at_item blocks n b less is) in
       record {
         grows = grows_then start d e h.grows g.grows;
         users = h.users ++ more;
         whole =
             append_assoc h.users more (blocks_users plan u (n + 1) (drop (n + 1) plan.blocks))
             ∙ (ap (λ (k : ℕ). h.users ++ (more ++ blocks_users plan u k (drop (n + 1) plan.blocks))) next
-            ∙ (ap (λ (l : List Operation). h.users ++ (operations_users plan u n 0 l ++ blocks_users plan u (suc n) (drop (n + 1) plan.blocks))) (sym own_operations)
-            ∙ (ap (λ (l : List PlanBlock). h.users ++ blocks_users plan u n l) (sym (at_item plan.blocks n b less is)) ∙ h.whole)));
+            ∙ (ap (λ (l : List Operation). h.users ++ (operations_users plan u n 0 l ++ blocks_users plan u (suc n) (drop (n + 1) plan.blocks))) (sym os_here ∙ os_are)
+            ∙ (ap (λ (l : List PlanBlock). h.users ++ blocks_users plan u n l) (sym left) ∙ h.whole)));
         added = h.added ++ g.added;
         behind = g.behind ∙ (ap (λ (l : List (Keyed Driver)). l ++ g.added) h.behind ∙ append_assoc before h.added g.added);
         drive = users_both plan kinds wires times e h.users more h.added g.added (users_stay plan kinds wires times d e h.users h.added g.grows h.drive) drives;

@@ -4,7 +4,11 @@
 #![tactic(auto)]
 
 mod drivers;
+mod laws;
 mod memories;
+mod sizing;
 
 pub use drivers::{list_drivers, push_uses};
+pub use laws::drivers_serve_users;
 pub use memories::list_memories;
+pub use sizing::{all_widths, greatest, list_widths, narrow};
