@@ -20,6 +20,7 @@ use Rattle.dh_lower.specs.ShownWords.{block_shown}
 use Rattle.dh_datapath.specs.declared.blocks.PlanWires.{PlanWires}
 use Rattle.dh_datapath.specs.BlockWires.{part_in, layout_of, ShowsPlan}
 use Rattle.dh_datapath.proofs.PartsByBlock.{operations_inside, no_operations}
+use Rattle.dh_control.specs.declared.driving.Times.{Times}
 use Rattle.dh_control.specs.declared.gathering.Keyed.{Keyed}
 use Rattle.dh_control.specs.KeyedItems.{picked}
 use Rattle.dh_control.specs.PlanUsers.{users_of}
@@ -40,7 +41,7 @@ swapped a b = grind (arith, nat_tests)
 module _ (d : PlainCircuit) (plan : PlainPlan) (u : Uses) (t : Timing) (w : PlanWires) (c : ControlWires) (at : List ℕ) (formed : IsFormed plan) (addressed : IsAddressed plan) (ports : ArePorts plan u) (shows : ShowsPlan d plan u w)
     (all_clocks : length t.clocks ≡ operation_count plan) (early : AllByRecursion (λ n. n < length at) t.clocks)
     (tells : (i : ℕ) → i < length at → Shows d (slice_index at i) 1 (match_shown c.clock i)) where
-  abbrev times : ℕ → ℕ → _
+  abbrev times : ℕ → ℕ → Times
   times = plan_times plan c.active c.commits at t.clocks
 
   own_clock : (block place : ℕ) → place < length (operations_in plan block) → slice_index (part_in plan t.clocks block) place < length at

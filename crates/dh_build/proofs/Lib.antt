@@ -3,3 +3,5 @@ pub mod UsersDriven
 pub mod PlanDriven
 pub mod PortsDriven
 pub mod DrivesWired
+pub mod SuitsShown
+pub mod Greatest

@@ -66,7 +66,7 @@ pub listing_starts : (table : List MemEntry) (ms : List MemoryPorts) → ms ≡ 
 listing_starts table ms none h = let few = h.elements in record { so_far = ap (λ (l : List MemoryPorts). l ++ memories_from 0 table) none; left = h.entries; few = omega (arith, few) }
 
 -- a memory has few ports
-few_ports : (e : MemEntry) → IsMemory e → port_count e ≤ 8 * elements_of e.shape.dims
+pub few_ports : (e : MemEntry) → IsMemory e → port_count e ≤ 8 * elements_of e.shape.dims
 few_ports e h =
     let product = mul-le (banks_of e.shape.dims) e.shape.ports (elements_of e.shape.dims) 8 (banks_fit e.shape.dims h.shape.dims) h.shape.most in
     omega (arith, product)

@@ -78,15 +78,16 @@ form_memory d kinds wires ms pairs (Read x) r e h = let same : x ≡ r = cc in s
 form_memory d kinds wires ms pairs (Write x value) r e h = let same : x ≡ r = cc in subst (λ (y : Reach). y.memory < length ms) same h.1.0
 form_memory d kinds wires ms pairs (Set register value) r e h = absurd (cc)
 
+-- the number of the port that an operation uses of a bank
+pub key_is : (plan : PlainPlan) (u : Uses) (ms : List MemoryPorts) → AreMemoryPorts plan.table ms → (block place bank : ℕ) (r : Reach) → r.memory < length plan.table → place < length (operations_in plan block)
+    → port_key (memory_ports_at ms r.memory).first (memory_ports_at ms r.memory).count (slice_index_or (part_in plan u.ports block) place []) bank ≡ port_bound plan u block place bank r
+key_is plan u ms memories block place bank r less inside =
+    ap (λ (m : MemoryPorts). port_key m.first m.count (slice_index_or (part_in plan u.ports block) place []) bank) (memories.each r.memory less)
+    ∙ ap (λ (l : List (ℕ × ℕ)). port_key (first_port plan.table r.memory) (ports_at plan.table r.memory) l bank) (used_at plan u.ports block place inside)
+
 module _ (plan : PlainPlan) (u : Uses) (kinds : List Kind) (wires : List ℕ) (times : ℕ → ℕ → Times) (ms : List MemoryPorts) (memories : AreMemoryPorts plan.table ms) (start d : PlainCircuit) (suit : UsesSuit start plan u kinds wires ms) (block : ℕ) where
   abbrev pairs : List (List (ℕ × ℕ))
   pairs = part_in plan u.ports block
-
-  key_is : (place bank : ℕ) (r : Reach) → r.memory < length plan.table → place < length (operations_in plan block)
-      → port_key (memory_ports_at ms r.memory).first (memory_ports_at ms r.memory).count (slice_index_or pairs place []) bank ≡ port_bound plan u block place bank r
-  key_is place bank r less inside =
-      ap (λ (m : MemoryPorts). port_key m.first m.count (slice_index_or pairs place []) bank) (memories.each r.memory less)
-      ∙ ap (λ (l : List (ℕ × ℕ)). port_key (first_port plan.table r.memory) (ports_at plan.table r.memory) l bank) (used_at plan u.ports block place inside)
 
   of_banks : (place : ℕ) (o : Operation) (r : Reach) → slice_get (operations_in plan block) place ≡ Some o → use_in o.form ≡ Some r → r.memory < length plan.table → (banks : List (ℕ × ℕ))
       → (us : List BankUse) (vs : List (Keyed User)) → ((fs : List (Keyed Driver)) → DriveAll d kinds wires (times block) ms pairs us fs → DriveUsers d plan kinds wires times vs fs)
@@ -95,7 +96,7 @@ module _ (plan : PlainPlan) (u : Uses) (kinds : List Kind) (wires : List ℕ) (t
   of_banks place o r at used less (b ∷ bs) us vs rest [] h = absurd h
   of_banks place o r at used less (b ∷ bs) us vs rest (e ∷ es) h = (
     (
-      h.0.0 ∙ key_is place b.0 r less (slice_get_within (operations_in plan block) place o at),
+      h.0.0 ∙ key_is plan u ms memories block place b.0 r less (slice_get_within (operations_in plan block) place o at),
       record {
         operation = o;
         there = at;

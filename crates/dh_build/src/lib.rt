@@ -9,6 +9,6 @@ mod memories;
 mod sizing;
 
 pub use drivers::{list_drivers, push_uses};
-pub use laws::drivers_serve_users;
+pub use laws::{drivers_serve_users, shown_plans_suit};
 pub use memories::list_memories;
 pub use sizing::{all_widths, greatest, list_widths, narrow};
