@@ -1,5 +1,5 @@
 -- The drivers of a net at each moment that its control shows: those of all users of a plan's ports.
-use Rattle.std.proofs.Common.{◌≡◌, ℕ, ◌+◌, ◌<◌, ◌==◌, Bool, true, false, Some, inl, inr, List, [], ◌∷◌, ◌++◌, length, drop, get_or, refl, sym, ap, subst, ◌∙◌, arith}
+use Rattle.std.proofs.Common.{◌≡◌, ℕ, ◌+◌, ◌<◌, ◌==◌, Bool, true, false, Some, inl, inr, List, [], ◌++◌, length, drop, get_or, refl, sym, ap, subst, ◌∙◌, arith}
 use Rattle.std.specs.Prelude.{slice_get, slice_index}
 use Rattle.std.specs.List.{AllByRecursion}
 use Rattle.std.proofs.lemmas.Bool.Decides.{nat_tests}
@@ -14,7 +14,7 @@ use Rattle.dh_plan.specs.PlainPlans.{PlainPlan, first_in, operations_in, operati
 use Rattle.dh_plan.specs.SoundPlans.{IsFormed, IsAddressed}
 use Rattle.dh_cells.specs.PlainCircuits.{PlainCircuit}
 use Rattle.dh_cells.specs.Settled.{Signals, IsSettled, Shows, shown}
-use Rattle.dh_cells.specs.ShownValues.{bit, is_one, match_shown}
+use Rattle.dh_cells.specs.ShownValues.{bit, match_shown}
 use Rattle.dh_lower.specs.PortUsers.{User, HasUser, Moment, DriveFor}
 use Rattle.dh_lower.specs.ShownWords.{block_shown}
 use Rattle.dh_datapath.specs.declared.blocks.PlanWires.{PlanWires}

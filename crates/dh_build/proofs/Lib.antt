@@ -4,4 +4,4 @@ pub mod PlanDriven
 pub mod PortsDriven
 pub mod DrivesWired
 pub mod SuitsShown
-pub mod Greatest
+pub mod NoneAbove

@@ -1,7 +1,6 @@
 -- The drivers of a port are those of its users, at each moment that wires show.
-use Rattle.std.proofs.Common.{◌≡◌, ℕ, zero, suc, ◌<◌, ◌==◌, ◌&&◌, Bool, true, Some, None, inl, inr, List, [], ◌∷◌, length, refl, sym, ap, subst, ◌∙◌, arith}
+use Rattle.std.proofs.Common.{◌≡◌, ℕ, ◌==◌, ◌&&◌, true, Some, None, inl, inr, List, [], ◌∷◌, length, refl, sym, ap, subst, ◌∙◌, arith}
 use Rattle.std.specs.Prelude.{Option, slice_get, slice_index}
-use Rattle.std.specs.List.{AllByRecursion}
 use Rattle.std.proofs.lemmas.Bool.{cases_eq}
 use Rattle.std.proofs.lemmas.Bool.Decides.{nat_tests}
 use Rattle.dh_value.specs.declared.kinds.Kind.{Kind}
@@ -19,13 +18,13 @@ use Rattle.dh_plan.specs.LegalSchedules.{Timing, clocks_in}
 use Rattle.dh_plan.specs.Ordered.{operation_takes}
 use Rattle.dh_plan.specs.PlainPlans.{PlainPlan, first_in, operations_in}
 use Rattle.dh_plan.specs.PlanKinds.{kinds_of, FormSuits, PicksBank}
-use Rattle.dh_plan.specs.SoundPlans.{use_in, HasUse, IsListed, IsFormed, FormAddressed, IsAddressed}
+use Rattle.dh_plan.specs.SoundPlans.{use_in, IsListed, IsFormed, FormAddressed, IsAddressed}
 use Rattle.dh_plan.proofs.ValuesAlike.{all_map}
 use Rattle.dh_cells.specs.PlainCircuits.{PlainCircuit}
 use Rattle.dh_cells.specs.Settled.{Signals, IsSettled}
 use Rattle.dh_cells.specs.ShownValues.{is_one}
 use Rattle.dh_lower.specs.PortUsers.{User, HasUser, Moment, DriveFor, DrivesFor, is_among}
-use Rattle.dh_lower.specs.ShownWords.{block_shown, port_bound}
+use Rattle.dh_lower.specs.ShownWords.{block_shown}
 use Rattle.dh_lower.proofs.BoundPortFacts.{bound_port}
 use Rattle.dh_datapath.specs.declared.blocks.PlanWires.{PlanWires}
 use Rattle.dh_datapath.specs.BlockWires.{layout_of, ShowsPlan}
@@ -112,10 +111,10 @@ module _ (d : PlainCircuit) (plan : PlainPlan) (u : Uses) (t : Timing) (w : Plan
   words_taken : (block i : ℕ) (o : Operation) → slice_get (operations_in plan block) i ≡ Some o → AreShownWords (first_in plan block) (shown_words block) w.kinds w.values x (o ∷ [])
   words_taken block i o at = record {
     each = (
-        all_map (IsShownNumber d plan w block) (IsShownValue (first_in plan block) (shown_words block) w.kinds w.values x) (operation_takes o) (λ number h. h.word x)
-        (taken_are_shown d plan u w shows formed block i o at),
-        tt,
-      );
+      all_map (IsShownNumber d plan w block) (IsShownValue (first_in plan block) (shown_words block) w.kinds w.values x) (operation_takes o) (λ number h. h.word x)
+          (taken_are_shown d plan u w shows formed block i o at),
+      tt,
+    );
   }
 
   user_driven : (user : User) (driver : Driver) → HasUser user (users_of plan u q) → TimesShown plan t times x m user → DrivesUser d plan w.kinds w.values times user driver

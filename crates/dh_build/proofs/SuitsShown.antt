@@ -1,5 +1,5 @@
 -- Wires that show a plan suit what control and drivers ask of them.
-use Rattle.std.proofs.Common.{◌≡◌, ℕ, zero, suc, ◌+◌, ◌*◌, ◌^◌, ◌<◌, ◌≤◌, inl, inr, Some, None, List, [], ◌∷◌, ◌++◌, length, map, get_or, refl, sym, ap, subst, ◌∙◌, arith}
+use Rattle.std.proofs.Common.{◌≡◌, ℕ, zero, suc, ◌+◌, ◌*◌, ◌^◌, ◌<◌, ◌≤◌, inl, inr, Some, None, List, [], ◌∷◌, ◌++◌, length, map, refl, sym, ap, subst, ◌∙◌, arith}
 use Rattle.std.specs.Prelude.{Option, slice_get, slice_index, slice_index_or}
 use Rattle.std.specs.List.{AllByRecursion}
 use Rattle.std.proofs.lemmas.List.{get_or-map, length-append}
@@ -8,9 +8,9 @@ use Rattle.dh_value.specs.declared.kinds.Kind.{Kind}
 use Rattle.dh_value.specs.declared.kinds.Kind.TheVariants as kind
 use Rattle.dh_value.specs.Words.{IsWidth, width_of}
 use Rattle.dh_tree.specs.declared.tables.MemEntry.{MemEntry}
-use Rattle.dh_tree.specs.Elements.{rows_of, dims_at, entry_dims}
+use Rattle.dh_tree.specs.Elements.{rows_of, entry_dims}
 use Rattle.dh_tree.specs.Shapes.{IsMemory, IsProgramTable}
-use Rattle.dh_tree.specs.Tables.{elements_of, elements_in, most_elements}
+use Rattle.dh_tree.specs.Tables.{elements_of, elements_in}
 use Rattle.dh_net.specs.BankPorts.{port_count, memory_ports, ports_from, ports_of}
 use Rattle.dh_net.specs.RowWidths.{row_width_of}
 use Rattle.dh_net.proofs.DimSizes.{rows_fit}
@@ -34,11 +34,11 @@ use Rattle.dh_lower.specs.ShownWords.{port_bound}
 use Rattle.dh_lower.proofs.BoundPortFacts.{bound_port}
 use Rattle.dh_datapath.specs.declared.blocks.PlanWires.{PlanWires}
 use Rattle.dh_datapath.specs.BlockWires.{part_in, ShowsPlan}
-use Rattle.dh_datapath.specs.ShownNumbers.{IsShownNumber, kind_at_number}
+use Rattle.dh_datapath.specs.ShownNumbers.{IsShownNumber}
 use Rattle.dh_datapath.proofs.PlanWiresKept.{taken_are_shown}
 use Rattle.dh_control.specs.declared.driving.MemoryPorts.{MemoryPorts}
 use Rattle.dh_control.specs.AllBlocks.{ChecksSuit, SetsSuit}
-use Rattle.dh_control.specs.DriverWires.{HasValue, MayHaveValue, port_key}
+use Rattle.dh_control.specs.DriverWires.{HasValue, port_key}
 use Rattle.dh_control.specs.FaultTests.{CheckSuits, CheckHasWire}
 use Rattle.dh_control.specs.RegisterSets.{SetSuits, SetHasWire}
 use Rattle.dh_control.specs.UseWires.{FormUseSuits, UseSuits, memory_ports_at}
@@ -169,7 +169,7 @@ module _ (d : PlainCircuit) (plan : PlainPlan) (u : Uses) (w : PlanWires) (shows
       let here : slice_get plan.blocks from ≡ Some b = at 0 from b (let n : from ≡ from + 0 = omega arith in n) refl in
       let own : b.operations ≡ operations_in plan from = sym (ap block_operations here) in (
         all_operations P b.operations b.operations 0 (λ i n p is there. let same : i ≡ n = omega (arith, is) in subst (λ (k : ℕ). slice_get b.operations k ≡ Some p) same there)
-        (λ n p there. h from n p (ap (λ (l : List Operation). slice_get l n) (sym own) ∙ there)),
+            (λ n p there. h from n p (ap (λ (l : List Operation). slice_get l n) (sym own) ∙ there)),
         all_blocks P bs (suc from) (λ i n c is there. at (suc i) n c (let same : n ≡ from + suc i = omega (arith, is) in same) there) h,
       )
 

@@ -1,5 +1,5 @@
 -- Drivers of what the operations of a block use are drivers of its users of ports.
-use Rattle.std.proofs.Common.{◌≡◌, ℕ, zero, suc, ◌+◌, ◌<◌, Some, None, List, [], ◌∷◌, ◌++◌, length, refl, sym, ap, subst, ◌∙◌, arith}
+use Rattle.std.proofs.Common.{◌≡◌, ℕ, suc, ◌+◌, ◌<◌, Some, None, List, [], ◌∷◌, ◌++◌, length, refl, ap, subst, ◌∙◌, arith}
 use Rattle.std.specs.Prelude.{Option, slice_get, slice_index_or}
 use Rattle.std.proofs.lemmas.Option.{slice_get_within}
 use Rattle.dh_value.specs.declared.kinds.Kind.{Kind}
@@ -11,7 +11,7 @@ use Rattle.dh_plan.specs.declared.operations.OperationForm.{OperationForm}
 use Rattle.dh_plan.specs.declared.operations.OperationForm.TheVariants.{Constant, Old, Compute, Convert, Select, Check, Probe, Read, Write, Set}
 use Rattle.dh_plan.specs.declared.operations.Reach.{Reach}
 use Rattle.dh_plan.specs.BoundPorts.{Uses}
-use Rattle.dh_plan.specs.PlainPlans.{PlainPlan, first_in, operations_in}
+use Rattle.dh_plan.specs.PlainPlans.{PlainPlan, operations_in}
 use Rattle.dh_plan.specs.SoundPlans.{use_in}
 use Rattle.dh_cells.specs.PlainCircuits.{PlainCircuit}
 use Rattle.dh_cells.specs.Settled.{Grows}

@@ -1,12 +1,11 @@
 -- Drivers of all users of a plan's ports, by wires: a driver for each user, in order, under the number of its port.
 use Rattle.std.specs.Prelude.{◌≡◌, ℕ, ◌<◌, List, [], ◌∷◌, ◌++◌, length, slice_get, slice_index, slice_index_or, Some}
-use Rattle.std.specs.List.{AllByRecursion}
 use Rattle.dh_value.specs.declared.kinds.Kind.{Kind}
 use Rattle.dh_net.specs.declared.nets.Driver.{Driver}
 use Rattle.dh_plan.specs.declared.operations.Operation.{Operation}
 use Rattle.dh_plan.specs.declared.operations.Reach.{Reach}
 use Rattle.dh_plan.specs.BoundPorts.{Uses}
-use Rattle.dh_plan.specs.PlainPlans.{PlainPlan, first_in, operations_in}
+use Rattle.dh_plan.specs.PlainPlans.{PlainPlan, operations_in}
 use Rattle.dh_plan.specs.SoundPlans.{use_in}
 use Rattle.dh_cells.specs.PlainCircuits.{PlainCircuit}
 use Rattle.dh_cells.specs.Settled.{Grows}

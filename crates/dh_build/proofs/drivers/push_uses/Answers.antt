@@ -1,4 +1,4 @@
-use Rattle.std.proofs.Common.{◌≡◌, ℕ, ◌<◌, List, [], length, drop, slice_index_or, ap, sym, ◌∙◌, arith}
+use Rattle.std.proofs.Common.{ℕ, List, [], length, drop, slice_index_or, ap, sym, ◌∙◌, arith}
 use Rattle.std.specs.Prelude.{slice_get, slice_index}
 use Rattle.dh_cells.proofs.CellsAppended.{wire_stays, wires_stay}
 use Rattle.dh_plan.specs.Passes.{uses_seen}
@@ -53,10 +53,10 @@ push_block_uses-requires-clause-suits c =
     let own = own_operations (plan_seen c.args.plan.now) c.as_slice-blocks.result.now c.loop-i.i c.index-blocks-i.result c.as_slice-operations.result.now c.as_slice-blocks.ensures c.loop-i-test.true c.index-blocks-i.is
     (c.as_slice-operations.ensures ∙ ap (λ (b : PlanBlock). b.operations) (sym c.index-blocks-i.is)) in
     λ i o at.
-        use_suits_stay c.args.circuit.now c.loop-i.circuit c.args.kinds.now c.args.wires.now c.args.memories.now _ (slice_index_or c.split_at-own_ports.result.0.now i []) o c.loop-i.invariant.driven.grows
-        (ap (λ (l : List (List (ℕ × ℕ))). slice_index_or l i [])
-        (rest_front (plan_seen c.args.plan.now) c.loop-i.i c.args.binding.now.ports c.loop-i.ports.now c.split_at-own_ports.result.0.now c.as_slice-operations.result.now c.loop-i.invariant.ports_left own c.split_at-own_ports.ensures.front))
-        (c.requires.suit c.loop-i.i i o (ap (λ (l : List Operation). slice_get l i) (sym own) ∙ at))
+    use_suits_stay c.args.circuit.now c.loop-i.circuit c.args.kinds.now c.args.wires.now c.args.memories.now _ (slice_index_or c.split_at-own_ports.result.0.now i []) o c.loop-i.invariant.driven.grows
+    (ap (λ (l : List (List (ℕ × ℕ))). slice_index_or l i [])
+    (rest_front (plan_seen c.args.plan.now) c.loop-i.i c.args.binding.now.ports c.loop-i.ports.now c.split_at-own_ports.result.0.now c.as_slice-operations.result.now c.loop-i.invariant.ports_left own c.split_at-own_ports.ensures.front))
+    (c.requires.suit c.loop-i.i i o (ap (λ (l : List Operation). slice_get l i) (sym own) ∙ at))
 
 pub loop-i-preserved : goal.loop-i-preserved
 loop-i-preserved c =

@@ -2,7 +2,6 @@ use Rattle.std.proofs.Common.{ℕ, ◌+◌, ap, ◌∙◌}
 use Rattle.dh_tree.specs.Elements.{rows_of}
 use Rattle.dh_net.specs.RowWidths.{row_width_of}
 use Rattle.dh_net.proofs.RowWidths.{row_width_is}
-use Rattle.dh_control.specs.declared.driving.MemoryPorts.{MemoryPorts}
 use Rattle.dh_build.proofs.MemoriesListed.{listing_goes, listing_ends, with_bits}
 use Rattle.dh_build.proofs.memories.list_memories.Goals as goal
 

@@ -1,4 +1,4 @@
-use Rattle.dh_build.proofs.Greatest.{all_below}
+use Rattle.dh_build.proofs.NoneAbove.{all_below}
 use Rattle.dh_build.proofs.sizing.greatest.Goals as goal
 
 pub returns-clause-all : goal.returns-clause-all
