@@ -1,0 +1,3 @@
+pub mod MemoryTables
+pub mod DrivenUsers
+pub mod DriverLaws

@@ -1,0 +1,14 @@
+//! The last joint of the compiler's passes: the net of a plan of one thread, of its data path, its control and the
+//! drivers of its ports.
+//! Stands on `dh_control` and `dh_datapath`. Nothing of the program stands on this crate yet.
+#![tactic(auto)]
+
+mod drivers;
+mod laws;
+mod memories;
+mod sizing;
+
+pub use drivers::{list_drivers, push_uses};
+pub use laws::{drivers_serve_users, shown_plans_suit};
+pub use memories::list_memories;
+pub use sizing::{all_widths, greatest, list_widths, narrow};
