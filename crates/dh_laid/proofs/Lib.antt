@@ -5,3 +5,4 @@ pub mod ChoicesLaid
 pub mod JoinsLaid
 pub mod ReducersLaid
 pub mod StoresLaid
+pub mod ValuesLogged

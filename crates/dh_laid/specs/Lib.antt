@@ -1,2 +1,4 @@
 -- what is asked of the operations of commands, and that they are so
 pub mod Laid
+-- whole commands
+pub mod LaidCommands
