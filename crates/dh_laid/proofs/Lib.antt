@@ -6,3 +6,4 @@ pub mod JoinsLaid
 pub mod ReducersLaid
 pub mod StoresLaid
 pub mod ValuesLogged
+pub mod CommandsLaid

@@ -1,5 +1,5 @@
 -- What a command gives to variables is logged, and can be taken back; an arm that is taken back leaves what was before.
-use Rattle.std.proofs.Common.{◌≡◌, ℕ, zero, suc, ◌<◌, ◌≤◌, Some, None, List, [], ◌∷◌, ◌++◌, length, take, drop, refl, ap, sym, ◌∙◌, subst, arith}
+use Rattle.std.proofs.Common.{◌≡◌, ℕ, zero, suc, ◌<◌, Some, None, List, [], ◌∷◌, ◌++◌, length, take, drop, refl, ap, sym, ◌∙◌, subst}
 use Rattle.std.specs.Prelude.{Option, slice_get, slice_index}
 use Rattle.std.specs.List.{AllByRecursion}
 use Rattle.std.proofs.lemmas.List.{append-nil}
@@ -12,11 +12,10 @@ use Rattle.dh_commands.specs.declared.assignments.Values.{Values}
 use Rattle.dh_commands.specs.declared.buildings.Building.{Building}
 use Rattle.dh_commands.specs.declared.choices.Choice.{Choice}
 use Rattle.dh_commands.specs.declared.choices.Left.{Left}
-use Rattle.dh_commands.specs.LanesRun.{paths_counted}
-use Rattle.dh_commands.specs.Joined.{IsLeft, JoinsArms}
+use Rattle.dh_commands.specs.Joined.{IsLeft}
 use Rattle.dh_commands.specs.MadeCommands.{MadeArmGuards, MadeChoiceBy, MadeChoices, MadeJoined, MadeLanes, MadeTests}
-use Rattle.dh_commands.specs.Undone.{AreReady, Assigns, EndsArm, HasRoom, Logs, lefts_of, undone}
-use Rattle.dh_commands.proofs.ArmsLeft.{AreSame, lefts_given, same_ready}
+use Rattle.dh_commands.specs.Undone.{AreReady, Assigns, EndsArm, HasRoom, lefts_of, undone}
+use Rattle.dh_commands.proofs.ArmsLeft.{AreSame, lefts_given}
 use Rattle.dh_commands.proofs.ChangesBack.{logs_again, logs_none, logs_one}
 use Rattle.dh_laid.specs.LaidCommands.{AreLogged}
 

@@ -1,8 +1,7 @@
 -- What is asked of whole commands: each part at all its paths, the arms of an `if`, which are taken back, and the parts
 -- of a block. What must hold of a command goes by recursion on it and on what was put down for it: an access of an arm
 -- stands where the guards of the arm hold, and only what was put down tells which these are.
-use Rattle.std.specs.Prelude.{◌≡◌, ℕ, ◌+◌, ◌<◌, ◌^◌, true, List, length, Option, Some, None}
-use Rattle.std.specs.List.{AllByRecursion}
+use Rattle.std.specs.Prelude.{◌≡◌, ℕ, ◌+◌, ◌<◌, ◌^◌, List, length, Some, None}
 use Rattle.dh_value.specs.declared.kinds.Kind.TheVariants.{Bool}
 use Rattle.dh_value.specs.declared.operators.Op.{Op}
 use Rattle.dh_value.specs.Words.{IsKind}
@@ -22,9 +21,8 @@ use Rattle.dh_commands.specs.declared.buildings.Building.{Building}
 use Rattle.dh_commands.specs.declared.choices.Left.{Left}
 use Rattle.dh_commands.specs.LanesRun.{lane_of, paths_counted}
 use Rattle.dh_commands.specs.MadeCommands.{MadeActions, MadeCommand, MadeGroups, MadeActionForm, MadeOther}
-use Rattle.dh_commands.specs.Joined.{IsLeft}
 use Rattle.dh_commands.specs.Undone.{AreReady, Logs}
-use Rattle.dh_laid.specs.Laid.{AimingSuits, AreHeld, AreTruths, FitsRegister, FormsThere, LeftHolds, ReducerSuits, StandsRound, StoringSuits, aim_accesses}
+use Rattle.dh_laid.specs.Laid.{AimingSuits, AreHeld, FitsRegister, FormsThere, ReducerSuits, StandsRound, StoringSuits, aim_accesses}
 
 -- Accesses are few.
 

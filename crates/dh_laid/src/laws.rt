@@ -1,6 +1,7 @@
 //! Laws on the operations of commands, stated on functions that do nothing.
 
 ghost use Rattle.dh_laid.specs.Laid.{AllAssignmentsForm, AllClearingsForm, AllReducesForm, AllStoresForm, ArmGuardsForm, ArmsEnd, ArmsLeave, AssignmentsForm, ChoicesForm, ClearingsForm, JoinsForm, ReducesForm, StoresForm, TestsForm};
+ghost use Rattle.dh_laid.specs.LaidCommands.{CommandsForm, GroupsForm};
 
 /// What is put down where a variable is assigned is formed, and it is given a value of the kind of its register.
 pub fn assignments_are_formed()
@@ -30,4 +31,10 @@ pub fn paths_are_formed()
 pub fn choices_are_formed()
     ensures choices { ChoicesForm }
     ensures joins { JoinsForm }
+{}
+
+/// Whole commands are formed, with the arms of an `if`, which are taken back, and so are the parts of a block.
+pub fn whole_commands_are_formed()
+    ensures commands { CommandsForm }
+    ensures groups { GroupsForm }
 {}
