@@ -1,5 +1,5 @@
 -- The numbers of the accesses of whole commands, by recursion on what was put down for them.
-use Rattle.std.proofs.Common.{◌≡◌, ◌⊎◌, inl, inr, ◌<◌, ◌≤◌, ◌+◌, ◌^◌, ℕ, zero, suc, List, Some, None, refl, ap, sym, ◌∙◌, subst, length, arith}
+use Rattle.std.proofs.Common.{◌≡◌, inl, inr, ◌<◌, ◌+◌, ◌^◌, ℕ, zero, suc, List, Some, None, ap, sym, ◌∙◌, subst, length, arith}
 use Rattle.std.specs.Prelude.{Bool as Truth, true, false, Option}
 use Rattle.dh_base.specs.declared.places.Place.{Place}
 use Rattle.dh_value.specs.declared.kinds.Kind.{Kind}
@@ -22,10 +22,10 @@ use Rattle.dh_formed.proofs.TouchedOwn.{all_touched_own, touched_own, writes_tou
 use Rattle.dh_commands.specs.declared.buildings.Building.{Building}
 use Rattle.dh_commands.specs.declared.choices.Left.{Left}
 use Rattle.dh_commands.specs.LanesRun.{lane_of, paths_counted}
-use Rattle.dh_commands.specs.MadeCommands.{AssignedTo, ClearedTo, Commanding, MadeActionForm, MadeActions, MadeAim, MadeArm, MadeAssigned, MadeBoth, MadeCleared, MadeCommand, MadeGroups, MadeIf, MadeLanes, MadeOther, MadeReduced, MadeStored, MadeStoring, MadeTests, ReducedTo, StoredTo}
+use Rattle.dh_commands.specs.MadeCommands.{AssignedTo, ClearedTo, Commanding, MadeActions, MadeAim, MadeArm, MadeAssigned, MadeCleared, MadeCommand, MadeGroups, MadeIf, MadeLanes, MadeOther, MadeReduced, MadeStored, MadeStoring, MadeTests, ReducedTo, StoredTo}
 use Rattle.dh_laid.specs.Laid.{aim_accesses}
-use Rattle.dh_laid.specs.LaidCommands.{AreFew, AreFewActions, AreFewGroups, AreFewIn, AreFewOf, AreFewOther}
-use Rattle.dh_laid.specs.LaidNumbers.{AreStraight, AreStraightGroups, CommandsNumber, GroupsNumber, IsAccessForm, IsOutside, IsStraight, IsStraightForm, IsStraightOther, Numbers}
+use Rattle.dh_laid.specs.LaidCommands.{AreFew, AreFewActions, AreFewGroups, AreFewIn, AreFewOther}
+use Rattle.dh_laid.specs.LaidNumbers.{AreStraight, AreStraightGroups, CommandsNumber, GroupsNumber, IsAccessForm, IsOutside, IsStraight, IsStraightOther, Numbers}
 use Rattle.dh_laid.proofs.ValuesLogged.{arm_long, tests_same}
 
 -- Numbers.
@@ -164,3 +164,131 @@ aims_within (plain.term place k (plain.named r)) is = absurd is
 aims_within (plain.term place k (plain.applied op left right)) is = absurd is
 aims_within (plain.term place k (plain.converted inner to)) is = absurd is
 
+-- Parts.
+
+arm_number : (Inner : Commanding) (around : Around) (holds : Truth) (tests : List ℕ) (old new : Building) (first next : ℕ) (lefts : List Left) (m : MadeArm Inner around holds tests old new first next lefts) (count : ℕ)
+    → Numbers m.begin m.inside first count next → Numbers old new first count next
+arm_number Inner around holds tests old new first next lefts m count h = record {
+  next_is = h.next_is;
+  only = λ number out. ap (λ (a : Accesses). touched_in a number) m.accesses ∙ (h.only number out ∙ ap (λ (a : Accesses). touched_in a number) m.begin_accesses);
+}
+
+some_arm : (Inner : Commanding) (around : Around) (holds : Truth) (tests : List ℕ) (old new : Building) (first next : ℕ) (lefts : List Left) (m : MadeArm Inner around holds tests old new first next lefts) → 0 < length tests → 0 < paths_counted m.arm
+some_arm Inner around holds tests old new first next lefts m some =
+    subst (λ (n : ℕ). 0 < n) (sym (arm_long holds around.guards.now tests (length tests) old.draft m.guarded m.arm.guards.now m.guards)) some
+
+if_number : (scene : Scene) (Chosen Other : Around → (tests : List ℕ) → (old new : Building) → (first next : ℕ) → (lefts : List Left) → Type 0) (t : Term) (around : Around) (old new : Building) (first next : ℕ)
+    (m : MadeIf scene Chosen Other t around old new first next) (c e : ℕ)
+    → Numbers old m.tested first (term_accesses t) m.own → Numbers m.tested m.after_chosen m.own c m.behind → Numbers m.after_chosen m.after_other m.behind e next → Numbers old new first (term_accesses t + (c + e)) next
+if_number scene Chosen Other t around old new first next m c e h k l =
+    let all : Numbers old m.after_other first (term_accesses t + (c + e)) next =
+    numbers_then old m.tested m.after_other first m.own next (term_accesses t) (c + e) h (numbers_then m.tested m.after_chosen m.after_other m.own m.behind next c e k l) in
+    record { next_is = all.next_is; only = λ number out. accesses_same m.after_other new number m.joined.same ∙ all.only number out }
+
+-- Commands at all paths.
+
+module _ (scene : Scene) (around : Around) (first : ℕ) (old new : Building) (next : ℕ) (some : 0 < paths_counted around) where
+  assigned_number : (entity : ℕ) (t : Term) → AssignedTo scene around first entity t (paths_counted around) old new next → AreFewIn first t → Numbers old new first (term_accesses t) next
+  assigned_number entity t m few =
+      lanes_number (λ n b d k. MadeAssigned scene (lane_of around n) first entity t b d k) first (term_accesses t)
+      (λ n b d k one. term_number scene (lane_of around n) first t b d one.middle k one.value one.term few) (paths_counted around) old new next some m
+
+  cleared_number : (entity : ℕ) → ClearedTo scene around first entity (paths_counted around) old new next → Numbers old new first 0 next
+  cleared_number entity m =
+      lanes_number (λ n b d k. MadeCleared scene (lane_of around n) entity b d × (k ≡ first)) first 0 (λ n b d k one. numbers_none b d first k (one.0).same one.1) (paths_counted around) old new next some m
+
+  reduced_number : (entity : ℕ) (op : Op) (t : Term) → ReducedTo scene around first entity op t (paths_counted around) old new next → AreFewIn first t → Numbers old new first (term_accesses t) next
+  reduced_number entity op t m few =
+      lanes_number (λ n b d k. MadeReduced scene (lane_of around n) first entity op t b d k) first (term_accesses t)
+      (λ n b d k one. term_number scene (lane_of around n) first t b d one.middle k one.value one.term few) (paths_counted around) old new next some m
+
+  stored_lanes_number : (target t : Term) → StoredTo scene around first target t (paths_counted around) old new next → IsAccessForm (form_of target) → first + (term_accesses t + term_accesses target) < 2 ^ 32
+      → Numbers old new first (term_accesses t + term_accesses target) next
+  stored_lanes_number target t m is few =
+      lanes_number (λ n b d k. MadeStored scene (lane_of around n) first target t b d k) first (term_accesses t + term_accesses target)
+      (λ n b d k one. store_number scene (lane_of around n) first target t b d k one is few) (paths_counted around) old new next some m
+
+-- a count, as it is written for a command
+own_count : (old new : Building) (first c next : ℕ) → Numbers old new first c next → Numbers old new first (c + 0) next
+own_count old new first c next h = numbers_as old new first c (c + 0) next (omega arith) h
+
+inner_count : (old new : Building) (first c next : ℕ) → Numbers old new first c next → Numbers old new first (0 + c) next
+inner_count old new first c next h = numbers_as old new first c (0 + c) next (omega arith) h
+
+module _ (scene : Scene) where
+  mutual
+    pub command_numbered : (a : Action) (around : Around) (old new : Building) (first next : ℕ) (m : MadeCommand scene a around old new first next) → IsStraight a → 0 < paths_counted around → first + accesses_of a < 2 ^ 32
+        → AreFew scene a around old new first next m × Numbers old new first (accesses_of a) next
+    command_numbered (action id place (lets name declared (Some value))) around old new first next m is some few =
+        let less : AreFewIn first value = omega (arith, few) in
+        (less, own_count old new first (term_accesses value) next (assigned_number scene around first old new next some (entity_number name.entity) value m less))
+    command_numbered (action id place (lets name declared None)) around old new first next m is some few =
+        (tt, own_count old new first 0 next (cleared_number scene around first old new next some (entity_number name.entity) m))
+    command_numbered (action id place (assigns target value)) around old new first next m is some few =
+        let less : AreFewIn first value = omega (arith, few) in
+        (less, own_count old new first (term_accesses value) next (assigned_number scene around first old new next some (entity_number target.entity) value m less))
+    command_numbered (action id place (stores target value)) around old new first next m is some few =
+        let all : first + (term_accesses value + term_accesses target) < 2 ^ 32 = omega (arith, few) in
+        let aims = aims_within target is in
+        (omega (arith, all, aims), own_count old new first (term_accesses value + term_accesses target) next (stored_lanes_number scene around first old new next some target value m is all))
+    command_numbered (action id place (reduces target op value)) around old new first next m is some few =
+        let less : AreFewIn first value = omega (arith, few) in
+        (less, own_count old new first (term_accesses value) next (reduced_number scene around first old new next some (entity_number target.entity) op value m less))
+    command_numbered (action id place (decides test chosen other)) around old new first next m is some few =
+        let less : AreFewIn first test = omega (arith, few) in
+        let tests : Numbers old m.tested first (term_accesses test) m.own = tests_number scene around first test less (paths_counted around) old m.tested m.own m.tests some m.test in
+        let own = tests.next_is in
+        let long : length m.tests ≡ paths_counted around = (tests_same scene around first test (paths_counted around) old m.tested m.own m.tests m.test).1 in
+        let some_tests : 0 < length m.tests = subst (λ (n : ℕ). 0 < n) (sym long) some in
+        let one : AreFew scene chosen m.chosen.arm m.chosen.begin m.chosen.inside m.own m.behind m.chosen.command × Numbers m.chosen.begin m.chosen.inside m.own (accesses_of chosen) m.behind =
+        command_numbered chosen m.chosen.arm m.chosen.begin m.chosen.inside m.own m.behind m.chosen.command is.0
+        (some_arm (MadeCommand scene chosen) around true m.tests m.tested m.after_chosen m.own m.behind m.chosen_left m.chosen some_tests) (omega (arith, few, own)) in
+        let behind = one.1.next_is in
+        let two : AreFewOther scene other around m.tests m.after_chosen m.after_other m.behind next m.other_left m.other × Numbers m.after_chosen m.after_other m.behind (other_accesses other) next =
+        other_numbered other around m.tests m.after_chosen m.after_other m.behind next m.other_left m.other is.1 some_tests (omega (arith, few, own, behind)) in (
+          (less, (one.0, two.0)),
+          if_number scene (λ a ts b d n k ls. MadeArm (MadeCommand scene chosen) a true ts b d n k ls) (MadeOther scene other) test around old new first next m (accesses_of chosen) (other_accesses other) tests
+              (arm_number (MadeCommand scene chosen) around true m.tests m.tested m.after_chosen m.own m.behind m.chosen_left m.chosen (accesses_of chosen) one.1) two.1,
+        )
+    command_numbered (action id place (blocks body)) around old new first next m is some few =
+        let all : AreFewGroups scene body around old new first next m × Numbers old new first (groups_accesses body) next = groups_numbered body around old new first next m is some (omega (arith, few)) in
+        (all.0, inner_count old new first (groups_accesses body) next all.1)
+    command_numbered (action id place (lets_memory name shape shape_places value)) around old new first next m is some few = (tt, numbers_none old new first next (ap (λ (b : Building). b.accesses) m.still) m.next_is)
+    command_numbered (action id place (views name parent form)) around old new first next m is some few = (tt, numbers_none old new first next (ap (λ (b : Building). b.accesses) m.still) m.next_is)
+    command_numbered (action id place (calls function arguments)) around old new first next m is some few = (tt, numbers_none old new first next (ap (λ (b : Building). b.accesses) m.still) m.next_is)
+    command_numbered (action id place (repeats test body)) around old new first next m is some few = absurd is
+    command_numbered (action id place (counts iterator declared low high factor body combine combine_place)) around old new first next m is some few = absurd is
+
+    other_numbered : (other : MaybeAction) (around : Around) (tests : List ℕ) (old new : Building) (first next : ℕ) (lefts : List Left) (m : MadeOther scene other around tests old new first next lefts) → IsStraightOther other
+        → 0 < length tests → first + other_accesses other < 2 ^ 32 → AreFewOther scene other around tests old new first next lefts m × Numbers old new first (other_accesses other) next
+    other_numbered no_action around tests old new first next lefts m is some few = (tt, numbers_none old new first next (ap (λ (b : Building). b.accesses) m.still) m.next_is)
+    other_numbered (one_action a) around tests old new first next lefts m is some few =
+        let one : AreFew scene a m.arm m.begin m.inside first next m.command × Numbers m.begin m.inside first (accesses_of a) next =
+        command_numbered a m.arm m.begin m.inside first next m.command is (some_arm (MadeCommand scene a) around false tests old new first next lefts m some) few in
+        (one.0, arm_number (MadeCommand scene a) around false tests old new first next lefts m (accesses_of a) one.1)
+
+    actions_numbered : (part : Actions) (around : Around) (old new : Building) (first next : ℕ) (m : MadeActions scene part around old new first next) → AreStraight part → 0 < paths_counted around → first + part_accesses part < 2 ^ 32
+        → AreFewActions scene part around old new first next m × Numbers old new first (part_accesses part) next
+    actions_numbered no_actions around old new first next m is some few = (tt, numbers_none old new first next (ap (λ (b : Building). b.accesses) m.still) m.next_is)
+    actions_numbered (action_then a rest) around old new first next m is some few =
+        let one : AreFew scene a around old m.middle first m.own m.one × Numbers old m.middle first (accesses_of a) m.own = command_numbered a around old m.middle first m.own m.one is.0 some (omega (arith, few)) in
+        let own = one.1.next_is in
+        let more : AreFewActions scene rest around m.middle new m.own next m.rest × Numbers m.middle new m.own (part_accesses rest) next =
+        actions_numbered rest around m.middle new m.own next m.rest is.1 some (omega (arith, few, own)) in
+        ((one.0, more.0), numbers_then old m.middle new first m.own next (accesses_of a) (part_accesses rest) one.1 more.1)
+
+    pub groups_numbered : (body : Groups) (around : Around) (old new : Building) (first next : ℕ) (m : MadeGroups scene body around old new first next) → AreStraightGroups body → 0 < paths_counted around
+        → first + groups_accesses body < 2 ^ 32 → AreFewGroups scene body around old new first next m × Numbers old new first (groups_accesses body) next
+    groups_numbered no_groups around old new first next m is some few = (tt, numbers_none old new first next (ap (λ (b : Building). b.accesses) m.still) m.next_is)
+    groups_numbered (group_then part rest) around old new first next m is some few =
+        let one : AreFewActions scene part around old m.middle first m.own m.one × Numbers old m.middle first (part_accesses part) m.own = actions_numbered part around old m.middle first m.own m.one is.0 some (omega (arith, few)) in
+        let own = one.1.next_is in
+        let more : AreFewGroups scene rest around m.middle new m.own next m.rest × Numbers m.middle new m.own (groups_accesses rest) next =
+        groups_numbered rest around m.middle new m.own next m.rest is.1 some (omega (arith, few, own)) in
+        ((one.0, more.0), numbers_then old m.middle new first m.own next (part_accesses part) (groups_accesses rest) one.1 more.1)
+
+pub commands_number : CommandsNumber
+commands_number scene a around old new first next m is some few = command_numbered scene a around old new first next m is some few
+
+pub groups_number : GroupsNumber
+groups_number scene body around old new first next m is some few = groups_numbered scene body around old new first next m is some few

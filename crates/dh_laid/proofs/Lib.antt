@@ -7,3 +7,4 @@ pub mod ReducersLaid
 pub mod StoresLaid
 pub mod ValuesLogged
 pub mod CommandsLaid
+pub mod CommandsNumbered

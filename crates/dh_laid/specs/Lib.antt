@@ -2,3 +2,5 @@
 pub mod Laid
 -- whole commands
 pub mod LaidCommands
+-- the numbers of their accesses
+pub mod LaidNumbers

@@ -2,6 +2,7 @@
 
 ghost use Rattle.dh_laid.specs.Laid.{AllAssignmentsForm, AllClearingsForm, AllReducesForm, AllStoresForm, ArmGuardsForm, ArmsEnd, ArmsLeave, AssignmentsForm, ChoicesForm, ClearingsForm, JoinsForm, ReducesForm, StoresForm, TestsForm};
 ghost use Rattle.dh_laid.specs.LaidCommands.{CommandsForm, GroupsForm};
+ghost use Rattle.dh_laid.specs.LaidNumbers.{CommandsNumber, GroupsNumber};
 
 /// What is put down where a variable is assigned is formed, and it is given a value of the kind of its register.
 pub fn assignments_are_formed()
@@ -37,4 +38,10 @@ pub fn choices_are_formed()
 pub fn whole_commands_are_formed()
     ensures commands { CommandsForm }
     ensures groups { GroupsForm }
+{}
+
+/// Behind a straight command there are as many accesses as it makes, and no others were touched.
+pub fn whole_commands_are_numbered()
+    ensures commands { CommandsNumber }
+    ensures groups { GroupsNumber }
 {}
