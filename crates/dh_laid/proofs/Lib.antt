@@ -8,3 +8,4 @@ pub mod StoresLaid
 pub mod ValuesLogged
 pub mod CommandsLaid
 pub mod CommandsNumbered
+pub mod CommandsQuiet

@@ -4,3 +4,5 @@ pub mod Laid
 pub mod LaidCommands
 -- the numbers of their accesses
 pub mod LaidNumbers
+-- nothing is checked or set
+pub mod LaidQuiet

@@ -3,6 +3,7 @@
 ghost use Rattle.dh_laid.specs.Laid.{AllAssignmentsForm, AllClearingsForm, AllReducesForm, AllStoresForm, ArmGuardsForm, ArmsEnd, ArmsLeave, AssignmentsForm, ChoicesForm, ClearingsForm, JoinsForm, ReducesForm, StoresForm, TestsForm};
 ghost use Rattle.dh_laid.specs.LaidCommands.{CommandsForm, GroupsForm};
 ghost use Rattle.dh_laid.specs.LaidNumbers.{CommandsNumber, GroupsNumber};
+ghost use Rattle.dh_laid.specs.LaidQuiet.{CommandsAreQuiet, GroupsAreQuiet, TermsAreQuiet};
 
 /// What is put down where a variable is assigned is formed, and it is given a value of the kind of its register.
 pub fn assignments_are_formed()
@@ -44,4 +45,11 @@ pub fn whole_commands_are_formed()
 pub fn whole_commands_are_numbered()
     ensures commands { CommandsNumber }
     ensures groups { GroupsNumber }
+{}
+
+/// What is put down for expressions and commands checks nothing and sets no register.
+pub fn whole_commands_are_quiet()
+    ensures terms { TermsAreQuiet }
+    ensures commands { CommandsAreQuiet }
+    ensures groups { GroupsAreQuiet }
 {}
