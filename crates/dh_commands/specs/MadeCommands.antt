@@ -264,7 +264,7 @@ pub record MadeIf (scene : Scene) (Chosen Other : Around → (tests : List ℕ) 
   pub other : Other around tests after_chosen after_other behind next other_left
   pub joined : MadeJoined tests chosen_left other_left after_other new
 
--- a command that puts nothing down
+-- a loop, which has no turn in a straight command, puts nothing down
 pub record MadeIdle (around : Around) (old new : Building) (first next : ℕ) : Type 0 where
   pub still : new ≡ old
 
@@ -275,6 +275,7 @@ pub record MadeBoth (First Rest : Commanding) (around : Around) (old new : Build
   pub one : First around old middle first own
   pub rest : Rest around middle new own next
 
+-- a command that puts nothing down, and makes no access
 pub record MadeNothing (around : Around) (old new : Building) (first next : ℕ) : Type 0 where
   pub still : new ≡ old
   pub next_is : next ≡ first
@@ -293,9 +294,9 @@ module _ (scene : Scene) where
     MadeActionForm (reduces target op value) = λ around old new first next. ReducedTo scene around first (entity_number target.entity) op value (paths_counted around) old new next
     MadeActionForm (decides test chosen other) = λ around old new first next. MadeIf scene (λ a ts b d n m ls. MadeArm (MadeCommand chosen) a true ts b d n m ls) (MadeOther other) test around old new first next
     MadeActionForm (blocks body) = MadeGroups body
-    MadeActionForm (lets_memory name shape shape_places value) = MadeIdle
-    MadeActionForm (views name parent form) = MadeIdle
-    MadeActionForm (calls function arguments) = MadeIdle
+    MadeActionForm (lets_memory name shape shape_places value) = MadeNothing
+    MadeActionForm (views name parent form) = MadeNothing
+    MadeActionForm (calls function arguments) = MadeNothing
     MadeActionForm (repeats test body) = MadeIdle
     MadeActionForm (counts iterator declared low high factor body combine combine_place) = MadeIdle
 

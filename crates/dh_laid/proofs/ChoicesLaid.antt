@@ -18,7 +18,7 @@ use Rattle.dh_laid.proofs.ValuesLaid.{AllHold, held_assigned, held_later}
 holds_later : (x : Block) (old new : Draft) (r : ℕ) (o : Option ℕ) → Extends old new → HoldsKind x old r o → HoldsKind x new r o
 holds_later x old new r o e h value is = kind_later x old new _ value e (h value is)
 
-truths_later : (x : Block) (old new : Draft) (tests : List ℕ) → Extends old new → AreTruths x old tests → AreTruths x new tests
+pub truths_later : (x : Block) (old new : Draft) (tests : List ℕ) → Extends old new → AreTruths x old tests → AreTruths x new tests
 truths_later x old new tests e all path test at = kind_later x old new kind.Bool test e (all path test at)
 
 choices_later : (x : Block) (old new : Draft) (choices : List Choice) → Extends old new → ChoicesSuit x old choices → ChoicesSuit x new choices

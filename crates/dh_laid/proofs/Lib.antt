@@ -5,3 +5,7 @@ pub mod ChoicesLaid
 pub mod JoinsLaid
 pub mod ReducersLaid
 pub mod StoresLaid
+pub mod ValuesLogged
+pub mod CommandsLaid
+pub mod CommandsNumbered
+pub mod CommandsQuiet

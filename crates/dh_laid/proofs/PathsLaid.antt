@@ -34,7 +34,7 @@ pub there_same : (x : Block) (old new : Building) → new ≡ old → IsNoted x 
 there_same x old new same noted held =
     subst (λ (b : Building). FormsThere x old b) (sym same) (record { forms = forms_none x old.draft old.draft refl; notes = noted; held = held })
 
-extends_same : (old new : Building) → new ≡ old → Extends old.draft new.draft
+pub extends_same : (old new : Building) → new ≡ old → Extends old.draft new.draft
 extends_same old new same = subst (λ (b : Building). Extends old.draft b.draft) (sym same) (extends_self old.draft)
 
 pub paths_form : (scene : Scene) (around : Around) (One : ℕ → (b d : Building) → ℕ → Type 0) (Where : ℕ → Block → Type 0)

@@ -1,2 +1,8 @@
 -- what is asked of the operations of commands, and that they are so
 pub mod Laid
+-- whole commands
+pub mod LaidCommands
+-- the numbers of their accesses
+pub mod LaidNumbers
+-- nothing is checked or set
+pub mod LaidQuiet

@@ -1,6 +1,9 @@
 //! Laws on the operations of commands, stated on functions that do nothing.
 
 ghost use Rattle.dh_laid.specs.Laid.{AllAssignmentsForm, AllClearingsForm, AllReducesForm, AllStoresForm, ArmGuardsForm, ArmsEnd, ArmsLeave, AssignmentsForm, ChoicesForm, ClearingsForm, JoinsForm, ReducesForm, StoresForm, TestsForm};
+ghost use Rattle.dh_laid.specs.LaidCommands.{CommandsForm, GroupsForm};
+ghost use Rattle.dh_laid.specs.LaidNumbers.{CommandsNumber, GroupsNumber};
+ghost use Rattle.dh_laid.specs.LaidQuiet.{CommandsAreQuiet, GroupsAreQuiet, TermsAreQuiet};
 
 /// What is put down where a variable is assigned is formed, and it is given a value of the kind of its register.
 pub fn assignments_are_formed()
@@ -30,4 +33,23 @@ pub fn paths_are_formed()
 pub fn choices_are_formed()
     ensures choices { ChoicesForm }
     ensures joins { JoinsForm }
+{}
+
+/// Whole commands are formed, with the arms of an `if`, which are taken back, and so are the parts of a block.
+pub fn whole_commands_are_formed()
+    ensures commands { CommandsForm }
+    ensures groups { GroupsForm }
+{}
+
+/// Behind a straight command there are as many accesses as it makes, and no others were touched.
+pub fn whole_commands_are_numbered()
+    ensures commands { CommandsNumber }
+    ensures groups { GroupsNumber }
+{}
+
+/// What is put down for expressions and commands checks nothing and sets no register.
+pub fn whole_commands_are_quiet()
+    ensures terms { TermsAreQuiet }
+    ensures commands { CommandsAreQuiet }
+    ensures groups { GroupsAreQuiet }
 {}

@@ -7,4 +7,7 @@
 
 mod laws;
 
-pub use laws::{arms_are_formed, assignments_are_formed, choices_are_formed, paths_are_formed};
+pub use laws::{
+    arms_are_formed, assignments_are_formed, choices_are_formed, paths_are_formed,
+    whole_commands_are_formed, whole_commands_are_numbered, whole_commands_are_quiet,
+};

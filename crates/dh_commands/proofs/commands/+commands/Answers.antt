@@ -234,13 +234,13 @@ push_command-returns-in-Block-clause-made t c =
     c.push_parts.ensures.made
 
 pub push_command-returns-in-LetMemory-clause-made : goal.push_command-returns-in-LetMemory-clause-made
-push_command-returns-in-LetMemory-clause-made t c = made_seen c.args.scene.now c.args.around c.args.command.now _ c.args.first _ c.args.building.now c.args.building.now (ap action_form_seen c.in-LetMemory.is ∙ let_memory_is c.in-LetMemory.name c.in-LetMemory.shape c.in-LetMemory.shape_places c.in-LetMemory.value) (record { still = refl })
+push_command-returns-in-LetMemory-clause-made t c = made_seen c.args.scene.now c.args.around c.args.command.now _ c.args.first _ c.args.building.now c.args.building.now (ap action_form_seen c.in-LetMemory.is ∙ let_memory_is c.in-LetMemory.name c.in-LetMemory.shape c.in-LetMemory.shape_places c.in-LetMemory.value) (record { still = refl; next_is = refl })
 
 pub push_command-returns-in-View-clause-made : goal.push_command-returns-in-View-clause-made
-push_command-returns-in-View-clause-made t c = made_seen c.args.scene.now c.args.around c.args.command.now _ c.args.first _ c.args.building.now c.args.building.now (ap action_form_seen c.in-View.is ∙ view_is c.in-View.name c.in-View.parent c.in-View.form) (record { still = refl })
+push_command-returns-in-View-clause-made t c = made_seen c.args.scene.now c.args.around c.args.command.now _ c.args.first _ c.args.building.now c.args.building.now (ap action_form_seen c.in-View.is ∙ view_is c.in-View.name c.in-View.parent c.in-View.form) (record { still = refl; next_is = refl })
 
 pub push_command-returns-in-Call-clause-made : goal.push_command-returns-in-Call-clause-made
-push_command-returns-in-Call-clause-made t c = made_seen c.args.scene.now c.args.around c.args.command.now _ c.args.first _ c.args.building.now c.args.building.now (ap action_form_seen c.in-Call.is ∙ call_is c.in-Call.function c.in-Call.arguments) (record { still = refl })
+push_command-returns-in-Call-clause-made t c = made_seen c.args.scene.now c.args.around c.args.command.now _ c.args.first _ c.args.building.now c.args.building.now (ap action_form_seen c.in-Call.is ∙ call_is c.in-Call.function c.in-Call.arguments) (record { still = refl; next_is = refl })
 
 pub push_command-returns-in-While-clause-made : goal.push_command-returns-in-While-clause-made
 push_command-returns-in-While-clause-made t c = made_seen c.args.scene.now c.args.around c.args.command.now _ c.args.first _ c.args.building.now c.args.building.now (ap action_form_seen c.in-While.is ∙ while_is c.in-While.test c.in-While.body) (record { still = refl })

@@ -1,0 +1,73 @@
+-- The numbers of the accesses of whole commands: those behind a command are as many as it makes, and only its own are
+-- touched by what is put down for it.
+use Rattle.std.specs.Prelude.{◌≡◌, ◌⊎◌, ℕ, ◌+◌, ◌<◌, ◌≤◌, ◌^◌}
+use Rattle.dh_tree.specs.Indices.{form_of}
+use Rattle.dh_tree.specs.PlainTrees as plain
+use Rattle.dh_tree.specs.PlainTrees.{Action, action, ActionForm, lets, lets_memory, views, assigns, stores, reduces, calls, blocks, decides, repeats, counts, MaybeAction, no_action, one_action, Actions, no_actions, action_then, Groups, no_groups, group_then}
+use Rattle.dh_meaning.specs.AccessNumbers.{accesses_of, groups_accesses}
+use Rattle.dh_expressions.specs.declared.scenes.Around.{Around}
+use Rattle.dh_expressions.specs.declared.scenes.Scene.{Scene}
+use Rattle.dh_expressions.specs.Noted.{touched_in}
+use Rattle.dh_commands.specs.declared.buildings.Building.{Building}
+use Rattle.dh_commands.specs.LanesRun.{paths_counted}
+use Rattle.dh_commands.specs.MadeCommands.{MadeCommand, MadeGroups}
+use Rattle.dh_laid.specs.LaidCommands.{AreFew, AreFewGroups}
+
+-- what is stored into is an access
+abbrev pub IsAccessForm : plain.TermForm → Type 0
+IsAccessForm (plain.accessed r ts) = Unit {0}
+IsAccessForm (plain.in_bank r bank at row) = Unit {0}
+IsAccessForm (plain.number negative z) = ⊥
+IsAccessForm (plain.truth_value b) = ⊥
+IsAccessForm (plain.named r) = ⊥
+IsAccessForm (plain.applied op left right) = ⊥
+IsAccessForm (plain.converted inner to) = ⊥
+
+abbrev mutual
+  -- no loop is in a command, and its stores are into accesses
+  pub IsStraight : Action → Type 0
+  IsStraight (action id place form) = IsStraightForm form
+
+  pub IsStraightForm : ActionForm → Type 0
+  IsStraightForm (lets name declared value) = Unit {0}
+  IsStraightForm (assigns target value) = Unit {0}
+  IsStraightForm (stores target value) = IsAccessForm (form_of target)
+  IsStraightForm (reduces target op value) = Unit {0}
+  IsStraightForm (decides test chosen other) = IsStraight chosen × IsStraightOther other
+  IsStraightForm (blocks body) = AreStraightGroups body
+  IsStraightForm (lets_memory name shape shape_places value) = Unit {0}
+  IsStraightForm (views name parent form) = Unit {0}
+  IsStraightForm (calls function arguments) = Unit {0}
+  IsStraightForm (repeats test body) = ⊥
+  IsStraightForm (counts iterator declared low high factor body combine combine_place) = ⊥
+
+  pub IsStraightOther : MaybeAction → Type 0
+  IsStraightOther no_action = Unit {0}
+  IsStraightOther (one_action a) = IsStraight a
+
+  pub AreStraight : Actions → Type 0
+  AreStraight no_actions = Unit {0}
+  AreStraight (action_then a rest) = IsStraight a × AreStraight rest
+
+  pub AreStraightGroups : Groups → Type 0
+  AreStraightGroups no_groups = Unit {0}
+  AreStraightGroups (group_then part rest) = AreStraight part × AreStraightGroups rest
+
+-- a number is none of these
+abbrev pub IsOutside : (first count number : ℕ) → Type 0
+IsOutside first count number = (number < first) ⊎ (first + count ≤ number)
+
+-- as many accesses were put down, from a first one on, and no others were touched
+pub record Numbers (old new : Building) (first count next : ℕ) : Type 0 where
+  pub next_is : next ≡ first + count
+  pub only : (number : ℕ) → IsOutside first count number → touched_in new.accesses number ≡ touched_in old.accesses number
+
+abbrev pub CommandsNumber : Type 0
+CommandsNumber =
+    (scene : Scene) (a : Action) (around : Around) (old new : Building) (first next : ℕ) (m : MadeCommand scene a around old new first next) → IsStraight a → 0 < paths_counted around → first + accesses_of a < 2 ^ 32
+    → AreFew scene a around old new first next m × Numbers old new first (accesses_of a) next
+
+abbrev pub GroupsNumber : Type 0
+GroupsNumber =
+    (scene : Scene) (body : Groups) (around : Around) (old new : Building) (first next : ℕ) (m : MadeGroups scene body around old new first next) → AreStraightGroups body → 0 < paths_counted around
+    → first + groups_accesses body < 2 ^ 32 → AreFewGroups scene body around old new first next m × Numbers old new first (groups_accesses body) next

@@ -1,0 +1,85 @@
+-- Multiplications: what is put down for a command has at most those of its expressions, each once for each path.
+use Rattle.std.specs.Prelude.{◌≡◌, ℕ, ◌+◌, ◌*◌, ◌≤◌, ◌++◌, List, Option, Some, None}
+use Rattle.dh_tree.specs.Indices.{form_of}
+use Rattle.dh_tree.specs.PlainTrees as plain
+use Rattle.dh_tree.specs.PlainTrees.{Action, action, ActionForm, lets, lets_memory, views, assigns, stores, reduces, calls, blocks, decides, repeats, counts, MaybeAction, no_action, one_action, Actions, no_actions, action_then, Groups, no_groups, group_then}
+use Rattle.dh_plan.specs.declared.operations.Operation.{Operation}
+use Rattle.dh_plan.specs.DoneProgram.{block_products, product_of}
+use Rattle.dh_expressions.specs.declared.drafts.Draft.{Draft}
+use Rattle.dh_expressions.specs.declared.scenes.Around.{Around}
+use Rattle.dh_expressions.specs.declared.scenes.Scene.{Scene}
+use Rattle.dh_commands.specs.declared.buildings.Building.{Building}
+use Rattle.dh_commands.specs.LanesRun.{paths_counted}
+use Rattle.dh_commands.specs.MadeCommands.{MadeCommand, MadeGroups}
+use Rattle.dh_laid.specs.LaidQuiet.{StandsIn}
+
+abbrev mutual
+  -- the `*` of an expression
+  pub products_in : plain.Term → ℕ
+  products_in (plain.term place kind form) = form_products form
+
+  pub form_products : plain.TermForm → ℕ
+  form_products (plain.number negative z) = 0
+  form_products (plain.truth_value b) = 0
+  form_products (plain.named r) = 0
+  form_products (plain.accessed r indices) = all_products_in indices
+  form_products (plain.in_bank r bank at row) = products_in row
+  form_products (plain.applied o left right) = product_of o + (products_in left + products_in right)
+  form_products (plain.converted inner to) = products_in inner
+
+  pub all_products_in : plain.Terms → ℕ
+  all_products_in plain.no_terms = 0
+  all_products_in (plain.term_then t ts) = products_in t + all_products_in ts
+
+-- of what names the element that is stored into
+abbrev pub aim_products : plain.TermForm → ℕ
+aim_products (plain.accessed r indices) = all_products_in indices
+aim_products (plain.in_bank r bank at row) = products_in row
+aim_products form = 0
+
+abbrev mutual
+  -- of a command; a loop has no turn
+  pub action_products : Action → ℕ
+  action_products (action id place form) = own_products form
+
+  pub own_products : ActionForm → ℕ
+  own_products (lets name declared (Some value)) = products_in value
+  own_products (lets name declared None) = 0
+  own_products (assigns target value) = products_in value
+  own_products (stores target value) = products_in value + aim_products (form_of target)
+  own_products (reduces target op value) = product_of op + products_in value
+  own_products (decides test chosen other) = products_in test + (action_products chosen + other_products other)
+  own_products (blocks body) = groups_products body
+  own_products (lets_memory name shape shape_places value) = 0
+  own_products (views name parent form) = 0
+  own_products (calls function arguments) = 0
+  own_products (repeats test body) = 0
+  own_products (counts iterator declared low high factor body combine combine_place) = 0
+
+  pub other_products : MaybeAction → ℕ
+  other_products no_action = 0
+  other_products (one_action a) = action_products a
+
+  pub part_products : Actions → ℕ
+  part_products no_actions = 0
+  part_products (action_then a rest) = action_products a + part_products rest
+
+  pub groups_products : Groups → ℕ
+  groups_products no_groups = 0
+  groups_products (group_then part rest) = part_products part + groups_products rest
+
+-- at most so many multiplications were added
+pub record AddsProducts (old new : Draft) (most : ℕ) : Type 0 where
+  pub more : List Operation
+  pub adds : new.operations.items ≡ old.operations.items ++ more
+  pub few : block_products more ≤ most
+
+abbrev pub CommandsHaveProducts : Type 0
+CommandsHaveProducts =
+    (scene : Scene) (a : Action) (around : Around) (old new : Building) (first next : ℕ) → StandsIn scene around → MadeCommand scene a around old new first next
+    → AddsProducts old.draft new.draft (action_products a * paths_counted around)
+
+abbrev pub GroupsHaveProducts : Type 0
+GroupsHaveProducts =
+    (scene : Scene) (body : Groups) (around : Around) (old new : Building) (first next : ℕ) → StandsIn scene around → MadeGroups scene body around old new first next
+    → AddsProducts old.draft new.draft (groups_products body * paths_counted around)
