@@ -1,0 +1,4 @@
+pub mod PhasesHolding
+pub mod BlocksHolding
+pub mod SimpleParts
+pub mod SimplePrograms
