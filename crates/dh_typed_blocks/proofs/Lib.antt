@@ -2,3 +2,5 @@ pub mod PhasesHolding
 pub mod BlocksHolding
 pub mod SimpleParts
 pub mod SimplePrograms
+pub mod KindsGiven
+pub mod TermsSound

@@ -1,1 +1,2 @@
 pub mod SimpleBlocks
+pub mod SoundTerms
