@@ -4,3 +4,5 @@ pub mod SimpleParts
 pub mod SimplePrograms
 pub mod KindsGiven
 pub mod TermsSound
+pub mod Fitting
+pub mod SidesFit

@@ -1,2 +1,3 @@
 pub mod SimpleBlocks
 pub mod SoundTerms
+pub mod SoundCommands
