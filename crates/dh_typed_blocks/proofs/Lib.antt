@@ -6,3 +6,4 @@ pub mod KindsGiven
 pub mod TermsSound
 pub mod Fitting
 pub mod SidesFit
+pub mod CommandsFit
