@@ -7,3 +7,6 @@ pub mod TermsSound
 pub mod Fitting
 pub mod SidesFit
 pub mod CommandsFit
+pub mod ProgramsFit
+pub mod FittingParts
+pub mod BlocksFit
