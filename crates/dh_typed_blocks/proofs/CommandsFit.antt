@@ -47,8 +47,8 @@ use Rattle.dh_runnable.proofs.SidesRun as sides
 use Rattle.dh_runnable.proofs.TermsSuited.{indexed, IsReady, IsKnown, known_sized, kind_found_is, name_inside, term_known}
 use Rattle.dh_runnable.proofs.TurnsCounted.{first_within, second_within, KeepsTurns, turns_kept, copies_inside}
 use Rattle.dh_runnable.proofs.TypedParts.{for_numbers_sized}
-use Rattle.dh_typed_blocks.specs.SoundCommands.{CanHold, kind_aimed}
-use Rattle.dh_typed_blocks.specs.SoundTerms.{IsSound, IsSoundTarget}
+use Rattle.dh_blocks.specs.SoundCommands.{CanHold, kind_aimed}
+use Rattle.dh_blocks.specs.SoundTerms.{IsSound, IsSoundTarget}
 use Rattle.dh_typed_blocks.proofs.Fitting.{IsPlainTarget, FormPlain, OtherPlain, GroupsPlain, PartPlain, AllInteger, IsNamedIn, IsTargetIn, TermFits, TestFits, AssignFits, LetFits, StoreFits, FoldFits, FormFits, OtherFits, GroupsFit, PartFits}
 use Rattle.dh_typed_blocks.proofs.KindsGiven.{written_is}
 use Rattle.dh_typed_blocks.proofs.PhasesHolding.{FormOnlyFolds, GroupsOnlyFold, PartOnlyFolds, OtherOnlyFolds}

@@ -19,8 +19,8 @@ use Rattle.dh_runnable.specs.ActionsRun.{table_in}
 use Rattle.dh_code.specs.Slots.{Placing}
 use Rattle.dh_code.specs.Suited.{IsInside}
 use Rattle.dh_expressions.specs.Shown.{kind_written}
-use Rattle.dh_typed_blocks.specs.SoundTerms.{IsSound, IsSoundTarget}
-use Rattle.dh_typed_blocks.specs.SoundCommands.{CanHold, kind_aimed, Reduces}
+use Rattle.dh_blocks.specs.SoundTerms.{IsSound, IsSoundTarget}
+use Rattle.dh_blocks.specs.SoundCommands.{CanHold, kind_aimed, Reduces}
 use Rattle.dh_typed_blocks.proofs.PhasesHolding.{OtherOnlyFolds}
 
 -- What no pass tells of a ready program by the rules on kinds: a command assigns to no iterator, and a reducer is one of

@@ -13,7 +13,7 @@ use Rattle.dh_tree.specs.declared.breaches.Breach.{Breach}
 use Rattle.dh_tree.proofs.UncheckedBuilt.{not_none}
 use Rattle.dh_meaning.specs.Bindings.{kind_or_first}
 use Rattle.dh_expressions.specs.Shown.{kind_written}
-use Rattle.dh_typed_blocks.specs.SoundTerms.{GivesKind}
+use Rattle.dh_blocks.specs.SoundTerms.{GivesKind}
 
 max_sized : (m n : ℕ) → IsWidth m → IsWidth n → IsWidth (max m n)
 max_sized m n g h = let a = g.0 in let b = g.1 in let c = h.0 in let d = h.1 in (grind arith, grind arith)

@@ -10,3 +10,4 @@ pub mod CommandsFit
 pub mod ProgramsFit
 pub mod FittingParts
 pub mod BlocksFit
+pub mod NamesHere

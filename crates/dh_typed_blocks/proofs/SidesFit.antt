@@ -23,7 +23,7 @@ use Rattle.dh_runnable.proofs.TermsSuited.{name_inside}
 use Rattle.dh_code.specs.Declarations.{factors_inside}
 use Rattle.dh_code.specs.Slots.{Placing}
 use Rattle.dh_expressions.specs.Shown.{kind_written}
-use Rattle.dh_typed_blocks.specs.SoundCommands.{CanHold}
+use Rattle.dh_blocks.specs.SoundCommands.{CanHold}
 use Rattle.dh_typed_blocks.proofs.Fitting.{AllInteger, IsNamedIn}
 use Rattle.dh_typed_blocks.proofs.KindsGiven.{written_is, integer_wider}
 

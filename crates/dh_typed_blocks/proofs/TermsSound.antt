@@ -30,7 +30,7 @@ use Rattle.dh_runnable.proofs.NamesKnown.{IsVariable, IsGood, Knows, IsNamed, na
 use Rattle.dh_runnable.proofs.TermsSuited.{indexed, IsReady, AreReady, IsKnown, known_sized, term_known}
 use Rattle.dh_runnable.proofs.TypedParts.{for_numbers_sized, typed_parts}
 use Rattle.dh_code.specs.Slots.{Placing}
-use Rattle.dh_typed_blocks.specs.SoundTerms.{IsSound, IsSoundForm, AreSound}
+use Rattle.dh_blocks.specs.SoundTerms.{IsSound, IsSoundForm, AreSound}
 use Rattle.dh_typed_blocks.proofs.KindsGiven.{gives, gives_written, applied_known}
 
 either_sized : (b : Bool) (j k : Option Kind) → IsSized j → IsSized k → IsSized (if b then j else k)

@@ -1,3 +1,2 @@
 pub mod SimpleBlocks
-pub mod SoundTerms
-pub mod SoundCommands
+pub mod ScenesTold
