@@ -1,0 +1,141 @@
+-- What is told of the commands of a ready program by the loops in which they stand, and of the names in them: all that
+-- blocks of straight commands are asked, said of the source. Reducers stand in blocks that join copies alone.
+use Rattle.std.proofs.Common.{◌≡◌, ℕ, ◌≤◌, List, [], ◌∷◌, ◌++◌, length, Option, Some, None}
+use Rattle.dh_value.specs.declared.kinds.Kind.{Kind}
+use Rattle.dh_value.specs.declared.kinds.Kind.TheVariants.{Bool}
+use Rattle.dh_value.specs.declared.operators.Op.{Op}
+use Rattle.dh_value.specs.Words.{IsInteger, IsKind}
+use Rattle.dh_tree.specs.declared.trees.expressions.Ref.{Ref}
+use Rattle.dh_tree.specs.Meaning.{wider}
+use Rattle.dh_tree.specs.PlainTrees.{Term, Action, action, ActionForm, lets, lets_memory, views, assigns, stores, reduces, calls, blocks, decides, repeats, counts, MaybeAction, no_action, one_action, Actions, no_actions, action_then, Groups, no_groups, group_then}
+use Rattle.dh_meaning.specs.Bindings.{binding_in, kind_or_first, kind_bound}
+use Rattle.dh_meaning.specs.Core.{Turning}
+use Rattle.dh_meaning.specs.CoreOf.{Known, depth_of, entity_number, kind_of, turning_of}
+use Rattle.dh_meaning.specs.Phases.{turn_count}
+use Rattle.dh_sound.specs.Blocks.{factors}
+use Rattle.dh_sound.specs.NamesInScope.{InScope}
+use Rattle.dh_sound.specs.SameKeys.{IsIteratorOf, IsNoIterator}
+use Rattle.dh_runnable.specs.ActionsRun.{table_in}
+use Rattle.dh_code.specs.Slots.{Placing}
+use Rattle.dh_code.specs.Suited.{IsInside}
+use Rattle.dh_expressions.specs.Shown.{kind_written}
+use Rattle.dh_blocks.specs.SoundTerms.{IsSound, IsSoundTarget}
+use Rattle.dh_blocks.specs.SoundCommands.{CanHold, kind_aimed, Reduces}
+use Rattle.dh_typed_blocks.proofs.PhasesHolding.{OtherOnlyFolds}
+
+-- What no pass tells of a ready program by the rules on kinds: a command assigns to no iterator, and a reducer is one of
+-- those that a text has.
+module _ (known : Known) where
+  abbrev pub IsPlainTarget : Ref → Type 0
+  IsPlainTarget r = IsNoIterator (binding_in known.bindings (entity_number r.entity))
+
+  abbrev mutual
+    pub AssignsPlain : Action → Type 0
+    AssignsPlain (action id place form) = FormPlain form
+
+    pub FormPlain : ActionForm → Type 0
+    FormPlain (lets name declared value) = IsPlainTarget name
+    FormPlain (lets_memory name shape shape_places value) = Unit {0}
+    FormPlain (views name parent form) = Unit {0}
+    FormPlain (assigns target value) = IsPlainTarget target
+    FormPlain (stores target value) = Unit {0}
+    FormPlain (reduces target o value) = IsPlainTarget target × Reduces o
+    FormPlain (calls function arguments) = Unit {0}
+    FormPlain (blocks body) = GroupsPlain body
+    FormPlain (decides test chosen other) = AssignsPlain chosen × OtherPlain other
+    FormPlain (repeats test body) = AssignsPlain body
+    FormPlain (counts iterator declared low high factor body combine combine_place) = AssignsPlain body × OtherPlain combine
+
+    pub OtherPlain : MaybeAction → Type 0
+    OtherPlain no_action = Unit {0}
+    OtherPlain (one_action a) = AssignsPlain a
+
+    pub GroupsPlain : Groups → Type 0
+    GroupsPlain no_groups = Unit {0}
+    GroupsPlain (group_then part rest) = PartPlain part × GroupsPlain rest
+
+    pub PartPlain : Actions → Type 0
+    PartPlain no_actions = Unit {0}
+    PartPlain (action_then a rest) = AssignsPlain a × PartPlain rest
+
+  -- the iterators of these loops are of integer kinds
+  abbrev pub AllInteger : List Turning → Type 0
+  AllInteger [] = Unit {0}
+  AllInteger (l ∷ ls) = IsInteger (kind_bound (binding_in known.bindings l.iterator)) × AllInteger ls
+
+module _ (known : Known) (p : Placing) where
+  -- a name in an expression, inside these loops: a variable that is declared inside the first of them, or an iterator
+  pub record IsNamedIn (loops : List Turning) (r : Ref) (k : Kind) : Type 0 where
+    pub is : r.entity ≡ Some (entity_number r.entity)
+    pub bound : kind_of known r ≡ k
+    pub inside : IsInside p (factors loops) (depth_of known r) (entity_number r.entity)
+    pub scope : InScope known loops r
+    pub integer : (loop : Turning) → IsIteratorOf known r loop → IsInteger k
+
+  -- a variable that is assigned to, declared inside so many loops or more
+  pub record IsTargetIn (loops : List Turning) (least : ℕ) (r : Ref) : Type 0 where
+    pub is : r.entity ≡ Some (entity_number r.entity)
+    pub sized : IsKind (kind_of known r)
+    pub inside : IsInside p (factors loops) (depth_of known r) (entity_number r.entity)
+    pub plain : IsPlainTarget known r
+    pub full : least ≤ depth_of known r
+
+  abbrev pub TermFits : List Turning → Term → Type 0
+  TermFits loops t = IsSound known (table_in known) (IsNamedIn loops) t
+
+  abbrev pub TestFits : List Turning → Term → Type 0
+  TestFits loops t = TermFits loops t × (kind_written t ≡ Bool)
+
+  abbrev pub AssignFits : List Turning → Ref → Term → Type 0
+  AssignFits loops r t = TermFits loops t × (IsTargetIn loops (length (factors loops)) r × CanHold (kind_of known r) t)
+
+  abbrev pub LetFits : List Turning → Ref → Option Kind → Option Term → Type 0
+  LetFits loops r declared None = IsTargetIn loops (length (factors loops)) r × (kind_or_first declared ≡ kind_of known r)
+  LetFits loops r declared (Some t) = AssignFits loops r t
+
+  abbrev pub StoreFits : List Turning → (target value : Term) → Type 0
+  StoreFits loops target t = (TermFits loops t × IsSoundTarget known (table_in known) (IsNamedIn loops) target) × CanHold (kind_aimed known (table_in known) target) t
+
+  abbrev pub FoldFits : List Turning → ActionForm → Type 0
+  FoldFits loops (reduces r o t) = (TermFits loops t × IsTargetIn loops 0 r) × (Reduces o × IsInteger (wider (kind_of known r) (kind_written t)))
+  FoldFits loops (lets name declared value) = ⊥
+  FoldFits loops (lets_memory name shape shape_places value) = ⊥
+  FoldFits loops (views name parent form) = ⊥
+  FoldFits loops (assigns target value) = ⊥
+  FoldFits loops (stores target value) = ⊥
+  FoldFits loops (calls function arguments) = ⊥
+  FoldFits loops (blocks body) = ⊥
+  FoldFits loops (decides test chosen other) = ⊥
+  FoldFits loops (repeats test body) = ⊥
+  FoldFits loops (counts iterator declared low high factor body combine combine_place) = ⊥
+
+  abbrev mutual
+    pub Fits : List Turning → Action → Type 0
+    Fits loops (action id place form) = FormFits loops form
+
+    pub FormFits : List Turning → ActionForm → Type 0
+    FormFits loops (lets name declared value) = LetFits loops name declared value
+    FormFits loops (lets_memory name shape shape_places value) = Unit {0}
+    FormFits loops (views name parent form) = Unit {0}
+    FormFits loops (assigns target value) = AssignFits loops target value
+    FormFits loops (stores target value) = StoreFits loops target value
+    FormFits loops (reduces target o value) = ⊥
+    FormFits loops (calls function arguments) = Unit {0}
+    FormFits loops (blocks body) = GroupsFit loops body
+    FormFits loops (decides test chosen other) = TestFits loops test × (Fits loops chosen × OtherFits loops other)
+    FormFits loops (repeats test body) = TestFits loops test × Fits loops body
+    FormFits loops (counts iterator declared low high factor body combine combine_place) =
+        Fits (loops ++ turning_of known (turn_count low.value high.value factor.value) (counts iterator declared low high factor body combine combine_place) ∷ []) body
+        × OtherOnlyFolds FoldFits (loops ++ turning_of known (turn_count low.value high.value factor.value) (counts iterator declared low high factor body combine combine_place) ∷ []) combine
+
+    pub OtherFits : List Turning → MaybeAction → Type 0
+    OtherFits loops no_action = Unit {0}
+    OtherFits loops (one_action a) = Fits loops a
+
+    pub GroupsFit : List Turning → Groups → Type 0
+    GroupsFit loops no_groups = Unit {0}
+    GroupsFit loops (group_then part rest) = PartFits loops part × GroupsFit loops rest
+
+    pub PartFits : List Turning → Actions → Type 0
+    PartFits loops no_actions = Unit {0}
+    PartFits loops (action_then a rest) = Fits loops a × PartFits loops rest

@@ -1,0 +1,13 @@
+pub mod PhasesHolding
+pub mod BlocksHolding
+pub mod SimpleParts
+pub mod SimplePrograms
+pub mod KindsGiven
+pub mod TermsSound
+pub mod Fitting
+pub mod SidesFit
+pub mod CommandsFit
+pub mod ProgramsFit
+pub mod FittingParts
+pub mod BlocksFit
+pub mod NamesHere

@@ -1,0 +1,210 @@
+-- An expression of a typed program that breaks no rule on names, kinds or indices is sound: its kinds are as its operators
+-- give them, and its memories and banks have numbers of 32 bits. What is known of its names is asked of a premise, by
+-- what is known of the names that are visible. By recursion beside that of dh_runnable.
+use Rattle.std.proofs.Common.{◌≡◌, ℕ, ◌<◌, ◌≤◌, ◌^◌, Bool, true, false, if◌then◌else◌, List, [], ◌∷◌, length, Option, Some, None, refl, ap, sym, ◌∙◌, subst, arith}
+use Rattle.dh_base.specs.declared.places.Place.{Place}
+use Rattle.dh_value.specs.declared.kinds.Kind.{Kind}
+use Rattle.dh_value.specs.declared.kinds.Kind.TheVariants as kind
+use Rattle.dh_value.specs.declared.operators.Op.{Op}
+use Rattle.dh_value.specs.Words.{IsInteger, IsKind}
+use Rattle.dh_tree.specs.declared.breaches.Breach.{Breach}
+use Rattle.dh_tree.specs.declared.trees.counters.Counter.{Counter}
+use Rattle.dh_tree.specs.declared.trees.expressions.Ref.{Ref}
+use Rattle.dh_tree.specs.Breaches.{unknown, term_breaches, terms_breaches}
+use Rattle.dh_tree.specs.Elements.{banks_of, dims_at}
+use Rattle.dh_tree.specs.Indices as places
+use Rattle.dh_tree.specs.Indices.{kept_dims, physical_breaches, term_index_breaches}
+use Rattle.dh_tree.specs.KindBreaches.{term_kind_breaches, indices_kind_breaches}
+use Rattle.dh_tree.specs.Kinds.{Fact, of_variable, of_iterator, of_memory, of_function, Facts, fact_of, for_numbers, is_shift, keeps_bare, is_bare, found, place_of, left_want, right_want, applied_kind, applied_breaches, value_kind, index_breaches, access_breaches, bank_breaches, cast_breaches, typed_term, typed_terms}
+use Rattle.dh_tree.specs.Memories.{memory_in}
+use Rattle.dh_tree.specs.PlainTrees.{Term, term, TermForm, number, truth_value, named, accessed, in_bank, applied, converted, Terms, no_terms, term_then}
+use Rattle.dh_tree.specs.Resolved.{used, resolved_term, resolved_terms}
+use Rattle.dh_tree.specs.Scopes.{Binding}
+use Rattle.dh_tree.specs.Widths.{IsSized}
+use Rattle.dh_tree.proofs.UncheckedBuilt.{first_none, second_none}
+use Rattle.dh_meaning.specs.Bindings.{kind_or_first}
+use Rattle.dh_meaning.specs.CoreOf.{Known, memory_of}
+use Rattle.dh_sound.specs.SameKeys.{EachName, EachNameOf}
+use Rattle.dh_runnable.specs.ActionsRun.{table_in}
+use Rattle.dh_runnable.proofs.NamesKnown.{IsVariable, IsGood, Knows, IsNamed, name_known, fact_is}
+use Rattle.dh_runnable.proofs.TermsSuited.{indexed, IsReady, AreReady, IsKnown, known_sized, term_known}
+use Rattle.dh_runnable.proofs.TypedParts.{for_numbers_sized, typed_parts}
+use Rattle.dh_code.specs.Slots.{Placing}
+use Rattle.dh_blocks.specs.SoundTerms.{IsSound, IsSoundForm, AreSound}
+use Rattle.dh_typed_blocks.proofs.KindsGiven.{gives, gives_written, applied_known}
+
+either_sized : (b : Bool) (j k : Option Kind) → IsSized j → IsSized k → IsSized (if b then j else k)
+either_sized true j k h i = h
+either_sized false j k h i = i
+
+amount_sized : IsSized (Some (kind.Unsigned 32))
+amount_sized = (omega arith, omega arith)
+
+below_more : (a b c : ℕ) → a < b → b ≤ c → a < c
+below_more a b c l m = omega (arith, l, m)
+
+-- memories and their banks have numbers of 32 bits
+pub record AreFew (known : Known) : Type 0 where
+  pub memories : length (table_in known) ≤ 2 ^ 32
+  pub banks : (memory : ℕ) → banks_of (dims_at (table_in known) memory) ≤ 2 ^ 32
+
+module _ (known : Known) (p : Placing) (loops : List ℕ) (few : AreFew known) (Near : Ref → Type 0) (Name : Ref → Kind → Type 0)
+    (to_name : (r : Ref) (n : ℕ) (k : Kind) → r.entity ≡ Some n → IsVariable known p loops n k → Near r → Name r k) where
+  -- an expression of which a kind is known
+  abbrev pub IsRight : Term → Type 0
+  IsRight t = IsKnown known p loops t × IsSound known (table_in known) Name t
+
+  right_sized : (t : Term) → IsRight t → IsSized (found t)
+  right_sized t k = known_sized known p loops t k.0
+
+  -- both operands are right where each is for a sized kind of its place
+  operands_right : (facts : Facts) (o : Op) (want : Option Kind) (left right : Term) (bare_left bare_right : Bool)
+      → IsSized want
+      → ((w : Option Kind) → IsSized w → typed_term facts w left ≡ left → IsRight left)
+      → ((w : Option Kind) → IsSized w → typed_term facts w right ≡ right → IsRight right)
+      → typed_term facts (left_want o want bare_left bare_right (found (typed_term facts None right))) left ≡ left
+      → typed_term facts (right_want o want bare_left bare_right (found (typed_term facts None left))) right ≡ right
+      → IsRight left × IsRight right
+  operands_right facts o want left right false false s l r e f = (l None tt e, r None tt f)
+  operands_right facts o want left right false true s l r e f =
+      let first = l None tt e in
+      let sized : IsSized (found (typed_term facts None left)) = subst (λ (t : Term). IsSized (found t)) (sym e) (right_sized left first) in
+      (first, r _ (either_sized (is_shift o) _ _ amount_sized (for_numbers_sized _ sized)) f)
+  operands_right facts o want left right true false s l r e f =
+      let second = r None tt f in
+      let sized : IsSized (found (typed_term facts None right)) = subst (λ (t : Term). IsSized (found t)) (sym f) (right_sized right second) in
+      (l _ (either_sized (is_shift o) _ _ tt (for_numbers_sized _ sized)) e, second)
+  operands_right facts o want left right true true s l r e f =
+      (l _ (either_sized (keeps_bare o) _ _ s tt) e, r _ (either_sized (is_shift o) _ _ amount_sized (either_sized (keeps_bare o) _ _ s tt)) f)
+
+  -- a form that is sound at the kind that was found
+  of_form : (place : Place) (m : Option Kind) (k : Kind) (form : TermForm) → m ≡ Some k → IsSoundForm known (table_in known) Name k form → IsSound known (table_in known) Name (term place m form)
+  of_form place m k form e s = subst (λ (j : Kind). IsSoundForm known (table_in known) Name j form) (sym (ap kind_or_first e)) s
+
+  -- a name that has a kind is of a variable
+  variable_named : (n : ℕ) (f : Fact) (k : Kind) → IsGood known p loops n f → value_kind (Some f) ≡ Some k → IsVariable known p loops n k
+  variable_named n (of_variable None) k g e = absurd g
+  variable_named n (of_variable (Some j)) k g e = let same : j ≡ k = cc in subst (λ (x : Kind). IsVariable known p loops n x) same g
+  variable_named n (of_iterator j) k g e = let same : j ≡ k = cc in subst (λ (x : Kind). IsVariable known p loops n x) same g
+  variable_named n (of_memory j dims) k g e = absurd cc
+  variable_named n (of_function parameters) k g e = absurd cc
+
+  module _ (counters : List Counter) where
+    mutual
+      pub term_sound : (facts : Facts) (bs : List Binding) → Knows known p loops facts bs → (want : Option Kind) → IsSized want → (t : Term) → typed_term facts want t ≡ t → IsReady known counters facts bs t
+          → EachName Near t → IsSound known (table_in known) Name t
+      term_sound facts bs k want s (term place m (number negative n)) e h near =
+          let whole = term_known known p loops counters facts bs k want s (term place m (number negative n)) e h in
+          of_form place m whole.kind (number negative n) whole.is (whole.operand 0).sized
+      term_sound facts bs k want s (term place m (truth_value value)) e h near =
+          of_form place m kind.Bool (truth_value value) (typed_parts facts want place m (truth_value value) e).1 refl
+      term_sound facts bs k want s (term place m (named r)) e h near =
+          let whole = term_known known p loops counters facts bs k want s (term place m (named r)) e h in
+          let same : used bs r ≡ r = let eq = h.named in cc in
+          let name = name_known known p loops facts bs r k same h.visible in
+          let is : value_kind (fact_of facts r) ≡ Some whole.kind = sym (typed_parts facts want place m (named r) e).1 ∙ whole.is in
+          let stands = variable_named name.number name.stands.fact whole.kind name.stands.good (sym (ap value_kind (fact_is known p loops facts r name)) ∙ is) in
+          of_form place m whole.kind (named r) whole.is (to_name r name.number whole.kind name.entity stands near, stands.sized)
+      term_sound facts bs k want s (term place m (accessed r indices)) e h near =
+          let whole = term_known known p loops counters facts bs k want s (term place m (accessed r indices)) e h in
+          let parts = typed_parts facts want place m (accessed r indices) e in
+          let typed : typed_terms facts indices ≡ indices = let eq = parts.0 in cc in
+          let named : resolved_terms bs indices ≡ indices = let eq = h.named in cc in
+          let inner = terms_sound facts bs k indices typed (record {
+            named = named;
+            visible = second_none (unknown bs r) _ h.visible;
+            kinds = second_none (access_breaches (fact_of facts r) place indices) _ h.kinds;
+            indices = second_none (places.access_breaches counters (kept_dims (memory_in known.memories r.entity)) indices) _ h.indices;
+            sized = h.sized;
+          }) near in
+          let low = below_more _ _ (2 ^ 32) (whole.operand 0).suits.0 few.memories in
+          of_form place m whole.kind (accessed r indices) whole.is (inner, (low, sym (whole.operand 0).kind))
+      term_sound facts bs k want s (term place m (in_bank r bank bank_place row)) e h near =
+          let whole = term_known known p loops counters facts bs k want s (term place m (in_bank r bank bank_place row)) e h in
+          let parts = typed_parts facts want place m (in_bank r bank bank_place row) e in
+          let typed : typed_term facts None row ≡ row = let eq = parts.0 in cc in
+          let named : resolved_term bs row ≡ row = let eq = h.named in cc in
+          let below = second_none (bank_breaches (fact_of facts r) place) _ h.kinds in
+          let physical : List Breach = physical_breaches (kept_dims (memory_in known.memories r.entity)) bank bank_place row in
+          let inner = term_sound facts bs k None tt row typed (record {
+            named = named;
+            visible = second_none (unknown bs r) _ h.visible;
+            kinds = second_none (index_breaches (found row) (place_of row)) _ below;
+            indices = second_none physical _ h.indices;
+            sized = h.sized;
+          }) near in
+          let low = below_more _ _ (2 ^ 32) (whole.operand 0).suits.0.0 few.memories in
+          let bank_low = below_more bank _ (2 ^ 32) (whole.operand 0).suits.0.1 (few.banks (memory_of known r)) in
+          of_form place m whole.kind (in_bank r bank bank_place row) whole.is (inner, (low, (bank_low, sym (whole.operand 0).kind)))
+      term_sound facts bs k want s (term place m (applied o left right)) e h near =
+          let whole = term_known known p loops counters facts bs k want s (term place m (applied o left right)) e h in
+          let parts = typed_parts facts want place m (applied o left right) e in
+          let left_typed : typed_term facts (left_want o want (is_bare left) (is_bare right) (found (typed_term facts None right))) left ≡ left = let eq = parts.0 in cc in
+          let right_typed : typed_term facts (right_want o want (is_bare left) (is_bare right) (found (typed_term facts None left))) right ≡ right = let eq = parts.0 in cc in
+          let left_named : resolved_term bs left ≡ left = let eq = h.named in cc in
+          let right_named : resolved_term bs right ≡ right = let eq = h.named in cc in
+          let breaches : List Breach = applied_breaches o (place_of left) (place_of right) (found left) (found right) in
+          let below = second_none breaches _ h.kinds in
+          let left_ready : IsReady known counters facts bs left = record {
+            named = left_named;
+            visible = first_none (term_breaches bs left) _ h.visible;
+            kinds = first_none (term_kind_breaches facts left) _ below;
+            indices = first_none (term_index_breaches (indexed known counters) left) _ h.indices;
+            sized = h.sized.0;
+          } in
+          let right_ready : IsReady known counters facts bs right = record {
+            named = right_named;
+            visible = second_none (term_breaches bs left) _ h.visible;
+            kinds = second_none (term_kind_breaches facts left) _ below;
+            indices = second_none (term_index_breaches (indexed known counters) left) _ h.indices;
+            sized = h.sized.1;
+          } in
+          let both = operands_right facts o want left right (is_bare left) (is_bare right) s
+          (λ w z f. (term_known known p loops counters facts bs k w z left f left_ready, term_sound facts bs k w z left f left_ready near.0))
+          (λ w z f. (term_known known p loops counters facts bs k w z right f right_ready, term_sound facts bs k w z right f right_ready near.1))
+          left_typed right_typed in
+          let l : IsKnown known p loops left = both.0.0 in
+          let r : IsKnown known p loops right = both.1.0 in
+          let at = applied_known (place_of left) (place_of right) o (found left) (found right) l.kind r.kind l.is r.is (first_none breaches _ h.kinds) in
+          let given = gives o (place_of left) (place_of right) l.kind r.kind (l.operand 0).sized (r.operand 0).sized at.0 in
+          of_form place m (applied_kind o l.kind r.kind) (applied o left right) (parts.1 ∙ at.1)
+          ((both.0.1, both.1.1), gives_written o left right l.kind r.kind (applied_kind o l.kind r.kind) l.is r.is refl given)
+      term_sound facts bs k want s (term place m (converted inner to)) e h near =
+          let whole = term_known known p loops counters facts bs k want s (term place m (converted inner to)) e h in
+          let parts = typed_parts facts want place m (converted inner to) e in
+          let typed : typed_term facts (for_numbers (Some to)) inner ≡ inner = let eq = parts.0 in cc in
+          let named : resolved_term bs inner ≡ inner = let eq = h.named in cc in
+          let i = term_sound facts bs k (for_numbers (Some to)) (for_numbers_sized (Some to) h.sized.0) inner typed (record {
+            named = named;
+            visible = h.visible;
+            kinds = second_none (cast_breaches place (found inner) to) _ h.kinds;
+            indices = h.indices;
+            sized = h.sized.1;
+          }) near in
+          of_form place m whole.kind (converted inner to) whole.is (i, ((whole.operand 0).suits.0, sym (whole.operand 0).kind))
+
+      pub terms_sound : (facts : Facts) (bs : List Binding) → Knows known p loops facts bs → (ts : Terms) → typed_terms facts ts ≡ ts → AreReady known counters facts bs ts → EachNameOf Near ts
+          → AreSound known (table_in known) Name ts
+      terms_sound facts bs k no_terms e h near = tt
+      terms_sound facts bs k (term_then t rest) e h near =
+          let first_typed : typed_term facts None t ≡ t = cc in
+          let rest_typed : typed_terms facts rest ≡ rest = cc in
+          let first_named : resolved_term bs t ≡ t = let eq = h.named in cc in
+          let rest_named : resolved_terms bs rest ≡ rest = let eq = h.named in cc in
+          let below = second_none (index_breaches (found t) (place_of t)) _ h.kinds in
+          (
+            term_sound facts bs k None tt t first_typed (record {
+              named = first_named;
+              visible = first_none (term_breaches bs t) _ h.visible;
+              kinds = first_none (term_kind_breaches facts t) _ below;
+              indices = first_none (term_index_breaches (indexed known counters) t) _ h.indices;
+              sized = h.sized.0;
+            }) near.0,
+            terms_sound facts bs k rest rest_typed (record {
+              named = rest_named;
+              visible = second_none (term_breaches bs t) _ h.visible;
+              kinds = second_none (term_kind_breaches facts t) _ below;
+              indices = second_none (term_index_breaches (indexed known counters) t) _ h.indices;
+              sized = h.sized.1;
+            }) near.1,
+          )

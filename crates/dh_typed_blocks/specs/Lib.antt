@@ -1,0 +1,2 @@
+pub mod SimpleBlocks
+pub mod ScenesTold
