@@ -53,9 +53,9 @@ module _ (p : Program) (P : List Turning → Action → Type 0) (F : List Turnin
         (of_choices : (d : List Turning) (id : ℕ) (place : Place) (test : Term) (chosen : Action) (other : MaybeAction) → P d (action id place (decides test chosen other)) → P d chosen × OfOther P d other)
         (of_repeats : (d : List Turning) (id : ℕ) (place : Place) (test : Term) (body : Action) → P d (action id place (repeats test body)) → P d body)
         (of_counts : (d : List Turning) (id : ℕ) (place : Place) (iterator : Ref) (declared : Option Kind) (low high : Placed) (factor : Unrolled) (body : Action) (combine : MaybeAction) (combine_place : Place)
-            → P d (action id place (counts iterator declared low high factor body combine combine_place))
-            → P (inside (known_of p) P F d (turn_count low.value high.value factor.value) (counts iterator declared low high factor body combine combine_place)) body
-            × OtherOnlyFolds F (inside (known_of p) P F d (turn_count low.value high.value factor.value) (counts iterator declared low high factor body combine combine_place)) combine)
+        → P d (action id place (counts iterator declared low high factor body combine combine_place))
+        → P (inside (known_of p) P F d (turn_count low.value high.value factor.value) (counts iterator declared low high factor body combine combine_place)) body
+        × OtherOnlyFolds F (inside (known_of p) P F d (turn_count low.value high.value factor.value) (counts iterator declared low high factor body combine combine_place)) combine)
         (holds : P [] p.body) where
       tops : Tops nothing_around [] (trace p) (phases_of p)
       tops = phases_follow p ready.of_text.first ready.of_text.numbered (ready_named p ready)

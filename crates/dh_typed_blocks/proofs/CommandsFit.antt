@@ -84,8 +84,7 @@ module _ (known : Known) (counters : List Counter) (p : Placing) (few : AreFew k
       → resolved_term s.visible t ≡ t → term_breaches s.visible t ≡ [] → term_kind_breaches facts t ≡ [] → term_index_breaches (indexed known counters) t ≡ [] → AreSized t → EachName (InScope known ts) t
       → IsKnown known p (factors ts) t × TermFits known p ts t
   right ts facts s want t ai k w e n v b i z near =
-      let ready : IsReady known counters facts s.visible t = record { named = n; visible = v; kinds = b; indices = i; sized = z } in
-      (
+      let ready : IsReady known counters facts s.visible t = record { named = n; visible = v; kinds = b; indices = i; sized = z } in (
         term_known known p (factors ts) counters facts s.visible k want w t e ready,
         term_sound known p (factors ts) few (InScope known ts) (IsNamedIn known p ts) (to_name known p ts ai) counters facts s.visible k want w t e ready near,
       )
@@ -210,8 +209,7 @@ module _ (known : Known) (counters : List Counter) (p : Placing) (few : AreFew k
         → FormScoped known ts f → FormAssignsInside known (length (factors ts)) f → FormSimple f → IsNamedForm f → FormPlain known f → AllInteger known ts → FormFits known p ts f
     form_fits (lets name declared None) ts facts s place l k h sc asg si na pl ai =
         let same : declares s name ≡ name = let eq = h.named in cc in
-        let entity : name.entity ≡ Some (length s.entities) = sym (ap (λ (r : Ref). r.entity) same) in
-        (
+        let entity : name.entity ≡ Some (length s.entities) = sym (ap (λ (r : Ref). r.entity) same) in (
           record {
             is = number_is name (length s.entities) entity;
             sized = subst IsKind (sym h.placed.bound) (let_sized (factors ts) declared None h.sized.0 tt);
@@ -226,8 +224,7 @@ module _ (known : Known) (counters : List Counter) (p : Placing) (few : AreFew k
         let entity : name.entity ≡ Some (length s.entities) = sym (ap (λ (r : Ref). r.entity) same) in
         let typed : typed_term facts (for_numbers declared) t ≡ t = let eq = h.typed in cc in
         let resolved : resolved_term s.visible t ≡ t = let eq = h.named in cc in
-        let v = right ts facts s (for_numbers declared) t ai k (for_numbers_sized declared h.sized.0) typed resolved (first_none (term_breaches s.visible t) _ h.visible) (second_none (assigned_breaches declared (found t) (place_of t)) _ h.kinds) h.indices h.sized.1 sc in
-        (
+        let v = right ts facts s (for_numbers declared) t ai k (for_numbers_sized declared h.sized.0) typed resolved (first_none (term_breaches s.visible t) _ h.visible) (second_none (assigned_breaches declared (found t) (place_of t)) _ h.kinds) h.indices h.sized.1 sc in (
           v.1,
           (
             record {
@@ -253,8 +250,7 @@ module _ (known : Known) (counters : List Counter) (p : Placing) (few : AreFew k
         let v = right ts facts s _ value ai k (for_numbers_sized _ (target_sized known p (factors ts) facts target name)) typed resolved
         (second_none (unknown s.visible target) _ h.visible)
         (second_none (assigned_breaches (target_kind (fact_of facts target)) (found value) (place_of value)) _ side) h.indices h.sized sc in
-        let t = target_known known p (factors ts) facts target name (first_none (target_breaches (fact_of facts target) target.place) _ h.kinds) in
-        (
+        let t = target_known known p (factors ts) facts target name (first_none (target_breaches (fact_of facts target) target.place) _ h.kinds) in (
           v.1,
           (
             target_in ts (length (factors ts)) facts target t pl asg,
@@ -274,8 +270,7 @@ module _ (known : Known) (counters : List Counter) (p : Placing) (few : AreFew k
         let v = right ts facts s _ value ai k (for_numbers_sized _ sized) second second_same
         (second_none (term_breaches s.visible target) _ h.visible) (second_none (assigned_breaches (found target) (found value) (place_of value)) _ side)
         (second_none (term_index_breaches (indexed known counters) target) _ h.indices) h.sized.1 sc.1 in
-        let aim = store_target known (IsNamedIn known p ts) target t.0.kind na.0 t.1 t.0.is in
-        (
+        let aim = store_target known (IsNamedIn known p ts) target t.0.kind na.0 t.1 t.0.is in (
           (v.1, aim.0),
           can_hold (kind_aimed known (table_in known) target) (found target) t.0.kind value v.0.kind t.0.is aim.1 v.0.is (first_none (assigned_breaches (found target) (found value) (place_of value)) _ side),
         )
@@ -408,8 +403,7 @@ module _ (known : Known) (counters : List Counter) (p : Placing) (few : AreFew k
         let depth : depth_inside (length (factors ts)) factor.value ≡ length (factors (ts ++ own ∷ [])) = sym (inside_count known ts (turn_count low.value high.value factor.value) whole) in
         let integer : IsInteger (kind_bound (binding_in known.bindings (entity_number iterator.entity))) =
         subst IsInteger (sym h.placed.0.bound) (integer_kind (iterator_kind declared) iterator (iterator_sized declared h.sized.0) (first_none (iterator_breaches iterator (iterator_kind declared)) _ h.kinds)) in
-        let integers = integer_more known ts own ai integer in
-        (
+        let integers = integer_more known ts own ai integer in (
           form_fits body (ts ++ own ∷ []) (facts ++ of_iterator (iterator_kind declared) ∷ []) (declare s iterator Iterator) body_place step
               (subst (λ (ls : List ℕ). Knows known p ls (facts ++ of_iterator (iterator_kind declared) ∷ []) (declare s iterator Iterator).visible) round known_inside)
               (subst (λ (ls : List ℕ). run.IsSound known counters p ls (facts ++ of_iterator (iterator_kind declared) ∷ []) (declare s iterator Iterator) body_place body) round body_sound)
@@ -443,8 +437,7 @@ module _ (known : Known) (counters : List Counter) (p : Placing) (few : AreFew k
         → PartScoped known ts part → PartAssignsInside known (length (factors ts)) part → PartSimple part → AreNamedActions part → PartPlain known part → AllInteger known ts → PartFits known p ts part
     part_fits no_actions ts facts s stepped l k h sc asg si na pl ai = tt
     part_fits (action_then (action id place form) rest) ts facts s stepped l k h sc asg si na pl ai =
-        let parts = split_part form rest id place (factors ts) facts s stepped l k h in
-        (
+        let parts = split_part form rest id place (factors ts) facts s stepped l k h in (
           form_fits form ts facts s place l k parts.first sc.0 asg.0 si.0 na.0 pl.0 ai,
           part_fits rest ts (facts_after_form facts form) (past s (action id place form) (at_end s (action id place form))) (stepped || form_holds form) parts.step parts.knows parts.behind sc.1 asg.1 si.1 na.1 pl.1 ai,
         )
@@ -453,8 +446,7 @@ module _ (known : Known) (counters : List Counter) (p : Placing) (few : AreFew k
         → GroupsScoped known ts gs → GroupsAssignInside known (length (factors ts)) gs → GroupsSimple gs → AreNamedGroups gs → GroupsPlain known gs → AllInteger known ts → GroupsFit known p ts gs
     groups_fit no_groups ts facts s l k h sc asg si na pl ai = tt
     groups_fit (group_then part rest) ts facts s l k h sc asg si na pl ai =
-        let parts = split_groups part rest (factors ts) facts s l k h in
-        (
+        let parts = split_groups part rest (factors ts) facts s l k h in (
           part_fits part ts facts s false l k parts.first sc.0 asg.0 si.0 na.0 pl.0 ai,
           groups_fit rest ts (facts_after_actions facts part) (actions_at_end s part) parts.step parts.knows parts.behind sc.1 asg.1 si.1 na.1 pl.1 ai,
         )
@@ -490,8 +482,7 @@ module _ (known : Known) (counters : List Counter) (p : Placing) (few : AreFew k
         let v = right ts facts s _ value ai k (for_numbers_sized _ (target_sized known p (factors ts) facts target name)) typed resolved
         (second_none (unknown s.visible target) _ h.visible)
         (second_none (assigned_breaches (target_kind (fact_of facts target)) (found value) (place_of value)) _ side) h.indices h.sized sc in
-        let t = target_known known p (factors ts) facts target name (first_none (target_breaches (fact_of facts target) target.place) _ h.kinds) in
-        (
+        let t = target_known known p (factors ts) facts target name (first_none (target_breaches (fact_of facts target) target.place) _ h.kinds) in (
           (v.1, target_in ts 0 facts target t pl.0 (none_least (depth_of known target))),
           (
             pl.1,
@@ -529,8 +520,7 @@ module _ (known : Known) (counters : List Counter) (p : Placing) (few : AreFew k
         → GroupsScoped known ts gs → GroupsFoldOnly gs → GroupsPlain known gs → AllInteger known ts → GroupsOnlyFold (FoldFits known p) ts gs
     fold_groups_fit no_groups ts facts s l k h sc fo pl ai = tt
     fold_groups_fit (group_then part rest) ts facts s l k h sc fo pl ai =
-        let parts = split_groups part rest (factors ts) facts s l k h in
-        (
+        let parts = split_groups part rest (factors ts) facts s l k h in (
           fold_part_fits part ts facts s false l k parts.first sc.0 fo.0 pl.0 ai,
           fold_groups_fit rest ts (facts_after_actions facts part) (actions_at_end s part) parts.step parts.knows parts.behind sc.1 fo.1 pl.1 ai,
         )
@@ -539,8 +529,7 @@ module _ (known : Known) (counters : List Counter) (p : Placing) (few : AreFew k
         → PartScoped known ts part → PartFoldsOnly part → PartPlain known part → AllInteger known ts → PartOnlyFolds (FoldFits known p) ts part
     fold_part_fits no_actions ts facts s stepped l k h sc fo pl ai = tt
     fold_part_fits (action_then (action id place form) rest) ts facts s stepped l k h sc fo pl ai =
-        let parts = split_part form rest id place (factors ts) facts s stepped l k h in
-        (
+        let parts = split_part form rest id place (factors ts) facts s stepped l k h in (
           fold_fits form ts facts s place l k parts.first sc.0 fo.0 pl.0 ai,
           fold_part_fits rest ts (facts_after_form facts form) (past s (action id place form) (at_end s (action id place form))) (stepped || form_holds form) parts.step parts.knows parts.behind sc.1 fo.1 pl.1 ai,
         )

@@ -314,9 +314,9 @@ module _ (known : Known) (P : List Turning → Action → Type 0) (F : List Turn
       (of_choices : (d : List Turning) (id : ℕ) (place : Place) (test : Term) (chosen : Action) (other : MaybeAction) → P d (action id place (decides test chosen other)) → P d chosen × OfOther P d other)
       (of_repeats : (d : List Turning) (id : ℕ) (place : Place) (test : Term) (body : Action) → P d (action id place (repeats test body)) → P d body)
       (of_counts : (d : List Turning) (id : ℕ) (place : Place) (iterator : Ref) (declared : Option Kind) (low high : Placed) (factor : Unrolled) (body : Action) (combine : MaybeAction) (combine_place : Place)
-          → P d (action id place (counts iterator declared low high factor body combine combine_place))
-          → P (inside d (turn_count low.value high.value factor.value) (counts iterator declared low high factor body combine combine_place)) body
-          × OtherOnlyFolds F (inside d (turn_count low.value high.value factor.value) (counts iterator declared low high factor body combine combine_place)) combine) where
+      → P d (action id place (counts iterator declared low high factor body combine combine_place))
+      → P (inside d (turn_count low.value high.value factor.value) (counts iterator declared low high factor body combine combine_place)) body
+      × OtherOnlyFolds F (inside d (turn_count low.value high.value factor.value) (counts iterator declared low high factor body combine combine_place)) combine) where
     mutual
       own_phases : (a : Action) (d : List Turning) (r : Around) (n : ℕ) → P d a → ListOwn d (phases r n a)
       own_phases (action id place form) d r n h = own_form_phases form d r n id place h

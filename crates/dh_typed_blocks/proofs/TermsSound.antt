@@ -191,8 +191,7 @@ module _ (known : Known) (p : Placing) (loops : List ℕ) (few : AreFew known) (
           let rest_typed : typed_terms facts rest ≡ rest = cc in
           let first_named : resolved_term bs t ≡ t = let eq = h.named in cc in
           let rest_named : resolved_terms bs rest ≡ rest = let eq = h.named in cc in
-          let below = second_none (index_breaches (found t) (place_of t)) _ h.kinds in
-          (
+          let below = second_none (index_breaches (found t) (place_of t)) _ h.kinds in (
             term_sound facts bs k None tt t first_typed (record {
               named = first_named;
               visible = first_none (term_breaches bs t) _ h.visible;
