@@ -9,3 +9,5 @@ pub mod ValuesLogged
 pub mod CommandsLaid
 pub mod CommandsNumbered
 pub mod CommandsQuiet
+pub mod CommandsMultiply
+pub mod ProductsOfCore

@@ -1,16 +1,19 @@
 -- Multiplications: what is put down for a command has at most those of its expressions, each once for each path.
-use Rattle.std.specs.Prelude.{◌≡◌, ℕ, ◌+◌, ◌*◌, ◌≤◌, ◌++◌, List, Option, Some, None}
+use Rattle.std.specs.Prelude.{◌≡◌, ℕ, ◌+◌, ◌*◌, ◌≤◌, ◌++◌, List, Some, None}
 use Rattle.dh_tree.specs.Indices.{form_of}
 use Rattle.dh_tree.specs.PlainTrees as plain
 use Rattle.dh_tree.specs.PlainTrees.{Action, action, ActionForm, lets, lets_memory, views, assigns, stores, reduces, calls, blocks, decides, repeats, counts, MaybeAction, no_action, one_action, Actions, no_actions, action_then, Groups, no_groups, group_then}
+use Rattle.dh_meaning.specs.Core.{CoreCommands}
+use Rattle.dh_meaning.specs.CoreOf.{Known, core_action, core_groups, core_term}
 use Rattle.dh_plan.specs.declared.operations.Operation.{Operation}
-use Rattle.dh_plan.specs.DoneProgram.{block_products, product_of}
+use Rattle.dh_plan.specs.DoneProgram.{block_products, commands_products, product_of, term_products}
 use Rattle.dh_expressions.specs.declared.drafts.Draft.{Draft}
 use Rattle.dh_expressions.specs.declared.scenes.Around.{Around}
 use Rattle.dh_expressions.specs.declared.scenes.Scene.{Scene}
 use Rattle.dh_commands.specs.declared.buildings.Building.{Building}
 use Rattle.dh_commands.specs.LanesRun.{paths_counted}
 use Rattle.dh_commands.specs.MadeCommands.{MadeCommand, MadeGroups}
+use Rattle.dh_laid.specs.LaidNumbers.{AreStraightGroups, IsStraight}
 use Rattle.dh_laid.specs.LaidQuiet.{StandsIn}
 
 abbrev mutual
@@ -83,3 +86,13 @@ abbrev pub GroupsHaveProducts : Type 0
 GroupsHaveProducts =
     (scene : Scene) (body : Groups) (around : Around) (old new : Building) (first next : ℕ) → StandsIn scene around → MadeGroups scene body around old new first next
     → AddsProducts old.draft new.draft (groups_products body * paths_counted around)
+
+-- These are those of the program's expressions and commands.
+abbrev pub TermsMultiply : Type 0
+TermsMultiply = (known : Known) (n : ℕ) (t : plain.Term) → term_products (core_term known n t) ≡ products_in t
+
+abbrev pub CommandsMultiply : Type 0
+CommandsMultiply = (known : Known) (n : ℕ) (a : Action) (rest : CoreCommands) → IsStraight a → commands_products (core_action known n a rest) ≡ action_products a + commands_products rest
+
+abbrev pub GroupsMultiply : Type 0
+GroupsMultiply = (known : Known) (n : ℕ) (body : Groups) (rest : CoreCommands) → AreStraightGroups body → commands_products (core_groups known n body rest) ≡ groups_products body + commands_products rest

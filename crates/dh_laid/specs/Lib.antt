@@ -6,3 +6,5 @@ pub mod LaidCommands
 pub mod LaidNumbers
 -- nothing is checked or set
 pub mod LaidQuiet
+-- multiplications
+pub mod LaidProducts

@@ -3,6 +3,7 @@
 ghost use Rattle.dh_laid.specs.Laid.{AllAssignmentsForm, AllClearingsForm, AllReducesForm, AllStoresForm, ArmGuardsForm, ArmsEnd, ArmsLeave, AssignmentsForm, ChoicesForm, ClearingsForm, JoinsForm, ReducesForm, StoresForm, TestsForm};
 ghost use Rattle.dh_laid.specs.LaidCommands.{CommandsForm, GroupsForm};
 ghost use Rattle.dh_laid.specs.LaidNumbers.{CommandsNumber, GroupsNumber};
+ghost use Rattle.dh_laid.specs.LaidProducts.{CommandsHaveProducts, CommandsMultiply, GroupsHaveProducts, GroupsMultiply, TermsMultiply};
 ghost use Rattle.dh_laid.specs.LaidQuiet.{CommandsAreQuiet, GroupsAreQuiet, TermsAreQuiet};
 
 /// What is put down where a variable is assigned is formed, and it is given a value of the kind of its register.
@@ -52,4 +53,17 @@ pub fn whole_commands_are_quiet()
     ensures terms { TermsAreQuiet }
     ensures commands { CommandsAreQuiet }
     ensures groups { GroupsAreQuiet }
+{}
+
+/// A command multiplies as often as its expressions do, at each path, or less.
+pub fn whole_commands_have_products()
+    ensures commands { CommandsHaveProducts }
+    ensures groups { GroupsHaveProducts }
+{}
+
+/// The multiplications that are counted in the tree are those of the program.
+pub fn products_are_of_the_program()
+    ensures terms { TermsMultiply }
+    ensures commands { CommandsMultiply }
+    ensures groups { GroupsMultiply }
 {}

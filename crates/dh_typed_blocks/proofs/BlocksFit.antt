@@ -10,11 +10,11 @@ use Rattle.dh_sound.specs.AssignsInside.{AssignsInside}
 use Rattle.dh_sound.specs.Blocks.{StandsIn}
 use Rattle.dh_code.specs.Declarations.{placing_of}
 use Rattle.dh_typed_blocks.proofs.BlocksHolding.{StraightHolds, TestHolds, block_holds}
-use Rattle.dh_typed_blocks.proofs.Fitting.{AssignsPlain}
+use Rattle.dh_typed_blocks.specs.PlainPrograms.{AssignsPlain}
 use Rattle.dh_typed_blocks.proofs.FittingParts.{SimpleFits, JoinFits, groups_parts, other_parts, joins_parts, is_join}
 use Rattle.dh_typed_blocks.proofs.ProgramsFit.{ready_fits}
 use Rattle.dh_typed_blocks.proofs.SimplePrograms.{body_simple}
-use Rattle.dh_typed_blocks.proofs.TermsSound.{AreFew}
+use Rattle.dh_typed_blocks.specs.PlainPrograms.{AreFew}
 
 pub block_fits : (p : Program) → IsReady p → AreFew (known_of p) → AssignsInside (known_of p) 0 p.body → AssignsPlain (known_of p) p.body → (loops : List Turning) (block : Block) → StandsIn [] (core_of p).phases loops block
     → StraightHolds p (SimpleFits (known_of p) (placing_of p)) (JoinFits (known_of p) (placing_of p)) loops block ⊎ TestHolds p (SimpleFits (known_of p) (placing_of p)) (JoinFits (known_of p) (placing_of p)) loops block

@@ -1,11 +1,11 @@
 -- Each block of a ready program is that of straight commands of which something holds in their loops, and behind them
 -- reducers of which something else holds, or the test of such a command; for whatever holds of the body, and of the
 -- commands inside a command of which it holds. What is found stands along the trace, as all laws on blocks ask.
-use Rattle.std.proofs.Common.{◌≡◌, ◌⊎◌, inl, inr, ℕ, Option, List, [], ◌∷◌, ◌++◌, refl, ◌∙◌, ap, subst}
+use Rattle.std.proofs.Common.{◌≡◌, ◌⊎◌, inl, inr, ℕ, Option, List, [], ◌∷◌, ◌∙◌, ap, subst}
 use Rattle.dh_base.specs.declared.places.Place.{Place}
 use Rattle.dh_value.specs.declared.kinds.Kind.{Kind}
 use Rattle.dh_tree.specs.declared.trees.expressions.Ref.{Ref}
-use Rattle.dh_tree.specs.PlainTrees.{Placed, Unrolled, Term, Action, action, ActionForm, blocks, decides, repeats, counts, reduces, MaybeAction, Groups, Program}
+use Rattle.dh_tree.specs.PlainTrees.{Placed, Unrolled, Term, Action, action, ActionForm, blocks, decides, repeats, counts, MaybeAction, Groups, Program}
 use Rattle.dh_tree.specs.Ready.{IsReady}
 use Rattle.dh_meaning.specs.Core.{Turning}
 use Rattle.dh_meaning.specs.CoreOf.{form_of, known_of, core_commands, core_of}

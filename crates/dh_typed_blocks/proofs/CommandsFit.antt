@@ -1,6 +1,6 @@
 -- A command of a ready program fits, where it stands: by recursion over the tree beside that of dh_runnable, which tells what
 -- is known of the names that are visible at each point of the text.
-use Rattle.std.proofs.Common.{◌≡◌, ℕ, ◌≤◌, arith, ◌*◌, ◌&&◌, ◌||◌, Bool, false, if◌then◌else◌, List, [], ◌∷◌, ◌++◌, length, Option, Some, None, option_map, refl, ap, sym, ◌∙◌, subst}
+use Rattle.std.proofs.Common.{◌≡◌, ℕ, ◌≤◌, arith, ◌*◌, ◌&&◌, ◌||◌, Bool, false, if◌then◌else◌, List, [], ◌∷◌, ◌++◌, length, Option, Some, None, refl, ap, sym, ◌∙◌, subst}
 use Rattle.dh_base.specs.declared.limits.Limit.TheVariants as limit
 use Rattle.dh_base.specs.declared.places.Place.{Place}
 use Rattle.dh_value.specs.declared.kinds.Kind.{Kind}
@@ -10,23 +10,23 @@ use Rattle.dh_tree.specs.declared.breaches.Breach.{Breach}
 use Rattle.dh_tree.specs.declared.trees.counters.Counter.{Counter}
 use Rattle.dh_tree.specs.declared.trees.expressions.Ref.{Ref}
 use Rattle.dh_tree.specs.declared.trees.programs.Sort.TheVariants.{Iterator}
-use Rattle.dh_tree.specs.Breaches.{unknown, twice, term_breaches, value_breaches, form_breaches, other_breaches, actions_breaches, groups_breaches}
-use Rattle.dh_tree.specs.Excesses.{excess_at, form_copies_excess, other_copies_excess, groups_copies_excess, part_copies_excess}
+use Rattle.dh_tree.specs.Breaches.{unknown, twice, term_breaches, form_breaches, actions_breaches}
+use Rattle.dh_tree.specs.Excesses.{excess_at, form_copies_excess, other_copies_excess, part_copies_excess}
 use Rattle.dh_tree.specs.Forms.{unbuilt, form_holds}
-use Rattle.dh_tree.specs.Indices.{term_index_breaches, turns_breaches, action_form_index_breaches, other_index_breaches, actions_index_breaches, groups_index_breaches}
-use Rattle.dh_tree.specs.KindBreaches.{term_kind_breaches, assigned_breaches, truth_breaches, condition_breaches, target_breaches, reducer_breaches, iterator_breaches, low_breaches, high_breaches, action_form_kind_breaches, other_kind_breaches, actions_kind_breaches, groups_kind_breaches}
-use Rattle.dh_tree.specs.Kinds.{of_iterator, Facts, fact_of, found, place_of, for_numbers, is_truth, when, mismatch, target_kind, iterator_kind, value_kind, facts_after_form, facts_after_other, facts_after_actions, facts_after_groups, typed_term, typed_maybe, typed_action_form, typed_other, typed_actions, typed_groups}
+use Rattle.dh_tree.specs.Indices.{term_index_breaches, turns_breaches, action_form_index_breaches, actions_index_breaches}
+use Rattle.dh_tree.specs.KindBreaches.{term_kind_breaches, assigned_breaches, truth_breaches, condition_breaches, target_breaches, reducer_breaches, iterator_breaches, low_breaches, high_breaches, action_form_kind_breaches, actions_kind_breaches}
+use Rattle.dh_tree.specs.Kinds.{of_iterator, Facts, fact_of, found, place_of, for_numbers, target_kind, iterator_kind, facts_after_form, facts_after_actions, typed_term, typed_action_form, typed_other, typed_actions, typed_groups}
 use Rattle.dh_tree.specs.PlainTrees.{Term, term, accessed, in_bank, number, truth_value, named, applied, converted, action, ActionForm, lets, lets_memory, views, assigns, stores, reduces, calls, blocks, decides, repeats, counts, MaybeAction, no_action, one_action, Actions, no_actions, action_then, Groups, no_groups, group_then}
 use Rattle.dh_tree.specs.Resolved.{used, declares, resolved_term, resolved_form, resolved_other, resolved_actions, resolved_groups}
-use Rattle.dh_tree.specs.Scopes.{Binding, Scope, declare, leave, past, at_end, form_at_end, other_at_end, actions_at_end, groups_at_end}
+use Rattle.dh_tree.specs.Scopes.{Scope, declare, leave, past, at_end, form_at_end, actions_at_end}
 use Rattle.dh_tree.specs.Widths.{IsSized, AreSized}
 use Rattle.dh_tree.proofs.UncheckedBuilt.{first_none, second_none, not_none}
-use Rattle.dh_meaning.specs.Bindings.{depth_inside, kind_bound, binding_in, kind_found, kind_or_first, let_kind}
+use Rattle.dh_meaning.specs.Bindings.{depth_inside, kind_bound, binding_in, kind_or_first, let_kind}
 use Rattle.dh_meaning.specs.Core.{Turning}
 use Rattle.dh_meaning.specs.CoreOf.{Known, kind_of, depth_of, entity_number, turning_of}
 use Rattle.dh_meaning.specs.Phases.{turn_count}
-use Rattle.dh_tree.specs.UncheckedForms.{unchecked_form, unchecked_other, unchecked_groups, unchecked_part}
-use Rattle.dh_sound.specs.AssignsInside.{AssignsInside, FormAssignsInside, OtherAssignsInside, GroupsAssignInside, PartAssignsInside}
+use Rattle.dh_tree.specs.UncheckedForms.{unchecked_form, unchecked_part}
+use Rattle.dh_sound.specs.AssignsInside.{FormAssignsInside, OtherAssignsInside, GroupsAssignInside, PartAssignsInside}
 use Rattle.dh_sound.specs.Blocks.{factors}
 use Rattle.dh_sound.specs.NamesInScope.{InScope, FormScoped, OtherScoped, GroupsScoped, PartScoped}
 use Rattle.dh_sound.specs.SameKeys.{EachName}
@@ -40,7 +40,7 @@ use Rattle.dh_code.specs.Ranks.{copies_in}
 use Rattle.dh_code.specs.Slots.{Placing}
 use Rattle.dh_runnable.proofs.CommandsRun as run
 use Rattle.dh_runnable.proofs.CommandsRun.{form_leads, part_leads}
-use Rattle.dh_runnable.proofs.NamesKnown.{Knows, IsNamed, knows_more, name_known, still_known, declared_known, past_known, target_sized}
+use Rattle.dh_runnable.proofs.NamesKnown.{Knows, knows_more, name_known, still_known, declared_known, past_known, target_sized}
 use Rattle.dh_runnable.proofs.Operands.{bool_sized}
 use Rattle.dh_runnable.proofs.SidesRun.{MaybeKnown, maybe_known, iterator_sized, iterator_good, target_known}
 use Rattle.dh_runnable.proofs.SidesRun as sides
@@ -49,11 +49,12 @@ use Rattle.dh_runnable.proofs.TurnsCounted.{first_within, second_within, KeepsTu
 use Rattle.dh_runnable.proofs.TypedParts.{for_numbers_sized}
 use Rattle.dh_blocks.specs.SoundCommands.{CanHold, kind_aimed}
 use Rattle.dh_blocks.specs.SoundTerms.{IsSound, IsSoundTarget}
-use Rattle.dh_typed_blocks.proofs.Fitting.{IsPlainTarget, FormPlain, OtherPlain, GroupsPlain, PartPlain, AllInteger, IsNamedIn, IsTargetIn, TermFits, TestFits, AssignFits, LetFits, StoreFits, FoldFits, FormFits, OtherFits, GroupsFit, PartFits}
+use Rattle.dh_typed_blocks.specs.PlainPrograms.{AreFew, IsPlainTarget, FormPlain, OtherPlain, GroupsPlain, PartPlain}
+use Rattle.dh_typed_blocks.proofs.Fitting.{AllInteger, IsNamedIn, IsTargetIn, TermFits, FoldFits, FormFits, OtherFits, GroupsFit, PartFits}
 use Rattle.dh_typed_blocks.proofs.KindsGiven.{written_is}
 use Rattle.dh_typed_blocks.proofs.PhasesHolding.{FormOnlyFolds, GroupsOnlyFold, PartOnlyFolds, OtherOnlyFolds}
 use Rattle.dh_typed_blocks.proofs.SidesFit.{number_is, factors_more, integer_more, bound_is, to_name, can_hold, is_test, can_reduce}
-use Rattle.dh_typed_blocks.proofs.TermsSound.{AreFew, term_sound}
+use Rattle.dh_typed_blocks.proofs.TermsSound.{term_sound}
 
 -- Declarations.
 

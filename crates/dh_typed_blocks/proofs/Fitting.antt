@@ -3,7 +3,6 @@
 use Rattle.std.proofs.Common.{◌≡◌, ℕ, ◌≤◌, List, [], ◌∷◌, ◌++◌, length, Option, Some, None}
 use Rattle.dh_value.specs.declared.kinds.Kind.{Kind}
 use Rattle.dh_value.specs.declared.kinds.Kind.TheVariants.{Bool}
-use Rattle.dh_value.specs.declared.operators.Op.{Op}
 use Rattle.dh_value.specs.Words.{IsInteger, IsKind}
 use Rattle.dh_tree.specs.declared.trees.expressions.Ref.{Ref}
 use Rattle.dh_tree.specs.Meaning.{wider}
@@ -14,50 +13,17 @@ use Rattle.dh_meaning.specs.CoreOf.{Known, depth_of, entity_number, kind_of, tur
 use Rattle.dh_meaning.specs.Phases.{turn_count}
 use Rattle.dh_sound.specs.Blocks.{factors}
 use Rattle.dh_sound.specs.NamesInScope.{InScope}
-use Rattle.dh_sound.specs.SameKeys.{IsIteratorOf, IsNoIterator}
+use Rattle.dh_sound.specs.SameKeys.{IsIteratorOf}
 use Rattle.dh_runnable.specs.ActionsRun.{table_in}
 use Rattle.dh_code.specs.Slots.{Placing}
 use Rattle.dh_code.specs.Suited.{IsInside}
 use Rattle.dh_expressions.specs.Shown.{kind_written}
 use Rattle.dh_blocks.specs.SoundTerms.{IsSound, IsSoundTarget}
 use Rattle.dh_blocks.specs.SoundCommands.{CanHold, kind_aimed, Reduces}
+use Rattle.dh_typed_blocks.specs.PlainPrograms.{IsPlainTarget}
 use Rattle.dh_typed_blocks.proofs.PhasesHolding.{OtherOnlyFolds}
 
--- What no pass tells of a ready program by the rules on kinds: a command assigns to no iterator, and a reducer is one of
--- those that a text has.
 module _ (known : Known) where
-  abbrev pub IsPlainTarget : Ref → Type 0
-  IsPlainTarget r = IsNoIterator (binding_in known.bindings (entity_number r.entity))
-
-  abbrev mutual
-    pub AssignsPlain : Action → Type 0
-    AssignsPlain (action id place form) = FormPlain form
-
-    pub FormPlain : ActionForm → Type 0
-    FormPlain (lets name declared value) = IsPlainTarget name
-    FormPlain (lets_memory name shape shape_places value) = Unit {0}
-    FormPlain (views name parent form) = Unit {0}
-    FormPlain (assigns target value) = IsPlainTarget target
-    FormPlain (stores target value) = Unit {0}
-    FormPlain (reduces target o value) = IsPlainTarget target × Reduces o
-    FormPlain (calls function arguments) = Unit {0}
-    FormPlain (blocks body) = GroupsPlain body
-    FormPlain (decides test chosen other) = AssignsPlain chosen × OtherPlain other
-    FormPlain (repeats test body) = AssignsPlain body
-    FormPlain (counts iterator declared low high factor body combine combine_place) = AssignsPlain body × OtherPlain combine
-
-    pub OtherPlain : MaybeAction → Type 0
-    OtherPlain no_action = Unit {0}
-    OtherPlain (one_action a) = AssignsPlain a
-
-    pub GroupsPlain : Groups → Type 0
-    GroupsPlain no_groups = Unit {0}
-    GroupsPlain (group_then part rest) = PartPlain part × GroupsPlain rest
-
-    pub PartPlain : Actions → Type 0
-    PartPlain no_actions = Unit {0}
-    PartPlain (action_then a rest) = AssignsPlain a × PartPlain rest
-
   -- the iterators of these loops are of integer kinds
   abbrev pub AllInteger : List Turning → Type 0
   AllInteger [] = Unit {0}

@@ -1,6 +1,6 @@
 -- What fits and is simple has parts that fit and are simple, and so have reducers that join copies.
-use Rattle.std.proofs.Common.{ℕ, Option, List, [], ◌∷◌}
-use Rattle.dh_tree.specs.PlainTrees.{Term, Action, action, ActionForm, lets, lets_memory, views, assigns, stores, reduces, calls, blocks, decides, repeats, counts, MaybeAction, no_action, one_action, Actions, no_actions, action_then, Groups, no_groups, group_then}
+use Rattle.std.proofs.Common.{List}
+use Rattle.dh_tree.specs.PlainTrees.{Action, action, ActionForm, lets, lets_memory, views, assigns, stores, reduces, calls, blocks, decides, repeats, counts, MaybeAction, no_action, one_action, Actions, no_actions, action_then, Groups, no_groups, group_then}
 use Rattle.dh_meaning.specs.Core.{Turning}
 use Rattle.dh_meaning.specs.CoreOf.{Known}
 use Rattle.dh_sound.specs.SimpleForms.{IsFoldForm, FoldsOnly, GroupsFoldOnly, PartFoldsOnly, JoinsFolds, IsSimple, OtherSimple, GroupsSimple, PartSimple}

@@ -11,3 +11,6 @@ pub mod ProgramsFit
 pub mod FittingParts
 pub mod BlocksFit
 pub mod NamesHere
+pub mod CommandsHere
+pub mod BlocksSound
+pub mod MemoriesFew

@@ -1,12 +1,12 @@
 -- A name of a ready program is one of those that a block may see, at its place in a scene.
-use Rattle.std.proofs.Common.{◌≡◌, ◌⊎◌, inl, inr, ℕ, zero, suc, ◌≤◌, ◌<◌, Bool, true, false, List, [], ◌∷◌, length, map, take, Some, None, Option, refl, ap, sym, ◌∙◌, subst, arith, length-map}
+use Rattle.std.proofs.Common.{◌≡◌, ◌⊎◌, inl, inr, ℕ, zero, suc, ◌≤◌, ◌<◌, Bool, true, false, List, [], ◌∷◌, length, take, Some, refl, ap, sym, ◌∙◌, subst, arith}
 use Rattle.std.specs.Prelude.{slice_get}
 use Rattle.dh_value.specs.declared.kinds.Kind.{Kind}
 use Rattle.dh_tree.specs.declared.trees.expressions.Ref.{Ref}
 use Rattle.dh_tree.specs.Seen.{program_seen}
 use Rattle.dh_meaning.specs.Bindings.{binding_in}
 use Rattle.dh_meaning.specs.Core.{Turning}
-use Rattle.dh_meaning.specs.CoreOf.{Known, depth_of, entity_number}
+use Rattle.dh_meaning.specs.CoreOf.{depth_of, entity_number}
 use Rattle.dh_plan.specs.Correspondence.{Round}
 use Rattle.dh_sound.specs.Blocks.{factors}
 use Rattle.dh_sound.specs.LoopsMatch.{AreSpared}
@@ -19,12 +19,15 @@ use Rattle.dh_expressions.specs.declared.paths.Level.{Level}
 use Rattle.dh_expressions.specs.declared.scenes.Scene.{Scene}
 use Rattle.dh_expressions.specs.Evaluated.{counter_of, known_in}
 use Rattle.dh_commands.specs.ShownVariables.{IsSeen, depth_in, factors_of}
-use Rattle.dh_blocks.specs.NamedVariables.{IsPlain, IsOfRound, IsNamedHere}
+use Rattle.dh_blocks.specs.NamedVariables.{IsOfRound, IsNamedHere}
+use Rattle.dh_typed_blocks.specs.SoundBlocks.{loops_of}
 use Rattle.dh_typed_blocks.specs.ScenesTold.{TellsScene, IsRoundTold, AreRoundsTold}
-use Rattle.dh_typed_blocks.proofs.Fitting.{IsNamedIn, IsTargetIn, IsPlainTarget}
+use Rattle.dh_typed_blocks.proofs.Fitting.{IsNamedIn, IsTargetIn}
+use Rattle.dh_typed_blocks.specs.PlainPrograms.{IsPlainTarget}
 
-abbrev pub loops_of : List Round → List Turning
-loops_of rounds = map (λ (r : Round). r.loop) rounds
+counted_levels : (levels : List Level) → length (factors_of levels) ≡ length levels
+counted_levels [] = refl
+counted_levels (l ∷ ls) = ap suc (counted_levels ls)
 
 same_some : {A : Type 0} (x y : A) → Some x ≡ Some y → x ≡ y
 same_some x y e = cc
@@ -40,8 +43,8 @@ spared_at touched (l ∷ ls) zero loop h e = let same : l ≡ loop = cc in subst
 spared_at touched (l ∷ ls) (suc i) loop h e = spared_at touched ls i loop h.1 e
 
 module _ (scene : Scene) (levels : List Level) (rounds : List Round) (tells : TellsScene scene) (top : factors_of levels ≡ factors (loops_of rounds)) where
-  long_is : length levels ≡ length (factors (loops_of rounds))
-  long_is = sym (length-map (λ (l : Level). l.factor) levels) ∙ ap length top
+  pub long_is : length levels ≡ length (factors (loops_of rounds))
+  long_is = sym (counted_levels levels) ∙ ap length top
 
   deep_enough : (d m n : ℕ) → d ≤ m → n ≡ m → d ≤ n
   deep_enough d m n l e = omega (arith, l, e)

@@ -18,7 +18,6 @@ use Rattle.dh_tree.specs.KindBreaches.{action_kind_breaches, functions_kind_brea
 use Rattle.dh_tree.specs.Kinds.{of_memory, Facts, declared_facts, function_fact, first_facts, body_facts, facts_after_functions, typed_functions, typed_action, typed_action_form}
 use Rattle.dh_tree.specs.LeastBreach.{is_before}
 use Rattle.dh_tree.specs.Memories.{Memory, outside_memory, locals, memories_of}
-use Rattle.dh_tree.specs.NameCounts.{declared_in, declared_in_functions}
 use Rattle.dh_tree.specs.PlainTrees.{Action, action, Declared, Defined, Program}
 use Rattle.dh_tree.specs.Resolved.{resolved_decls, resolved_action, resolved_form}
 use Rattle.dh_tree.specs.Scopes.{Binding, bind, Scope, entity, after_functions, Item, memory_items, function_items, merged, items_of, after_items, first_scope, body_scope, last_scope}
@@ -28,7 +27,6 @@ use Rattle.dh_tree.proofs.ShapeRules.{shape_without}
 use Rattle.dh_runnable.proofs.ElementsFound.{Sees, sees_later}
 use Rattle.dh_tree.proofs.UncheckedBuilt.{first_none, second_none, not_none}
 use Rattle.dh_meaning.specs.CoreOf.{Known, known_of}
-use Rattle.dh_meaning.specs.Sites.{nothing_around}
 use Rattle.dh_tree.specs.Ready.{IsReady}
 use Rattle.dh_tree.specs.UncheckedForms.{unchecked_action}
 use Rattle.dh_sound.proofs.FactsGrow.{appended, InStep}
@@ -49,10 +47,10 @@ use Rattle.dh_sound.specs.Straight.{IsNamedAction}
 use Rattle.dh_sound.proofs.NamedPrograms.{ready_named}
 use Rattle.dh_sound.proofs.NamesInScope.{body_scoped}
 use Rattle.dh_typed_blocks.proofs.CommandsFit.{form_fits}
-use Rattle.dh_typed_blocks.proofs.Fitting.{AssignsPlain, Fits}
+use Rattle.dh_typed_blocks.specs.PlainPrograms.{AssignsPlain}
+use Rattle.dh_typed_blocks.proofs.Fitting.{Fits}
 use Rattle.dh_typed_blocks.proofs.SimplePrograms.{body_simple}
-use Rattle.dh_typed_blocks.proofs.TermsSound.{AreFew}
-use Rattle.dh_runnable.proofs.CommandsRun as run
+use Rattle.dh_typed_blocks.specs.PlainPrograms.{AreFew}
 
 -- Names where the body begins.
 

@@ -1,5 +1,5 @@
 -- Names, targets and right sides of a ready program fit.
-use Rattle.std.proofs.Common.{◌≡◌, ℕ, ◌≤◌, ◌<◌, zero, suc, nat_lt, Bool, true, false, if◌then◌else◌, List, [], ◌∷◌, ◌++◌, length, Option, Some, None, refl, ap, sym, ◌∙◌, subst, arith}
+use Rattle.std.proofs.Common.{◌≡◌, ℕ, zero, suc, nat_lt, Bool, true, false, if◌then◌else◌, List, [], ◌∷◌, ◌++◌, Option, Some, refl, ap, sym, ◌∙◌, subst}
 use Rattle.std.specs.Prelude.{slice_get}
 use Rattle.dh_base.specs.declared.places.Place.{Place}
 use Rattle.dh_value.specs.declared.kinds.Kind.{Kind}
@@ -7,12 +7,11 @@ use Rattle.dh_value.specs.declared.kinds.Kind.TheVariants as kind
 use Rattle.dh_value.specs.Words.{IsInteger, IsKind}
 use Rattle.dh_tree.specs.declared.trees.expressions.Ref.{Ref}
 use Rattle.dh_tree.specs.KindBreaches.{assigned_breaches, truth_breaches, reducer_breaches}
-use Rattle.dh_tree.specs.Kinds.{two_numbers, operands_breaches, is_truth, when, mismatch, found, place_of}
+use Rattle.dh_tree.specs.Kinds.{is_truth, when, mismatch, found, place_of}
 use Rattle.dh_tree.specs.Meaning.{wider}
 use Rattle.dh_tree.specs.PlainTrees.{Term}
-use Rattle.dh_tree.specs.Widths.{IsSized}
 use Rattle.dh_tree.proofs.UncheckedBuilt.{not_none}
-use Rattle.dh_meaning.specs.Bindings.{Binding, binding_in, kind_bound, kind_found, kind_or_first, let_kind}
+use Rattle.dh_meaning.specs.Bindings.{Binding, binding_in, kind_bound}
 use Rattle.dh_meaning.specs.Core.{Turning}
 use Rattle.dh_meaning.specs.CoreOf.{Known, entity_number, kind_of}
 use Rattle.dh_sound.specs.Blocks.{factors}

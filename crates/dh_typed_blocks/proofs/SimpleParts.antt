@@ -1,13 +1,9 @@
 -- What is told of simple commands, and of blocks of reducers, is told of the commands inside them.
-use Rattle.std.proofs.Common.{ℕ, Option, List, [], ◌∷◌}
+use Rattle.std.proofs.Common.{List, [], ◌∷◌}
 use Rattle.std.specs.List.{AllByRecursion}
-use Rattle.dh_base.specs.declared.places.Place.{Place}
-use Rattle.dh_value.specs.declared.kinds.Kind.{Kind}
-use Rattle.dh_tree.specs.declared.trees.expressions.Ref.{Ref}
-use Rattle.dh_tree.specs.PlainTrees.{Placed, Unrolled, Term, Action, action, ActionForm, lets, lets_memory, views, assigns, stores, reduces, calls, blocks, decides, repeats, counts, MaybeAction, no_action, one_action, Actions, no_actions, action_then, Groups, no_groups, group_then}
+use Rattle.dh_tree.specs.PlainTrees.{Action, action, ActionForm, lets, lets_memory, views, assigns, stores, reduces, calls, blocks, decides, repeats, counts, MaybeAction, no_action, one_action, Actions, no_actions, action_then, Groups, no_groups, group_then}
 use Rattle.dh_meaning.specs.Core.{Turning}
-use Rattle.dh_meaning.specs.CoreOf.{Known}
-use Rattle.dh_meaning.specs.Phases.{Located, located, turn_count}
+use Rattle.dh_meaning.specs.Phases.{Located}
 use Rattle.dh_sound.specs.SimpleForms.{IsFoldForm, FoldsOnly, GroupsFoldOnly, PartFoldsOnly, JoinsFolds, IsSimple, OtherSimple, GroupsSimple, PartSimple}
 use Rattle.dh_typed_blocks.proofs.PhasesHolding.{EachPart, EachGroup, OfOther, OnlyFolds, GroupsOnlyFold, PartOnlyFolds, OtherOnlyFolds, EachOf, IsReducer}
 

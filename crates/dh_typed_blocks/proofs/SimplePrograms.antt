@@ -1,11 +1,9 @@
 -- The blocks of a ready program are simple.
-use Rattle.std.proofs.Common.{◌⊎◌, inl, inr, List, []}
+use Rattle.std.proofs.Common.{◌⊎◌, inl, inr}
 use Rattle.dh_tree.specs.Forms.{unbuilt_functions}
 use Rattle.dh_tree.specs.PlainTrees.{Program}
 use Rattle.dh_tree.specs.Ready.{IsReady}
 use Rattle.dh_tree.proofs.UncheckedBuilt.{second_none}
-use Rattle.dh_meaning.specs.Core.{Turning}
-use Rattle.dh_meaning.specs.Effects.{Block}
 use Rattle.dh_sound.specs.BlocksOfPhases.{OfTest}
 use Rattle.dh_sound.specs.SimpleForms.{IsSimple}
 use Rattle.dh_sound.proofs.JoinsKept.{simple_kept}

@@ -1,20 +1,18 @@
 -- An expression of a typed program that breaks no rule on names, kinds or indices is sound: its kinds are as its operators
 -- give them, and its memories and banks have numbers of 32 bits. What is known of its names is asked of a premise, by
 -- what is known of the names that are visible. By recursion beside that of dh_runnable.
-use Rattle.std.proofs.Common.{◌≡◌, ℕ, ◌<◌, ◌≤◌, ◌^◌, Bool, true, false, if◌then◌else◌, List, [], ◌∷◌, length, Option, Some, None, refl, ap, sym, ◌∙◌, subst, arith}
+use Rattle.std.proofs.Common.{◌≡◌, ℕ, ◌<◌, ◌≤◌, ◌^◌, Bool, true, false, if◌then◌else◌, List, Option, Some, None, refl, ap, sym, ◌∙◌, subst, arith}
 use Rattle.dh_base.specs.declared.places.Place.{Place}
 use Rattle.dh_value.specs.declared.kinds.Kind.{Kind}
 use Rattle.dh_value.specs.declared.kinds.Kind.TheVariants as kind
 use Rattle.dh_value.specs.declared.operators.Op.{Op}
-use Rattle.dh_value.specs.Words.{IsInteger, IsKind}
 use Rattle.dh_tree.specs.declared.breaches.Breach.{Breach}
 use Rattle.dh_tree.specs.declared.trees.counters.Counter.{Counter}
 use Rattle.dh_tree.specs.declared.trees.expressions.Ref.{Ref}
-use Rattle.dh_tree.specs.Breaches.{unknown, term_breaches, terms_breaches}
-use Rattle.dh_tree.specs.Elements.{banks_of, dims_at}
+use Rattle.dh_tree.specs.Breaches.{unknown, term_breaches}
 use Rattle.dh_tree.specs.Indices as places
 use Rattle.dh_tree.specs.Indices.{kept_dims, physical_breaches, term_index_breaches}
-use Rattle.dh_tree.specs.KindBreaches.{term_kind_breaches, indices_kind_breaches}
+use Rattle.dh_tree.specs.KindBreaches.{term_kind_breaches}
 use Rattle.dh_tree.specs.Kinds.{Fact, of_variable, of_iterator, of_memory, of_function, Facts, fact_of, for_numbers, is_shift, keeps_bare, is_bare, found, place_of, left_want, right_want, applied_kind, applied_breaches, value_kind, index_breaches, access_breaches, bank_breaches, cast_breaches, typed_term, typed_terms}
 use Rattle.dh_tree.specs.Memories.{memory_in}
 use Rattle.dh_tree.specs.PlainTrees.{Term, term, TermForm, number, truth_value, named, accessed, in_bank, applied, converted, Terms, no_terms, term_then}
@@ -26,11 +24,12 @@ use Rattle.dh_meaning.specs.Bindings.{kind_or_first}
 use Rattle.dh_meaning.specs.CoreOf.{Known, memory_of}
 use Rattle.dh_sound.specs.SameKeys.{EachName, EachNameOf}
 use Rattle.dh_runnable.specs.ActionsRun.{table_in}
-use Rattle.dh_runnable.proofs.NamesKnown.{IsVariable, IsGood, Knows, IsNamed, name_known, fact_is}
+use Rattle.dh_runnable.proofs.NamesKnown.{IsVariable, IsGood, Knows, name_known, fact_is}
 use Rattle.dh_runnable.proofs.TermsSuited.{indexed, IsReady, AreReady, IsKnown, known_sized, term_known}
 use Rattle.dh_runnable.proofs.TypedParts.{for_numbers_sized, typed_parts}
 use Rattle.dh_code.specs.Slots.{Placing}
 use Rattle.dh_blocks.specs.SoundTerms.{IsSound, IsSoundForm, AreSound}
+use Rattle.dh_typed_blocks.specs.PlainPrograms.{AreFew}
 use Rattle.dh_typed_blocks.proofs.KindsGiven.{gives, gives_written, applied_known}
 
 either_sized : (b : Bool) (j k : Option Kind) → IsSized j → IsSized k → IsSized (if b then j else k)
@@ -42,11 +41,6 @@ amount_sized = (omega arith, omega arith)
 
 below_more : (a b c : ℕ) → a < b → b ≤ c → a < c
 below_more a b c l m = omega (arith, l, m)
-
--- memories and their banks have numbers of 32 bits
-pub record AreFew (known : Known) : Type 0 where
-  pub memories : length (table_in known) ≤ 2 ^ 32
-  pub banks : (memory : ℕ) → banks_of (dims_at (table_in known) memory) ≤ 2 ^ 32
 
 module _ (known : Known) (p : Placing) (loops : List ℕ) (few : AreFew known) (Near : Ref → Type 0) (Name : Ref → Kind → Type 0)
     (to_name : (r : Ref) (n : ℕ) (k : Kind) → r.entity ≡ Some n → IsVariable known p loops n k → Near r → Name r k) where

@@ -1,2 +1,4 @@
 pub mod SimpleBlocks
+pub mod PlainPrograms
 pub mod ScenesTold
+pub mod SoundBlocks

@@ -1,11 +1,9 @@
 -- What is asked of a scene, of the loops round a block and of a program, so that the commands of the block are sound: that the
 -- scene is of the program, and that a register of the plan counts each loop.
-use Rattle.std.specs.Prelude.{◌≡◌, ℕ, suc, ◌≤◌, ◌^◌, List, [], length, map, take, slice_get, Some, None}
+use Rattle.std.specs.Prelude.{◌≡◌, ℕ, suc, List, length, map, take, slice_get, Some, None}
 use Rattle.dh_value.specs.declared.kinds.Kind.{Kind}
 use Rattle.dh_value.specs.declared.kinds.Kind.TheVariants.{Unsigned}
 use Rattle.dh_tree.specs.declared.trees.counters.Counter.{Counter}
-use Rattle.dh_tree.specs.Elements.{banks_of, dims_at}
-use Rattle.dh_tree.specs.Memories.{table_of}
 use Rattle.dh_tree.specs.Seen.{program_seen}
 use Rattle.dh_meaning.specs.Bindings.{binding_in, kind_bound}
 use Rattle.dh_meaning.specs.Phases.{turn_count}

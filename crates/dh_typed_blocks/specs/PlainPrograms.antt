@@ -1,0 +1,51 @@
+-- What is asked of a program beside the rules on names, kinds and shapes so that its blocks are sound: that its memories are few,
+-- that no command assigns to an iterator, and that its reducers are those of a text.
+use Rattle.std.specs.Prelude.{ℕ, ◌≤◌, ◌^◌, length}
+use Rattle.dh_tree.specs.declared.trees.expressions.Ref.{Ref}
+use Rattle.dh_tree.specs.Elements.{banks_of, dims_at}
+use Rattle.dh_tree.specs.PlainTrees.{Action, action, ActionForm, lets, lets_memory, views, assigns, stores, reduces, calls, blocks, decides, repeats, counts, MaybeAction, no_action, one_action, Actions, no_actions, action_then, Groups, no_groups, group_then}
+use Rattle.dh_meaning.specs.Bindings.{binding_in}
+use Rattle.dh_meaning.specs.CoreOf.{Known, entity_number}
+use Rattle.dh_runnable.specs.ActionsRun.{table_in}
+use Rattle.dh_sound.specs.SameKeys.{IsNoIterator}
+use Rattle.dh_blocks.specs.SoundCommands.{Reduces}
+
+-- memories and their banks have numbers of 32 bits
+pub record AreFew (known : Known) : Type 0 where
+  pub memories : length (table_in known) ≤ 2 ^ 32
+  pub banks : (memory : ℕ) → banks_of (dims_at (table_in known) memory) ≤ 2 ^ 32
+
+-- What no pass tells of a ready program by the rules on kinds: a command assigns to no iterator, and a reducer is one of
+-- those that a text has.
+module _ (known : Known) where
+  abbrev pub IsPlainTarget : Ref → Type 0
+  IsPlainTarget r = IsNoIterator (binding_in known.bindings (entity_number r.entity))
+
+  abbrev mutual
+    pub AssignsPlain : Action → Type 0
+    AssignsPlain (action id place form) = FormPlain form
+
+    pub FormPlain : ActionForm → Type 0
+    FormPlain (lets name declared value) = IsPlainTarget name
+    FormPlain (lets_memory name shape shape_places value) = Unit {0}
+    FormPlain (views name parent form) = Unit {0}
+    FormPlain (assigns target value) = IsPlainTarget target
+    FormPlain (stores target value) = Unit {0}
+    FormPlain (reduces target o value) = IsPlainTarget target × Reduces o
+    FormPlain (calls function arguments) = Unit {0}
+    FormPlain (blocks body) = GroupsPlain body
+    FormPlain (decides test chosen other) = AssignsPlain chosen × OtherPlain other
+    FormPlain (repeats test body) = AssignsPlain body
+    FormPlain (counts iterator declared low high factor body combine combine_place) = AssignsPlain body × OtherPlain combine
+
+    pub OtherPlain : MaybeAction → Type 0
+    OtherPlain no_action = Unit {0}
+    OtherPlain (one_action a) = AssignsPlain a
+
+    pub GroupsPlain : Groups → Type 0
+    GroupsPlain no_groups = Unit {0}
+    GroupsPlain (group_then part rest) = PartPlain part × GroupsPlain rest
+
+    pub PartPlain : Actions → Type 0
+    PartPlain no_actions = Unit {0}
+    PartPlain (action_then a rest) = AssignsPlain a × PartPlain rest
