@@ -5,3 +5,7 @@ pub mod PortsDriven
 pub mod DrivesWired
 pub mod SuitsShown
 pub mod NoneAbove
+pub mod PartsMade
+pub mod NetWired
+pub mod CountsUp
+pub mod OneGroup

@@ -1,3 +1,6 @@
 pub mod MemoryTables
 pub mod DrivenUsers
 pub mod DriverLaws
+pub mod BuiltParts
+pub mod BuiltNets
+pub mod GraphFlows

@@ -3,12 +3,20 @@
 //! Stands on `dh_control` and `dh_datapath`. Nothing of the program stands on this crate yet.
 #![tactic(auto)]
 
+mod assembling;
+mod beginning;
+mod building;
 mod drivers;
 mod laws;
 mod memories;
 mod sizing;
 
+pub use assembling::{list_nexts, list_registers};
+pub use beginning::{begin, list_initials};
+pub use building::{Parts, Shown, Sizes, push_parts};
 pub use drivers::{list_drivers, push_uses};
-pub use laws::{drivers_serve_users, shown_plans_suit};
+pub use laws::{
+    drivers_serve_users, made_nets_are_wired, one_group_is_one_thread, shown_plans_suit,
+};
 pub use memories::list_memories;
 pub use sizing::{all_widths, greatest, list_widths, narrow};

@@ -107,7 +107,7 @@ module _ (k : Making) (net : Net) (c : ControlWires) (w : IsWired k net c) where
     x = signals s.registers s.held wires
 
     shows : ControlShows k c x
-    shows = w.control s wires fits v
+    shows = w.control s wires fits v (ap (λ (l : List ℕ). length (drop own_registers l)) holds ∙ long)
 
     there : stop.block < length k.plan.blocks
     there = w.blocks n stop at
@@ -167,8 +167,8 @@ module _ (k : Making) (net : Net) (c : ControlWires) (w : IsWired k net c) where
       → ShowsOver k net Holds tick fault registers wires
   over_at clock tick fault registers s wires h fits v =
       let x = signals s.registers s.held wires in
-      let shows = w.control s wires fits v in
       let holds : s.registers ≡ clock ∷ tick ∷ fault ∷ length k.flow.states ∷ registers = h.1.1.1 ∙ ap (λ n. clock ∷ tick ∷ fault ∷ n ∷ registers) h.1.0 in
+      let shows = w.control s wires fits v (ap (λ (l : List ℕ). length (drop own_registers l)) holds ∙ h.1.1.0) in
       let outs = over_outputs k c x shows clock tick fault registers holds in
       let m : Moment = record { active = []; clock = shown x c.clock; commits = false } in
       let moment : MomentShown (length k.plan.blocks) c x m = record {

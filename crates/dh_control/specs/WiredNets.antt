@@ -52,8 +52,9 @@ pub record IsWired (k : Making) (net : Net) (c : ControlWires) : Type 0 where
   pub tick_is : net.tick ≡ c.tick
   pub done_is : net.done ≡ c.nexts.done
   pub fault_is : net.fault ≡ c.fault
-  -- for every valuation of a state that fits
-  pub control : (s : State) (wires : List ℕ) → FitsNet net s → IsValuation net.table net.cells s.registers s.held wires → ControlShows k c (signals s.registers s.held wires)
+  -- for every valuation of a state that fits, and has the plan's registers
+  pub control : (s : State) (wires : List ℕ) → FitsNet net s → IsValuation net.table net.cells s.registers s.held wires → length (drop own_registers s.registers) ≡ length k.plan.registers
+      → ControlShows k c (signals s.registers s.held wires)
   pub words : (s : State) (wires : List ℕ) → FitsNet net s → IsValuation net.table net.cells s.registers s.held wires → (block : ℕ)
       → AreValues (start_at k.plan (drop own_registers s.registers) []) (in_ports k.plan k.uses s.held block) (first_in k.plan block) (operations_in k.plan block) (words_of k wires block)
   pub drives : (s : State) (wires : List ℕ) (m : Moment) → FitsNet net s → IsValuation net.table net.cells s.registers s.held wires

@@ -84,7 +84,7 @@ tests_only scene around first t few (suc n) old new next tests m number out =
     touched_own scene (lane_of around n) (m.0).values.current.items t (m.0).draft new.draft (m.0).accesses new.accesses first next m.1.1.1.0 (m.1.1.1.1.1.0).term few number out
     ∙ tests_only scene around first t few n old m.0 m.1.0 m.1.1.0 m.1.1.1.1.0 number out
 
-tests_number : (scene : Scene) (around : Around) (first : ℕ) (t : Term) → AreFewIn first t → (paths : ℕ) (old new : Building) (next : ℕ) (tests : List ℕ) → 0 < paths → MadeTests scene around first t paths old new next tests
+pub tests_number : (scene : Scene) (around : Around) (first : ℕ) (t : Term) → AreFewIn first t → (paths : ℕ) (old new : Building) (next : ℕ) (tests : List ℕ) → 0 < paths → MadeTests scene around first t paths old new next tests
     → Numbers old new first (term_accesses t) next
 tests_number scene around first t few zero old new next tests some m = absurd (none some)
   where
@@ -173,7 +173,7 @@ arm_number Inner around holds tests old new first next lefts m count h = record 
   only = λ number out. ap (λ (a : Accesses). touched_in a number) m.accesses ∙ (h.only number out ∙ ap (λ (a : Accesses). touched_in a number) m.begin_accesses);
 }
 
-some_arm : (Inner : Commanding) (around : Around) (holds : Truth) (tests : List ℕ) (old new : Building) (first next : ℕ) (lefts : List Left) (m : MadeArm Inner around holds tests old new first next lefts) → 0 < length tests → 0 < paths_counted m.arm
+pub some_arm : (Inner : Commanding) (around : Around) (holds : Truth) (tests : List ℕ) (old new : Building) (first next : ℕ) (lefts : List Left) (m : MadeArm Inner around holds tests old new first next lefts) → 0 < length tests → 0 < paths_counted m.arm
 some_arm Inner around holds tests old new first next lefts m some =
     subst (λ (n : ℕ). 0 < n) (sym (arm_long holds around.guards.now tests (length tests) old.draft m.guarded m.arm.guards.now m.guards)) some
 
@@ -267,7 +267,7 @@ module _ (scene : Scene) where
         command_numbered a m.arm m.begin m.inside first next m.command is (some_arm (MadeCommand scene a) around false tests old new first next lefts m some) few in
         (one.0, arm_number (MadeCommand scene a) around false tests old new first next lefts m (accesses_of a) one.1)
 
-    actions_numbered : (part : Actions) (around : Around) (old new : Building) (first next : ℕ) (m : MadeActions scene part around old new first next) → AreStraight part → 0 < paths_counted around → first + part_accesses part < 2 ^ 32
+    pub actions_numbered : (part : Actions) (around : Around) (old new : Building) (first next : ℕ) (m : MadeActions scene part around old new first next) → AreStraight part → 0 < paths_counted around → first + part_accesses part < 2 ^ 32
         → AreFewActions scene part around old new first next m × Numbers old new first (part_accesses part) next
     actions_numbered no_actions around old new first next m is some few = (tt, numbers_none old new first next (ap (λ (b : Building). b.accesses) m.still) m.next_is)
     actions_numbered (action_then a rest) around old new first next m is some few =

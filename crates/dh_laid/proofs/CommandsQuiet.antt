@@ -1,5 +1,5 @@
 -- What is put down for expressions and commands checks nothing and sets no register, by recursion on both.
-use Rattle.std.proofs.Common.{◌≡◌, ◌⊎◌, inl, inr, ◌<◌, ◌≤◌, ◌^◌, ℕ, zero, suc, List, Some, None, ap, sym, ◌∙◌, subst, length, arith, append_assoc}
+use Rattle.std.proofs.Common.{◌≡◌, ◌⊎◌, inl, inr, ◌<◌, ◌≤◌, ◌^◌, ℕ, zero, suc, List, Some, None, ap, sym, ◌∙◌, subst, length, arith, append_assoc, refl}
 use Rattle.std.specs.Prelude.{Bool as Truth, true, false, [], ◌∷◌, ◌++◌, Option, slice_get}
 use Rattle.std.proofs.lemmas.List.{append-nil}
 use Rattle.dh_value.specs.declared.kinds.Kind.{Kind}
@@ -17,7 +17,7 @@ use Rattle.dh_code.specs.Made.{same_kind}
 use Rattle.dh_code.specs.Slots.{held_at}
 use Rattle.dh_plan.specs.declared.operations.Operation.{Operation}
 use Rattle.dh_plan.specs.declared.operations.OperationForm.{OperationForm}
-use Rattle.dh_plan.specs.declared.operations.OperationForm.TheVariants.{Compute, Constant, Convert, Select}
+use Rattle.dh_plan.specs.declared.operations.OperationForm.TheVariants.{Check, Compute, Constant, Convert, Old, Probe, Read, Select, Set, Write}
 use Rattle.dh_plan.specs.declared.operations.Reach.{Reach}
 use Rattle.dh_expressions.specs.declared.accesses.Accesses.{Accesses}
 use Rattle.dh_expressions.specs.declared.accesses.Touched.{Touched}
@@ -45,7 +45,7 @@ use Rattle.dh_commands.specs.declared.choices.Choice.{Choice}
 use Rattle.dh_commands.specs.declared.choices.Left.{Left}
 use Rattle.dh_commands.specs.LanesRun.{lane_of, paths_counted}
 use Rattle.dh_commands.specs.MadeCommands.{Commanding, FoldedWith, MadeActionForm, MadeActions, MadeAim, MadeArm, MadeArmGuard, MadeArmGuards, MadeAssigned, MadeBehind, MadeChoiceBy, MadeChoices, MadeCleared, MadeCommand, MadeGroups, MadeGuard, MadeLanes, MadeOldOperand, MadeOperand, MadeOther, MadeOutcome, MadeReduced, MadeStored, MadeStoring, MadeTests}
-use Rattle.dh_laid.specs.LaidQuiet.{AddsQuiet, CommandsAreQuiet, GroupsAreQuiet, IsQuiet, StandsIn, TermsAreQuiet}
+use Rattle.dh_laid.specs.LaidQuiet.{AddsQuiet, CommandsAreQuiet, GroupsAreQuiet, IsQuiet, StandsIn, TermsAreQuiet, QuietSetsNone}
 use Rattle.dh_laid.proofs.ValuesLogged.{arm_long, tests_same}
 
 quiet_same : (old new : Draft) → new.operations.items ≡ old.operations.items → AddsQuiet old new
@@ -333,3 +333,15 @@ commands_are_quiet scene a around old new first next s m = command_quiet scene a
 
 pub groups_are_quiet : GroupsAreQuiet
 groups_are_quiet scene body around old new first next s m = groups_quiet scene body around old new first next s m
+
+pub quiet_sets_none : QuietSetsNone
+quiet_sets_none (Constant word) q first ws = refl
+quiet_sets_none (Old register) q first ws = refl
+quiet_sets_none (Compute op left right) q first ws = refl
+quiet_sets_none (Convert inner to) q first ws = refl
+quiet_sets_none (Select test a b) q first ws = refl
+quiet_sets_none (Check ok fault) q first ws = absurd q
+quiet_sets_none (Probe r fault) q first ws = refl
+quiet_sets_none (Read r) q first ws = refl
+quiet_sets_none (Write r value) q first ws = refl
+quiet_sets_none (Set register value) q first ws = absurd q

@@ -11,3 +11,4 @@ pub mod CommandsNumbered
 pub mod CommandsQuiet
 pub mod CommandsMultiply
 pub mod ProductsOfCore
+pub mod CommandsProbe

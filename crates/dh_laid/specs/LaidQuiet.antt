@@ -1,5 +1,7 @@
 -- What is put down for commands checks nothing and sets no register: registers are set behind all commands of a block.
-use Rattle.std.specs.Prelude.{◌≡◌, ℕ, ◌<◌, ◌^◌, ◌++◌, List, length}
+use Rattle.std.specs.Prelude.{◌≡◌, ℕ, ◌<◌, ◌^◌, [], ◌++◌, List, length}
+use Rattle.dh_value.specs.declared.words.Word.{Word}
+use Rattle.dh_plan.specs.Blocks.{form_sets}
 use Rattle.std.specs.List.{AllByRecursion}
 use Rattle.dh_tree.specs.PlainTrees.{Action, Groups, Term}
 use Rattle.dh_plan.specs.declared.operations.Operation.{Operation}
@@ -41,3 +43,7 @@ CommandsAreQuiet = (scene : Scene) (a : Action) (around : Around) (old new : Bui
 
 abbrev pub GroupsAreQuiet : Type 0
 GroupsAreQuiet = (scene : Scene) (body : Groups) (around : Around) (old new : Building) (first next : ℕ) → StandsIn scene around → MadeGroups scene body around old new first next → AddsQuiet old.draft new.draft
+
+-- what is so sets no register, whatever values stand in its block
+abbrev pub QuietSetsNone : Type 0
+QuietSetsNone = (form : OperationForm) → IsQuiet form → (first : ℕ) (ws : List Word) → form_sets first ws form ≡ []

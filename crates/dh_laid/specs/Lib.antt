@@ -8,3 +8,5 @@ pub mod LaidNumbers
 pub mod LaidQuiet
 -- multiplications
 pub mod LaidProducts
+-- probes
+pub mod LaidProbes

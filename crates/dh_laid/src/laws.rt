@@ -3,8 +3,9 @@
 ghost use Rattle.dh_laid.specs.Laid.{AllAssignmentsForm, AllClearingsForm, AllReducesForm, AllStoresForm, ArmGuardsForm, ArmsEnd, ArmsLeave, AssignmentsForm, ChoicesForm, ClearingsForm, JoinsForm, ReducesForm, StoresForm, TestsForm};
 ghost use Rattle.dh_laid.specs.LaidCommands.{CommandsForm, GroupsForm};
 ghost use Rattle.dh_laid.specs.LaidNumbers.{CommandsNumber, GroupsNumber};
+ghost use Rattle.dh_laid.specs.LaidProbes.{CommandsProbe, GroupsProbe};
 ghost use Rattle.dh_laid.specs.LaidProducts.{CommandsHaveProducts, CommandsMultiply, GroupsHaveProducts, GroupsMultiply, TermsMultiply};
-ghost use Rattle.dh_laid.specs.LaidQuiet.{CommandsAreQuiet, GroupsAreQuiet, TermsAreQuiet};
+ghost use Rattle.dh_laid.specs.LaidQuiet.{CommandsAreQuiet, GroupsAreQuiet, QuietSetsNone, TermsAreQuiet};
 
 /// What is put down where a variable is assigned is formed, and it is given a value of the kind of its register.
 pub fn assignments_are_formed()
@@ -51,6 +52,7 @@ pub fn whole_commands_are_numbered()
 /// What is put down for expressions and commands checks nothing and sets no register.
 pub fn whole_commands_are_quiet()
     ensures terms { TermsAreQuiet }
+    ensures none { QuietSetsNone }
     ensures commands { CommandsAreQuiet }
     ensures groups { GroupsAreQuiet }
 {}
@@ -66,4 +68,10 @@ pub fn products_are_of_the_program()
     ensures terms { TermsMultiply }
     ensures commands { CommandsMultiply }
     ensures groups { GroupsMultiply }
+{}
+
+/// Each access of a straight command is probed once at each path.
+pub fn whole_commands_probe()
+    ensures commands { CommandsProbe }
+    ensures groups { GroupsProbe }
 {}

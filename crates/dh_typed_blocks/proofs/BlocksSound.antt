@@ -42,6 +42,7 @@ use Rattle.dh_typed_blocks.proofs.BlocksHolding.{StraightHolds, TestHolds}
 use Rattle.dh_typed_blocks.proofs.CommandsHere.{all_inside, all_here, folds_here}
 use Rattle.dh_typed_blocks.proofs.Fitting.{IsNamedIn, TestFits, Fits}
 use Rattle.dh_typed_blocks.proofs.FittingParts.{SimpleFits, JoinFits}
+use Rattle.dh_typed_blocks.proofs.IteratorsSorted.{ready_plain}
 use Rattle.dh_typed_blocks.proofs.MemoriesFew.{ready_few}
 use Rattle.dh_typed_blocks.proofs.NamesHere.{named_here}
 use Rattle.dh_typed_blocks.proofs.PhasesHolding.{EachOf}
@@ -127,8 +128,8 @@ module _ (scene : Scene) (around : Around) (plan : PlainPlan) (rounds : List Rou
         names = named_here scene around.levels.now rounds place.tells place.top.factors_are plan.registers place.told (λ entity. false) (spared_test (loops_of rounds)) (λ entity t. absurd cc)
 
   pub blocks_sound : ReadyBlocksAreSound scene around plan rounds
-  blocks_sound ready plain place block stands =
-      elim (block_fits p ready (ready_few p ready) (ready_assigns p ready) plain (loops_of rounds) block stands) [
+  blocks_sound ready written place block stands =
+      elim (block_fits p ready (ready_few p ready) (ready_assigns p ready) (ready_plain p ready written) (loops_of rounds) block stands) [
         | inl f ↦ inl (straight_sound ready place block stands f)
         | inr f ↦ inr (test_sound ready place block stands f)
       ]

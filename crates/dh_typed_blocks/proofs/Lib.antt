@@ -14,3 +14,4 @@ pub mod NamesHere
 pub mod CommandsHere
 pub mod BlocksSound
 pub mod MemoriesFew
+pub mod IteratorsSorted

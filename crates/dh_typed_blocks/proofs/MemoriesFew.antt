@@ -1,13 +1,13 @@
 -- The memories of a ready program and their banks have numbers of 32 bits: there are no more memories than names of a text,
 -- and no more banks than the limit.
-use Rattle.std.proofs.Common.{◌≡◌, ℕ, zero, suc, ◌+◌, ◌≤◌, ◌<◌, ◌^◌, List, [], ◌∷◌, ◌++◌, length, map, Option, Some, None, refl, ap, sym, ◌∙◌, subst, arith, length-append}
+use Rattle.std.proofs.Common.{◌≡◌, ℕ, zero, suc, ◌+◌, ◌≤◌, ◌^◌, List, [], ◌∷◌, ◌++◌, length, map, None, refl, ap, arith, length-append}
 use Rattle.std.specs.Prelude.{slice_get}
 use Rattle.dh_base.specs.declared.limits.Limit.TheVariants as limit
 use Rattle.dh_tree.specs.Elements.{banks_of, dims_at, entry_dims}
-use Rattle.dh_tree.specs.Excesses.{copies_excess, first_above, excess_at}
+use Rattle.dh_tree.specs.Excesses.{first_above, excess_at}
 use Rattle.dh_tree.specs.Memories.{Memory, entry_of, memories_of, outside_memory, locals, form_locals, other_locals, groups_locals, part_locals}
 use Rattle.dh_tree.specs.NameCounts.{declared_in, declared_in_form, declared_in_other, declared_in_actions, declared_in_groups, declared_in_functions}
-use Rattle.dh_tree.specs.PlainTrees.{Declared, Action, action, ActionForm, lets, lets_memory, views, assigns, stores, reduces, calls, blocks, decides, repeats, counts, MaybeAction, no_action, one_action, Actions, no_actions, action_then, Groups, no_groups, group_then, Program}
+use Rattle.dh_tree.specs.PlainTrees.{Action, action, ActionForm, lets, lets_memory, views, assigns, stores, reduces, calls, blocks, decides, repeats, counts, MaybeAction, no_action, one_action, Actions, no_actions, action_then, Groups, no_groups, group_then, Program}
 use Rattle.dh_tree.specs.Ready.{IsReady, most_tokens}
 use Rattle.dh_meaning.specs.CoreOf.{known_of}
 use Rattle.dh_runnable.specs.ActionsRun.{table_in}

@@ -49,3 +49,33 @@ module _ (known : Known) where
     pub PartPlain : Actions → Type 0
     PartPlain no_actions = Unit {0}
     PartPlain (action_then a rest) = AssignsPlain a × PartPlain rest
+
+-- each reducer is one that a text has
+abbrev mutual
+  pub ReducersWritten : Action → Type 0
+  ReducersWritten (action id place form) = FormWritten form
+
+  pub FormWritten : ActionForm → Type 0
+  FormWritten (lets name declared value) = Unit {0}
+  FormWritten (lets_memory name shape shape_places value) = Unit {0}
+  FormWritten (views name parent form) = Unit {0}
+  FormWritten (assigns target value) = Unit {0}
+  FormWritten (stores target value) = Unit {0}
+  FormWritten (reduces target o value) = Reduces o
+  FormWritten (calls function arguments) = Unit {0}
+  FormWritten (blocks body) = GroupsWritten body
+  FormWritten (decides test chosen other) = ReducersWritten chosen × OtherWritten other
+  FormWritten (repeats test body) = ReducersWritten body
+  FormWritten (counts iterator declared low high factor body combine combine_place) = ReducersWritten body × OtherWritten combine
+
+  pub OtherWritten : MaybeAction → Type 0
+  OtherWritten no_action = Unit {0}
+  OtherWritten (one_action a) = ReducersWritten a
+
+  pub GroupsWritten : Groups → Type 0
+  GroupsWritten no_groups = Unit {0}
+  GroupsWritten (group_then part rest) = PartWritten part × GroupsWritten rest
+
+  pub PartWritten : Actions → Type 0
+  PartWritten no_actions = Unit {0}
+  PartWritten (action_then a rest) = ReducersWritten a × PartWritten rest

@@ -19,7 +19,7 @@ use Rattle.dh_expressions.specs.declared.scenes.Scene.{Scene}
 use Rattle.dh_expressions.specs.Evaluated.{known_in}
 use Rattle.dh_blocks.specs.BlockMade.{AreSoundHere, IsTop}
 use Rattle.dh_blocks.specs.TestMade.{IsSoundTest}
-use Rattle.dh_typed_blocks.specs.PlainPrograms.{AssignsPlain, IsPlainTarget}
+use Rattle.dh_typed_blocks.specs.PlainPrograms.{IsPlainTarget, ReducersWritten}
 use Rattle.dh_typed_blocks.specs.ScenesTold.{TellsScene, AreRoundsTold}
 
 -- what a reducer puts together is a variable that is declared inside so many loops
@@ -70,6 +70,6 @@ pub record TestSound (scene : Scene) (around : Around) (plan : PlainPlan) (round
 
 abbrev pub ReadyBlocksAreSound : (scene : Scene) (around : Around) (plan : PlainPlan) (rounds : List Round) → Type 0
 ReadyBlocksAreSound scene around plan rounds =
-    IsReady (program_seen scene.program.now) → AssignsPlain (known_in scene) (program_seen scene.program.now).body
+    IsReady (program_seen scene.program.now) → ReducersWritten (program_seen scene.program.now).body
     → IsPlaceTold scene around plan rounds → (block : Block) → StandsIn [] (core_of (program_seen scene.program.now)).phases (loops_of rounds) block
     → StraightSound scene around plan rounds block ⊎ TestSound scene around plan rounds block

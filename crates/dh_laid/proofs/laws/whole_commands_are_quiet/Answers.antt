@@ -1,4 +1,4 @@
-use Rattle.dh_laid.proofs.CommandsQuiet.{commands_are_quiet, groups_are_quiet, terms_are_quiet}
+use Rattle.dh_laid.proofs.CommandsQuiet.{commands_are_quiet, groups_are_quiet, quiet_sets_none, terms_are_quiet}
 use Rattle.dh_laid.proofs.laws.whole_commands_are_quiet.Goals as goal
 
 pub returns-clause-terms : goal.returns-clause-terms
@@ -9,3 +9,6 @@ returns-clause-commands c scene a around old new first next s m = commands_are_q
 
 pub returns-clause-groups : goal.returns-clause-groups
 returns-clause-groups c scene body around old new first next s m = groups_are_quiet scene body around old new first next s m
+
+pub returns-clause-none : goal.returns-clause-none
+returns-clause-none c form q first ws = quiet_sets_none form q first ws
