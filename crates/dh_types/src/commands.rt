@@ -23,6 +23,12 @@ fn iterator_kind(declared: Option<Kind>) -> Kind
     }
 }
 
+// Want of memory, where a form was not done. A call, in the place of the drop of each of the form's parts.
+fn refused(form: CommandForm) -> NoMemory {
+    form.let_go();
+    NoMemory
+}
+
 impl Walk {
     /// Gives the expressions of a command their kinds.
     #[cycle(commands)]
@@ -52,12 +58,16 @@ impl Walk {
                 value,
             } => {
                 let value = self.value(declared, value);
-                self.learn(variable_fact(declared, &value))?;
-                Ok(CommandForm::Let {
+                let learned = self.learn(variable_fact(declared, &value));
+                let form = CommandForm::Let {
                     name,
                     declared,
                     value,
-                })
+                };
+                match learned {
+                    Ok(()) => Ok(form),
+                    Err(NoMemory) => Err(refused(form)),
+                }
             }
             CommandForm::LetMemory {
                 name,
@@ -66,13 +76,17 @@ impl Walk {
                 value,
             } => {
                 let value = self.value(Some(shape.kind), value);
-                self.learn(memory_fact(&shape))?;
-                Ok(CommandForm::LetMemory {
+                let learned = self.learn(memory_fact(&shape));
+                let form = CommandForm::LetMemory {
                     name,
                     shape,
                     shape_places,
                     value,
-                })
+                };
+                match learned {
+                    Ok(()) => Ok(form),
+                    Err(NoMemory) => Err(refused(form)),
+                }
             }
             CommandForm::View { name, parent, form } => {
                 self.parent(&parent);
@@ -122,14 +136,26 @@ impl Walk {
                 other,
             } => {
                 self.condition(&mut test);
-                self.command(alloc, &mut then)?;
-                let other = self.optional(alloc, other)?;
-                Ok(CommandForm::If { test, then, other })
+                let Ok(()) = self.command(alloc, &mut then) else {
+                    return Err(refused(CommandForm::If { test, then, other }));
+                };
+                match self.optional(alloc, other) {
+                    Ok(other) => Ok(CommandForm::If { test, then, other }),
+                    Err(NoMemory) => Err(refused(CommandForm::If {
+                        test,
+                        then,
+                        other: None,
+                    })),
+                }
             }
             CommandForm::While { mut test, mut body } => {
                 self.condition(&mut test);
-                self.command(alloc, &mut body)?;
-                Ok(CommandForm::While { test, body })
+                let done = self.command(alloc, &mut body);
+                let form = CommandForm::While { test, body };
+                match done {
+                    Ok(()) => Ok(form),
+                    Err(NoMemory) => Err(refused(form)),
+                }
             }
             CommandForm::For {
                 iterator,

@@ -12,24 +12,24 @@ use Rattle.dh_types.proofs.ListsDone.{action_step, action_made, part_step, part_
 use Rattle.dh_types.proofs.FormsDone.{form_done, lets_done, memory_done, views_done, assigns_done, stores_done, reduces_done, calls_done, blocks_done, repeats_done, decides_done, counts_done, types_at}
 use Rattle.dh_types.proofs.walks.Walk.+commands.Goals as goal
 
-pub form-returns-in_ok-learn-in-Let : goal.form-returns-in_ok-learn-in-Let
-form-returns-in_ok-learn-in-Let t c =
+pub form-returns-in-Ok : goal.form-returns-in-Ok
+form-returns-in-Ok t c =
     form_done _ _ _ _ _ _ (ap action_form_seen c.in-Let.is ∙ let_is c.in-Let.name c.in-Let.declared c.in-Let.value) (let_is c.in-Let.name c.in-Let.declared c.value-value.result)
-    (lets_done (state_of c.args.self.now) (state_of c.value-value.new.self) (state_of c.learn.new.self) c.in-Let.name c.in-Let.declared (option_map term_seen c.in-Let.value) (option_map term_seen c.value-value.result) _
-    c.value-value.ensures.tree c.value-value.ensures.state c.variable_fact.ensures c.in_ok-learn-in-Let.ensures)
+    (lets_done (state_of c.args.self.now) (state_of c.value-value.new.self) (state_of c.learn-learned.new.self) c.in-Let.name c.in-Let.declared (option_map term_seen c.in-Let.value) (option_map term_seen c.value-value.result) _
+    c.value-value.ensures.tree c.value-value.ensures.state c.variable_fact.ensures c.in-Ok.ensures)
 
-pub form-returns-in_ok-learn-in-LetMemory : goal.form-returns-in_ok-learn-in-LetMemory
-form-returns-in_ok-learn-in-LetMemory t c =
+pub form-returns-in-Ok-learned : goal.form-returns-in-Ok-learned
+form-returns-in-Ok-learned t c =
     form_done _ _ _ _ _ _ (ap action_form_seen c.in-LetMemory.is ∙ let_memory_is c.in-LetMemory.name c.in-LetMemory.shape c.in-LetMemory.shape_places c.in-LetMemory.value)
     (let_memory_is c.in-LetMemory.name c.in-LetMemory.shape c.in-LetMemory.shape_places c.value-value-in-LetMemory.result)
-    (memory_done (state_of c.args.self.now) (state_of c.value-value-in-LetMemory.new.self) (state_of c.learn-in-LetMemory.new.self) c.in-LetMemory.name c.in-LetMemory.shape c.in-LetMemory.shape_places
+    (memory_done (state_of c.args.self.now) (state_of c.value-value-in-LetMemory.new.self) (state_of c.learn-learned-in-LetMemory.new.self) c.in-LetMemory.name c.in-LetMemory.shape c.in-LetMemory.shape_places
     (option_map term_seen c.in-LetMemory.value) (option_map term_seen c.value-value-in-LetMemory.result) _
-    c.value-value-in-LetMemory.ensures.tree c.value-value-in-LetMemory.ensures.state c.memory_fact.ensures c.in_ok-learn-in-LetMemory.ensures)
+    c.value-value-in-LetMemory.ensures.tree c.value-value-in-LetMemory.ensures.state c.memory_fact.ensures c.in-Ok-learned.ensures)
 
 pub form-returns-in_ok-learn-in-View : goal.form-returns-in_ok-learn-in-View
 form-returns-in_ok-learn-in-View t c =
     form_done _ _ _ _ _ _ (ap action_form_seen c.in-View.is ∙ view_is c.in-View.name c.in-View.parent c.in-View.form) (view_is c.in-View.name c.in-View.parent c.plan-form.result)
-    (views_done (state_of c.args.self.now) (state_of c.parent.new.self) (state_of c.plan-form.new.self) (state_of c.learn-in-View.new.self) c.in-View.name c.in-View.parent (plan_seen c.in-View.form) (plan_seen c.plan-form.result) _
+    (views_done (state_of c.args.self.now) (state_of c.parent.new.self) (state_of c.plan-form.new.self) (state_of c.learn.new.self) c.in-View.name c.in-View.parent (plan_seen c.in-View.form) (plan_seen c.plan-form.result) _
     c.parent.ensures c.plan-form.ensures.tree c.plan-form.ensures.state c.view.ensures c.in_ok-learn-in-View.ensures)
 
 pub form-returns-in-Assign : goal.form-returns-in-Assign
@@ -60,19 +60,19 @@ form-returns-after-loop-part t c =
     (parts_done (state_of c.args.self.now) (state_of c.loop-part.self) c.in-Block.body c.deref_mut-part-items.result.now c.loop-part.part-items c.loop-part.part-index
     c.deref_mut-part-items.ensures.value c.deref_mut-part-items.ensures.len c.loop-part-test.false c.loop-part.invariant.0 c.loop-part.invariant.1))
 
-pub form-returns-in_ok-other-in-If : goal.form-returns-in_ok-other-in-If
-form-returns-in_ok-other-in-If t c =
-    form_done _ _ _ _ _ _ (ap action_form_seen c.in-If.is ∙ if_is c.in-If.test c.in-If.then c.in-If.other) (if_is c.condition.new.test (with_value c.in-If.then c.command.new.command) c.in_ok-other-in-If.other)
+pub form-returns-in-Ok-optional : goal.form-returns-in-Ok-optional
+form-returns-in-Ok-optional t c =
+    form_done _ _ _ _ _ _ (ap action_form_seen c.in-If.is ∙ if_is c.in-If.test c.in-If.then c.in-If.other) (if_is c.condition.new.test (with_value c.in-If.then c.command.new.command) c.in-Ok-optional.other)
     (decides_done (state_of c.args.self.now) (state_of c.condition.new.self) (state_of c.command.new.self) (state_of c.optional.new.self)
     (term_seen c.in-If.test) (term_seen c.condition.new.test) (action_seen c.in-If.then.value) (action_seen c.command.new.command)
-    (maybe_seen (option_map (λ b. action_seen b.value) c.in-If.other)) (maybe_seen (option_map (λ b. action_seen b.value) c.in_ok-other-in-If.other))
-    c.condition.ensures.tree c.condition.ensures.state (types_at _ _ _ _ _ c.deref_mut.ensures.value c.in_ok-command-in-If.ensures) c.in_ok-other-in-If.ensures)
+    (maybe_seen (option_map (λ b. action_seen b.value) c.in-If.other)) (maybe_seen (option_map (λ b. action_seen b.value) c.in-Ok-optional.other))
+    c.condition.ensures.tree c.condition.ensures.state (types_at _ _ _ _ _ c.deref_mut.ensures.value c.in-Ok-command.ensures) c.in-Ok-optional.ensures)
 
-pub form-returns-in_ok-command-in-While : goal.form-returns-in_ok-command-in-While
-form-returns-in_ok-command-in-While t c =
-    form_done _ _ _ _ _ _ (ap action_form_seen c.in-While.is ∙ while_is c.in-While.test c.in-While.body) (while_is c.condition-in-While.new.test (with_value c.in-While.body c.command-in-While.new.command))
-    (repeats_done (state_of c.args.self.now) (state_of c.condition-in-While.new.self) (state_of c.command-in-While.new.self) (term_seen c.in-While.test) (term_seen c.condition-in-While.new.test) (action_seen c.in-While.body.value) (action_seen c.command-in-While.new.command)
-    c.condition-in-While.ensures.tree c.condition-in-While.ensures.state (types_at _ _ _ _ _ c.deref_mut-in-While.ensures.value c.in_ok-command-in-While.ensures))
+pub form-returns-in-Ok-done : goal.form-returns-in-Ok-done
+form-returns-in-Ok-done t c =
+    form_done _ _ _ _ _ _ (ap action_form_seen c.in-While.is ∙ while_is c.in-While.test c.in-While.body) (while_is c.condition-in-While.new.test (with_value c.in-While.body c.command-done.new.command))
+    (repeats_done (state_of c.args.self.now) (state_of c.condition-in-While.new.self) (state_of c.command-done.new.self) (term_seen c.in-While.test) (term_seen c.condition-in-While.new.test) (action_seen c.in-While.body.value) (action_seen c.command-done.new.command)
+    c.condition-in-While.ensures.tree c.condition-in-While.ensures.state (types_at _ _ _ _ _ c.deref_mut-in-While.ensures.value c.in-Ok-done.ensures))
 
 pub form-returns-in_ok-combine-in-For : goal.form-returns-in_ok-combine-in-For
 form-returns-in_ok-combine-in-For t c =
@@ -109,19 +109,17 @@ form-loop-part-preserved t c =
     turn part_seen part_step part_made c.deref_mut-part-items.result.now c.loop-part.part-items c.loop-part.part-index (state_of c.args.self.now) (state_of c.loop-part.self) (state_of c.part.new.self) c.part-item.result c.part.new.part
     (omega (arith, c.loop-part-test.true, c.loop-part.auto.part-items)) c.loop-part.invariant.0 c.loop-part.invariant.1 c.part-item.is made.0 made.1
 
-pub form-returns-in_err-learn-in-Let : goal.form-returns-in_err-learn-in-Let
-form-returns-in_err-learn-in-Let t c =
-    wanting _ _ c.from_residual.ensures
-    (counted_as _ _ _ c.in-Let.is (let_is c.in-Let.name c.in-Let.declared c.in-Let.value) (omega arith))
+pub form-returns-in-Err : goal.form-returns-in-Err
+form-returns-in-Err t c =
+    counted_as _ _ _ c.in-Let.is (let_is c.in-Let.name c.in-Let.declared c.in-Let.value) (omega arith)
 
-pub form-returns-in_err-learn-in-LetMemory : goal.form-returns-in_err-learn-in-LetMemory
-form-returns-in_err-learn-in-LetMemory t c =
-    wanting _ _ c.from_residual-in_err-learn-in-LetMemory.ensures
-    (counted_as _ _ _ c.in-LetMemory.is (let_memory_is c.in-LetMemory.name c.in-LetMemory.shape c.in-LetMemory.shape_places c.in-LetMemory.value) (omega arith))
+pub form-returns-in-Err-learned : goal.form-returns-in-Err-learned
+form-returns-in-Err-learned t c =
+    counted_as _ _ _ c.in-LetMemory.is (let_memory_is c.in-LetMemory.name c.in-LetMemory.shape c.in-LetMemory.shape_places c.in-LetMemory.value) (omega arith)
 
 pub form-returns-in_err-learn-in-View : goal.form-returns-in_err-learn-in-View
 form-returns-in_err-learn-in-View t c =
-    wanting _ _ c.from_residual-in_err-learn-in-View.ensures
+    wanting _ _ c.from_residual.ensures
     (counted_as _ _ _ c.in-View.is (view_is c.in-View.name c.in-View.parent c.in-View.form) (omega arith))
 
 pub form-returns-in_err-part-in-Block : goal.form-returns-in_err-part-in-Block
@@ -131,22 +129,19 @@ form-returns-in_err-part-in-Block t c =
     (some_part c.in-Block.body c.deref_mut-part-items.result.now c.loop-part.part-items c.loop-part.part-index c.part-item.result c.deref_mut-part-items.ensures.value
     (omega (arith, c.loop-part-test.true, c.loop-part.auto.part-items)) c.loop-part.invariant.0 c.in_err-part-in-Block.ensures))
 
-pub form-returns-in_err-command-in-If : goal.form-returns-in_err-command-in-If
-form-returns-in_err-command-in-If t c =
-    wanting _ _ c.from_residual-in_err-command-in-If.ensures
-    (counted_as _ _ _ c.in-If.is (if_is c.in-If.test c.in-If.then c.in-If.other)
-    (in_left _ _ (subst (λ z. 0 < declared_in (action_seen z)) c.deref_mut.ensures.value c.in_err-command-in-If.ensures)))
+pub form-returns-in_default : goal.form-returns-in_default
+form-returns-in_default t c =
+    counted_as _ _ _ c.in-If.is (if_is c.in-If.test c.in-If.then c.in-If.other)
+    (in_left _ _ (subst (λ z. 0 < declared_in (action_seen z)) c.deref_mut.ensures.value c.in_default.ensures))
 
-pub form-returns-in_err-other-in-If : goal.form-returns-in_err-other-in-If
-form-returns-in_err-other-in-If t c =
-    wanting _ _ c.from_residual-in_err-other-in-If.ensures
-    (counted_as _ _ _ c.in-If.is (if_is c.in-If.test c.in-If.then c.in-If.other) (in_right (declared_in (action_seen c.in-If.then.value)) _ c.in_err-other-in-If.ensures))
+pub form-returns-in-Err-optional : goal.form-returns-in-Err-optional
+form-returns-in-Err-optional t c =
+    counted_as _ _ _ c.in-If.is (if_is c.in-If.test c.in-If.then c.in-If.other) (in_right (declared_in (action_seen c.in-If.then.value)) _ c.in-Err-optional.ensures)
 
-pub form-returns-in_err-command-in-While : goal.form-returns-in_err-command-in-While
-form-returns-in_err-command-in-While t c =
-    wanting _ _ c.from_residual-in_err-command-in-While.ensures
-    (counted_as _ _ _ c.in-While.is (while_is c.in-While.test c.in-While.body)
-    (subst (λ z. 0 < declared_in (action_seen z)) c.deref_mut-in-While.ensures.value c.in_err-command-in-While.ensures))
+pub form-returns-in-Err-done : goal.form-returns-in-Err-done
+form-returns-in-Err-done t c =
+    counted_as _ _ _ c.in-While.is (while_is c.in-While.test c.in-While.body)
+    (subst (λ z. 0 < declared_in (action_seen z)) c.deref_mut-in-While.ensures.value c.in-Err-done.ensures)
 
 pub form-returns-in_err-learn-in-For : goal.form-returns-in_err-learn-in-For
 form-returns-in_err-learn-in-For t c =
