@@ -11,6 +11,12 @@ use dh_tree::{Command, CommandForm, Sort};
 use std::alloc::Global;
 use std::mem;
 
+// Want of memory, where a form was not done. A call, in the place of the drop of each of the form's parts.
+fn refused(form: CommandForm) -> NoMemory {
+    form.let_go();
+    NoMemory
+}
+
 impl Walk {
     /// Gives the names of a command their numbers. Names that a block declares stay visible.
     #[cycle(commands)]
@@ -40,12 +46,16 @@ impl Walk {
                 value,
             } => {
                 let value = self.value(value);
-                self.declare(alloc, &mut name, Sort::Variable)?;
-                Ok(CommandForm::Let {
+                let known = self.declare(alloc, &mut name, Sort::Variable);
+                let form = CommandForm::Let {
                     name,
                     declared,
                     value,
-                })
+                };
+                match known {
+                    Ok(()) => Ok(form),
+                    Err(NoMemory) => Err(refused(form)),
+                }
             }
             CommandForm::LetMemory {
                 mut name,
@@ -54,13 +64,17 @@ impl Walk {
                 value,
             } => {
                 let value = self.value(value);
-                self.declare(alloc, &mut name, Sort::Memory)?;
-                Ok(CommandForm::LetMemory {
+                let known = self.declare(alloc, &mut name, Sort::Memory);
+                let form = CommandForm::LetMemory {
                     name,
                     shape,
                     shape_places,
                     value,
-                })
+                };
+                match known {
+                    Ok(()) => Ok(form),
+                    Err(NoMemory) => Err(refused(form)),
+                }
             }
             CommandForm::View {
                 mut name,
@@ -121,15 +135,29 @@ impl Walk {
             } => {
                 self.expression(&mut test);
                 let start = self.own_names();
-                self.inner(alloc, &mut then)?;
-                let other = self.optional(alloc, other)?;
-                self.leave(start);
-                Ok(CommandForm::If { test, then, other })
+                let Ok(()) = self.inner(alloc, &mut then) else {
+                    return Err(refused(CommandForm::If { test, then, other }));
+                };
+                match self.optional(alloc, other) {
+                    Ok(other) => {
+                        self.leave(start);
+                        Ok(CommandForm::If { test, then, other })
+                    }
+                    Err(NoMemory) => Err(refused(CommandForm::If {
+                        test,
+                        then,
+                        other: None,
+                    })),
+                }
             }
             CommandForm::While { mut test, mut body } => {
                 self.expression(&mut test);
-                self.inner(alloc, &mut body)?;
-                Ok(CommandForm::While { test, body })
+                let done = self.inner(alloc, &mut body);
+                let form = CommandForm::While { test, body };
+                match done {
+                    Ok(()) => Ok(form),
+                    Err(NoMemory) => Err(refused(form)),
+                }
             }
             CommandForm::For {
                 mut iterator,

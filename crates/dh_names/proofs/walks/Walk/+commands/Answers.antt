@@ -12,24 +12,24 @@ use Rattle.dh_names.proofs.ListsDone.{entity_count, action_step, action_made, ac
 use Rattle.dh_names.proofs.FormsDone.{form_done, lets_done, memory_done, views_done, assigns_done, stores_done, reduces_done, calls_done, blocks_done, repeats_done, decides_done, counts_done, inner_done, next_block, next_other, inner_at, resolves_at}
 use Rattle.dh_names.proofs.walks.Walk.+commands.Goals as goal
 
-pub form-returns-in_ok-declare-in-Let : goal.form-returns-in_ok-declare-in-Let
-form-returns-in_ok-declare-in-Let t c =
-    form_done _ _ _ _ _ _ (ap action_form_seen c.in-Let.is ∙ let_is c.in-Let.name c.in-Let.declared c.in-Let.value) (let_is c.declare.new.name c.in-Let.declared c.value-value.result)
-    (lets_done (state_of c.args.self.now) (state_of c.value-value.new.self) (state_of c.declare.new.self) c.in-Let.name c.declare.new.name c.in-Let.declared (option_map term_seen c.in-Let.value) (option_map term_seen c.value-value.result)
-    c.value-value.ensures.tree c.value-value.ensures.state c.in_ok-declare-in-Let.ensures.tree c.in_ok-declare-in-Let.ensures.state)
+pub form-returns-in-Ok : goal.form-returns-in-Ok
+form-returns-in-Ok t c =
+    form_done _ _ _ _ _ _ (ap action_form_seen c.in-Let.is ∙ let_is c.in-Let.name c.in-Let.declared c.in-Let.value) (let_is c.declare-known.new.name c.in-Let.declared c.value-value.result)
+    (lets_done (state_of c.args.self.now) (state_of c.value-value.new.self) (state_of c.declare-known.new.self) c.in-Let.name c.declare-known.new.name c.in-Let.declared (option_map term_seen c.in-Let.value) (option_map term_seen c.value-value.result)
+    c.value-value.ensures.tree c.value-value.ensures.state c.in-Ok.ensures.tree c.in-Ok.ensures.state)
 
-pub form-returns-in_ok-declare-in-LetMemory : goal.form-returns-in_ok-declare-in-LetMemory
-form-returns-in_ok-declare-in-LetMemory t c =
+pub form-returns-in-Ok-known : goal.form-returns-in-Ok-known
+form-returns-in-Ok-known t c =
     form_done _ _ _ _ _ _ (ap action_form_seen c.in-LetMemory.is ∙ let_memory_is c.in-LetMemory.name c.in-LetMemory.shape c.in-LetMemory.shape_places c.in-LetMemory.value)
-    (let_memory_is c.declare-in-LetMemory.new.name c.in-LetMemory.shape c.in-LetMemory.shape_places c.value-value-in-LetMemory.result)
-    (memory_done (state_of c.args.self.now) (state_of c.value-value-in-LetMemory.new.self) (state_of c.declare-in-LetMemory.new.self) c.in-LetMemory.name c.declare-in-LetMemory.new.name c.in-LetMemory.shape c.in-LetMemory.shape_places
+    (let_memory_is c.declare-known-in-LetMemory.new.name c.in-LetMemory.shape c.in-LetMemory.shape_places c.value-value-in-LetMemory.result)
+    (memory_done (state_of c.args.self.now) (state_of c.value-value-in-LetMemory.new.self) (state_of c.declare-known-in-LetMemory.new.self) c.in-LetMemory.name c.declare-known-in-LetMemory.new.name c.in-LetMemory.shape c.in-LetMemory.shape_places
     (option_map term_seen c.in-LetMemory.value) (option_map term_seen c.value-value-in-LetMemory.result)
-    c.value-value-in-LetMemory.ensures.tree c.value-value-in-LetMemory.ensures.state c.in_ok-declare-in-LetMemory.ensures.tree c.in_ok-declare-in-LetMemory.ensures.state)
+    c.value-value-in-LetMemory.ensures.tree c.value-value-in-LetMemory.ensures.state c.in-Ok-known.ensures.tree c.in-Ok-known.ensures.state)
 
 pub form-returns-in_ok-declare-in-View : goal.form-returns-in_ok-declare-in-View
 form-returns-in_ok-declare-in-View t c =
-    form_done _ _ _ _ _ _ (ap action_form_seen c.in-View.is ∙ view_is c.in-View.name c.in-View.parent c.in-View.form) (view_is c.declare-in-View.new.name c.use_name.new.name c.plan-form.result)
-    (views_done (state_of c.args.self.now) (state_of c.use_name.new.self) (state_of c.plan-form.new.self) (state_of c.declare-in-View.new.self) c.in-View.name c.declare-in-View.new.name c.in-View.parent c.use_name.new.name (plan_seen c.in-View.form) (plan_seen c.plan-form.result)
+    form_done _ _ _ _ _ _ (ap action_form_seen c.in-View.is ∙ view_is c.in-View.name c.in-View.parent c.in-View.form) (view_is c.declare.new.name c.use_name.new.name c.plan-form.result)
+    (views_done (state_of c.args.self.now) (state_of c.use_name.new.self) (state_of c.plan-form.new.self) (state_of c.declare.new.self) c.in-View.name c.declare.new.name c.in-View.parent c.use_name.new.name (plan_seen c.in-View.form) (plan_seen c.plan-form.result)
     c.use_name.ensures.tree c.use_name.ensures.state c.plan-form.ensures.tree c.plan-form.ensures.state c.in_ok-declare-in-View.ensures.tree c.in_ok-declare-in-View.ensures.state)
 
 pub form-returns-in-Assign : goal.form-returns-in-Assign
@@ -63,21 +63,21 @@ form-returns-after-loop-part t c =
     (parts_done (state_of c.args.self.now) (state_of c.loop-part.self) c.in-Block.body c.deref_mut-part-items.result.now c.loop-part.part-items c.loop-part.part-index
     c.deref_mut-part-items.ensures.value c.deref_mut-part-items.ensures.len c.loop-part-test.false c.loop-part.invariant.0 c.loop-part.invariant.1))
 
-pub form-returns-in_ok-other-in-If : goal.form-returns-in_ok-other-in-If
-form-returns-in_ok-other-in-If t c =
-    form_done _ _ _ _ _ _ (ap action_form_seen c.in-If.is ∙ if_is c.in-If.test c.in-If.then c.in-If.other) (if_is c.expression-in-If.new.term (with_value c.in-If.then c.inner.new.command) c.in_ok-other-in-If.other)
+pub form-returns-in-Ok-optional : goal.form-returns-in-Ok-optional
+form-returns-in-Ok-optional t c =
+    form_done _ _ _ _ _ _ (ap action_form_seen c.in-If.is ∙ if_is c.in-If.test c.in-If.then c.in-If.other) (if_is c.expression-in-If.new.term (with_value c.in-If.then c.inner.new.command) c.in-Ok-optional.other)
     (decides_done (state_of c.args.self.now) (state_of c.expression-in-If.new.self) (state_of c.inner.new.self) (state_of c.optional.new.self) (state_of c.leave.new.self) c.own_names-start.result
     (term_seen c.in-If.test) (term_seen c.expression-in-If.new.term) (action_seen c.in-If.then.value) (action_seen c.inner.new.command)
-    (maybe_seen (option_map (λ b. action_seen b.value) c.in-If.other)) (maybe_seen (option_map (λ b. action_seen b.value) c.in_ok-other-in-If.other))
+    (maybe_seen (option_map (λ b. action_seen b.value) c.in-If.other)) (maybe_seen (option_map (λ b. action_seen b.value) c.in-Ok-optional.other))
     c.expression-in-If.ensures.tree c.expression-in-If.ensures.state c.own_names-start.ensures
-    (inner_at _ _ _ _ _ c.deref_mut.ensures.value c.in_ok-inner-in-If.ensures) c.in_ok-other-in-If.ensures c.leave.ensures)
+    (inner_at _ _ _ _ _ c.deref_mut.ensures.value c.in-Ok-inner.ensures) c.in-Ok-optional.ensures c.leave.ensures)
 
-pub form-returns-in_ok-inner-in-While : goal.form-returns-in_ok-inner-in-While
-form-returns-in_ok-inner-in-While t c =
-    form_done _ _ _ _ _ _ (ap action_form_seen c.in-While.is ∙ while_is c.in-While.test c.in-While.body) (while_is c.expression-in-While.new.term (with_value c.in-While.body c.inner-in-While.new.command))
-    (repeats_done (state_of c.args.self.now) (state_of c.expression-in-While.new.self) (state_of c.inner-in-While.new.self) (term_seen c.in-While.test) (term_seen c.expression-in-While.new.term) (action_seen c.in-While.body.value) (action_seen c.inner-in-While.new.command)
+pub form-returns-in-Ok-done : goal.form-returns-in-Ok-done
+form-returns-in-Ok-done t c =
+    form_done _ _ _ _ _ _ (ap action_form_seen c.in-While.is ∙ while_is c.in-While.test c.in-While.body) (while_is c.expression-in-While.new.term (with_value c.in-While.body c.inner-done.new.command))
+    (repeats_done (state_of c.args.self.now) (state_of c.expression-in-While.new.self) (state_of c.inner-done.new.self) (term_seen c.in-While.test) (term_seen c.expression-in-While.new.term) (action_seen c.in-While.body.value) (action_seen c.inner-done.new.command)
     c.expression-in-While.ensures.tree c.expression-in-While.ensures.state
-    (inner_at _ _ _ _ _ c.deref_mut-in-While.ensures.value c.in_ok-inner-in-While.ensures))
+    (inner_at _ _ _ _ _ c.deref_mut-in-While.ensures.value c.in-Ok-done.ensures))
 
 pub form-returns-in_ok-combine-in-For : goal.form-returns-in_ok-combine-in-For
 form-returns-in_ok-combine-in-For t c =
@@ -123,19 +123,17 @@ form-loop-part-preserved t c =
     (omega (arith, c.loop-part-test.true, c.loop-part.auto.part-items)) c.loop-part.invariant.0 c.loop-part.invariant.1 c.part-item.is
     (part_turn (state_of c.loop-part.self) (state_of c.part.new.self) c.part-item.result _ (part_seen c.part.new.part) c.part-item.is c.in_ok-part-in-Block.ensures)
 
-pub form-returns-in_err-declare-in-Let : goal.form-returns-in_err-declare-in-Let
-form-returns-in_err-declare-in-Let t c =
-    wanting _ _ c.from_residual.ensures
-    (counted_as _ _ _ c.in-Let.is (let_is c.in-Let.name c.in-Let.declared c.in-Let.value) (omega arith))
+pub form-returns-in-Err : goal.form-returns-in-Err
+form-returns-in-Err t c =
+    counted_as _ _ _ c.in-Let.is (let_is c.in-Let.name c.in-Let.declared c.in-Let.value) (omega arith)
 
-pub form-returns-in_err-declare-in-LetMemory : goal.form-returns-in_err-declare-in-LetMemory
-form-returns-in_err-declare-in-LetMemory t c =
-    wanting _ _ c.from_residual-in_err-declare-in-LetMemory.ensures
-    (counted_as _ _ _ c.in-LetMemory.is (let_memory_is c.in-LetMemory.name c.in-LetMemory.shape c.in-LetMemory.shape_places c.in-LetMemory.value) (omega arith))
+pub form-returns-in-Err-known : goal.form-returns-in-Err-known
+form-returns-in-Err-known t c =
+    counted_as _ _ _ c.in-LetMemory.is (let_memory_is c.in-LetMemory.name c.in-LetMemory.shape c.in-LetMemory.shape_places c.in-LetMemory.value) (omega arith)
 
 pub form-returns-in_err-declare-in-View : goal.form-returns-in_err-declare-in-View
 form-returns-in_err-declare-in-View t c =
-    wanting _ _ c.from_residual-in_err-declare-in-View.ensures
+    wanting _ _ c.from_residual.ensures
     (counted_as _ _ _ c.in-View.is (view_is c.in-View.name c.in-View.parent c.in-View.form) (omega arith))
 
 pub form-returns-in_err-part-in-Block : goal.form-returns-in_err-part-in-Block
@@ -145,22 +143,19 @@ form-returns-in_err-part-in-Block t c =
     (some_part c.in-Block.body c.deref_mut-part-items.result.now c.loop-part.part-items c.loop-part.part-index c.part-item.result c.deref_mut-part-items.ensures.value
     (omega (arith, c.loop-part-test.true, c.loop-part.auto.part-items)) c.loop-part.invariant.0 c.in_err-part-in-Block.ensures))
 
-pub form-returns-in_err-inner-in-If : goal.form-returns-in_err-inner-in-If
-form-returns-in_err-inner-in-If t c =
-    wanting _ _ c.from_residual-in_err-inner-in-If.ensures
-    (counted_as _ _ _ c.in-If.is (if_is c.in-If.test c.in-If.then c.in-If.other)
-    (in_left _ _ (subst (λ z. 0 < declared_in (action_seen z)) c.deref_mut.ensures.value c.in_err-inner-in-If.ensures)))
+pub form-returns-in_default : goal.form-returns-in_default
+form-returns-in_default t c =
+    counted_as _ _ _ c.in-If.is (if_is c.in-If.test c.in-If.then c.in-If.other)
+    (in_left _ _ (subst (λ z. 0 < declared_in (action_seen z)) c.deref_mut.ensures.value c.in_default.ensures))
 
-pub form-returns-in_err-other-in-If : goal.form-returns-in_err-other-in-If
-form-returns-in_err-other-in-If t c =
-    wanting _ _ c.from_residual-in_err-other-in-If.ensures
-    (counted_as _ _ _ c.in-If.is (if_is c.in-If.test c.in-If.then c.in-If.other) (in_right (declared_in (action_seen c.in-If.then.value)) _ c.in_err-other-in-If.ensures))
+pub form-returns-in-Err-optional : goal.form-returns-in-Err-optional
+form-returns-in-Err-optional t c =
+    counted_as _ _ _ c.in-If.is (if_is c.in-If.test c.in-If.then c.in-If.other) (in_right (declared_in (action_seen c.in-If.then.value)) _ c.in-Err-optional.ensures)
 
-pub form-returns-in_err-inner-in-While : goal.form-returns-in_err-inner-in-While
-form-returns-in_err-inner-in-While t c =
-    wanting _ _ c.from_residual-in_err-inner-in-While.ensures
-    (counted_as _ _ _ c.in-While.is (while_is c.in-While.test c.in-While.body)
-    (subst (λ z. 0 < declared_in (action_seen z)) c.deref_mut-in-While.ensures.value c.in_err-inner-in-While.ensures))
+pub form-returns-in-Err-done : goal.form-returns-in-Err-done
+form-returns-in-Err-done t c =
+    counted_as _ _ _ c.in-While.is (while_is c.in-While.test c.in-While.body)
+    (subst (λ z. 0 < declared_in (action_seen z)) c.deref_mut-in-While.ensures.value c.in-Err-done.ensures)
 
 pub form-returns-in_err-declare-in-For : goal.form-returns-in_err-declare-in-For
 form-returns-in_err-declare-in-For t c =
