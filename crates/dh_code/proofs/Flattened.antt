@@ -23,7 +23,7 @@ use Rattle.dh_code.specs.declared.places.Held.{Held}
 use Rattle.dh_code.specs.Extended.{extension_of}
 use Rattle.dh_code.specs.Flattening.{Adds, AreMade, IsMade, IsOneMore, extended_made}
 use Rattle.dh_code.specs.Made.{AllMade, Made, access_to, binary_made, converted_made, one_more, read_of, same_kind, term_made, terms_made}
-use Rattle.dh_code.specs.Operated.{kind_of_operand}
+use Rattle.dh_code.specs.Operated.{kind_of_operand, mask_of}
 use Rattle.dh_code.specs.Suited.{AreSuited, IsSuited}
 use Rattle.dh_code.proofs.MadeParts.{operation_is}
 
@@ -43,7 +43,7 @@ adds_long a b xs h = ap (λ l. length l) h.operations ∙ length-append a.operat
 pub made_more : (a b c : Code) (xs : List Operation) (x y : Operation) (k : Kind) (o : Operand) → Adds a b xs → x ≡ y → IsOneMore b c x k o → IsMade a c o (one_more (length a.operations) xs y k)
 made_more a b c xs x y k o h same i = record {
   adds = subst (λ (z : Operation). Adds a c (xs ++ z ∷ [])) same (adds_then a b c xs (x ∷ []) h i.adds);
-  value = i.value ∙ ap (λ n. Given n k) (adds_long a b xs h);
+  value = i.value ∙ ap (λ n. Given k n (mask_of k)) (adds_long a b xs h);
 }
 
 pub convert_same : (a b : Code) (from : Operand) (to : Kind) (m : Made) (t : Bool) → t ≡ same_kind (kind_of_operand from) to → t ≡ true → IsMade a b from m → IsMade a b from (converted_made (length a.operations) to m)

@@ -17,6 +17,7 @@ pub mod PathLoops
 pub mod Undoing
 pub mod Making
 pub mod Operating
+pub mod OperandMasks
 pub mod MadeParts
 pub mod Declaring
 pub mod Flattened

@@ -101,7 +101,7 @@ module _ (held : List Held) (table : List MemEntry) (entries : AllByRecursion Is
     pub value : IsOperand m.value
 
   more_done : (at : ℕ) (os : List Operation) (o : Operation) (k : Kind) → AllByRecursion (IsOperation table) os → IsOperation table o → IsKind k → CanBeDone (one_more at os o k)
-  more_done at os o k h i sized = record { operations = all_append (IsOperation table) os (o ∷ []) h (i, tt); value = sized }
+  more_done at os o k h i sized = record { operations = all_append (IsOperation table) os (o ∷ []) h (i, tt); value = (sized, refl) }
 
   kind_sized : (t : CoreTerm) → IsSuited table t → IsKind (term_kind table t)
   kind_sized (literal kind negative n) h = h
@@ -151,7 +151,7 @@ module _ (held : List Held) (table : List MemEntry) (entries : AllByRecursion Is
     pub made_done : (at : ℕ) (t : CoreTerm) → IsSuited table t → CanBeDone (term_made held table at t)
     made_done at (literal kind negative n) h = record { operations = tt; value = record { sized = h; fits = bits_fit kind negative n } }
     made_done at (truth_literal value) h = record { operations = tt; value = truth_is_word value }
-    made_done at (variable kind depth entity) h = record { operations = tt; value = h }
+    made_done at (variable kind depth entity) h = record { operations = tt; value = (h, refl) }
     made_done at (read r target) h =
         let t = target_done at r.memory target h in
         more_done at (target_made held table at target).operations (Read (access_to r (target_made held table at target).target)) (kind_in table r.memory) t.0 t.1 (kind_sized (read r target) h)

@@ -59,20 +59,20 @@ module _ (b : Begun) where
   -- an operand that was given before a number
   abbrev pub IsBefore : ℕ → Operand → Type 0
   IsBefore n (Constant word) = Unit {0}
-  IsBefore n (Variable first depth kind) = Unit {0}
-  IsBefore n (Given at kind) = at < n
+  IsBefore n (Variable first depth kind mask) = Unit {0}
+  IsBefore n (Given kind at mask) = at < n
 
   pub before_more : (m n : ℕ) (o : Operand) → m ≤ n → IsBefore m o → IsBefore n o
   before_more m n (Constant word) le h = tt
-  before_more m n (Variable first depth kind) le h = tt
-  before_more m n (Given at kind) le h = omega (arith, le, h)
+  before_more m n (Variable first depth kind mask) le h = tt
+  before_more m n (Given kind at mask) le h = omega (arith, le, h)
 
   pub operand_stays : (w : Sight) (at : ℕ) (xs : List Operation) (o : Operand) → IsBefore at o → operand_word (sight_after b w at xs) o ≡ operand_word w o
   operand_stays w at xs (Constant word) h = refl
-  operand_stays w at xs (Variable first depth kind) h =
+  operand_stays w at xs (Variable first depth kind mask) h =
       ap (λ l. lowest_word kind (slice_index l (first + slice_index (sight_after b w at xs).ranks depth))) (slots_stay w at xs)
       ∙ ap (λ l. lowest_word kind (slice_index w.slots (first + slice_index l depth))) (ranks_stay w at xs)
-  operand_stays w at xs (Given i kind) h = ap (λ n. lowest_word kind n) (given_stays w at xs i h)
+  operand_stays w at xs (Given kind i mask) h = ap (λ n. lowest_word kind n) (given_stays w at xs i h)
 
   abbrev pub AreBefore : ℕ → List Operand → Type 0
   AreBefore n [] = Unit {0}

@@ -27,7 +27,7 @@ use Rattle.dh_code.specs.declared.codes.Operation.{Operation}
 use Rattle.dh_code.specs.declared.codes.Operation.TheVariants.{Binary, Convert, Read}
 use Rattle.dh_code.specs.declared.places.Held.{Held}
 use Rattle.dh_code.specs.Made.{Made, access_to, one_more, same_kind, target_made, term_made, terms_made}
-use Rattle.dh_code.specs.Operated.{Sight, access_spot, events_after, index_values, kind_of_operand, lowest_word, operand_word, operation_events, operation_word, sight_after, target_spot}
+use Rattle.dh_code.specs.Operated.{Sight, access_spot, events_after, index_values, kind_of_operand, lowest_word, mask_of, operand_word, operation_events, operation_word, sight_after, target_spot}
 use Rattle.dh_code.specs.Plain.{all_plain, plain}
 use Rattle.dh_code.specs.Ranks.{IsPath, rank_of, ranks_of}
 use Rattle.dh_code.specs.Scenes.{AreSmall}
@@ -102,7 +102,7 @@ module _ (p : Placing) (b : Begun) (v : Variables) (factors : List ℕ) (path : 
     pub events : events_after b w at (target_made p.held b.table at target).operations ≡ all_plain (target_events b v path target)
 
   given_variable : (w : Sight) (k : Kind) (depth entity : ℕ) → Sees w → IsKind k → IsInside p factors depth entity
-      → operand_word w (Variable (held_at p.held entity).first (held_at p.held entity).depth k) ≡ word_of k (v entity (take depth path))
+      → operand_word w (Variable (held_at p.held entity).first (held_at p.held entity).depth k (mask_of k)) ≡ word_of k (v entity (take depth path))
   given_variable w k depth entity s sized i =
       ap (λ d. lowest_word k (slice_index w.slots ((held_at p.held entity).first + slice_index w.ranks d))) i.held
       ∙ (ap (λ l. lowest_word k (slice_index w.slots ((held_at p.held entity).first + slice_index l depth))) s.ranks

@@ -32,6 +32,7 @@ use Rattle.dh_code.specs.declared.codes.Flat.{Flat}
 use Rattle.dh_code.specs.declared.flattening.Names.{Names}
 use Rattle.dh_code.specs.Coded.{AreCoded, Extends}
 use Rattle.dh_code.specs.Made.{AllMade, Made, access_to, binary_made, converted_made, target_made, term_made, terms_made}
+use Rattle.dh_code.specs.Operated.{mask_of}
 use Rattle.dh_code.specs.Scenes.{IsSoundCode}
 use Rattle.dh_code.specs.Slots.{Placing, held_at}
 use Rattle.dh_code.specs.Suited.{AreSuited, CanDoAll, IsSuited, IsSuitedTarget}
@@ -59,7 +60,7 @@ pub record AreMade (old new : Code) (os : List Operand) (m : AllMade) : Type 0 w
 -- one operation more, whose value is of a kind
 pub record IsOneMore (old new : Code) (operation : Operation) (kind : Kind) (o : Operand) : Type 0 where
   pub adds : Adds old new (operation ∷ [])
-  pub value : o ≡ Given (length old.operations) kind
+  pub value : o ≡ Given kind (length old.operations) (mask_of kind)
 
 -- the code of an expression, wherever its accesses are numbered from
 abbrev pub Flattens : Names → (old new : Code) → Expr → Operand → Type 0

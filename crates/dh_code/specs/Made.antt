@@ -19,7 +19,7 @@ use Rattle.dh_code.specs.declared.codes.Operation.{Operation}
 use Rattle.dh_code.specs.declared.codes.Operation.TheVariants.{Binary, Convert, Read}
 use Rattle.dh_code.specs.declared.places.Held.{Held}
 use Rattle.dh_code.specs.Slots.{held_at}
-use Rattle.dh_code.specs.Operated.{kind_of_operand}
+use Rattle.dh_code.specs.Operated.{kind_of_operand, mask_of}
 
 pub record Made : Type 0 where
   pub operations : List Operation
@@ -49,7 +49,7 @@ same_kind (kind.Signed m) (kind.Unsigned n) = false
 
 -- one operation more, whose value is of this kind
 abbrev pub one_more : (at : ℕ) → List Operation → Operation → Kind → Made
-one_more at os o kind = made (os ++ o ∷ []) (Given (at + length os) kind)
+one_more at os o kind = made (os ++ o ∷ []) (Given kind (at + length os) (mask_of kind))
 
 -- a value in another kind: nothing is done where it is of that kind already
 abbrev pub converted_made : (at : ℕ) → Kind → Made → Made
@@ -75,7 +75,7 @@ abbrev pub aimed : List Operation → Target → Aimed
 aimed operations target = record { operations = operations; target = target }
 
 abbrev pub variable_operand : List Held → Kind → (entity : ℕ) → Operand
-variable_operand held kind entity = Variable (held_at held entity).first (held_at held entity).depth kind
+variable_operand held kind entity = Variable (held_at held entity).first (held_at held entity).depth kind (mask_of kind)
 
 abbrev mutual
   pub term_made : List Held → List MemEntry → (at : ℕ) → CoreTerm → Made

@@ -1,6 +1,6 @@
 -- What operations give, and the accesses and faults that they make, at a path of given ranks: each access with
 -- number 0 and at the empty path, since code keeps neither.
-use Rattle.std.specs.Prelude.{ℕ, ◌+◌, ◌%◌, ◌^◌, ◌<◌, List, [], ◌∷◌, ◌++◌, map, length, slice_index, slice_set, Option, ℤ}
+use Rattle.std.specs.Prelude.{◌≡◌, ℕ, ◌+◌, ◌-◌, ◌/◌, ◌%◌, ◌^◌, ◌<◌, List, [], ◌∷◌, ◌++◌, map, length, slice_index, slice_set, Option, ℤ}
 use Rattle.std.specs.List.{AllByRecursion}
 use Rattle.dh_value.specs.declared.kinds.Kind.{Kind}
 use Rattle.dh_value.specs.declared.operators.Op.{Op}
@@ -37,8 +37,12 @@ view_seen v = sight v.slots.now v.given.now v.ranks.now
 -- the kind of an operand
 abbrev pub kind_of_operand : Operand → Kind
 kind_of_operand (Constant word) = word.kind
-kind_of_operand (Variable first depth kind) = kind
-kind_of_operand (Given at kind) = kind
+kind_of_operand (Variable first depth kind mask) = kind
+kind_of_operand (Given kind at mask) = kind
+
+-- the bits that a value of a kind can have
+abbrev pub mask_of : Kind → ℕ
+mask_of kind = (2 ^ 64 - 1) / 2 ^ (64 - width_of kind)
 
 -- the word of a kind that has the lowest of these bits
 abbrev pub lowest_word : Kind → ℕ → Word
@@ -47,8 +51,8 @@ lowest_word kind bits = with_bits kind (bits % 2 ^ width_of kind)
 -- the value of an operand
 abbrev pub operand_word : Sight → Operand → Word
 operand_word s (Constant word) = word
-operand_word s (Variable first depth kind) = lowest_word kind (slice_index s.slots (first + slice_index s.ranks depth))
-operand_word s (Given at kind) = lowest_word kind (slice_index s.given at)
+operand_word s (Variable first depth kind mask) = lowest_word kind (slice_index s.slots (first + slice_index s.ranks depth))
+operand_word s (Given kind at mask) = lowest_word kind (slice_index s.given at)
 
 -- the values of indices, as whole numbers
 abbrev pub index_values : Sight → List Operand → List ℤ
@@ -100,11 +104,11 @@ events_after b s at (o ∷ os) = operation_events b s o ++ events_after b (with_
 
 -- Operations that can be done.
 
--- an operand has a kind, and a constant is a word
+-- an operand has a kind and the mask of the kind, and a constant is a word
 abbrev pub IsOperand : Operand → Type 0
 IsOperand (Constant word) = IsWord word
-IsOperand (Variable first depth kind) = IsKind kind
-IsOperand (Given at kind) = IsKind kind
+IsOperand (Variable first depth kind mask) = IsKind kind × (mask ≡ mask_of kind)
+IsOperand (Given kind at mask) = IsKind kind × (mask ≡ mask_of kind)
 
 abbrev pub IsTarget : List MemEntry → (memory : ℕ) → Target → Type 0
 IsTarget table memory (Indices operands) = (memory < length table) × AllByRecursion IsOperand operands

@@ -23,13 +23,17 @@ pub enum Operand {
         depth: u32,
         /// The kind.
         kind: Kind,
+        /// The bits that a value of the kind can have.
+        mask: u64,
     },
     /// What an operation gave.
     Given {
-        /// The number of the operation.
-        at: usize,
         /// The kind of its value.
         kind: Kind,
+        /// The number of the operation.
+        at: usize,
+        /// The bits that a value of the kind can have.
+        mask: u64,
     },
 }
 

@@ -9,7 +9,7 @@ ghost use Rattle.dh_code.specs.Flattening.{AddsBinary, AddsNothing, ConvertsTo, 
 ghost use Rattle.dh_code.specs.Made.{same_kind, variable_operand};
 
 use crate::codes::{Access, Action, Code, Flat, Operand, Operation, Step, Target, operand_kind};
-use crate::operands::{extension, kind_found, literal, result_kind, truth};
+use crate::operands::{extension, kind_found, kind_mask, literal, result_kind, truth};
 use crate::places::{Held, place_of};
 use dh_base::{Items, NoMemory};
 use dh_tree::{Command, CommandForm, Expr, ExprForm, Kind, MemEntry, Ref, Typed};
@@ -49,6 +49,7 @@ fn variable(names: &Names<'_>, of: &Ref, kind: Kind) -> Operand
         first: held.first,
         depth: held.depth,
         kind,
+        mask: kind_mask(kind),
     }
 }
 
@@ -58,7 +59,11 @@ fn add(code: &mut Code, operation: Operation, kind: Kind) -> Result<Operand, NoM
 {
     let at = code.operations.len();
     code.operations.push(operation)?;
-    Ok(Operand::Given { at, kind })
+    Ok(Operand::Given {
+        kind,
+        at,
+        mask: kind_mask(kind),
+    })
 }
 
 /// The kind of the elements of a memory.

@@ -7,7 +7,7 @@ ghost use Rattle.dh_tree.specs.Meaning.{wider as wider_of};
 ghost use Rattle.dh_meaning.specs.Bindings.{kind_or_first};
 ghost use Rattle.dh_meaning.specs.CoreOf.{entity_number};
 ghost use Rattle.dh_meaning.specs.Effects.{bits_of};
-ghost use Rattle.dh_code.specs.Operated.{IsOperand, kind_of_operand, operand_word, view_seen};
+ghost use Rattle.dh_code.specs.Operated.{IsOperand, kind_of_operand, mask_of, operand_word, view_seen};
 ghost use Rattle.dh_code.specs.Extended.{extension_of};
 ghost use Rattle.dh_code.specs.Rows.{contents_of, element_in};
 
@@ -52,6 +52,21 @@ pub fn lowest(bits: u64, width: u8) -> u64
     ensures { result ≡ bits % 2 ^ width }
 {
     bits & (u64::MAX >> (64 - width))
+}
+
+/// The bits that a value of a kind can have. (Operands carry them, since a shift by a width takes
+/// longer wherever they are used.)
+pub fn kind_mask(kind: Kind) -> u64
+    ensures { result ≡ mask_of kind }
+{
+    let width = width(kind);
+    if width == 0 {
+        0
+    } else if width > 64 {
+        u64::MAX
+    } else {
+        u64::MAX >> (64 - width)
+    }
 }
 
 /// A number of a kind.
@@ -159,16 +174,21 @@ pub fn value_at(view: &View<'_>, operand: &Operand) -> Word
 {
     match operand {
         Operand::Constant { word } => *word,
-        Operand::Variable { first, depth, kind } => {
+        Operand::Variable {
+            first,
+            depth,
+            kind,
+            mask,
+        } => {
             let at = slot(*first, *depth, view.ranks);
             Word {
                 kind: *kind,
-                bits: lowest(number_at(view.slots, at), width(*kind)),
+                bits: number_at(view.slots, at) & *mask,
             }
         }
-        Operand::Given { at, kind } => Word {
+        Operand::Given { kind, at, mask } => Word {
             kind: *kind,
-            bits: lowest(number_at(view.given, *at), width(*kind)),
+            bits: number_at(view.given, *at) & *mask,
         },
     }
 }

@@ -111,10 +111,14 @@ fn divided(number: u64, by: u64) -> (u64, u64)
     ensures left { result.1 ≡ number % by }
 {
     if by == 1 {
-        (number, 0)
-    } else {
-        (number / by, number % by)
+        return (number, 0);
     }
+    let bits = by.trailing_zeros() & 63;
+    if 1 << bits == by {
+        let down = number >> bits;
+        return (down, number - down * by);
+    }
+    (number / by, number % by)
 }
 
 /// So many rows for each of those so far.
