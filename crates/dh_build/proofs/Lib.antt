@@ -9,3 +9,5 @@ pub mod PartsMade
 pub mod NetWired
 pub mod CountsUp
 pub mod OneGroup
+pub mod ThreadsBuilt
+pub mod JoinedParts

@@ -56,9 +56,8 @@ module _ (plan : PlainPlan) (g : Graph) (group : Group) (h : IsGraphOf plan g) (
         within,
       )
 
-  pub one_group : IsGraphOfThread plan g group.first
+  pub one_group : IsGraphOfThread plan g h.flow group.first
   one_group = record {
-    flow = h.flow;
     does = h.does;
     one_thread = record { first = first_straight; states = λ i s at. (straight i s at).0; blocks = h.within.blocks };
     first_is = (way_is g.groups.items (length h.flow.states) (length plan.registers) group.first h.flow.first first_way first_straight h.within.first).0;

@@ -12,8 +12,7 @@ use Rattle.dh_control.specs.WayMoves.{FitsThread, way_of_decision}
 use Rattle.dh_build.specs.BuiltNets.{IsOfOneThread}
 
 -- the states of a graph, and the decision by which its thread begins, are those of a flow of one thread that does the plan
-pub record IsGraphOfThread (plan : PlainPlan) (g : Graph) (first : Decision) : Type 0 where
-  pub flow : Flow
+pub record IsGraphOfThread (plan : PlainPlan) (g : Graph) (flow : Flow) (first : Decision) : Type 0 where
   pub does : FlowsAs flow plan
   pub one_thread : IsOfOneThread plan flow
   pub first_is : way_of_decision first ≡ flow.first
@@ -24,4 +23,4 @@ pub record IsGraphOfThread (plan : PlainPlan) (g : Graph) (first : Decision) : T
 
 -- so is each graph of a plan that has one group alone
 abbrev pub OneGroupIsOneThread : Type 0
-OneGroupIsOneThread = (plan : PlainPlan) (g : Graph) (group : Group) → IsGraphOf plan g → g.groups.items ≡ group ∷ [] → IsGraphOfThread plan g group.first
+OneGroupIsOneThread = (plan : PlainPlan) (g : Graph) (group : Group) → (graph : IsGraphOf plan g) → g.groups.items ≡ group ∷ [] → IsGraphOfThread plan g graph.flow group.first

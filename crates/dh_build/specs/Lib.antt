@@ -4,3 +4,4 @@ pub mod DriverLaws
 pub mod BuiltParts
 pub mod BuiltNets
 pub mod GraphFlows
+pub mod BuiltThreads

@@ -1,6 +1,7 @@
 //! Laws on nets of plans, stated on functions that do nothing.
 
 ghost use Rattle.dh_build.specs.BuiltNets.{MadeNetsAreWired};
+ghost use Rattle.dh_build.specs.BuiltThreads.{BuiltNetsAreNets};
 ghost use Rattle.dh_build.specs.DriverLaws.{DriversServeUsers, ShownPlansSuit};
 ghost use Rattle.dh_build.specs.GraphFlows.{OneGroupIsOneThread};
 
@@ -22,4 +23,9 @@ pub fn made_nets_are_wired()
 /// A graph of a plan that has one group alone is of one thread.
 pub fn one_group_is_one_thread()
     ensures { OneGroupIsOneThread }
+{}
+
+/// A net that was built by a graph of one group is the net of its plan, where it is valid.
+pub fn built_nets_are_nets()
+    ensures { BuiltNetsAreNets }
 {}

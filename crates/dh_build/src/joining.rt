@@ -1,0 +1,75 @@
+//! Parts of the net of a plan of one thread: the circuit to begin with, the registers, and the drivers of its ports.
+
+ghost use Rattle.std.specs.Prelude.{◌≡◌, length, map, IfOk};
+ghost use Rattle.std.specs.List.{AllByRecursion};
+ghost use Rattle.dh_value.specs.Words.{IsKind, width_of};
+ghost use Rattle.dh_tree.specs.Shapes.{IsProgramTable};
+ghost use Rattle.dh_net.specs.BankPorts.{ports_of};
+ghost use Rattle.dh_plan.specs.SeenPlans.{plan_seen};
+ghost use Rattle.dh_control.specs.WayMoves.{way_of_decision};
+ghost use Rattle.dh_build.specs.BuiltNets.{nexts_of, values_from};
+ghost use Rattle.dh_build.specs.BuiltParts.{AreRegisters, IsOver, net_widths};
+ghost use Rattle.dh_build.specs.DrivenUsers.{AreListed};
+
+use crate::assembling::{list_nexts, list_registers};
+use crate::beginning::list_initials;
+use crate::building::Sizes;
+use crate::drivers::list_drivers;
+use crate::sizing::all_widths;
+use dh_base::{Items, NoMemory};
+use dh_cells::Circuit;
+use dh_control::{Control, Keyed};
+use dh_net::{Driver, Register, list_ports};
+use dh_plan::{Decision, Plan};
+use dh_tree::copy_table;
+use std::alloc::Global;
+
+/// A circuit over the memories of a plan and the registers of its net, without a cell.
+pub fn start_circuit(alloc: Global, plan: &Plan, sizes: &Sizes) -> Result<Circuit, NoMemory>
+    ensures { IfOk result (λ circuit. IsOver circuit (plan_seen plan.now) sizes.now) }
+{
+    let further = sizes.widths.as_slice();
+    let table = copy_table(alloc, plan.table.as_slice())?;
+    let widths = all_widths(alloc, sizes.clock_width, sizes.state_width, further)?;
+    Ok(Circuit::new(alloc, table, widths))
+}
+
+/// The registers of the net of a plan whose thread begins by a decision, by the wires of its control.
+pub fn net_registers(
+    alloc: Global,
+    plan: &Plan,
+    over: u64,
+    first: &Decision,
+    sizes: &Sizes,
+    control: &Control,
+) -> Result<Items<Register>, NoMemory>
+    requires kinds { AllByRecursion IsKind plan.now.registers }
+    requires widths { sizes.now.widths ≡ map width_of plan.now.registers }
+    requires state { length control.now.results.state ≡ 1 }
+    requires news { length control.now.results.news ≡ length sizes.now.widths }
+    ensures { IfOk result (λ rs. AreRegisters
+        (net_widths sizes.now.clock_width sizes.now.state_width sizes.now.widths)
+        (values_from (plan_seen plan.now) over (way_of_decision first.now))
+        (nexts_of control.now) rs) }
+{
+    let further = sizes.widths.as_slice();
+    let widths = all_widths(alloc, sizes.clock_width, sizes.state_width, further)?;
+    let initials = list_initials(alloc, plan.registers.as_slice(), over, first)?;
+    let nexts = list_nexts(alloc, control)?;
+    let (initials, nexts) = (initials.as_slice(), nexts.as_slice());
+    list_registers(alloc, widths.as_slice(), initials, nexts)
+}
+
+/// The drivers of each port of a plan's memories, in order.
+pub fn net_drivers(
+    alloc: Global,
+    plan: &Plan,
+    drivers: &[Keyed<Driver>],
+) -> Result<Items<Items<Driver>>, NoMemory>
+    requires { IsProgramTable plan.now.table }
+    ensures { IfOk result
+        (λ lists. AreListed (length (ports_of plan.now.table)) drivers.now lists) }
+{
+    let ports = list_ports(alloc, plan.table.as_slice())?;
+    list_drivers(alloc, ports.len(), drivers)
+}
