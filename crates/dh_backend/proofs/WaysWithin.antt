@@ -9,14 +9,14 @@ use Rattle.dh_plan.specs.declared.graphs.Graph.{Graph}
 use Rattle.dh_plan.specs.declared.graphs.Group.{Group}
 use Rattle.dh_plan.specs.declared.graphs.State.{State}
 use Rattle.dh_plan.specs.PlainPlans.{PlainPlan}
-use Rattle.dh_plan.specs.SeenGraphs.{IsWay, OfFirst, WayWithin, IsGraphOf}
+use Rattle.dh_plan.specs.SeenGraphs.{IsWay, OfFirst, WayWithin, IsGraphOf, FitsThread}
 use Rattle.dh_plan.specs.Ways.{Way, to_state, by_flag, by_count, to_fork, to_end, Stop}
 use Rattle.dh_flow.specs.StraightGraphs.{DoesNotFork, NeverForks}
-use Rattle.dh_backend.specs.OneThread.{LeadsWithin, GoesWithin}
+use Rattle.dh_backend.specs.OneThread.{GoesWithin}
 
 module _ (groups : List Group) (states registers : ℕ) where
-  leads : (d : Decision) (w : Way) → DoesNotFork d → IsWay groups d w → WayWithin states registers w → LeadsWithin states registers d
-  unfolding DoesNotFork IsWay LeadsWithin
+  leads : (d : Decision) (w : Way) → DoesNotFork d → IsWay groups d w → WayWithin states registers w → FitsThread states registers d
+  unfolding DoesNotFork IsWay FitsThread
   leads (Go state) (to_state s) f h k = subst (λ (n : ℕ). n < states) (sym h) k
   leads (Go state) (by_flag flag w v) f h k = absurd h
   leads (Go state) (by_count counter last w v) f h k = absurd h
@@ -54,7 +54,7 @@ stop_there (s ∷ stops) zero h = (s, refl)
 stop_there (s ∷ stops) (suc i) h = stop_there stops i (omega (arith, h))
 
 first_leads : (plan : PlainPlan) (states : ℕ) (gs : List Group) (w : Way) → length gs ≡ 1 → OfFirst (slice_get gs 0) (λ d. IsWay gs d w) → WayWithin states (length plan.registers) w
-    → AllByRecursion (λ (h : Group). DoesNotFork h.first) gs → AllByRecursion (λ (h : Group). LeadsWithin states (length plan.registers) h.first) gs
+    → AllByRecursion (λ (h : Group). DoesNotFork h.first) gs → AllByRecursion (λ (h : Group). FitsThread states (length plan.registers) h.first) gs
 first_leads plan states [] w one h k f = tt
 first_leads plan states (g ∷ []) w one h k f = (leads (g ∷ []) states (length plan.registers) g.first w f.0 h k, tt)
 first_leads plan states (g ∷ more ∷ gs) w one h k f = absurd (omega (arith, one))
@@ -68,7 +68,7 @@ goes_within plan g is never =
           let r = stop_there f.states i (let w = slice_get_within g.states.items i s e in omega (arith, w, long)) in
           let same = (is.shows.each i s r.0 e r.1).block in
           subst (λ (n : ℕ). n < length plan.blocks) (sym same) (is.within.blocks i r.0 r.1));
-      states = all_places (λ (s : State). LeadsWithin (length g.states.items) (length plan.registers) s.next) g.states.items (λ i s e.
+      states = all_places (λ (s : State). FitsThread (length g.states.items) (length plan.registers) s.next) g.states.items (λ i s e.
           let r = stop_there f.states i (let w = slice_get_within g.states.items i s e in omega (arith, w, long)) in
           let way = (is.shows.each i s r.0 e r.1).next in
           let straight = at_place (λ (t : State). DoesNotFork t.next) g.states.items never.states i s e in

@@ -4,13 +4,13 @@ use Rattle.std.specs.Prelude.{◌≡◌, ℕ, ◌≤◌, List, length, slice_get
 use Rattle.dh_value.specs.declared.kinds.Kind.{Kind}
 use Rattle.dh_value.specs.declared.kinds.Kind.TheVariants.{Bool}
 use Rattle.dh_value.specs.declared.operators.Op.{Op}
-use Rattle.dh_value.specs.declared.operators.Op.TheVariants as op
 use Rattle.dh_value.specs.Words.{IsInteger, IsKind}
 use Rattle.dh_tree.specs.declared.tables.MemEntry.{MemEntry}
 use Rattle.dh_tree.specs.declared.trees.expressions.Ref.{Ref}
 use Rattle.dh_tree.specs.Meaning.{wider}
 use Rattle.dh_tree.specs.PlainTrees as plain
 use Rattle.dh_tree.specs.PlainTrees.{Action, action, ActionForm, lets, lets_memory, views, assigns, stores, reduces, calls, blocks, decides, repeats, counts, MaybeAction, no_action, one_action, Actions, no_actions, action_then, Groups, no_groups, group_then}
+use Rattle.dh_tree.specs.TextNumbers.{Reduces}
 use Rattle.dh_meaning.specs.Bindings.{kind_or_first}
 use Rattle.dh_meaning.specs.CoreOf.{Known, entity_number, kind_of, memory_of}
 use Rattle.dh_meaning.specs.Effects.{entry_kind}
@@ -40,25 +40,6 @@ kind_aimed known table (plain.term place k (plain.truth_value b)) = Bool
 kind_aimed known table (plain.term place k (plain.named r)) = Bool
 kind_aimed known table (plain.term place k (plain.applied o left right)) = Bool
 kind_aimed known table (plain.term place k (plain.converted inner to)) = Bool
-
--- the operators of reducers
-abbrev pub Reduces : Op → Type 0
-Reduces op.Add = Unit {0}
-Reduces op.Sub = Unit {0}
-Reduces op.Mul = Unit {0}
-Reduces op.And = ⊥
-Reduces op.Or = ⊥
-Reduces op.Xor = ⊥
-Reduces op.Shl = ⊥
-Reduces op.Shr = ⊥
-Reduces op.Lt = ⊥
-Reduces op.Gt = ⊥
-Reduces op.Le = ⊥
-Reduces op.Ge = ⊥
-Reduces op.Eq = ⊥
-Reduces op.Ne = ⊥
-Reduces op.Both = ⊥
-Reduces op.Either = ⊥
 
 -- what a reducer puts together is of an integer kind
 pub record CanReduce (scene : Scene) (r : Ref) (o : Op) (t : plain.Term) : Type 0 where

@@ -7,9 +7,8 @@ use Rattle.dh_plan.specs.declared.graphs.Graph.{Graph}
 use Rattle.dh_plan.specs.declared.graphs.Group.{Group}
 use Rattle.dh_plan.specs.declared.graphs.State.{State}
 use Rattle.dh_plan.specs.PlainPlans.{PlainPlan}
-use Rattle.dh_plan.specs.SeenGraphs.{IsGraphOf, IsWay, WayWithin, OfFirst, homes_of, parents_of}
+use Rattle.dh_plan.specs.SeenGraphs.{IsGraphOf, IsWay, WayWithin, OfFirst, homes_of, parents_of, FitsThread}
 use Rattle.dh_plan.specs.Ways.{Stop}
-use Rattle.dh_control.specs.WayMoves.{FitsThread}
 use Rattle.dh_control.specs.WiredNets.{IsStraight}
 use Rattle.dh_control.proofs.StraightWays.{way_is, way_straight, flow_ways, flow_blocks}
 use Rattle.dh_build.specs.GraphFlows.{IsGraphOfThread}

@@ -13,6 +13,7 @@ use Rattle.dh_plan.specs.declared.graphs.State.{State}
 use Rattle.dh_plan.specs.declared.operations.PlanBlock.{PlanBlock}
 use Rattle.dh_plan.specs.BoundPorts.{Uses}
 use Rattle.dh_plan.specs.PlainPlans.{PlainPlan}
+use Rattle.dh_plan.specs.SeenGraphs.{FitsThread}
 use Rattle.dh_cells.specs.PlainCircuits.{PlainCircuit}
 use Rattle.dh_cells.specs.Settled.{Adds, AreWires, Grows, IsWire}
 use Rattle.dh_cells.specs.ShownValues.{register_shown, match_shown}
@@ -27,7 +28,7 @@ use Rattle.dh_control.specs.declared.gathering.Keyed.{Keyed}
 use Rattle.dh_control.specs.AllBlocks.{ChecksSuit, SetsSuit}
 use Rattle.dh_control.specs.ControlsWhole.{ControlMade, OwnWires}
 use Rattle.dh_control.specs.SizedWires.{AreSized}
-use Rattle.dh_control.specs.WayMoves.{FitsThread, HoldsStates}
+use Rattle.dh_control.specs.WayMoves.{HoldsStates}
 use Rattle.dh_control.specs.WireLists.{EachTells}
 use Rattle.dh_control.proofs.ListFacts.{at_index}
 use Rattle.dh_build.specs.BuiltParts.{net_widths, OwnShows, OwnAdded, ShownAdded, IsTimed, DriversAdded}

@@ -9,6 +9,7 @@ use Rattle.dh_plan.specs.declared.graphs.State.{State}
 use Rattle.dh_plan.specs.BoundPorts.{Uses, ArePorts}
 use Rattle.dh_plan.specs.PlainPlans.{PlainPlan, operation_count}
 use Rattle.dh_plan.specs.SoundPlans.{IsFormed, IsAddressed}
+use Rattle.dh_plan.specs.SeenGraphs.{FitsThread}
 use Rattle.dh_cells.specs.PlainCircuits.{PlainCircuit}
 use Rattle.dh_cells.specs.Settled.{Grows, Shows, AreWires}
 use Rattle.dh_cells.specs.ShownValues.{match_shown, register_shown}
@@ -18,7 +19,7 @@ use Rattle.dh_control.specs.declared.controlling.Own.{Own}
 use Rattle.dh_control.specs.declared.gathering.Keyed.{Keyed}
 use Rattle.dh_control.specs.ControlsWhole.{ControlMade}
 use Rattle.dh_control.specs.ThreadHolds.{own_registers}
-use Rattle.dh_control.specs.WayMoves.{FitsThread, HoldsStates}
+use Rattle.dh_control.specs.WayMoves.{HoldsStates}
 use Rattle.dh_build.specs.declared.building.Parts.{Parts}
 use Rattle.dh_build.specs.declared.building.Shown.{Shown}
 use Rattle.dh_build.specs.declared.building.Sizes.{Sizes}

@@ -5,10 +5,10 @@ use Rattle.dh_plan.specs.declared.graphs.Decision.{Decision}
 use Rattle.dh_plan.specs.declared.graphs.Graph.{Graph}
 use Rattle.dh_plan.specs.declared.graphs.Group.{Group}
 use Rattle.dh_plan.specs.PlainPlans.{PlainPlan}
-use Rattle.dh_plan.specs.SeenGraphs.{IsGraphOf}
+use Rattle.dh_plan.specs.SeenGraphs.{IsGraphOf, FitsThread}
 use Rattle.dh_plan.specs.Ways.{Flow, FlowsAs}
 use Rattle.dh_control.specs.AllBlocks.{ways_of}
-use Rattle.dh_control.specs.WayMoves.{FitsThread, way_of_decision}
+use Rattle.dh_control.specs.WayMoves.{way_of_decision}
 use Rattle.dh_build.specs.BuiltNets.{IsOfOneThread}
 
 -- the states of a graph, and the decision by which its thread begins, are those of a flow of one thread that does the plan

@@ -5,7 +5,8 @@ use Rattle.std.specs.Global.{Global}
 use Rattle.dh_plan.specs.declared.graphs.Decision.{Decision}
 use Rattle.dh_plan.specs.declared.graphs.Decision.TheVariants.{Go, Test, Count, Fork, Rest}
 use Rattle.dh_plan.specs.Ways.{to_state, by_flag, by_count, to_end}
-use Rattle.dh_control.specs.WayMoves.{FitsThread, way_of_decision, way_weight}
+use Rattle.dh_plan.specs.SeenGraphs.{FitsThread}
+use Rattle.dh_control.specs.WayMoves.{way_of_decision, way_weight}
 
 pub go_is : (state : ℕ) → way_of_decision (Go state) ≡ to_state state
 unfolding way_of_decision

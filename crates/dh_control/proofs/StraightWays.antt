@@ -8,10 +8,10 @@ use Rattle.dh_plan.specs.declared.graphs.Decision.TheVariants.{Go, Test', Count'
 use Rattle.dh_plan.specs.declared.graphs.Graph.{Graph}
 use Rattle.dh_plan.specs.declared.graphs.Group.{Group}
 use Rattle.dh_plan.specs.declared.graphs.State.{State}
-use Rattle.dh_plan.specs.SeenGraphs.{IsWay, IsFlowOf, WayWithin, StaysInGroup, BeginsGroups, HasFirst}
+use Rattle.dh_plan.specs.SeenGraphs.{IsWay, IsFlowOf, WayWithin, StaysInGroup, BeginsGroups, HasFirst, FitsThread}
 use Rattle.dh_plan.specs.Ways.{Way, to_state, by_flag, by_count, to_fork, to_end, AllWays, no_ways, way_then, Stop, Flow}
 use Rattle.dh_control.specs.AllBlocks.{ways_of}
-use Rattle.dh_control.specs.WayMoves.{FitsThread, way_of_decision}
+use Rattle.dh_control.specs.WayMoves.{way_of_decision}
 use Rattle.dh_control.specs.WiredNets.{IsStraight}
 
 -- A decision is its way.

@@ -23,14 +23,6 @@ way_of_decision (Count' counter last at a at' b) = by_count counter last (way_of
 way_of_decision (Fork groups) = to_end
 way_of_decision Rest = to_end
 
--- it leads to states that are there, by registers that are there, and does not fork
-unfoldable pub FitsThread : (states registers : ℕ) → Decision → Type 0
-FitsThread states registers (Go state) = state < states
-FitsThread states registers (Test' flag at a at' b) = (flag < registers) × (FitsThread states registers a × FitsThread states registers b)
-FitsThread states registers (Count' counter last at a at' b) = (counter < registers) × (FitsThread states registers a × FitsThread states registers b)
-FitsThread states registers (Fork groups) = ⊥
-FitsThread states registers Rest = Unit {0}
-
 -- how many decisions a way has
 abbrev pub way_weight : Way → ℕ
 way_weight (to_state state) = 0

@@ -1,19 +1,18 @@
--- In the tree of any text loops end at numbers of 64 bits, as the tokens of numbers hold, and reducers take numbers.
+-- In the tree of any text loops end at numbers of 64 bits, as the tokens of numbers hold, and reducers are those of texts.
 use Rattle.std.proofs.Common.{◌≡◌, ℕ, suc, ◌+◌, ◌<◌, ◌^◌, Bool, true, false, List, refl}
 use Rattle.dh_lexer.specs.declared.tokens.Token.{Token}
 use Rattle.dh_lexer.specs.declared.tokens.TokenKind.TheVariants as kind
-use Rattle.dh_tree.specs.Kinds.{two_numbers, takes}
-use Rattle.dh_tree.specs.TextNumbers.{HasTextNumbers, FormHasTextNumbers, OtherHasTextNumbers, GroupsHaveTextNumbers, PartHasTextNumbers}
+use Rattle.dh_tree.specs.TextNumbers.{Reduces, HasTextNumbers, FormHasTextNumbers, OtherHasTextNumbers, GroupsHaveTextNumbers, PartHasTextNumbers}
 use Rattle.dh_parser.specs.Grammar.{NameText, TypeText, ValueText, ReducerText, adds, subtracts, multiplies, SimpleText, let_typed, let_value, view, assign, store, reduce, call, HeadText, BlockText, block, PartsText, last_part, part_then, PartText, end_of_part, last_simple, simple_then, compound_then, semicolon_then, CompoundText, block_alone, if_alone, while_loop, for_loop, IfText, if_else, ElseText, no_else, else_block, else_if, CombineText, no_combine, some_combine}
 use Rattle.dh_parser.specs.Spelling.{put, spell, spell_simple, spell_declared, spell_head, spell_block, spell_parts, spell_part, spell_compound, spell_if, spell_else, spell_combine}
 use Rattle.dh_parser.specs.TreesOfTexts.{is_memory_type, let_of, reducer_op, simple_form, count_block, count_part, count_compound, block_of, parts_of, part_of, compound_of, if_of, else_of, combine_of}
 use Rattle.dh_parser.proofs.Fronts.{front_of, expression_front, simple_front, declared_front, head_front, block_front, part_front, compound_front}
 use Rattle.dh_parser.proofs.TextNames.{AreSound, behind}
 
-reducer_takes : (r : ReducerText) → takes (reducer_op r) ≡ two_numbers
-reducer_takes adds = refl
-reducer_takes subtracts = refl
-reducer_takes multiplies = refl
+reducer_reduces : (r : ReducerText) → Reduces (reducer_op r)
+reducer_reduces adds = tt
+reducer_reduces subtracts = tt
+reducer_reduces multiplies = tt
 
 let_bounded : (b : Bool) (n : NameText) (t : TypeText) (v : ValueText) → FormHasTextNumbers (let_of b n t v)
 let_bounded true n t v = tt
@@ -25,7 +24,7 @@ simple_bounded (let_value word n equal e) = tt
 simple_bounded (view word n equal v) = tt
 simple_bounded (assign n becomes e) = tt
 simple_bounded (store a becomes e) = tt
-simple_bounded (reduce n r sign e) = reducer_takes r
+simple_bounded (reduce n r sign e) = reducer_reduces r
 simple_bounded (call n opener arguments) = tt
 
 -- the upper bound of a loop is a number of the text

@@ -127,3 +127,11 @@ pub record IsGraphOf (plan : PlainPlan) (g : Graph) : Type 0 where
   pub within : FlowWithin plan flow
   pub groups : GroupsFit g flow
   pub does : FlowsAs flow plan
+
+-- a decision of one thread leads to states that are there, by registers that are there, and does not fork
+unfoldable pub FitsThread : (states registers : ℕ) → Decision → Type 0
+FitsThread states registers (Go state) = state < states
+FitsThread states registers (Test' flag at a at' b) = (flag < registers) × (FitsThread states registers a × FitsThread states registers b)
+FitsThread states registers (Count' counter last at a at' b) = (counter < registers) × (FitsThread states registers a × FitsThread states registers b)
+FitsThread states registers (Fork groups) = ⊥
+FitsThread states registers Rest = Unit {0}

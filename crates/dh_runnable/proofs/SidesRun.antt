@@ -7,6 +7,7 @@ use Rattle.dh_base.specs.declared.places.Place.{Place}
 use Rattle.dh_value.specs.declared.kinds.Kind.{Kind}
 use Rattle.dh_value.specs.declared.kinds.Kind.TheVariants as kind
 use Rattle.dh_value.specs.declared.operators.Op.{Op}
+use Rattle.dh_value.specs.declared.operators.Op.TheVariants as op
 use Rattle.dh_value.specs.Words.{IsKind}
 use Rattle.dh_tree.specs.declared.trees.counters.Counter.{Counter}
 use Rattle.dh_tree.specs.declared.trees.expressions.Ref.{Ref}
@@ -17,6 +18,7 @@ use Rattle.dh_tree.specs.Kinds.{Fact, of_variable, of_iterator, of_memory, of_fu
 use Rattle.dh_tree.specs.PlainTrees.{Term, term, number, truth_value, named, accessed, in_bank, applied, converted}
 use Rattle.dh_tree.specs.Resolved.{resolved_term}
 use Rattle.dh_tree.specs.Scopes.{Binding, entity_number}
+use Rattle.dh_tree.specs.TextNumbers.{Reduces}
 use Rattle.dh_tree.specs.Widths.{IsSized, MaybeSized}
 use Rattle.dh_runnable.proofs.TypedParts.{for_numbers_sized, number_kind_sized}
 use Rattle.dh_tree.proofs.UncheckedBuilt.{second_none, not_none}
@@ -45,6 +47,25 @@ is_test : (j : Kind) (place : Place) → truth_breaches (Some j) place ≡ [] �
 is_test kind.Bool place h = refl
 is_test (kind.Unsigned w) place h = not_none _ _ h
 is_test (kind.Signed w) place h = not_none _ _ h
+
+-- a reducer takes numbers
+reducer_takes : (o : Op) → Reduces o → takes o ≡ two_numbers
+reducer_takes op.Add h = refl
+reducer_takes op.Sub h = refl
+reducer_takes op.Mul h = refl
+reducer_takes op.And h = absurd h
+reducer_takes op.Or h = absurd h
+reducer_takes op.Xor h = absurd h
+reducer_takes op.Shl h = absurd h
+reducer_takes op.Shr h = absurd h
+reducer_takes op.Lt h = absurd h
+reducer_takes op.Gt h = absurd h
+reducer_takes op.Le h = absurd h
+reducer_takes op.Ge h = absurd h
+reducer_takes op.Eq h = absurd h
+reducer_takes op.Ne h = absurd h
+reducer_takes op.Both h = absurd h
+reducer_takes op.Either h = absurd h
 
 -- a variable and a value that a reducer puts together are two numbers of one sign
 reducer_operands : (at to place other : Place) (j k : Kind) → when (is_truth j) (mismatch place) ≡ [] → assigned_breaches (Some j) (Some k) other ≡ [] → operands_breaches two_numbers at to j k ≡ []
@@ -143,7 +164,7 @@ module _ (known : Known) (p : Placing) (loops : List ℕ) where
       subst (λ (j : Kind). IsOperand (table_in known) (applied_kind o t.kind v.kind) (operation_of o j (kind_found value) (variable (kind_of known r) (depth_of known r) (entity_number r.entity)) (core_term known n value))) (sym bound)
       (subst (λ (j : Kind). IsOperand (table_in known) (applied_kind o t.kind v.kind) (operation_of o t.kind j (variable (kind_of known r) (depth_of known r) (entity_number r.entity)) (core_term known n value))) (sym (kind_found_is value v.kind v.is)) suits)
 
-  pub fold_runs : (facts : Facts) (r : Ref) (o : Op) (value : Term) → IsTarget facts r → IsKnown known p loops value → takes o ≡ two_numbers
+  pub fold_runs : (facts : Facts) (r : Ref) (o : Op) (value : Term) → IsTarget facts r → IsKnown known p loops value → Reduces o
       → reducer_breaches (value_kind (fact_of facts r)) (found value) r.place ≡ [] → assigned_breaches (value_kind (fact_of facts r)) (found value) (place_of value) ≡ []
       → (n : ℕ) → CanDo (table_in known) p loops (folded_into known r o (kind_found value) (core_term known n value))
   fold_runs facts r o value t v e a b n =
@@ -154,7 +175,7 @@ module _ (known : Known) (p : Placing) (loops : List ℕ) where
       sym (ap (λ (x : Option Kind). assigned_breaches x (found value) (place_of value)) t.is ∙ ap (λ (x : Option Kind). assigned_breaches (Some t.kind) x (place_of value)) v.is) ∙ b in (
         own,
         (
-          (fold_operand facts r o value r.place (place_of value) t v e numbers alike n).suits,
+          (fold_operand facts r o value r.place (place_of value) t v (reducer_takes o e) numbers alike n).suits,
           operation_inside p loops o (kind_of known r) (kind_found value) (variable (kind_of known r) (depth_of known r) (entity_number r.entity)) (core_term known n value) own (v.inside n),
         ),
       )

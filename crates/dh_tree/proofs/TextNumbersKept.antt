@@ -1,4 +1,4 @@
--- Loops still end at numbers of 64 bits, and reducers take numbers, when names are resolved and when expressions get their
+-- Loops still end at numbers of 64 bits, and reducers are those of texts, when names are resolved and when expressions get their
 -- kinds: both leave bounds and operators as they are. By one walk over the commands for each.
 use Rattle.std.proofs.Common.{List, [], ◌∷◌, ◌++◌}
 use Rattle.dh_tree.specs.Kinds.{of_iterator, Facts, iterator_kind, facts_after, facts_after_actions, typed_action, typed_action_form, typed_other, typed_actions, typed_groups}

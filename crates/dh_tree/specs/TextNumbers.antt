@@ -1,8 +1,28 @@
 -- What holds of the numbers and reducers of every text, whatever rules it breaks: a loop ends at a number of 64 bits, as
--- every number of a text has no more, and a reducer is `+=`, `-=` or `*=`, whose operator takes numbers.
-use Rattle.std.specs.Prelude.{◌≡◌, ◌<◌, ◌^◌}
-use Rattle.dh_tree.specs.Kinds.{two_numbers, takes}
+-- every number of a text has no more, and a reducer is `+=`, `-=` or `*=`.
+use Rattle.std.specs.Prelude.{◌<◌, ◌^◌}
+use Rattle.dh_value.specs.declared.operators.Op.{Op}
+use Rattle.dh_value.specs.declared.operators.Op.TheVariants as op
 use Rattle.dh_tree.specs.PlainTrees.{Action, action, ActionForm, lets, lets_memory, views, assigns, stores, reduces, calls, blocks, decides, repeats, counts, MaybeAction, no_action, one_action, Actions, no_actions, action_then, Groups, no_groups, group_then}
+
+-- the operators of reducers
+abbrev pub Reduces : Op → Type 0
+Reduces op.Add = Unit {0}
+Reduces op.Sub = Unit {0}
+Reduces op.Mul = Unit {0}
+Reduces op.And = ⊥
+Reduces op.Or = ⊥
+Reduces op.Xor = ⊥
+Reduces op.Shl = ⊥
+Reduces op.Shr = ⊥
+Reduces op.Lt = ⊥
+Reduces op.Gt = ⊥
+Reduces op.Le = ⊥
+Reduces op.Ge = ⊥
+Reduces op.Eq = ⊥
+Reduces op.Ne = ⊥
+Reduces op.Both = ⊥
+Reduces op.Either = ⊥
 
 abbrev mutual
   pub HasTextNumbers : Action → Type 0
@@ -14,7 +34,7 @@ abbrev mutual
   FormHasTextNumbers (views name parent form) = Unit {0}
   FormHasTextNumbers (assigns target value) = Unit {0}
   FormHasTextNumbers (stores target value) = Unit {0}
-  FormHasTextNumbers (reduces target o value) = takes o ≡ two_numbers
+  FormHasTextNumbers (reduces target o value) = Reduces o
   FormHasTextNumbers (calls function arguments) = Unit {0}
   FormHasTextNumbers (blocks body) = GroupsHaveTextNumbers body
   FormHasTextNumbers (decides test chosen other) = HasTextNumbers chosen × OtherHasTextNumbers other

@@ -19,7 +19,8 @@ use Rattle.dh_code.specs.Slots.{Placing}
 use Rattle.dh_code.specs.Suited.{IsInside}
 use Rattle.dh_expressions.specs.Shown.{kind_written}
 use Rattle.dh_blocks.specs.SoundTerms.{IsSound, IsSoundTarget}
-use Rattle.dh_blocks.specs.SoundCommands.{CanHold, kind_aimed, Reduces}
+use Rattle.dh_tree.specs.TextNumbers.{Reduces}
+use Rattle.dh_blocks.specs.SoundCommands.{CanHold, kind_aimed}
 use Rattle.dh_typed_blocks.specs.PlainPrograms.{IsPlainTarget}
 use Rattle.dh_typed_blocks.proofs.PhasesHolding.{OtherOnlyFolds}
 

@@ -8,7 +8,7 @@ use Rattle.dh_meaning.specs.Bindings.{binding_in}
 use Rattle.dh_meaning.specs.CoreOf.{Known, entity_number}
 use Rattle.dh_runnable.specs.ActionsRun.{table_in}
 use Rattle.dh_sound.specs.SameKeys.{IsNoIterator}
-use Rattle.dh_blocks.specs.SoundCommands.{Reduces}
+use Rattle.dh_tree.specs.TextNumbers.{Reduces}
 
 -- memories and their banks have numbers of 32 bits
 pub record AreFew (known : Known) : Type 0 where
