@@ -10,3 +10,5 @@ pub mod LaidQuiet
 pub mod LaidProducts
 -- probes
 pub mod LaidProbes
+-- where the accesses of blocks stand
+pub mod BlockSites
