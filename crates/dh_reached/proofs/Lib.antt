@@ -1,0 +1,2 @@
+pub mod PutLists
+pub mod StepKeeps

@@ -1,0 +1,4 @@
+-- what is put down for a block, at its paths, and what it reads and writes
+pub mod Puts
+-- which banks a block reaches in a step
+pub mod StepBanks
