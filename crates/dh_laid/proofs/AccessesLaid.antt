@@ -9,7 +9,6 @@ use Rattle.dh_base.specs.declared.places.Place.{Place}
 use Rattle.dh_value.specs.declared.kinds.Kind.{Kind}
 use Rattle.dh_value.specs.declared.kinds.Kind.TheVariants as kind
 use Rattle.dh_value.specs.declared.operators.Op.{Op}
-use Rattle.dh_value.specs.declared.operators.Op.TheVariants.{Both}
 use Rattle.dh_value.specs.Operations.{truth}
 use Rattle.dh_tree.specs.declared.trees.counters.Counter.{Counter}
 use Rattle.dh_tree.specs.Indices.{form_of}
@@ -17,12 +16,10 @@ use Rattle.dh_tree.specs.PlainTrees as plain
 use Rattle.dh_tree.specs.PlainTrees.{Term, Action, action, ActionForm, lets, lets_memory, views, assigns, stores, reduces, calls, blocks, decides, repeats, counts, MaybeAction, no_action, one_action, Actions, no_actions, action_then, Groups, no_groups, group_then}
 use Rattle.dh_meaning.specs.Bindings.{kind_or_first}
 use Rattle.dh_meaning.specs.CoreOf.{entity_number}
-use Rattle.dh_meaning.specs.Phases.{Located}
 use Rattle.dh_code.specs.Extended.{extension_of}
 use Rattle.dh_code.specs.Made.{same_kind}
 use Rattle.dh_code.specs.declared.places.Held.{Held}
 use Rattle.dh_code.specs.Slots.{held_at}
-use Rattle.dh_plan.specs.declared.operations.OperationForm.{OperationForm}
 use Rattle.dh_plan.specs.declared.operations.OperationForm.TheVariants.{Compute, Constant, Convert}
 use Rattle.dh_expressions.specs.declared.accesses.Accesses.{Accesses}
 use Rattle.dh_expressions.specs.declared.accesses.Touched.{Touched}
@@ -32,20 +29,20 @@ use Rattle.dh_expressions.specs.declared.elements.Aim.{Aim}
 use Rattle.dh_expressions.specs.declared.scenes.Around.{Around}
 use Rattle.dh_expressions.specs.declared.scenes.Lane.{Lane}
 use Rattle.dh_expressions.specs.declared.scenes.Scene.{Scene}
-use Rattle.dh_expressions.specs.Copying.{AddsAllCopies, AddsCopies, AddsCopy, AddsLeader, AddsOther, AreNone, JoinsGuards, leaders_at}
-use Rattle.dh_expressions.specs.Drafted.{Extends, Names, Pushes}
+use Rattle.dh_expressions.specs.Copying.{AddsAllCopies, AddsCopies, AddsCopy, AreNone, JoinsGuards, leaders_at}
+use Rattle.dh_expressions.specs.Drafted.{Extends}
 use Rattle.dh_expressions.specs.Evaluated.{counter_of}
 use Rattle.dh_expressions.specs.MadeTerms.{MadeRead, MadeTerm, MadeTerms, MadeWrite}
-use Rattle.dh_expressions.specs.MadeValues.{MadeBy, MadeConverted, MadeHeld, MadeShown}
+use Rattle.dh_expressions.specs.MadeValues.{MadeBy, MadeConverted}
 use Rattle.dh_expressions.specs.Noted.{Notes, copied_in, copy_or_alone, noted_in, touched_in}
 use Rattle.dh_expressions.specs.Numbers.{narrowed}
-use Rattle.dh_expressions.specs.Reaching.{Finds, place_written}
+use Rattle.dh_expressions.specs.Reaching.{place_written}
 use Rattle.dh_expressions.specs.Shown.{guard_of, is_kept, kind_written, register_at}
 use Rattle.dh_expressions.specs.Standings.{Standing, standing_at}
 use Rattle.dh_expressions.specs.Touching.{AddsTouched, IsNew, TouchesAt}
 use Rattle.dh_expressions.proofs.AccessesKept.{named_extends, noted_touched, place_noted}
 use Rattle.dh_expressions.proofs.CopiesMade.{guard_long, guard_place}
-use Rattle.dh_expressions.proofs.ListPlaces.{place_of_more, place_within, there}
+use Rattle.dh_expressions.proofs.ListPlaces.{place_of_more, place_within, set_long, there}
 use Rattle.dh_expressions.proofs.Pushing.{at_seam, extends_again, extends_self, pushed_extends}
 use Rattle.dh_formed.proofs.CopiesFormed.{FormsCopies, copies_forms}
 use Rattle.dh_formed.proofs.ElementsFormed.{found_extends}
@@ -54,8 +51,7 @@ use Rattle.dh_formed.proofs.ValuesFormed.{held_forms, number_forms, operation_fo
 use Rattle.dh_commands.specs.declared.buildings.Building.{Building}
 use Rattle.dh_commands.specs.declared.choices.Left.{Left}
 use Rattle.dh_commands.specs.LanesRun.{lane_of, paths_counted}
-use Rattle.dh_commands.specs.MadeCommands.{Commanding, FoldedWith, MadeActionForm, MadeActions, MadeAim, MadeArm, MadeAssigned, MadeCleared, MadeCommand, MadeGroups, MadeLanes, MadeOldOperand, MadeOperand, MadeOther, MadeReduced, MadeStored, MadeStoring, MadeTests}
-use Rattle.dh_laid.specs.BlockSites.{MadeEach}
+use Rattle.dh_commands.specs.MadeCommands.{Commanding, FoldedWith, MadeActionForm, MadeActions, MadeAim, MadeArm, MadeAssigned, MadeCleared, MadeCommand, MadeGroups, MadeLanes, MadeOldOperand, MadeOperand, MadeOther, MadeReduced, MadeStored, MadeStoring}
 use Rattle.dh_laid.specs.LaidAccesses.{AreLaid, AreNamed, CommandsLay, EachLay, GroupsLay, IsLaid, Lays, TermsLay, TestsLay, copy_in}
 use Rattle.dh_laid.specs.LaidQuiet.{StandsIn}
 use Rattle.dh_laid.proofs.ArmsLaid.{arm_guards_form}
@@ -74,6 +70,7 @@ lays_quiet old new before after e same = record {
   extends = e;
   laid = λ named all few laid none. subst (λ (a : Accesses). AreLaid named a) (sym same) laid;
   none = λ none. subst (λ (a : Accesses). AreNone a.counts.items) (sym same) none;
+  long = ap (λ (a : Accesses). length a.touched.items) same;
 }
 
 -- nothing is put down
@@ -89,6 +86,7 @@ lays_again a b c x y z h k = record {
   extends = extends_again a b c h.extends k.extends;
   laid = λ named all few laid none. k.laid named all few (h.laid named (named_before named b c k.extends all) few laid none) (h.none none);
   none = λ none. k.none (h.none none);
+  long = k.long ∙ h.long;
 }
 
 -- Copies: only those that lead have guards.
@@ -206,6 +204,7 @@ module _ (scene : Scene) (around : Around) (stands : StandsIn scene around) (mem
     laid = λ named all few laid none m u at.
         ⊎_elim (λ was. laid m u was) (λ (fresh : IsNew old new scene around stood before number m u). new_laid old new before u fresh.adds none named all few) (t.known m u at);
     none = t.none;
+    long = t.long;
   }
 
 -- what a read gave is noted
@@ -214,6 +213,7 @@ notes_lays d before after number path value h = record {
   extends = extends_self d;
   laid = λ named all few laid none m u at. by named laid m u at (place_noted before after number path value h m);
   none = λ none. subst (λ (ns : List ℕ). AreNone ns) (sym h.counts) none;
+  long = ap (λ (os : List (Option Touched)). length os) h.touched ∙ set_long before.touched.items number _;
 }
   where
     by : (named : List (FaultKind × Place)) → AreLaid named before → (m : ℕ) (u : Touched) → touched_in after m ≡ Some u

@@ -59,11 +59,13 @@ abbrev pub AreNamed : List (FaultKind × Place) → Draft → Type 0
 AreNamed named d = (n : ℕ) (f : FaultKind × Place) → slice_get d.faults n ≡ Some f → slice_get named n ≡ Some f
 
 -- What was put down keeps the operations and the faults so far at their numbers; and where all faults are those of a list
--- that is short, it keeps that all accesses with operations are laid, and that none is counted.
+-- that is short, it keeps that all accesses with operations are laid, and that none is counted. There are as many accesses
+-- as before.
 pub record Lays (old new : Draft) (before after : Accesses) : Type 0 where
   pub extends : Extends old new
   pub laid : (named : List (FaultKind × Place)) → AreNamed named new → length named ≤ 2 ^ 32 → AreLaid named before → AreNone before.counts.items → AreLaid named after
   pub none : AreNone before.counts.items → AreNone after.counts.items
+  pub long : length after.touched.items ≡ length before.touched.items
 
 abbrev pub TermsLay : Type 0
 TermsLay =

@@ -2,3 +2,5 @@
 pub mod Puts
 -- which banks a block reaches in a step
 pub mod StepBanks
+-- indices whose banks are those of every turn
+pub mod IndicesKept
