@@ -12,11 +12,11 @@ use Rattle.dh_formed.proofs.ElementsFormed.{all_append, all_weaker}
 use Rattle.dh_reached.specs.Puts.{AreInOrder, EachUse, Goes, GoesBefore, IsUse, Put, PutsAt, PutsDown, is_write, operations_of, used}
 
 pub all_at : {A : Type 0} (P : A → Type 0) (xs : List A) (i : ℕ) (x : A) → AllByRecursion P xs → slice_get xs i ≡ Some x → P x
-all_at P [] i x all at = absurd (none i at)
+all_at {A = A} P [] i x all at = absurd (none i at)
   where
     none : (i : ℕ) → slice_get [] i ≡ Some x → ⊥
     none i e = cc
-all_at P (y ∷ xs) zero x all at = subst P (same y x at) all.0
+all_at {A = A} P (y ∷ xs) zero x all at = subst P (same y x at) all.0
   where
     same : (y x : A) → Some y ≡ Some x → y ≡ x
     same y x e = cc

@@ -47,13 +47,11 @@ leader_counts leader bank own n leads reaches = by ((leader n == n) && (bank n =
 
 pub leaders_rise : (leader bank : ℕ → ℕ) (own m n : ℕ) → m < n → leader m ≡ m → bank m ≡ own → leaders_at leader bank own m < leaders_at leader bank own n
 leaders_rise leader bank own m zero less leads reaches = absurd (omega (arith, less))
-leaders_rise leader bank own m (suc n) less leads reaches = by (cases_lt m n)
+leaders_rise leader bank own m (suc n) less leads reaches = by (cases_lt m n) (λ before. leaders_rise leader bank own m n before leads reaches)
   where
-    more = leaders_more leader bank own n
-
-    by : (m < n) ⊎ (n ≤ m) → leaders_at leader bank own m < leaders_at leader bank own (suc n)
-    by (inl before) = let h = leaders_rise leader bank own m n before leads reaches in let k = leaders_more leader bank own n in omega (arith, h, k)
-    by (inr last) =
+    by : (m < n) ⊎ (n ≤ m) → (m < n → leaders_at leader bank own m < leaders_at leader bank own n) → leaders_at leader bank own m < leaders_at leader bank own (suc n)
+    by (inl before) rest = let h = rest before in let k = leaders_more leader bank own n in omega (arith, h, k)
+    by (inr last) rest =
         let same : m ≡ n = omega (arith, last, less) in
         subst (λ (k : ℕ). leaders_at leader bank own m < leaders_at leader bank own (suc k)) same
         (let e = leader_counts leader bank own m leads reaches in omega (arith, e))
