@@ -1,2 +1,6 @@
 pub mod PutLists
+pub mod NoUses
+pub mod IndicesReach
+pub mod ReadsPut
+pub mod TermsPut
 pub mod StepKeeps
