@@ -1,7 +1,7 @@
 -- The bank that indices reach in a step is the one that is told of their path, whatever the turns of the loops: an index on
 -- which the bank depends is a number, or an iterator with a number, and shows what the program has there.
 use Rattle.std.proofs.Common.{◌≡◌, ℕ, zero, suc, ◌+◌, ◌-◌, ◌*◌, ◌/◌, ◌%◌, ◌^◌, ◌<◌, ◌≤◌, ◌⊎◌, inl, inr, List, Some, None, refl, sym, ap, ◌∙◌, subst, arith, length, add-one}
-use Rattle.std.specs.Prelude.{Bool, true, false, if◌then◌else◌, ◌==◌, ◌&&◌, ◌||◌, not, nat_le, nat_lt, [], ◌∷◌, ◌++◌, map, take, slice_get, slice_index, slice_index_or, Option, ℤ, pos, ◌+ℤ◌, unsigned_abs}
+use Rattle.std.specs.Prelude.{Bool, true, false, if◌then◌else◌, ◌==◌, ◌&&◌, ◌||◌, not, nat_le, nat_lt, [], ◌∷◌, ◌++◌, map, take, slice_get, slice_index, slice_index_or, Option, ℤ, pos, neg_ℤ, ◌+ℤ◌, unsigned_abs}
 use Rattle.std.specs.List.{AllByRecursion}
 use Rattle.std.proofs.Math.Nat.{mod-lt}
 use Rattle.std.proofs.lemmas.Bool.Decides.{nat_tests}
@@ -22,7 +22,7 @@ use Rattle.dh_tree.specs.declared.trees.expressions.Ref.{Ref}
 use Rattle.dh_tree.specs.Counters.{counter_in, counters_of}
 use Rattle.dh_tree.specs.Elements.{Spot, bank_of, banks_of, dims_at}
 use Rattle.dh_tree.specs.Indices.{IndexKind, constant, iterator, dynamic, counted, form_of, index_breaches, index_kind, indices_breaches, sum_kind}
-use Rattle.dh_tree.specs.Kinds.{found}
+use Rattle.dh_tree.specs.Kinds.{found, signed_number}
 use Rattle.dh_tree.specs.Memories.{same_entity, table_of}
 use Rattle.dh_tree.specs.PlainTrees as plain
 use Rattle.dh_tree.specs.Seen.{program_seen}
@@ -30,7 +30,7 @@ use Rattle.dh_tree.specs.Shapes.{IsDim}
 use Rattle.dh_tree.proofs.BankElements.{place_below}
 use Rattle.dh_meaning.specs.AccessNumbers.{term_accesses}
 use Rattle.dh_meaning.specs.Bindings.{kind_or_first}
-use Rattle.dh_meaning.specs.CoreOf.{core_term, entity_number, operation_of}
+use Rattle.dh_meaning.specs.CoreOf.{core_term, depth_of, entity_number, operation_of}
 use Rattle.dh_meaning.specs.Effects as meaning
 use Rattle.dh_meaning.specs.Effects.{Variables, bits_of, spot_by_indices, value_of}
 use Rattle.dh_meaning.specs.Paths.{Path}
@@ -75,11 +75,11 @@ loops_of levels = map (λ (l : Level). record { entity = l.entity; low = 0; high
 
 level_same : (levels : List Level) (entity : Option ℕ) → level_of_loop (loops_of levels) entity ≡ level_with levels entity
 level_same [] entity = refl
-level_same (l ∷ ls) entity = by (same_entity l.entity entity)
+level_same (l ∷ ls) entity = by (same_entity l.entity entity) (level_same ls entity)
   where
-    by : (b : Bool) → (if b then 0 else suc (level_of_loop (loops_of ls) entity)) ≡ (if b then 0 else level_with ls entity + 1)
-    by true = refl
-    by false = ap suc (level_same ls entity) ∙ sym (add-one (level_with ls entity))
+    by : (b : Bool) → level_of_loop (loops_of ls) entity ≡ level_with ls entity → (if b then 0 else suc (level_of_loop (loops_of ls) entity)) ≡ (if b then 0 else level_with ls entity + 1)
+    by true rest = refl
+    by false rest = ap suc rest ∙ sym (add-one (level_with ls entity))
 
 copy_there : (levels : List Level) (n i : ℕ) → slice_index_or (path_at levels n) i 0 ≡ copy_to (slice_get levels i) n
 copy_there [] n i = refl
@@ -306,7 +306,7 @@ module _ (x : Step) (scene : Scene) (lane : Lane) (stands : StandsIn scene lane.
   whole_kind (plain.term place k form) h = subst (λ (i : Kind). IsInteger i) (sym (ap kind_or_first h.is)) h.integer
 
   name_turns : (r : Ref) → NameTurns x scene levels r → NameInTurn AnyLoop (known_in scene) cs (loops_of levels) (lane_path lane) vars r
-  name_turns r t c e asked = in_turn r t _ c e
+  name_turns r t c e asked = in_turn r t (take (depth_of (known_in scene) r) (lane_path lane)) c e
 
   -- one that shows what the program has where a name in it is an iterator, and is told nothing where it is none
   with_name : (t : plain.Term) (r : Ref) (w : Word) → (counter_in cs r.entity ≡ None → index_kind cs (found t) (form_of t) ≡ dynamic) → ((c : Counter) → counter_in cs r.entity ≡ Some c → w ≡ worth 0 t)
@@ -346,9 +346,9 @@ module _ (x : Step) (scene : Scene) (lane : Lane) (stands : StandsIn scene lane.
   -- a name and a number
   first_tells : (place a b : Place) (k j i : Option Kind) (r : Ref) (negative : Bool) (z : ℕ) (o : Op) → Tells (plain.term place k (plain.applied o (plain.term a j (plain.named r)) (plain.term b i (plain.number negative z))))
   first_tells place a b k j i r negative z op.Add old new before after n next v h t m f s =
-      with_name _ r (shown x v) (λ none. ap (λ o. counted k o _) none) (λ c e. name_number place a b k j i r negative z t.0 c e h.whole.kind op.Add (h.parts refl) old new before after n next v 0 m f s) h (name_turns r t.0, tt)
+      with_name _ r (shown x v) (λ none. ap (λ o. counted k o (signed_number negative z)) none) (λ c e. name_number place a b k j i r negative z t.0 c e h.whole.kind op.Add (h.parts refl) old new before after n next v 0 m f s) h (name_turns r t.0, tt)
   first_tells place a b k j i r negative z op.Sub old new before after n next v h t m f s =
-      with_name _ r (shown x v) (λ none. ap (λ o. counted k o _) none) (λ c e. name_number place a b k j i r negative z t.0 c e h.whole.kind op.Sub (h.parts refl) old new before after n next v 0 m f s) h (name_turns r t.0, tt)
+      with_name _ r (shown x v) (λ none. ap (λ o. counted k o (neg_ℤ (signed_number negative z))) none) (λ c e. name_number place a b k j i r negative z t.0 c e h.whole.kind op.Sub (h.parts refl) old new before after n next v 0 m f s) h (name_turns r t.0, tt)
   first_tells place a b k j i r negative z op.Mul old new before after n next v h t m f s = tt
   first_tells place a b k j i r negative z op.And old new before after n next v h t m f s = tt
   first_tells place a b k j i r negative z op.Or old new before after n next v h t m f s = tt
@@ -367,7 +367,7 @@ module _ (x : Step) (scene : Scene) (lane : Lane) (stands : StandsIn scene lane.
   -- a number and a name
   second_tells : (place a b : Place) (k j i : Option Kind) (r : Ref) (negative : Bool) (z : ℕ) (o : Op) → Tells (plain.term place k (plain.applied o (plain.term b i (plain.number negative z)) (plain.term a j (plain.named r))))
   second_tells place a b k j i r negative z op.Add old new before after n next v h t m f s =
-      with_name _ r (shown x v) (λ none. ap (λ o. counted k o _) none) (λ c e. number_name place a b k j i r negative z t.1 c e h.whole.kind op.Add (h.parts refl) old new before after n next v 0 m f s) h (tt, name_turns r t.1)
+      with_name _ r (shown x v) (λ none. ap (λ o. counted k o (signed_number negative z)) none) (λ c e. number_name place a b k j i r negative z t.1 c e h.whole.kind op.Add (h.parts refl) old new before after n next v 0 m f s) h (tt, name_turns r t.1)
   second_tells place a b k j i r negative z op.Sub old new before after n next v h t m f s = tt
   second_tells place a b k j i r negative z op.Mul old new before after n next v h t m f s = tt
   second_tells place a b k j i r negative z op.And old new before after n next v h t m f s = tt
@@ -439,56 +439,59 @@ module _ (x : Step) (scene : Scene) (lane : Lane) (stands : StandsIn scene lane.
   no_sum k op.Both f g e = refl
   no_sum k op.Either f g e = refl
 
+  not_told : (place a b : Place) (k j i : Option Kind) (o : Op) (f g : plain.TermForm) → is_told f g ≡ false → Tells (plain.term place k (plain.applied o (plain.term a j f) (plain.term b i g)))
+  not_told place a b k j i o f g none old new before after n next v h turns made fits s = told_not (plain.term place k (plain.applied o (plain.term a j f) (plain.term b i g))) (shown x v) (no_sum k o f g none)
+
   pair_tells : (place a b : Place) (k j i : Option Kind) (o : Op) (f g : plain.TermForm) → Tells (plain.term place k (plain.applied o (plain.term a j f) (plain.term b i g)))
   pair_tells place a b k j i o (plain.named r) (plain.number negative z) = first_tells place a b k j i r negative z o
   pair_tells place a b k j i o (plain.number negative z) (plain.named r) = second_tells place b a k i j r negative z o
-  pair_tells place a b k j i o (plain.number s m) (plain.number t n) = λ old new before after n next v h turns made fits s. told_not _ _ (no_sum k o (plain.number s m) (plain.number t n) refl)
-  pair_tells place a b k j i o (plain.number s m) (plain.truth_value y) = λ old new before after n next v h turns made fits s. told_not _ _ (no_sum k o (plain.number s m) (plain.truth_value y) refl)
-  pair_tells place a b k j i o (plain.number s m) (plain.accessed q us) = λ old new before after n next v h turns made fits s. told_not _ _ (no_sum k o (plain.number s m) (plain.accessed q us) refl)
-  pair_tells place a b k j i o (plain.number s m) (plain.in_bank q other to u) = λ old new before after n next v h turns made fits s. told_not _ _ (no_sum k o (plain.number s m) (plain.in_bank q other to u) refl)
-  pair_tells place a b k j i o (plain.number s m) (plain.applied p c d) = λ old new before after n next v h turns made fits s. told_not _ _ (no_sum k o (plain.number s m) (plain.applied p c d) refl)
-  pair_tells place a b k j i o (plain.number s m) (plain.converted y l) = λ old new before after n next v h turns made fits s. told_not _ _ (no_sum k o (plain.number s m) (plain.converted y l) refl)
-  pair_tells place a b k j i o (plain.truth_value a1) (plain.number t n) = λ old new before after n next v h turns made fits s. told_not _ _ (no_sum k o (plain.truth_value a1) (plain.number t n) refl)
-  pair_tells place a b k j i o (plain.truth_value a1) (plain.truth_value y) = λ old new before after n next v h turns made fits s. told_not _ _ (no_sum k o (plain.truth_value a1) (plain.truth_value y) refl)
-  pair_tells place a b k j i o (plain.truth_value a1) (plain.named q) = λ old new before after n next v h turns made fits s. told_not _ _ (no_sum k o (plain.truth_value a1) (plain.named q) refl)
-  pair_tells place a b k j i o (plain.truth_value a1) (plain.accessed q us) = λ old new before after n next v h turns made fits s. told_not _ _ (no_sum k o (plain.truth_value a1) (plain.accessed q us) refl)
-  pair_tells place a b k j i o (plain.truth_value a1) (plain.in_bank q other to u) = λ old new before after n next v h turns made fits s. told_not _ _ (no_sum k o (plain.truth_value a1) (plain.in_bank q other to u) refl)
-  pair_tells place a b k j i o (plain.truth_value a1) (plain.applied p c d) = λ old new before after n next v h turns made fits s. told_not _ _ (no_sum k o (plain.truth_value a1) (plain.applied p c d) refl)
-  pair_tells place a b k j i o (plain.truth_value a1) (plain.converted y l) = λ old new before after n next v h turns made fits s. told_not _ _ (no_sum k o (plain.truth_value a1) (plain.converted y l) refl)
-  pair_tells place a b k j i o (plain.named r) (plain.truth_value y) = λ old new before after n next v h turns made fits s. told_not _ _ (no_sum k o (plain.named r) (plain.truth_value y) refl)
-  pair_tells place a b k j i o (plain.named r) (plain.named q) = λ old new before after n next v h turns made fits s. told_not _ _ (no_sum k o (plain.named r) (plain.named q) refl)
-  pair_tells place a b k j i o (plain.named r) (plain.accessed q us) = λ old new before after n next v h turns made fits s. told_not _ _ (no_sum k o (plain.named r) (plain.accessed q us) refl)
-  pair_tells place a b k j i o (plain.named r) (plain.in_bank q other to u) = λ old new before after n next v h turns made fits s. told_not _ _ (no_sum k o (plain.named r) (plain.in_bank q other to u) refl)
-  pair_tells place a b k j i o (plain.named r) (plain.applied p c d) = λ old new before after n next v h turns made fits s. told_not _ _ (no_sum k o (plain.named r) (plain.applied p c d) refl)
-  pair_tells place a b k j i o (plain.named r) (plain.converted y l) = λ old new before after n next v h turns made fits s. told_not _ _ (no_sum k o (plain.named r) (plain.converted y l) refl)
-  pair_tells place a b k j i o (plain.accessed r ts) (plain.number t n) = λ old new before after n next v h turns made fits s. told_not _ _ (no_sum k o (plain.accessed r ts) (plain.number t n) refl)
-  pair_tells place a b k j i o (plain.accessed r ts) (plain.truth_value y) = λ old new before after n next v h turns made fits s. told_not _ _ (no_sum k o (plain.accessed r ts) (plain.truth_value y) refl)
-  pair_tells place a b k j i o (plain.accessed r ts) (plain.named q) = λ old new before after n next v h turns made fits s. told_not _ _ (no_sum k o (plain.accessed r ts) (plain.named q) refl)
-  pair_tells place a b k j i o (plain.accessed r ts) (plain.accessed q us) = λ old new before after n next v h turns made fits s. told_not _ _ (no_sum k o (plain.accessed r ts) (plain.accessed q us) refl)
-  pair_tells place a b k j i o (plain.accessed r ts) (plain.in_bank q other to u) = λ old new before after n next v h turns made fits s. told_not _ _ (no_sum k o (plain.accessed r ts) (plain.in_bank q other to u) refl)
-  pair_tells place a b k j i o (plain.accessed r ts) (plain.applied p c d) = λ old new before after n next v h turns made fits s. told_not _ _ (no_sum k o (plain.accessed r ts) (plain.applied p c d) refl)
-  pair_tells place a b k j i o (plain.accessed r ts) (plain.converted y l) = λ old new before after n next v h turns made fits s. told_not _ _ (no_sum k o (plain.accessed r ts) (plain.converted y l) refl)
-  pair_tells place a b k j i o (plain.in_bank r bank at t) (plain.number t n) = λ old new before after n next v h turns made fits s. told_not _ _ (no_sum k o (plain.in_bank r bank at t) (plain.number t n) refl)
-  pair_tells place a b k j i o (plain.in_bank r bank at t) (plain.truth_value y) = λ old new before after n next v h turns made fits s. told_not _ _ (no_sum k o (plain.in_bank r bank at t) (plain.truth_value y) refl)
-  pair_tells place a b k j i o (plain.in_bank r bank at t) (plain.named q) = λ old new before after n next v h turns made fits s. told_not _ _ (no_sum k o (plain.in_bank r bank at t) (plain.named q) refl)
-  pair_tells place a b k j i o (plain.in_bank r bank at t) (plain.accessed q us) = λ old new before after n next v h turns made fits s. told_not _ _ (no_sum k o (plain.in_bank r bank at t) (plain.accessed q us) refl)
-  pair_tells place a b k j i o (plain.in_bank r bank at t) (plain.in_bank q other to u) = λ old new before after n next v h turns made fits s. told_not _ _ (no_sum k o (plain.in_bank r bank at t) (plain.in_bank q other to u) refl)
-  pair_tells place a b k j i o (plain.in_bank r bank at t) (plain.applied p c d) = λ old new before after n next v h turns made fits s. told_not _ _ (no_sum k o (plain.in_bank r bank at t) (plain.applied p c d) refl)
-  pair_tells place a b k j i o (plain.in_bank r bank at t) (plain.converted y l) = λ old new before after n next v h turns made fits s. told_not _ _ (no_sum k o (plain.in_bank r bank at t) (plain.converted y l) refl)
-  pair_tells place a b k j i o (plain.applied o1 a1 b1) (plain.number t n) = λ old new before after n next v h turns made fits s. told_not _ _ (no_sum k o (plain.applied o1 a1 b1) (plain.number t n) refl)
-  pair_tells place a b k j i o (plain.applied o1 a1 b1) (plain.truth_value y) = λ old new before after n next v h turns made fits s. told_not _ _ (no_sum k o (plain.applied o1 a1 b1) (plain.truth_value y) refl)
-  pair_tells place a b k j i o (plain.applied o1 a1 b1) (plain.named q) = λ old new before after n next v h turns made fits s. told_not _ _ (no_sum k o (plain.applied o1 a1 b1) (plain.named q) refl)
-  pair_tells place a b k j i o (plain.applied o1 a1 b1) (plain.accessed q us) = λ old new before after n next v h turns made fits s. told_not _ _ (no_sum k o (plain.applied o1 a1 b1) (plain.accessed q us) refl)
-  pair_tells place a b k j i o (plain.applied o1 a1 b1) (plain.in_bank q other to u) = λ old new before after n next v h turns made fits s. told_not _ _ (no_sum k o (plain.applied o1 a1 b1) (plain.in_bank q other to u) refl)
-  pair_tells place a b k j i o (plain.applied o1 a1 b1) (plain.applied p c d) = λ old new before after n next v h turns made fits s. told_not _ _ (no_sum k o (plain.applied o1 a1 b1) (plain.applied p c d) refl)
-  pair_tells place a b k j i o (plain.applied o1 a1 b1) (plain.converted y l) = λ old new before after n next v h turns made fits s. told_not _ _ (no_sum k o (plain.applied o1 a1 b1) (plain.converted y l) refl)
-  pair_tells place a b k j i o (plain.converted a1 j1) (plain.number t n) = λ old new before after n next v h turns made fits s. told_not _ _ (no_sum k o (plain.converted a1 j1) (plain.number t n) refl)
-  pair_tells place a b k j i o (plain.converted a1 j1) (plain.truth_value y) = λ old new before after n next v h turns made fits s. told_not _ _ (no_sum k o (plain.converted a1 j1) (plain.truth_value y) refl)
-  pair_tells place a b k j i o (plain.converted a1 j1) (plain.named q) = λ old new before after n next v h turns made fits s. told_not _ _ (no_sum k o (plain.converted a1 j1) (plain.named q) refl)
-  pair_tells place a b k j i o (plain.converted a1 j1) (plain.accessed q us) = λ old new before after n next v h turns made fits s. told_not _ _ (no_sum k o (plain.converted a1 j1) (plain.accessed q us) refl)
-  pair_tells place a b k j i o (plain.converted a1 j1) (plain.in_bank q other to u) = λ old new before after n next v h turns made fits s. told_not _ _ (no_sum k o (plain.converted a1 j1) (plain.in_bank q other to u) refl)
-  pair_tells place a b k j i o (plain.converted a1 j1) (plain.applied p c d) = λ old new before after n next v h turns made fits s. told_not _ _ (no_sum k o (plain.converted a1 j1) (plain.applied p c d) refl)
-  pair_tells place a b k j i o (plain.converted a1 j1) (plain.converted y l) = λ old new before after n next v h turns made fits s. told_not _ _ (no_sum k o (plain.converted a1 j1) (plain.converted y l) refl)
+  pair_tells place a b k j i o (plain.number s1 m1) (plain.number t2 n2) = not_told place a b k j i o (plain.number s1 m1) (plain.number t2 n2) refl
+  pair_tells place a b k j i o (plain.number s1 m1) (plain.truth_value y2) = not_told place a b k j i o (plain.number s1 m1) (plain.truth_value y2) refl
+  pair_tells place a b k j i o (plain.number s1 m1) (plain.accessed q2 us2) = not_told place a b k j i o (plain.number s1 m1) (plain.accessed q2 us2) refl
+  pair_tells place a b k j i o (plain.number s1 m1) (plain.in_bank q2 other to u2) = not_told place a b k j i o (plain.number s1 m1) (plain.in_bank q2 other to u2) refl
+  pair_tells place a b k j i o (plain.number s1 m1) (plain.applied p2 c2 d2) = not_told place a b k j i o (plain.number s1 m1) (plain.applied p2 c2 d2) refl
+  pair_tells place a b k j i o (plain.number s1 m1) (plain.converted y2 l2) = not_told place a b k j i o (plain.number s1 m1) (plain.converted y2 l2) refl
+  pair_tells place a b k j i o (plain.truth_value a1) (plain.number t2 n2) = not_told place a b k j i o (plain.truth_value a1) (plain.number t2 n2) refl
+  pair_tells place a b k j i o (plain.truth_value a1) (plain.truth_value y2) = not_told place a b k j i o (plain.truth_value a1) (plain.truth_value y2) refl
+  pair_tells place a b k j i o (plain.truth_value a1) (plain.named q2) = not_told place a b k j i o (plain.truth_value a1) (plain.named q2) refl
+  pair_tells place a b k j i o (plain.truth_value a1) (plain.accessed q2 us2) = not_told place a b k j i o (plain.truth_value a1) (plain.accessed q2 us2) refl
+  pair_tells place a b k j i o (plain.truth_value a1) (plain.in_bank q2 other to u2) = not_told place a b k j i o (plain.truth_value a1) (plain.in_bank q2 other to u2) refl
+  pair_tells place a b k j i o (plain.truth_value a1) (plain.applied p2 c2 d2) = not_told place a b k j i o (plain.truth_value a1) (plain.applied p2 c2 d2) refl
+  pair_tells place a b k j i o (plain.truth_value a1) (plain.converted y2 l2) = not_told place a b k j i o (plain.truth_value a1) (plain.converted y2 l2) refl
+  pair_tells place a b k j i o (plain.named r) (plain.truth_value y2) = not_told place a b k j i o (plain.named r) (plain.truth_value y2) refl
+  pair_tells place a b k j i o (plain.named r) (plain.named q2) = not_told place a b k j i o (plain.named r) (plain.named q2) refl
+  pair_tells place a b k j i o (plain.named r) (plain.accessed q2 us2) = not_told place a b k j i o (plain.named r) (plain.accessed q2 us2) refl
+  pair_tells place a b k j i o (plain.named r) (plain.in_bank q2 other to u2) = not_told place a b k j i o (plain.named r) (plain.in_bank q2 other to u2) refl
+  pair_tells place a b k j i o (plain.named r) (plain.applied p2 c2 d2) = not_told place a b k j i o (plain.named r) (plain.applied p2 c2 d2) refl
+  pair_tells place a b k j i o (plain.named r) (plain.converted y2 l2) = not_told place a b k j i o (plain.named r) (plain.converted y2 l2) refl
+  pair_tells place a b k j i o (plain.accessed r ts1) (plain.number t2 n2) = not_told place a b k j i o (plain.accessed r ts1) (plain.number t2 n2) refl
+  pair_tells place a b k j i o (plain.accessed r ts1) (plain.truth_value y2) = not_told place a b k j i o (plain.accessed r ts1) (plain.truth_value y2) refl
+  pair_tells place a b k j i o (plain.accessed r ts1) (plain.named q2) = not_told place a b k j i o (plain.accessed r ts1) (plain.named q2) refl
+  pair_tells place a b k j i o (plain.accessed r ts1) (plain.accessed q2 us2) = not_told place a b k j i o (plain.accessed r ts1) (plain.accessed q2 us2) refl
+  pair_tells place a b k j i o (plain.accessed r ts1) (plain.in_bank q2 other to u2) = not_told place a b k j i o (plain.accessed r ts1) (plain.in_bank q2 other to u2) refl
+  pair_tells place a b k j i o (plain.accessed r ts1) (plain.applied p2 c2 d2) = not_told place a b k j i o (plain.accessed r ts1) (plain.applied p2 c2 d2) refl
+  pair_tells place a b k j i o (plain.accessed r ts1) (plain.converted y2 l2) = not_told place a b k j i o (plain.accessed r ts1) (plain.converted y2 l2) refl
+  pair_tells place a b k j i o (plain.in_bank r bank at t1) (plain.number t2 n2) = not_told place a b k j i o (plain.in_bank r bank at t1) (plain.number t2 n2) refl
+  pair_tells place a b k j i o (plain.in_bank r bank at t1) (plain.truth_value y2) = not_told place a b k j i o (plain.in_bank r bank at t1) (plain.truth_value y2) refl
+  pair_tells place a b k j i o (plain.in_bank r bank at t1) (plain.named q2) = not_told place a b k j i o (plain.in_bank r bank at t1) (plain.named q2) refl
+  pair_tells place a b k j i o (plain.in_bank r bank at t1) (plain.accessed q2 us2) = not_told place a b k j i o (plain.in_bank r bank at t1) (plain.accessed q2 us2) refl
+  pair_tells place a b k j i o (plain.in_bank r bank at t1) (plain.in_bank q2 other to u2) = not_told place a b k j i o (plain.in_bank r bank at t1) (plain.in_bank q2 other to u2) refl
+  pair_tells place a b k j i o (plain.in_bank r bank at t1) (plain.applied p2 c2 d2) = not_told place a b k j i o (plain.in_bank r bank at t1) (plain.applied p2 c2 d2) refl
+  pair_tells place a b k j i o (plain.in_bank r bank at t1) (plain.converted y2 l2) = not_told place a b k j i o (plain.in_bank r bank at t1) (plain.converted y2 l2) refl
+  pair_tells place a b k j i o (plain.applied o1 a1 b1) (plain.number t2 n2) = not_told place a b k j i o (plain.applied o1 a1 b1) (plain.number t2 n2) refl
+  pair_tells place a b k j i o (plain.applied o1 a1 b1) (plain.truth_value y2) = not_told place a b k j i o (plain.applied o1 a1 b1) (plain.truth_value y2) refl
+  pair_tells place a b k j i o (plain.applied o1 a1 b1) (plain.named q2) = not_told place a b k j i o (plain.applied o1 a1 b1) (plain.named q2) refl
+  pair_tells place a b k j i o (plain.applied o1 a1 b1) (plain.accessed q2 us2) = not_told place a b k j i o (plain.applied o1 a1 b1) (plain.accessed q2 us2) refl
+  pair_tells place a b k j i o (plain.applied o1 a1 b1) (plain.in_bank q2 other to u2) = not_told place a b k j i o (plain.applied o1 a1 b1) (plain.in_bank q2 other to u2) refl
+  pair_tells place a b k j i o (plain.applied o1 a1 b1) (plain.applied p2 c2 d2) = not_told place a b k j i o (plain.applied o1 a1 b1) (plain.applied p2 c2 d2) refl
+  pair_tells place a b k j i o (plain.applied o1 a1 b1) (plain.converted y2 l2) = not_told place a b k j i o (plain.applied o1 a1 b1) (plain.converted y2 l2) refl
+  pair_tells place a b k j i o (plain.converted a1 j1) (plain.number t2 n2) = not_told place a b k j i o (plain.converted a1 j1) (plain.number t2 n2) refl
+  pair_tells place a b k j i o (plain.converted a1 j1) (plain.truth_value y2) = not_told place a b k j i o (plain.converted a1 j1) (plain.truth_value y2) refl
+  pair_tells place a b k j i o (plain.converted a1 j1) (plain.named q2) = not_told place a b k j i o (plain.converted a1 j1) (plain.named q2) refl
+  pair_tells place a b k j i o (plain.converted a1 j1) (plain.accessed q2 us2) = not_told place a b k j i o (plain.converted a1 j1) (plain.accessed q2 us2) refl
+  pair_tells place a b k j i o (plain.converted a1 j1) (plain.in_bank q2 other to u2) = not_told place a b k j i o (plain.converted a1 j1) (plain.in_bank q2 other to u2) refl
+  pair_tells place a b k j i o (plain.converted a1 j1) (plain.applied p2 c2 d2) = not_told place a b k j i o (plain.converted a1 j1) (plain.applied p2 c2 d2) refl
+  pair_tells place a b k j i o (plain.converted a1 j1) (plain.converted y2 l2) = not_told place a b k j i o (plain.converted a1 j1) (plain.converted y2 l2) refl
 
   index_tells : (t : plain.Term) → Tells t
   index_tells (plain.term place k (plain.number negative z)) old new before after n next v h t m f s =
@@ -499,7 +502,7 @@ module _ (x : Step) (scene : Scene) (lane : Lane) (stands : StandsIn scene lane.
       (λ c e. named_shows place k r t c e (whole_kind (plain.term place k (plain.named r)) h.whole) old new before after n next v 0 m f s) h (name_turns r t)
   index_tells (plain.term place k (plain.accessed r ts)) old new before after n next v h t m f s = tt
   index_tells (plain.term place k (plain.in_bank r bank at row)) old new before after n next v h t m f s = tt
-  index_tells (plain.term place k (plain.applied o (plain.term a j left) (plain.term b i right))) = pair_tells place a b k j i o left right
+  index_tells (plain.term place k (plain.applied o (plain.term a j left) (plain.term b i right))) old new before after n next v h t m f s = pair_tells place a b k j i o left right old new before after n next v h t m f s
   index_tells (plain.term place k (plain.converted inner to)) old new before after n next v h t m f s = tt
 
   -- Banks.
@@ -550,7 +553,7 @@ module _ (x : Step) (scene : Scene) (lane : Lane) (stands : StandsIn scene lane.
   some_banks (d ∷ ds) h = let one = h.0.banks in let rest = some_banks ds h.1 in product d.banks (banks_of ds) one rest
     where
       product : (a b : ℕ) → 1 ≤ a → 0 < b → 0 < a * b
-      product a b p q = place_below 0 b 0 a p q
+      product a b p q = let h = place_below 0 b 0 a p q in omega (arith, h)
 
   bank_small : (dims : List Dim) (is : List ℕ) → AllByRecursion IsDim dims → bank_of dims is < banks_of dims
   bank_small [] is h = omega arith

@@ -162,6 +162,7 @@ module _ (x : Step) (sites : ℕ → Option Site) where
 
   -- at one path
   pub at_then : (first many more : ℕ) (IsAt Written : ℕ → Type 0) (a b c : Draft) → PutsAt x sites first many IsAt Written a b → PutsAt x sites (first + many) more IsAt Written b c → PutsAt x sites first (many + more) IsAt Written a c
+  unfolding down_then
   at_then first many more IsAt Written a b c h k = record {
     down = down_then first many more a b c h.down k.down;
     at = each_both (λ u r. IsAt u.path) h.down.puts k.down.puts h.at k.at;

@@ -1,5 +1,5 @@
 -- A read or a write that is put down at a path: it is of an access as that stands, by a path that leads.
-use Rattle.std.proofs.Common.{◌≡◌, ℕ, zero, suc, ◌+◌, ◌^◌, ◌<◌, ◌≤◌, ◌⊎◌, inl, inr, ⊎_elim, true, List, Some, None, refl, sym, ap, ◌∙◌, subst, arith, length}
+use Rattle.std.proofs.Common.{◌≡◌, ℕ, zero, suc, ◌+◌, ◌^◌, ◌<◌, ◌≤◌, ◌⊎◌, inl, inr, ⊎_elim, true, false, List, Some, None, refl, sym, ap, ◌∙◌, subst, arith, length}
 use Rattle.std.specs.Prelude.{Bool as Truth, [], ◌∷◌, ◌++◌, ◌||◌, if◌then◌else◌, slice_get, Option}
 use Rattle.std.proofs.lemmas.Bool.{cases_eq}
 use Rattle.dh_base.specs.declared.outcomes.FaultKind.TheVariants.{OutOfRange}
@@ -171,7 +171,7 @@ module _ (x : Step) (sites : ℕ → Option Site) (scene : Scene) (lane : Lane) 
         → PutsAt x sites aim.number 1 (λ path. path ≡ lane.number) (λ n. ⊥) d e
     read_pushed d e a t v is laid leading p =
         puts_one x sites aim.number 1 (λ path. path ≡ lane.number) (λ n. ⊥) d e v lane.number (copied_in a aim.number lane.number).guard (Read told_reach) p refl
-        (λ r u. subst (λ (k : Reach). IsUse x sites put k) (some_same told_reach r u) use)
+        (λ r u. subst (λ (k : Reach). IsUse x sites put k) (some_same told_reach r u) is_used)
         (λ r u. subst (λ (k : Reach). (aim.number ≤ k.access) × (k.access < aim.number + 1)) (some_same told_reach r u) (own_within aim.number)) (λ r u w. absurd w)
       where
         told_reach : Reach
@@ -180,8 +180,8 @@ module _ (x : Step) (sites : ℕ → Option Site) (scene : Scene) (lane : Lane) 
         put : Put
         put = record { operation = record { guard = (copied_in a aim.number lane.number).guard; form = Read told_reach }; path = lane.number }
 
-        use : IsUse x sites put told_reach
-        use = record {
+        is_used : IsUse x sites put told_reach
+        is_used = record {
           site = site access memory aim false;
           there = at;
           memory_is = refl;
@@ -319,7 +319,7 @@ module _ (x : Step) (sites : ℕ → Option Site) (scene : Scene) (lane : Lane) 
       puts = behind_none x sites aim.number 1 (λ path. path ≡ lane.number) (λ n. n ≡ aim.number) old m.second new
           (none_again old m.first m.second (touch_none access memory aim true old m.first before after m.touches) (none_pushed m.first m.second _ _ _ m.probes tt))
           (puts_one x sites aim.number 1 (λ path. path ≡ lane.number) (λ n. n ≡ aim.number) m.second new m.number lane.number (lane_guard lane) (Write told_reach value) m.writes refl
-          (λ r u. subst (λ (k : Reach). IsUse x sites put k) (some_same told_reach r u) use)
+          (λ r u. subst (λ (k : Reach). IsUse x sites put k) (some_same told_reach r u) is_used)
           (λ r u. subst (λ (k : Reach). (aim.number ≤ k.access) × (k.access < aim.number + 1)) (some_same told_reach r u) (own_within aim.number))
           (λ r u w. subst (λ (k : Reach). k.access ≡ aim.number) (some_same told_reach r u) refl));
       sited = write_sited;
@@ -331,8 +331,8 @@ module _ (x : Step) (sites : ℕ → Option Site) (scene : Scene) (lane : Lane) 
         put : Put
         put = record { operation = record { guard = lane_guard lane; form = Write told_reach value }; path = lane.number }
 
-        use : IsUse x sites put told_reach
-        use = record {
+        is_used : IsUse x sites put told_reach
+        is_used = record {
           site = site access memory aim true;
           there = at;
           memory_is = refl;
