@@ -4,3 +4,5 @@ pub mod Puts
 pub mod StepBanks
 -- indices whose banks are those of every turn
 pub mod IndicesKept
+-- which accesses are reads, and which share one
+pub mod ReadsTold
