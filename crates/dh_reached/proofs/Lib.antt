@@ -5,4 +5,5 @@ pub mod ReadsPut
 pub mod TermsPut
 pub mod LanesPut
 pub mod StoresPut
+pub mod PlacesOf
 pub mod StepKeeps
