@@ -6,4 +6,5 @@ pub mod TermsPut
 pub mod LanesPut
 pub mod StoresPut
 pub mod PlacesOf
+pub mod CommandsPut
 pub mod StepKeeps

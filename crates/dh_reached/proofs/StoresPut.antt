@@ -46,6 +46,10 @@ use Rattle.dh_reached.proofs.NoUses.{at_then, behind_none, puts_wider}
 use Rattle.dh_reached.proofs.ReadsPut.{PutsHere, ReachesAt, StandsSpread, write_given, write_puts}
 use Rattle.dh_reached.proofs.TermsPut.{Done, SitesAt, all_sites_long, done_then, site_one, sites_back, sites_front, sites_long, term_done, terms_done}
 
+-- the number behind so many reads
+abbrev pub IsLast : (first reads i : ℕ) → Type 0
+IsLast first reads i = i ≡ first + reads
+
 module _ (x : Step) (sites : ℕ → Option Site) (scene : Scene) (table : x.start.table ≡ table_of (program_seen scene.program.now)) (IsRead : ℕ → Type 0) (paths : ℕ)
     (around : Around) (stands : StandsSpread scene around) (n : ℕ) (within : n < paths_counted around) where
   abbrev lane : Lane
@@ -53,9 +57,6 @@ module _ (x : Step) (sites : ℕ → Option Site) (scene : Scene) (table : x.sta
 
   abbrev DoneHere : (first count : ℕ) → (old new : Draft) → (before after : Accesses) → Type 0
   DoneHere first count old new before after = Done x sites scene (lane_of around n) stands within table first count old new before after
-
-  abbrev IsLast : (first reads i : ℕ) → Type 0
-  IsLast first reads i = i ≡ first + reads
 
   -- the write behind the reads of a store
   module _ (target t : Term) (memory value : ℕ) (aim : Aim) (old end : Draft) (before behind : Accesses) (new : Building) (next : ℕ) (first reads : ℕ) (own : aim.number ≡ first + reads)
