@@ -157,7 +157,7 @@ store_number scene lane first (plain.term place k form) t old new next m is few 
           ∙ touched_own scene lane old.values.current.items t old.draft m.middle old.accesses m.between first m.own m.value m.term (omega (arith, few)) number (outside_front first (term_accesses t) (form_accesses form) number out);
     }
 
-aims_within : (target : Term) → IsAccessForm (form_of target) → aim_accesses (form_of target) + 1 ≡ term_accesses target
+pub aims_within : (target : Term) → IsAccessForm (form_of target) → aim_accesses (form_of target) + 1 ≡ term_accesses target
 aims_within (plain.term place k (plain.accessed r ts)) is = omega arith
 aims_within (plain.term place k (plain.in_bank r bank at row)) is = omega arith
 aims_within (plain.term place k (plain.number negative z)) is = absurd is

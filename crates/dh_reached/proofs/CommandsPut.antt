@@ -66,7 +66,7 @@ guard_none : (guard : Option ℕ) (t : ℕ) (old new : Draft) (v : ℕ) → Made
 guard_none None t old new v m = none_still old new m.0
 guard_none (Some g) t old new v m = none_pushed old new v None (Compute Both g t) m tt
 
-guards_none : (holds : Truth) (guards : List (Option ℕ)) (tests : List ℕ) (count : ℕ) (old new : Draft) (arm : List (Option ℕ)) → MadeArmGuards holds guards tests count old new arm → AddsNone old new
+pub guards_none : (holds : Truth) (guards : List (Option ℕ)) (tests : List ℕ) (count : ℕ) (old new : Draft) (arm : List (Option ℕ)) → MadeArmGuards holds guards tests count old new arm → AddsNone old new
 guards_none holds guards tests zero old new arm m = none_still old new m.0
 guards_none holds guards tests (suc n) old new arm m = none_again old m.0 new (guards_none holds guards tests n old m.0 m.1.0 m.1.1.1.1.0) (one m.0 m.1.1.0 m.1.1.1.0 m.1.1.1.1.1.1.0)
   where
@@ -83,7 +83,7 @@ choice_none (Some test) c old new before after m =
     none_again old m.first new (behind_shows before.current.items c.register c.chosen old m.first m.yes_value m.chosen)
     (none_again m.first m.second new (behind_shows before.current.items c.register c.other m.first m.second m.no_value m.other) (none_pushed m.second new m.value None (Select test m.yes_value m.no_value) m.pushes tt))
 
-choices_none : (tests : List ℕ) (choices : List Choice) (count : ℕ) (old new : Draft) (before after : Values) → MadeChoices tests choices count old new before after → AddsNone old new
+pub choices_none : (tests : List ℕ) (choices : List Choice) (count : ℕ) (old new : Draft) (before after : Values) → MadeChoices tests choices count old new before after → AddsNone old new
 choices_none tests choices zero old new before after m = none_still old new m.0
 choices_none tests choices (suc n) old new before after m =
     none_again old m.0 new (choices_none tests choices n old m.0 before m.1.0 m.1.1.1.0) (choice_none (slice_get tests (m.1.1.0).path) m.1.1.0 m.0 new m.1.0 after m.1.1.1.1.1)
@@ -94,7 +94,7 @@ tests_lanes : (scene : Scene) (around : Around) (first : ℕ) (t : Term) (count 
 tests_lanes scene around first t zero old new next tests m = (m.0, m.1.0)
 tests_lanes scene around first t (suc n) old new next tests m = (m.0, (m.1.0, (tests_lanes scene around first t n old m.0 m.1.0 m.1.1.0 m.1.1.1.1.0, (m.1.1.1.0, m.1.1.1.1.1.0))))
 
-spread_arm : (scene : Scene) (Inner : Commanding) (around : Around) (holds : Truth) (tests : List ℕ) (old new : Building) (first next : ℕ) (lefts : List Left) (m : MadeArm Inner around holds tests old new first next lefts)
+pub spread_arm : (scene : Scene) (Inner : Commanding) (around : Around) (holds : Truth) (tests : List ℕ) (old new : Building) (first next : ℕ) (lefts : List Left) (m : MadeArm Inner around holds tests old new first next lefts)
     → StandsSpread scene around → length tests ≡ paths_counted around → StandsSpread scene m.arm
 spread_arm scene Inner around holds tests old new first next lefts m s many = record {
   stands = stands_arm scene Inner around holds tests old new first next lefts m s.stands many;
@@ -106,7 +106,7 @@ spread_arm scene Inner around holds tests old new first next lefts m s many = re
         → length tests ≡ paths_counted around → paths_counted m.arm ≡ paths_counted around
     paths_same Inner around holds tests old new first next lefts m many = arm_long holds around.guards.now tests (length tests) old.draft m.guarded m.arm.guards.now m.guards ∙ many
 
-arm_paths : (Inner : Commanding) (around : Around) (holds : Truth) (tests : List ℕ) (old new : Building) (first next : ℕ) (lefts : List Left) (m : MadeArm Inner around holds tests old new first next lefts)
+pub arm_paths : (Inner : Commanding) (around : Around) (holds : Truth) (tests : List ℕ) (old new : Building) (first next : ℕ) (lefts : List Left) (m : MadeArm Inner around holds tests old new first next lefts)
     → length tests ≡ paths_counted around → paths_counted m.arm ≡ paths_counted around
 arm_paths Inner around holds tests old new first next lefts m many = arm_long holds around.guards.now tests (length tests) old.draft m.guarded m.arm.guards.now m.guards ∙ many
 
@@ -134,7 +134,7 @@ module _ (x : Step) (sites : ℕ → Option Site) where
   down_before first count a b c h k = (before_none x sites first count (λ n. Unit {0}) (λ n. Unit {0}) a b c (loose first count a b h) k).down
 
 module _ (x : Step) (sites : ℕ → Option Site) (scene : Scene) (table : x.start.table ≡ table_of (program_seen scene.program.now)) (IsRead : ℕ → Type 0) (paths : ℕ) (some : 0 < paths) (shares : BlockShares IsRead scene sites) where
-  abbrev Stood : Accesses → (upto : ℕ) → Type 0
+  abbrev pub Stood : Accesses → (upto : ℕ) → Type 0
   Stood a upto = Behind x sites scene table IsRead paths a upto
 
   -- what is put down for accesses from a first one on, so many
@@ -142,17 +142,17 @@ module _ (x : Step) (sites : ℕ → Option Site) (scene : Scene) (table : x.sta
     pub down : PutsDown x sites first count old.draft new.draft
     pub behind : Stood new.accesses (first + count)
 
-  put_as : (first a b : ℕ) (old new : Building) → a ≡ b → CommandPut first a old new → CommandPut first b old new
+  pub put_as : (first a b : ℕ) (old new : Building) → a ≡ b → CommandPut first a old new → CommandPut first b old new
   put_as first a b old new same h = subst (λ (c : ℕ). CommandPut first c old new) same h
 
-  put_then : (first a b : ℕ) (old mid new : Building) → CommandPut first a old mid → CommandPut (first + a) b mid new → CommandPut first (a + b) old new
+  pub put_then : (first a b : ℕ) (old mid new : Building) → CommandPut first a old mid → CommandPut (first + a) b mid new → CommandPut first (a + b) old new
   put_then first a b old mid new h k = record {
     down = down_then x sites first a b old.draft mid.draft new.draft h.down k.down;
     behind = subst (λ (n : ℕ). Stood new.accesses n) (let e : first + a + b ≡ first + (a + b) = omega arith in e) k.behind;
   }
 
   -- a loop that has no turn, with accesses that have no operations; or nothing at all
-  put_idle : (first count : ℕ) (old new : Building) → new ≡ old → NoneReads IsRead first count → Stood old.accesses first → CommandPut first count old new
+  pub put_idle : (first count : ℕ) (old new : Building) → new ≡ old → NoneReads IsRead first count → Stood old.accesses first → CommandPut first count old new
   put_idle first count old new still none h = record {
     down = (puts_added x sites first count (λ n. Unit {0}) (λ n. Unit {0}) old.draft new.draft (none_still old.draft new.draft (ap (λ (b : Building). b.draft) still))).down;
     behind = subst (λ (b : Building). Stood b.accesses (first + count)) (sym still) (record {
@@ -166,7 +166,7 @@ module _ (x : Step) (sites : ℕ → Option Site) (scene : Scene) (table : x.sta
       by e is below (inl less) = h.given e is less
       by e is below (inr from) = absurd (none e from below is)
 
-  put_none : (first : ℕ) (old new : Building) → new ≡ old → Stood old.accesses first → CommandPut first 0 old new
+  pub put_none : (first : ℕ) (old new : Building) → new ≡ old → Stood old.accesses first → CommandPut first 0 old new
   put_none first old new still h = put_idle first 0 old new still (λ e from below is. absurd (never e from below)) h
     where
       never : (e : ℕ) → first ≤ e → e < first + 0 → ⊥
@@ -196,13 +196,13 @@ module _ (x : Step) (sites : ℕ → Option Site) (scene : Scene) (table : x.sta
         (sites_are (term_sites scene around t) (term_accesses t) (let e = sites_long scene around t in omega (arith, e)) at) b new next m f (no_rest (term_accesses t)) in
         record { down = l.down; behind = l.behind }
 
-    assigned_put : (entity : ℕ) (t : Term) (next : ℕ) → MadeLanes (λ n b d k. MadeAssigned scene (lane_of around n) first entity t b d k) (paths_counted around) first old new next
+    pub assigned_put : (entity : ℕ) (t : Term) (next : ℕ) → MadeLanes (λ n b d k. MadeAssigned scene (lane_of around n) first entity t b d k) (paths_counted around) first old new next
         → first + term_accesses t < 2 ^ 32 → SitesAt sites first (term_sites scene around t) → TermKeeps x scene around.levels.now t → CommandPut first (term_accesses t) old new
     assigned_put entity t next m few at keeps =
         term_put t (λ n b d k. MadeAssigned scene (lane_of around n) first entity t b d k) (λ n b d k one. (assigned_lays scene (lane_of around n) stands.stands first entity t b d k one).extends)
         (λ n b d k less one fd bd sited next. assigned_lane x sites scene table IsRead paths around stands n less first entity t b d k one few at keeps fd bd sited next) at next m
 
-    reduced_put : (entity : ℕ) (op : _) (t : Term) (next : ℕ) → MadeLanes (λ n b d k. MadeReduced scene (lane_of around n) first entity op t b d k) (paths_counted around) first old new next
+    pub reduced_put : (entity : ℕ) (op : _) (t : Term) (next : ℕ) → MadeLanes (λ n b d k. MadeReduced scene (lane_of around n) first entity op t b d k) (paths_counted around) first old new next
         → first + term_accesses t < 2 ^ 32 → SitesAt sites first (term_sites scene around t) → TermKeeps x scene around.levels.now t → CommandPut first (term_accesses t) old new
     reduced_put entity op t next m few at keeps =
         term_put t (λ n b d k. MadeReduced scene (lane_of around n) first entity op t b d k) (λ n b d k one. (reduced_lays scene (lane_of around n) stands.stands first entity op t b d k one).extends)
@@ -216,7 +216,7 @@ module _ (x : Step) (sites : ℕ → Option Site) (scene : Scene) (table : x.sta
         (λ n b d k less one fd bd sited next. tested_lane x sites scene table IsRead paths around stands n less first t b d k one.0 one.1 few at keeps fd bd sited next) at next
         (tests_lanes scene around first t (paths_counted around) old new next tests m)
 
-    cleared_put : (entity : ℕ) (next : ℕ) → MadeLanes (λ n b d k. MadeCleared scene (lane_of around n) entity b d × (k ≡ first)) (paths_counted around) first old new next → CommandPut first 0 old new
+    pub cleared_put : (entity : ℕ) (next : ℕ) → MadeLanes (λ n b d k. MadeCleared scene (lane_of around n) entity b d × (k ≡ first)) (paths_counted around) first old new next → CommandPut first 0 old new
     cleared_put entity next m =
         let l = all_lanes x sites scene table IsRead paths around same shares first 0 0 (omega arith) (λ i. ⊥) nothing_one (λ n b d k. MadeCleared scene (lane_of around n) entity b d × (k ≡ first))
         (λ n b d k one. (cleared_lays scene (lane_of around n) stands.stands entity b d one.0).extends)
@@ -227,7 +227,7 @@ module _ (x : Step) (sites : ℕ → Option Site) (scene : Scene) (table : x.sta
         never : (m : ℕ) → first ≤ m → m < first + 0 → ⊥
         never m from below = omega (arith, from, below)
 
-    stored_put : (place : Place) (j : Option Kind) (form : plain.TermForm) (t : Term) (next : ℕ) → MadeLanes (λ n b d k. MadeStored scene (lane_of around n) first (plain.term place j form) t b d k) (paths_counted around) first old new next
+    pub stored_put : (place : Place) (j : Option Kind) (form : plain.TermForm) (t : Term) (next : ℕ) → MadeLanes (λ n b d k. MadeStored scene (lane_of around n) first (plain.term place j form) t b d k) (paths_counted around) first old new next
         → IsAccessForm form → first + (term_accesses t + form_accesses form) < 2 ^ 32 → SitesAt sites first (term_sites scene around t ++ target_sites scene around (plain.term place j form))
         → TermKeeps x scene around.levels.now t → FormKeeps x scene around.levels.now form → (IsRead (first + (term_accesses t + aim_accesses form)) → ⊥)
         → length (term_sites scene around t ++ target_sites scene around (plain.term place j form)) ≡ term_accesses t + form_accesses form → aim_accesses form + 1 ≡ form_accesses form

@@ -7,4 +7,5 @@ pub mod LanesPut
 pub mod StoresPut
 pub mod PlacesOf
 pub mod CommandsPut
+pub mod CommandsDown
 pub mod StepKeeps

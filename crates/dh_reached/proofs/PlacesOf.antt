@@ -45,7 +45,7 @@ there_at (x ∷ ss) (suc i) s at = there_at ss i s at
 pub places_there : (sites : ℕ → Option Site) (n : ℕ) (ss : List Site) → PlacesAt sites n (all_there ss) → SitesAt sites n ss
 places_there sites n ss h i s at = h i s (there_at ss i s at)
 
-there_long : (ss : List Site) → length (all_there ss) ≡ length ss
+pub there_long : (ss : List Site) → length (all_there ss) ≡ length ss
 there_long [] = refl
 there_long (s ∷ ss) = ap suc (there_long ss)
 
@@ -65,8 +65,8 @@ module _ (scene : Scene) (around : Around) where
   target_long place k (plain.applied op left right) is = absurd is
   target_long place k (plain.converted inner to) is = absurd is
 
-  store_long : (t target : plain.Term) → IsAccessForm (form_of target) → length (term_sites scene around t ++ target_sites scene around target) ≡ term_accesses t + term_accesses target
-  store_long t (plain.term place k form) is =
+  pub stored_long : (t target : plain.Term) → IsAccessForm (form_of target) → length (term_sites scene around t ++ target_sites scene around target) ≡ term_accesses t + term_accesses target
+  stored_long t (plain.term place k form) is =
       length-append (term_sites scene around t) (target_sites scene around (plain.term place k form))
       ∙ (ap (λ n. n + length (target_sites scene around (plain.term place k form))) (sites_long scene around t) ∙ ap (λ n. term_accesses t + n) (target_long place k form is))
 
@@ -90,7 +90,7 @@ module _ (scene : Scene) where
     form_long (lets name declared None) around old new first next m is = omega arith
     form_long (assigns target value) around old new first next m is = there_long (term_sites scene around value) ∙ (sites_long scene around value ∙ plus_none (term_accesses value))
     form_long (stores target value) around old new first next m is =
-        there_long (term_sites scene around value ++ target_sites scene around target) ∙ (store_long scene around value target is ∙ plus_none (term_accesses value + term_accesses target))
+        there_long (term_sites scene around value ++ target_sites scene around target) ∙ (stored_long scene around value target is ∙ plus_none (term_accesses value + term_accesses target))
     form_long (reduces target op value) around old new first next m is = there_long (term_sites scene around value) ∙ (sites_long scene around value ∙ plus_none (term_accesses value))
     form_long (decides test chosen other) around old new first next m is =
         both_long (all_there (term_sites scene around test)) _ (term_accesses test) (accesses_of chosen + other_accesses other) (there_long (term_sites scene around test) ∙ sites_long scene around test)
