@@ -9,4 +9,5 @@ pub mod PlacesOf
 pub mod CommandsPut
 pub mod CommandsDown
 pub mod BlocksPut
+pub mod GuardsIn
 pub mod StepKeeps
