@@ -10,4 +10,5 @@ pub mod CommandsPut
 pub mod CommandsDown
 pub mod BlocksPut
 pub mod GuardsIn
+pub mod OppositeArms
 pub mod StepKeeps
