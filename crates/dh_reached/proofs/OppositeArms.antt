@@ -6,6 +6,7 @@ use Rattle.std.specs.Prelude.{Bool as Truth, true, false, not, if◌then◌else�
 use Rattle.std.specs.List.{AllByRecursion}
 use Rattle.std.proofs.lemmas.Bool.{cases_lt}
 use Rattle.std.proofs.lemmas.Bool.Decides.{nat_tests}
+use Rattle.dh_base.specs.declared.places.Place.{Place}
 use Rattle.dh_value.specs.Operations.{is_true}
 use Rattle.dh_tree.specs.Numbers.{AreNumbered, AreNumberedGroups, IsNumbered, IsNumberedInside, IsNumberedOther, commands_in, commands_in_groups, commands_in_other, commands_in_part}
 use Rattle.dh_tree.specs.PlainTrees as plain
@@ -36,7 +37,7 @@ use Rattle.dh_sound.specs.PhaseFacts.{HasArm, arm_of}
 use Rattle.dh_sound.specs.Trails.{ArmsWithin, Below, EachAccess}
 use Rattle.dh_sound.proofs.EventCounts.{count_in, events_counted, groups_counted, other_counted, part_counted, term_counted}
 use Rattle.dh_sound.proofs.Sited.{At, at_left, at_right}
-use Rattle.dh_sound.proofs.Sites.{StandsWithin, action_stands, each_both, groups_stand, part_stands, term_stands}
+use Rattle.dh_sound.proofs.Sites.{StandsWithin, action_stands, each_both, groups_stand, part_stands, term_stands, write_stands}
 use Rattle.dh_sound.proofs.Trails.{below_up}
 use Rattle.dh_reached.specs.ReachedBlocks.{StandsSpread}
 use Rattle.dh_reached.proofs.CommandsPut.{arm_paths, spread_arm}
@@ -230,3 +231,155 @@ module _ (x : Step) (paths : ℕ) where
     where
       no_place : one_site (slice_get [] (j - f)) ≡ Some s → ⊥
       no_place e = cc
+
+  idle_excludes : (n : ℕ) (es : List SourceEvent) → Excludes (none_there n) es
+  idle_excludes n es f j k s t a b sj = absurd (no_place n (j - f) (placed_of f (none_there n) j s sj).at)
+    where
+      no_place : (n i : ℕ) → one_site (slice_get (none_there n) i) ≡ Some s → ⊥
+      no_place zero i e = cc
+      no_place (suc n) zero e = cc
+      no_place (suc n) (suc i) e = no_place n i e
+
+-- Whole commands.
+
+comes_apart : (t : Truth) → t ≡ true → not t ≡ true → ⊥
+comes_apart true e f = absurd (cc)
+comes_apart false e f = absurd (cc)
+
+module _ (x : Step) (scene : Scene) (paths : ℕ) where
+  -- in the two arms of an `if`
+  arms_exclude : (chosen : Action) (other : MaybeAction) (around : Around) (tests : List ℕ) (tested after_chosen after_other : Building) (own behind next : ℕ) (lefts left : List Left)
+      (c : MadeArm (MadeCommand scene chosen) around true tests tested after_chosen own behind lefts) (o : MadeOther scene other around tests after_chosen after_other behind next left)
+      → StandsSpread scene around → paths_counted around ≡ paths → length tests ≡ paths_counted around → Fits x after_chosen.draft → Fits x after_other.draft → Begun x tested.draft → Begun x after_chosen.draft → (es gs : List SourceEvent)
+      → Exclude x paths (command_sites scene chosen c.arm c.begin c.inside own behind c.command) es (other_sites scene other around tests after_chosen after_other behind next left o) gs
+  arms_exclude chosen no_action around tests tested after_chosen after_other own behind next lefts left c o stands same many fc fo bt bc es gs f g j k s t a b sj sk aj ak id side ha hb n less on_s on_t =
+      absurd (no_place (placed_of g [] k t sk).at)
+    where
+      no_place : one_site (slice_get [] (k - g)) ≡ Some t → ⊥
+      no_place e = cc
+  arms_exclude chosen (one_action other) around tests tested after_chosen after_other own behind next lefts left c o stands same many fc fo bt bc es gs f g j k s t a b sj sk aj ak id side ha hb n less on_s on_t =
+      comes_apart (is_true (shown x test.0)) yes_side no_side
+    where
+      spread_one : StandsSpread scene c.arm
+      spread_one = spread_arm scene (MadeCommand scene chosen) around true tests tested after_chosen own behind lefts c stands many
+
+      spread_two : StandsSpread scene o.arm
+      spread_two = spread_arm scene (MadeCommand scene other) around false tests after_chosen after_other behind next left o stands many
+
+      one : IsGuardedIn x c.arm s
+      one = place_each x (IsGuardedIn x c.arm) f (command_sites scene chosen c.arm c.begin c.inside own behind c.command) j s
+          (command_guarded x scene chosen c.arm c.begin c.inside own behind c.command spread_one (subst (λ (d : Draft). Fits x d) c.draft fc) (arm_started x (MadeCommand scene chosen) around true tests tested after_chosen own behind lefts c bt)) sj
+
+      two : IsGuardedIn x o.arm t
+      two = place_each x (IsGuardedIn x o.arm) g (command_sites scene other o.arm o.begin o.inside behind next o.command) k t
+          (command_guarded x scene other o.arm o.begin o.inside behind next o.command spread_two (subst (λ (d : Draft). Fits x d) o.draft fo) (arm_started x (MadeCommand scene other) around false tests after_chosen after_other behind next left o bc)) sk
+
+      within : n < length tests
+      within = subst (λ (i : ℕ). n < i) (sym (many ∙ same)) less
+
+      test : (v : ℕ) × (slice_get tests n ≡ Some v)
+      test = there tests n within
+
+      yes_side : is_true (shown x test.0) ≡ true
+      yes_side =
+          (arm_on x (MadeCommand scene chosen) around true tests tested after_chosen own behind lefts c (guards_fit x scene chosen around true tests tested after_chosen own behind lefts c stands many fc) bt n test.0 within test.1
+          (one.on n (subst (λ (i : ℕ). n < i) (sym (arm_paths (MadeCommand scene chosen) around true tests tested after_chosen own behind lefts c many ∙ same)) less) on_s)).1
+
+      no_side : not (is_true (shown x test.0)) ≡ true
+      no_side =
+          (arm_on x (MadeCommand scene other) around false tests after_chosen after_other behind next left o (guards_fit x scene other around false tests after_chosen after_other behind next left o stands many fo) bc n test.0 within test.1
+          (two.on n (subst (λ (i : ℕ). n < i) (sym (arm_paths (MadeCommand scene other) around false tests after_chosen after_other behind next left o many ∙ same)) less) on_t)).1
+
+  mutual
+    pub command_excludes : (a : Action) (around : Around) (old new : Building) (first next : ℕ) (m : MadeCommand scene a around old new first next) → StoresReach a → StandsSpread scene around → paths_counted around ≡ paths → Fits x new.draft
+        → Begun x old.draft → (r : stood.Around) (q : ℕ) → IsNumbered q a → Below q r.arms → HasOneOfEach r.arms → Excludes x paths (command_sites scene a around old new first next m) (events r a)
+    command_excludes (action id place form) around old new first next m is stands same f b r q num w o =
+        form_excludes form place around old new first next m is stands same f b r id (subst (λ (i : ℕ). IsNumberedInside (suc i) form) (sym num.0) num.1) (subst (λ (i : ℕ). Below i r.arms) (sym num.0) w) o
+
+    form_excludes : (form : ActionForm) (place : Place) (around : Around) (old new : Building) (first next : ℕ) (m : MadeActionForm scene form around old new first next) → StoresReachForm form → StandsSpread scene around → paths_counted around ≡ paths
+        → Fits x new.draft → Begun x old.draft → (r : stood.Around) (id : ℕ) → IsNumberedInside (suc id) form → Below id r.arms → HasOneOfEach r.arms
+        → Excludes x paths (action_sites scene form around old new first next m) (command_events r (site_of r id) form)
+    form_excludes (lets name declared (Some value)) place around old new first next m is stands same f b r id num w o =
+        leaf x paths r id w o (all_there (term_sites scene around value)) (term_events (site_of r id) value ++ assigned name.entity ∷ [])
+        (each_both (StandsWithin r id id) (term_events (site_of r id) value) (assigned name.entity ∷ []) (term_stands r id id id value) tt)
+    form_excludes (lets name declared None) place around old new first next m is stands same f b r id num w o = nothing_excludes x paths ([] ++ assigned name.entity ∷ [])
+    form_excludes (assigns target value) place around old new first next m is stands same f b r id num w o =
+        leaf x paths r id w o (all_there (term_sites scene around value)) (term_events (site_of r id) value ++ assigned target.entity ∷ [])
+        (each_both (StandsWithin r id id) (term_events (site_of r id) value) (assigned target.entity ∷ []) (term_stands r id id id value) tt)
+    form_excludes (stores target value) place around old new first next m is stands same f b r id num w o =
+        leaf x paths r id w o (all_there (term_sites scene around value ++ target_sites scene around target)) (term_events (site_of r id) value ++ write_events (site_of r id) target)
+        (each_both (StandsWithin r id id) (term_events (site_of r id) value) (write_events (site_of r id) target) (term_stands r id id id value) (write_stands r id id id target))
+    form_excludes (reduces target op value) place around old new first next m is stands same f b r id num w o =
+        leaf x paths r id w o (all_there (term_sites scene around value)) (term_events (site_of r id) value ++ assigned target.entity ∷ [])
+        (each_both (StandsWithin r id id) (term_events (site_of r id) value) (assigned target.entity ∷ []) (term_stands r id id id value) tt)
+    form_excludes (decides test chosen other) place around old new first next m is stands same f b r id num w o =
+        let many : length m.tests ≡ paths_counted around = (tests_same scene around first test (paths_counted around) old m.tested m.own m.tests m.test).1 in
+        let spread = spread_arm scene (MadeCommand scene chosen) around true m.tests m.tested m.after_chosen m.own m.behind m.chosen_left m.chosen stands many in
+        let inner = command_lays scene chosen m.chosen.arm m.chosen.begin m.chosen.inside m.own m.behind spread.stands m.chosen.command in
+        let e_chosen = (arm_lays (MadeCommand scene chosen) around true m.tests m.tested m.after_chosen m.own m.behind m.chosen_left m.chosen inner).extends in
+        let e_other = (other_lays scene other around m.tests m.after_chosen m.after_other m.behind next m.other_left stands.stands many m.other).extends in
+        let e_joined = (choices_form m.tests m.joined.choices (length m.joined.choices) m.after_other.draft new.draft m.joined.middle new.values m.joined.choose).extends in
+        let f_other = fits_before m.after_other.draft new.draft x e_joined f in
+        let f_chosen = fits_before m.after_chosen.draft m.after_other.draft x e_other f_other in
+        let b_tested = begun_later old.draft m.tested.draft x (tests_lay scene around first test (paths_counted around) old m.tested m.own m.tests stands.stands m.test).extends b in
+        let b_chosen = begun_later m.tested.draft m.after_chosen.draft x e_chosen b_tested in
+        let all = action_stands r id (action id place (decides test chosen other)) (refl, num) in
+        both_exclude x paths (all_there (term_sites scene around test))
+        (command_sites scene chosen m.chosen.arm m.chosen.begin m.chosen.inside m.own m.behind m.chosen.command ++ other_sites scene other around m.tests m.after_chosen m.after_other m.behind next m.other_left m.other)
+        (term_events (site_of r id) test) (events (in_arm r id true) chosen ++ other_events (in_arm r id false) other)
+        (there_long (term_sites scene around test) ∙ (sites_long scene around test ∙ sym (term_counted (site_of r id) test)))
+        (leaf x paths r id w o (all_there (term_sites scene around test)) (term_events (site_of r id) test) (term_stands r id id id test))
+        (both_exclude x paths (command_sites scene chosen m.chosen.arm m.chosen.begin m.chosen.inside m.own m.behind m.chosen.command)
+        (other_sites scene other around m.tests m.after_chosen m.after_other m.behind next m.other_left m.other) (events (in_arm r id true) chosen) (other_events (in_arm r id false) other)
+        (places_long scene chosen m.chosen.arm m.chosen.begin m.chosen.inside m.own m.behind m.chosen.command is.0 ∙ sym (events_counted (in_arm r id true) chosen))
+        (command_excludes chosen m.chosen.arm m.chosen.begin m.chosen.inside m.own m.behind m.chosen.command is.0 spread
+        (arm_paths (MadeCommand scene chosen) around true m.tests m.tested m.after_chosen m.own m.behind m.chosen_left m.chosen many ∙ same) (subst (λ (d : Draft). Fits x d) m.chosen.draft f_chosen)
+        (arm_started x (MadeCommand scene chosen) around true m.tests m.tested m.after_chosen m.own m.behind m.chosen_left m.chosen b_tested) (in_arm r id true) (suc id) num.0 (below_in id true r.arms w) (once_in id true r.arms w o))
+        (other_excludes other around m.tests m.after_chosen m.after_other m.behind next m.other_left m.other is.1 stands same many f_other b_chosen (in_arm r id false) (suc id + commands_in chosen) num.1
+        (below_up (suc id) (suc id + commands_in chosen) (in_arm r id false).arms (omega arith) (below_in id false r.arms w)) (once_in id false r.arms w o))
+        (arms_exclude chosen other around m.tests m.tested m.after_chosen m.after_other m.own m.behind next m.chosen_left m.other_left m.chosen m.other stands same many f_chosen f_other b_tested b_chosen
+        (events (in_arm r id true) chosen) (other_events (in_arm r id false) other)))
+        (by_numbers x paths r id w o (all_there (term_sites scene around test))
+        (command_sites scene chosen m.chosen.arm m.chosen.begin m.chosen.inside m.own m.behind m.chosen.command ++ other_sites scene other around m.tests m.after_chosen m.after_other m.behind next m.other_left m.other)
+        (term_events (site_of r id) test) (events (in_arm r id true) chosen ++ other_events (in_arm r id false) other) id id id (id + commands_in (action id place (decides test chosen other))) (omega arith) (omega arith) (inl (omega arith))
+        (term_stands r id id id test) (each_back (StandsWithin r id (id + commands_in (action id place (decides test chosen other)))) (term_events (site_of r id) test) (events (in_arm r id true) chosen ++ other_events (in_arm r id false) other) all))
+    form_excludes (blocks body) place around old new first next m is stands same f b r id num w o =
+        groups_exclude body around old new first next m is stands same f b r (suc id) num (below_up id (suc id) r.arms (omega arith) w) o
+    form_excludes (lets_memory name shape shape_places value) place around old new first next m is stands same f b r id num w o = nothing_excludes x paths []
+    form_excludes (views name parent form) place around old new first next m is stands same f b r id num w o = nothing_excludes x paths []
+    form_excludes (calls function arguments) place around old new first next m is stands same f b r id num w o = nothing_excludes x paths []
+    form_excludes (repeats test body) place around old new first next m is stands same f b r id num w o = idle_excludes x paths (term_accesses test + accesses_of body) (command_events r (site_of r id) (repeats test body))
+    form_excludes (counts iterator declared low high factor body combine combine_place) place around old new first next m is stands same f b r id num w o =
+        idle_excludes x paths (accesses_of body + other_accesses combine) (command_events r (site_of r id) (counts iterator declared low high factor body combine combine_place))
+
+    other_excludes : (other : MaybeAction) (around : Around) (tests : List ℕ) (old new : Building) (first next : ℕ) (lefts : List Left) (m : MadeOther scene other around tests old new first next lefts) → StoresReachOther other → StandsSpread scene around
+        → paths_counted around ≡ paths → length tests ≡ paths_counted around → Fits x new.draft → Begun x old.draft → (r : stood.Around) (q : ℕ) → IsNumberedOther q other → Below q r.arms → HasOneOfEach r.arms
+        → Excludes x paths (other_sites scene other around tests old new first next lefts m) (other_events r other)
+    other_excludes no_action around tests old new first next lefts m is stands same many f b r q num w o = nothing_excludes x paths []
+    other_excludes (one_action a) around tests old new first next lefts m is stands same many f b r q num w o =
+        command_excludes a m.arm m.begin m.inside first next m.command is (spread_arm scene (MadeCommand scene a) around false tests old new first next lefts m stands many)
+        (arm_paths (MadeCommand scene a) around false tests old new first next lefts m many ∙ same) (subst (λ (d : Draft). Fits x d) m.draft f) (arm_started x (MadeCommand scene a) around false tests old new first next lefts m b) r q num w o
+
+    actions_exclude : (part : Actions) (around : Around) (old new : Building) (first next : ℕ) (m : MadeActions scene part around old new first next) → StoresReachPart part → StandsSpread scene around → paths_counted around ≡ paths
+        → Fits x new.draft → Begun x old.draft → (r : stood.Around) (q : ℕ) → AreNumbered q part → Below q r.arms → HasOneOfEach r.arms → Excludes x paths (actions_sites scene part around old new first next m) (part_events r part)
+    actions_exclude no_actions around old new first next m is stands same f b r q num w o = nothing_excludes x paths []
+    actions_exclude (action_then a rest) around old new first next m is stands same f b r q num w o =
+        both_exclude x paths (command_sites scene a around old m.middle first m.own m.one) (actions_sites scene rest around m.middle new m.own next m.rest) (events r a) (part_events r rest)
+        (places_long scene a around old m.middle first m.own m.one is.0 ∙ sym (events_counted r a))
+        (command_excludes a around old m.middle first m.own m.one is.0 stands same (fits_before m.middle.draft new.draft x (actions_lays scene rest around m.middle new m.own next stands.stands m.rest).extends f) b r q num.0 w o)
+        (actions_exclude rest around m.middle new m.own next m.rest is.1 stands same f (begun_later old.draft m.middle.draft x (command_lays scene a around old m.middle first m.own stands.stands m.one).extends b) r (q + commands_in a) num.1
+        (below_up q (q + commands_in a) r.arms (omega arith) w) o)
+        (by_numbers x paths r q w o (command_sites scene a around old m.middle first m.own m.one) (actions_sites scene rest around m.middle new m.own next m.rest) (events r a) (part_events r rest) q (q + commands_in a) (q + commands_in a)
+        (q + commands_in a + commands_in_part rest) (omega arith) (omega arith) (inl (omega arith)) (action_stands r q a num.0) (part_stands r (q + commands_in a) rest num.1))
+
+    groups_exclude : (body : Groups) (around : Around) (old new : Building) (first next : ℕ) (m : MadeGroups scene body around old new first next) → StoresReachGroups body → StandsSpread scene around → paths_counted around ≡ paths
+        → Fits x new.draft → Begun x old.draft → (r : stood.Around) (q : ℕ) → AreNumberedGroups q body → Below q r.arms → HasOneOfEach r.arms → Excludes x paths (groups_sites scene body around old new first next m) (groups_events r body)
+    groups_exclude no_groups around old new first next m is stands same f b r q num w o = nothing_excludes x paths []
+    groups_exclude (group_then part rest) around old new first next m is stands same f b r q num w o =
+        both_exclude x paths (actions_sites scene part around old m.middle first m.own m.one) (groups_sites scene rest around m.middle new m.own next m.rest) (part_events r part) (groups_events r rest)
+        (actions_long scene part around old m.middle first m.own m.one is.0 ∙ sym (part_counted r part))
+        (actions_exclude part around old m.middle first m.own m.one is.0 stands same (fits_before m.middle.draft new.draft x (groups_lays scene rest around m.middle new m.own next stands.stands m.rest).extends f) b r q num.0 w o)
+        (groups_exclude rest around m.middle new m.own next m.rest is.1 stands same f (begun_later old.draft m.middle.draft x (actions_lays scene part around old m.middle first m.own stands.stands m.one).extends b) r (q + commands_in_part part) num.1
+        (below_up q (q + commands_in_part part) r.arms (omega arith) w) o)
+        (by_numbers x paths r q w o (actions_sites scene part around old m.middle first m.own m.one) (groups_sites scene rest around m.middle new m.own next m.rest) (part_events r part) (groups_events r rest) q (q + commands_in_part part)
+        (q + commands_in_part part) (q + commands_in_part part + commands_in_groups rest) (omega arith) (omega arith) (inl (omega arith)) (part_stands r q part num.0) (groups_stand r (q + commands_in_part part) rest num.1))
