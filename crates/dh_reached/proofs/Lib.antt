@@ -11,4 +11,5 @@ pub mod CommandsDown
 pub mod BlocksPut
 pub mod GuardsIn
 pub mod OppositeArms
+pub mod SitesMade
 pub mod StepKeeps

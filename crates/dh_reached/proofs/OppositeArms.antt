@@ -47,12 +47,12 @@ use Rattle.dh_reached.proofs.TermsPut.{sites_long}
 
 -- Arms.
 
-has_either : (arm : Arm) (xs ys : List Arm) → HasArm arm (xs ++ ys) → HasArm arm xs ⊎ HasArm arm ys
+pub has_either : (arm : Arm) (xs ys : List Arm) → HasArm arm (xs ++ ys) → HasArm arm xs ⊎ HasArm arm ys
 has_either arm [] ys h = inr h
 has_either arm (x ∷ xs) ys (inl e) = inl (inl e)
 has_either arm (x ∷ xs) ys (inr h) = ⊎_elim (λ g. inl (inr g)) (λ g. inr g) (has_either arm xs ys h)
 
-has_within : (lo hi id : ℕ) (side : Truth) (arms : List Arm) → ArmsWithin lo hi arms → HasArm (arm_of id side) arms → (lo ≤ id) × (id < hi)
+pub has_within : (lo hi id : ℕ) (side : Truth) (arms : List Arm) → ArmsWithin lo hi arms → HasArm (arm_of id side) arms → (lo ≤ id) × (id < hi)
 has_within lo hi id side [] w h = absurd h
 has_within lo hi id side (x ∷ arms) w (inl e) =
     let same : id ≡ x.command = ap (λ (a : Arm). a.command) e in
@@ -92,9 +92,9 @@ once_in m side xs w o = record { single = λ id h k. by id (has_either (arm_of i
     by id (inr h) (inr k) = last id h k
 
 -- arms of accesses in different parts are not opposite
-pub arms_apart : (arms one two : List Arm) (m lo hi low high : ℕ) → Below m arms → HasOneOfEach arms → m ≤ lo → m ≤ low → (hi ≤ low) ⊎ (high ≤ lo) → ArmsWithin lo hi one → ArmsWithin low high two
+pub arms_apart : (arms one two : List Arm) (lo hi low high : ℕ) → Below lo arms → Below low arms → HasOneOfEach arms → (hi ≤ low) ⊎ (high ≤ lo) → ArmsWithin lo hi one → ArmsWithin low high two
     → (id : ℕ) (side : Truth) → HasArm (arm_of id side) (arms ++ one) → HasArm (arm_of id (not side)) (arms ++ two) → ⊥
-arms_apart arms one two m lo hi low high w o from from_two apart in_one in_two id side h k = by (has_either (arm_of id side) arms one h) (has_either (arm_of id (not side)) arms two k)
+arms_apart arms one two lo hi low high w v o apart in_one in_two id side h k = by (has_either (arm_of id side) arms one h) (has_either (arm_of id (not side)) arms two k)
   where
     never : (lo ≤ id) × (id < hi) → (low ≤ id) × (id < high) → (hi ≤ low) ⊎ (high ≤ lo) → ⊥
     never p q (inl e) = let a = p.1 in let b = q.0 in omega (arith, a, b, e)
@@ -102,8 +102,8 @@ arms_apart arms one two m lo hi low high w o from from_two apart in_one in_two i
 
     by : HasArm (arm_of id side) arms ⊎ HasArm (arm_of id side) one → HasArm (arm_of id (not side)) arms ⊎ HasArm (arm_of id (not side)) two → ⊥
     by (inl a) (inl b) = single_of arms o id side a b
-    by (inl a) (inr b) = let l = (has_within 0 m id side arms w a).1 in let g = (has_within low high id (not side) two in_two b).0 in omega (arith, l, g, from_two)
-    by (inr a) (inl b) = let l = (has_within 0 m id (not side) arms w b).1 in let g = (has_within lo hi id side one in_one a).0 in omega (arith, l, g, from)
+    by (inl a) (inr b) = let l = (has_within 0 low id side arms v a).1 in let g = (has_within low high id (not side) two in_two b).0 in omega (arith, l, g)
+    by (inr a) (inl b) = let l = (has_within 0 lo id (not side) arms w b).1 in let g = (has_within lo hi id side one in_one a).0 in omega (arith, l, g)
     by (inr a) (inr b) = never (has_within lo hi id side one in_one a) (has_within low high id (not side) two in_two b) apart
 
 -- Events and places by their numbers.
@@ -135,11 +135,11 @@ back_place (x ∷ xs) ys zero l = absurd (omega (arith, l))
 back_place (x ∷ xs) ys (suc n) l = back_place xs ys n (omega (arith, l)) ∙ ap (λ k. slice_get ys k) (let e : n - length xs ≡ suc n - suc (length xs) = omega arith in e)
 
 -- a place that is there
-record Placed (f : ℕ) (ss : List (Option Site)) (j : ℕ) (s : Site) : Type 0 where
-  from : f ≤ j
-  at : one_site (slice_get ss (j - f)) ≡ Some s
+pub record Placed (f : ℕ) (ss : List (Option Site)) (j : ℕ) (s : Site) : Type 0 where
+  pub from : f ≤ j
+  pub at : one_site (slice_get ss (j - f)) ≡ Some s
 
-placed_of : (f : ℕ) (ss : List (Option Site)) (j : ℕ) (s : Site) → places_from f ss j ≡ Some s → Placed f ss j s
+pub placed_of : (f : ℕ) (ss : List (Option Site)) (j : ℕ) (s : Site) → places_from f ss j ≡ Some s → Placed f ss j s
 placed_of f ss j s e = by (nat_lt j f) refl e
   where
     above : (n k : ℕ) → nat_lt n k ≡ false → k ≤ n
@@ -159,13 +159,13 @@ place_of f ss j s h = by (nat_lt j f) (above j f h.from)
     by true g = absurd (cc)
     by false g = h.at
 
-place_left : (f : ℕ) (xs ys : List (Option Site)) (j : ℕ) (s : Site) → j < f + length xs → places_from f (xs ++ ys) j ≡ Some s → places_from f xs j ≡ Some s
+pub place_left : (f : ℕ) (xs ys : List (Option Site)) (j : ℕ) (s : Site) → j < f + length xs → places_from f (xs ++ ys) j ≡ Some s → places_from f xs j ≡ Some s
 place_left f xs ys j s l e =
     let h = placed_of f (xs ++ ys) j s e in
     let low = h.from in
     place_of f xs j s (record { from = low; at = sym (ap one_site (front_place xs ys (j - f) (omega (arith, l, low)))) ∙ h.at })
 
-place_right : (f : ℕ) (xs ys : List (Option Site)) (j : ℕ) (s : Site) → f + length xs ≤ j → places_from f (xs ++ ys) j ≡ Some s → places_from (f + length xs) ys j ≡ Some s
+pub place_right : (f : ℕ) (xs ys : List (Option Site)) (j : ℕ) (s : Site) → f + length xs ≤ j → places_from f (xs ++ ys) j ≡ Some s → places_from (f + length xs) ys j ≡ Some s
 place_right f xs ys j s l e =
     let h = placed_of f (xs ++ ys) j s e in
     let low = h.from in
@@ -220,7 +220,7 @@ module _ (x : Step) (paths : ℕ) where
     by_numbers xs ys es gs lo hi low high from from_two apart one two f g j k s t a b sj sk aj ak id side ha hb n less on_s on_t =
         let p = at_each (StandsWithin r lo hi) f j es a one aj in
         let q = at_each (StandsWithin r low high) g k gs b two ak in
-        arms_apart r.arms p.arms q.arms m lo hi low high w o from from_two apart p.within q.within id side (subst (λ (l : List Arm). HasArm (arm_of id side) l) p.arms_are ha) (subst (λ (l : List Arm). HasArm (arm_of id (not side)) l) q.arms_are hb)
+        arms_apart r.arms p.arms q.arms lo hi low high (below_up m lo r.arms from w) (below_up m low r.arms from_two w) o apart p.within q.within id side (subst (λ (l : List Arm). HasArm (arm_of id side) l) p.arms_are ha) (subst (λ (l : List Arm). HasArm (arm_of id (not side)) l) q.arms_are hb)
 
     -- of accesses that stand in no further arm
     leaf : (ss : List (Option Site)) (es : List SourceEvent) → EachAccess (StandsWithin r m m) es → Excludes ss es

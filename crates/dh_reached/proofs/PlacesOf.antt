@@ -85,7 +85,7 @@ module _ (scene : Scene) where
     pub places_long : (a : Action) (around : Around) (old new : Building) (first next : ℕ) (m : MadeCommand scene a around old new first next) → StoresReach a → length (command_sites scene a around old new first next m) ≡ accesses_of a
     places_long (action id place form) around old new first next m is = form_long form around old new first next m is
 
-    form_long : (form : ActionForm) (around : Around) (old new : Building) (first next : ℕ) (m : MadeActionForm scene form around old new first next) → StoresReachForm form
+    pub form_long : (form : ActionForm) (around : Around) (old new : Building) (first next : ℕ) (m : MadeActionForm scene form around old new first next) → StoresReachForm form
         → length (action_sites scene form around old new first next m) ≡ own_accesses form + inner_accesses form
     form_long (lets name declared (Some value)) around old new first next m is = there_long (term_sites scene around value) ∙ (sites_long scene around value ∙ plus_none (term_accesses value))
     form_long (lets name declared None) around old new first next m is = omega arith
