@@ -12,4 +12,5 @@ pub mod BlocksPut
 pub mod GuardsIn
 pub mod OppositeArms
 pub mod SitesMade
+pub mod NeverMeet
 pub mod StepKeeps

@@ -21,7 +21,7 @@ use Rattle.dh_reached.proofs.OppositeArms.{place_left, place_right, placed_of}
 use Rattle.dh_reached.proofs.PlacesOf.{actions_long, form_long, places_long, there_long}
 use Rattle.dh_reached.proofs.TermsPut.{sites_long}
 
-within_is : (k n count : ℕ) → n ≤ k → k < n + count → is_within k n count ≡ true
+pub within_is : (k n count : ℕ) → n ≤ k → k < n + count → is_within k n count ≡ true
 within_is k n count l u = grind (arith, nat_tests, l, u)
 
 or_first : (a b : Bool) → a ≡ true → (a || b) ≡ true
