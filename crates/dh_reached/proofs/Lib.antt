@@ -13,4 +13,6 @@ pub mod GuardsIn
 pub mod OppositeArms
 pub mod SitesMade
 pub mod NeverMeet
+pub mod StepsOfNodes
+pub mod MeetsInOrder
 pub mod StepKeeps

@@ -10,3 +10,5 @@ pub mod ReadsTold
 pub mod ReachedBlocks
 -- accesses that never meet
 pub mod NeverMeet
+-- steps by nodes
+pub mod StepsOfNodes
