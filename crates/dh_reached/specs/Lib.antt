@@ -12,3 +12,5 @@ pub mod ReachedBlocks
 pub mod NeverMeet
 -- steps by nodes
 pub mod StepsOfNodes
+-- plans whose blocks are put down in a scene
+pub mod ReachedPlans
