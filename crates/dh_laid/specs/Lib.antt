@@ -12,3 +12,4 @@ pub mod LaidProducts
 pub mod LaidProbes
 -- where the accesses of blocks stand
 pub mod BlockSites
+pub mod BareCommands
