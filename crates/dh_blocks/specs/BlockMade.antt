@@ -34,7 +34,7 @@ use Rattle.dh_commands.specs.Done.{DoesCommand}
 pub use Rattle.dh_laid.specs.BareCommands.{AreRising, IsBare}
 use Rattle.dh_blocks.specs.PathsOfLevels.{AreSpread}
 use Rattle.dh_blocks.specs.BlockGround.{SharesIn}
-use Rattle.dh_blocks.specs.ChosenReads.{AreLaid}
+use Rattle.dh_laid.specs.LaidAccesses.{AreLaid}
 use Rattle.dh_blocks.specs.FoundAccesses.{Found, block_found}
 use Rattle.dh_blocks.specs.SlotsOfScene.{slots_in}
 use Rattle.dh_blocks.specs.NamedVariables.{IsNamedHere}
