@@ -9,7 +9,6 @@ use Rattle.dh_base.specs.declared.places.Place.{Place}
 use Rattle.dh_value.specs.declared.kinds.Kind.{Kind}
 use Rattle.dh_value.specs.declared.kinds.Kind.TheVariants as kind
 use Rattle.dh_value.specs.declared.operators.Op.{Op}
-use Rattle.dh_value.specs.declared.operators.Op.TheVariants.{Both}
 use Rattle.dh_value.specs.Operations.{truth}
 use Rattle.dh_tree.specs.declared.trees.counters.Counter.{Counter}
 use Rattle.dh_tree.specs.Indices.{form_of}
@@ -17,12 +16,10 @@ use Rattle.dh_tree.specs.PlainTrees as plain
 use Rattle.dh_tree.specs.PlainTrees.{Term, Action, action, ActionForm, lets, lets_memory, views, assigns, stores, reduces, calls, blocks, decides, repeats, counts, MaybeAction, no_action, one_action, Actions, no_actions, action_then, Groups, no_groups, group_then}
 use Rattle.dh_meaning.specs.Bindings.{kind_or_first}
 use Rattle.dh_meaning.specs.CoreOf.{entity_number}
-use Rattle.dh_meaning.specs.Phases.{Located}
 use Rattle.dh_code.specs.Extended.{extension_of}
 use Rattle.dh_code.specs.Made.{same_kind}
 use Rattle.dh_code.specs.declared.places.Held.{Held}
 use Rattle.dh_code.specs.Slots.{held_at}
-use Rattle.dh_plan.specs.declared.operations.OperationForm.{OperationForm}
 use Rattle.dh_plan.specs.declared.operations.OperationForm.TheVariants.{Compute, Constant, Convert}
 use Rattle.dh_expressions.specs.declared.accesses.Accesses.{Accesses}
 use Rattle.dh_expressions.specs.declared.accesses.Touched.{Touched}
@@ -32,20 +29,20 @@ use Rattle.dh_expressions.specs.declared.elements.Aim.{Aim}
 use Rattle.dh_expressions.specs.declared.scenes.Around.{Around}
 use Rattle.dh_expressions.specs.declared.scenes.Lane.{Lane}
 use Rattle.dh_expressions.specs.declared.scenes.Scene.{Scene}
-use Rattle.dh_expressions.specs.Copying.{AddsAllCopies, AddsCopies, AddsCopy, AddsLeader, AddsOther, AreNone, JoinsGuards, leaders_at}
-use Rattle.dh_expressions.specs.Drafted.{Extends, Names, Pushes}
+use Rattle.dh_expressions.specs.Copying.{AddsAllCopies, AddsCopies, AddsCopy, AreNone, JoinsGuards, leaders_at}
+use Rattle.dh_expressions.specs.Drafted.{Extends}
 use Rattle.dh_expressions.specs.Evaluated.{counter_of}
 use Rattle.dh_expressions.specs.MadeTerms.{MadeRead, MadeTerm, MadeTerms, MadeWrite}
-use Rattle.dh_expressions.specs.MadeValues.{MadeBy, MadeConverted, MadeHeld, MadeShown}
+use Rattle.dh_expressions.specs.MadeValues.{MadeBy, MadeConverted}
 use Rattle.dh_expressions.specs.Noted.{Notes, copied_in, copy_or_alone, noted_in, touched_in}
 use Rattle.dh_expressions.specs.Numbers.{narrowed}
-use Rattle.dh_expressions.specs.Reaching.{Finds, place_written}
+use Rattle.dh_expressions.specs.Reaching.{place_written}
 use Rattle.dh_expressions.specs.Shown.{guard_of, is_kept, kind_written, register_at}
 use Rattle.dh_expressions.specs.Standings.{Standing, standing_at}
 use Rattle.dh_expressions.specs.Touching.{AddsTouched, IsNew, TouchesAt}
 use Rattle.dh_expressions.proofs.AccessesKept.{named_extends, noted_touched, place_noted}
 use Rattle.dh_expressions.proofs.CopiesMade.{guard_long, guard_place}
-use Rattle.dh_expressions.proofs.ListPlaces.{place_of_more, place_within, there}
+use Rattle.dh_expressions.proofs.ListPlaces.{place_of_more, place_within, set_long, there}
 use Rattle.dh_expressions.proofs.Pushing.{at_seam, extends_again, extends_self, pushed_extends}
 use Rattle.dh_formed.proofs.CopiesFormed.{FormsCopies, copies_forms}
 use Rattle.dh_formed.proofs.ElementsFormed.{found_extends}
@@ -54,8 +51,7 @@ use Rattle.dh_formed.proofs.ValuesFormed.{held_forms, number_forms, operation_fo
 use Rattle.dh_commands.specs.declared.buildings.Building.{Building}
 use Rattle.dh_commands.specs.declared.choices.Left.{Left}
 use Rattle.dh_commands.specs.LanesRun.{lane_of, paths_counted}
-use Rattle.dh_commands.specs.MadeCommands.{Commanding, FoldedWith, MadeActionForm, MadeActions, MadeAim, MadeArm, MadeAssigned, MadeCleared, MadeCommand, MadeGroups, MadeLanes, MadeOldOperand, MadeOperand, MadeOther, MadeReduced, MadeStored, MadeStoring, MadeTests}
-use Rattle.dh_laid.specs.BlockSites.{MadeEach}
+use Rattle.dh_commands.specs.MadeCommands.{Commanding, FoldedWith, MadeActionForm, MadeActions, MadeAim, MadeArm, MadeAssigned, MadeCleared, MadeCommand, MadeGroups, MadeLanes, MadeOldOperand, MadeOperand, MadeOther, MadeReduced, MadeStored, MadeStoring}
 use Rattle.dh_laid.specs.LaidAccesses.{AreLaid, AreNamed, CommandsLay, EachLay, GroupsLay, IsLaid, Lays, TermsLay, TestsLay, copy_in}
 use Rattle.dh_laid.specs.LaidQuiet.{StandsIn}
 use Rattle.dh_laid.proofs.ArmsLaid.{arm_guards_form}
@@ -65,15 +61,16 @@ use Rattle.dh_laid.proofs.ValuesLogged.{tests_same}
 
 -- Composition.
 
-named_before : (named : List (FaultKind × Place)) (old new : Draft) → ((n : ℕ) (f : FaultKind × Place) → slice_get old.faults n ≡ Some f → slice_get new.faults n ≡ Some f) → AreNamed named new → AreNamed named old
-named_before named old new kept all n f at = all n f (kept n f at)
+named_before : (named : List (FaultKind × Place)) (old new : Draft) → Extends old new → AreNamed named new → AreNamed named old
+named_before named old new e all n f at = all n f (e.faults n f at)
 
 -- no access is touched
 pub lays_quiet : (old new : Draft) (before after : Accesses) → Extends old new → after ≡ before → Lays old new before after
 lays_quiet old new before after e same = record {
-  faults = e.faults;
+  extends = e;
   laid = λ named all few laid none. subst (λ (a : Accesses). AreLaid named a) (sym same) laid;
   none = λ none. subst (λ (a : Accesses). AreNone a.counts.items) (sym same) none;
+  long = ap (λ (a : Accesses). length a.touched.items) same;
 }
 
 -- nothing is put down
@@ -86,9 +83,10 @@ lays_still old new still = lays_none old.draft new.draft old.accesses new.access
 -- one behind the other
 pub lays_again : (a b c : Draft) (x y z : Accesses) → Lays a b x y → Lays b c y z → Lays a c x z
 lays_again a b c x y z h k = record {
-  faults = λ n f at. k.faults n f (h.faults n f at);
-  laid = λ named all few laid none. k.laid named all few (h.laid named (named_before named b c k.faults all) few laid none) (h.none none);
+  extends = extends_again a b c h.extends k.extends;
+  laid = λ named all few laid none. k.laid named all few (h.laid named (named_before named b c k.extends all) few laid none) (h.none none);
   none = λ none. k.none (h.none none);
+  long = k.long ∙ h.long;
 }
 
 -- Copies: only those that lead have guards.
@@ -200,20 +198,22 @@ module _ (scene : Scene) (around : Around) (stands : StandsIn scene around) (mem
         before_it : (p k : ℕ) → p < k → k < length t.copies → p < length t.copies
         before_it p k less w = omega (arith, less, w)
 
-  touch_lays : (old new : Draft) (before after : Accesses) (number : ℕ) → TouchesAt scene around stood old new before after number → Lays old new before after
+  pub touch_lays : (old new : Draft) (before after : Accesses) (number : ℕ) → TouchesAt scene around stood old new before after number → Lays old new before after
   touch_lays old new before after number t = record {
-    faults = t.extends.faults;
+    extends = t.extends;
     laid = λ named all few laid none m u at.
         ⊎_elim (λ was. laid m u was) (λ (fresh : IsNew old new scene around stood before number m u). new_laid old new before u fresh.adds none named all few) (t.known m u at);
     none = t.none;
+    long = t.long;
   }
 
 -- what a read gave is noted
-notes_lays : (d : Draft) (before after : Accesses) (number path value : ℕ) → Notes before after number path value → Lays d d before after
+pub notes_lays : (d : Draft) (before after : Accesses) (number path value : ℕ) → Notes before after number path value → Lays d d before after
 notes_lays d before after number path value h = record {
-  faults = λ n f at. at;
+  extends = extends_self d;
   laid = λ named all few laid none m u at. by named laid m u at (place_noted before after number path value h m);
   none = λ none. subst (λ (ns : List ℕ). AreNone ns) (sym h.counts) none;
+  long = ap (λ (os : List (Option Touched)). length os) h.touched ∙ set_long before.touched.items number _;
 }
   where
     by : (named : List (FaultKind × Place)) → AreLaid named before → (m : ℕ) (u : Touched) → touched_in after m ≡ Some u
@@ -232,28 +232,28 @@ notes_lays d before after number path value h = record {
 
 -- Values.
 
-converted_extends : (kept : Truth) (to : Kind) (value : ℕ) (old new : Draft) (v : ℕ) → MadeConverted kept to value old new v → Extends old new
+pub converted_extends : (kept : Truth) (to : Kind) (value : ℕ) (old new : Draft) (v : ℕ) → MadeConverted kept to value old new v → Extends old new
 converted_extends true to value old new v m = subst (λ (d : Draft). Extends old d) (sym m.0) (extends_self old)
 converted_extends false to value old new v m = pushed_extends old new v None (Convert value to) m
 
-variable_extends : (c : Option Counter) (held : Held) (lane : Lane) (current : List (Option ℕ)) (k : Kind) (old new : Draft) (v : ℕ) → MadeBy c held lane current k old new v → Extends old new
+pub variable_extends : (c : Option Counter) (held : Held) (lane : Lane) (current : List (Option ℕ)) (k : Kind) (old new : Draft) (v : ℕ) → MadeBy c held lane current k old new v → Extends old new
 variable_extends None held lane current k old new v m = (shown_forms current (register_at held lane) old new v m).extends
 variable_extends (Some c) held lane current k old new v m = (iterator_forms k held old new v m).extends
 
-same_extends : (old new : Draft) → new ≡ old → Extends old new
+pub same_extends : (old new : Draft) → new ≡ old → Extends old new
 same_extends old new same = subst (λ (d : Draft). Extends old d) (sym same) (extends_self old)
 
-old_operand_extends : (own to : Kind) (value : ℕ) (old new : Draft) (v : ℕ) → MadeOldOperand own to value old new v → Extends old new
+pub old_operand_extends : (own to : Kind) (value : ℕ) (old new : Draft) (v : ℕ) → MadeOldOperand own to value old new v → Extends old new
 old_operand_extends own kind.Bool value old new v m = same_extends old new m.0
 old_operand_extends own (kind.Unsigned w) value old new v m = converted_extends (same_kind own (kind.Unsigned w)) (kind.Unsigned w) value old new v m
 old_operand_extends own (kind.Signed w) value old new v m = converted_extends (same_kind own (kind.Signed w)) (kind.Signed w) value old new v m
 
-operand_extends : (t : Term) (to : Kind) (value : ℕ) (old new : Draft) (v : ℕ) → MadeOperand t to value old new v → Extends old new
+pub operand_extends : (t : Term) (to : Kind) (value : ℕ) (old new : Draft) (v : ℕ) → MadeOperand t to value old new v → Extends old new
 operand_extends t kind.Bool value old new v m = same_extends old new m.0
 operand_extends t (kind.Unsigned w) value old new v m = (held_forms t (kind.Unsigned w) value old new v m).extends
 operand_extends t (kind.Signed w) value old new v m = (held_forms t (kind.Signed w) value old new v m).extends
 
-folded_extends : (lane : Lane) (current : List (Option ℕ)) (held : Held) (op : Op) (t : Term) (value : ℕ) (old new : Draft) (v : ℕ) → FoldedWith lane current held op t value old new v → Extends old new
+pub folded_extends : (lane : Lane) (current : List (Option ℕ)) (held : Held) (op : Op) (t : Term) (value : ℕ) (old new : Draft) (v : ℕ) → FoldedWith lane current held op t value old new v → Extends old new
 folded_extends lane current held op t value old new v m =
     extends_again old m.first new (shown_forms current (register_at held lane) old m.first m.before m.shown).extends
     (extends_again m.first m.second new (old_operand_extends held.kind (extension_of op held.kind (kind_written t)) m.before m.first m.second m.left m.left_made)
@@ -264,21 +264,21 @@ folded_extends lane current held op t value old new v m =
 -- One path.
 
 module _ (scene : Scene) (lane : Lane) (stands : StandsIn scene lane.around) where
-  read_lays : (access : Term) (memory : ℕ) (aim : Aim) (old new : Draft) (before after : Accesses) (v : ℕ) → MadeRead scene lane access memory aim old new before after v → Lays old new before after
+  pub read_lays : (access : Term) (memory : ℕ) (aim : Aim) (old new : Draft) (before after : Accesses) (v : ℕ) → MadeRead scene lane access memory aim old new before after v → Lays old new before after
   read_lays access memory aim old new before after v r =
       lays_again old r.first new before r.middle after (touch_lays scene lane.around stands memory (place_written access) (form_of access) false old r.first before r.middle aim.number r.touches)
       (lays_again r.first new new r.middle r.middle after
       (lays_quiet r.first new r.middle r.middle (extends_again r.first r.second new (pushed_extends r.first r.second _ _ _ r.probes) (found_extends r.second new memory aim (copied_in r.middle aim.number lane.number) _ v r.finds)) refl)
       (notes_lays new r.middle after aim.number lane.number v r.notes))
 
-  write_lays : (access : Term) (memory : ℕ) (aim : Aim) (value : ℕ) (old new : Draft) (before after : Accesses) → MadeWrite scene lane access memory aim value old new before after → Lays old new before after
+  pub write_lays : (access : Term) (memory : ℕ) (aim : Aim) (value : ℕ) (old new : Draft) (before after : Accesses) → MadeWrite scene lane access memory aim value old new before after → Lays old new before after
   write_lays access memory aim value old new before after w =
       lays_again old w.first new before after after (touch_lays scene lane.around stands memory (place_written access) (form_of access) true old w.first before after aim.number w.touches)
       (lays_quiet w.first new after after (extends_again w.first w.second new (pushed_extends w.first w.second _ _ _ w.probes) (pushed_extends w.second new _ _ _ w.writes)) refl)
 
   module _ (current : List (Option ℕ)) where
     mutual
-      term_lays : (t : Term) (old new : Draft) (before after : Accesses) (n next v : ℕ) → MadeTerm scene lane current t old new before after n next v → Lays old new before after
+      pub term_lays : (t : Term) (old new : Draft) (before after : Accesses) (n next v : ℕ) → MadeTerm scene lane current t old new before after n next v → Lays old new before after
       term_lays (plain.term place k (plain.number negative z)) old new before after n next v m = lays_quiet old new before after (number_forms (kind_or_first k) negative z old new v m.part).extends m.same
       term_lays (plain.term place k (plain.truth_value b)) old new before after n next v m = lays_quiet old new before after (pushed_extends old new v None (Constant (truth b)) m.part) m.same
       term_lays (plain.term place k (plain.named r)) old new before after n next v m =
@@ -295,12 +295,12 @@ module _ (scene : Scene) (lane : Lane) (stands : StandsIn scene lane.around) whe
           lays_again old m.middle new before after after (term_lays inner old m.middle before after n next m.a m.operand)
           (lays_quiet m.middle new after after (converted_extends (is_kept inner to) to m.a m.middle new v m.converts) refl)
 
-      terms_lay : (ts : plain.Terms) (old new : Draft) (before after : Accesses) (n next : ℕ) (vs : List ℕ) → MadeTerms scene lane current ts old new before after n next vs → Lays old new before after
+      pub terms_lay : (ts : plain.Terms) (old new : Draft) (before after : Accesses) (n next : ℕ) (vs : List ℕ) → MadeTerms scene lane current ts old new before after n next vs → Lays old new before after
       terms_lay plain.no_terms old new before after n next vs m = lays_none old new before after m.still m.same
       terms_lay (plain.term_then t ts) old new before after n next vs m =
           lays_again old m.middle new before m.between after (term_lays t old m.middle before m.between n m.own m.a m.first) (terms_lay ts m.middle new m.between after m.own next m.more m.rest)
 
-    aim_lays : (form : plain.TermForm) (old new : Draft) (before after : Accesses) (n : ℕ) (aimed : Option (Aim × ℕ)) → MadeAim scene lane current form old new before after n aimed → Lays old new before after
+    pub aim_lays : (form : plain.TermForm) (old new : Draft) (before after : Accesses) (n : ℕ) (aimed : Option (Aim × ℕ)) → MadeAim scene lane current form old new before after n aimed → Lays old new before after
     aim_lays (plain.accessed r ts) old new before after n (Some (aim, memory)) m = terms_lay ts old new before after n aim.number aim.indices m.0.indices
     aim_lays (plain.accessed r ts) old new before after n None m = absurd m
     aim_lays (plain.in_bank r bank at row) old new before after n (Some (aim, memory)) m = term_lays row old new before after n aim.number m.0.value m.0.row
@@ -316,28 +316,28 @@ module _ (scene : Scene) (lane : Lane) (stands : StandsIn scene lane.around) whe
     aim_lays (plain.converted inner to) old new before after n None m = lays_none old new before after m.0 m.1
     aim_lays (plain.converted inner to) old new before after n (Some aimed) m = absurd m
 
-  storing_lays : (target t : Term) (value : ℕ) (aimed : Option (Aim × ℕ)) (old : Draft) (before : Accesses) (new : Building) (next : ℕ) → MadeStoring scene lane target t value aimed old before new next
+  pub storing_lays : (target t : Term) (value : ℕ) (aimed : Option (Aim × ℕ)) (old : Draft) (before : Accesses) (new : Building) (next : ℕ) → MadeStoring scene lane target t value aimed old before new next
       → Lays old new.draft before new.accesses
   storing_lays target t value None old before new next m = lays_none old new.draft before new.accesses m.0 m.1
   storing_lays target t value (Some (aim, memory)) old before new next m =
       lays_again old m.0 new.draft before before new.accesses (lays_quiet old m.0 before before (held_forms t _ value old m.0 m.1.0 m.1.1.0).extends refl)
       (write_lays target memory aim m.1.0 m.0 new.draft before new.accesses m.1.1.1.0)
 
-  assigned_lays : (first entity : ℕ) (t : Term) (old new : Building) (next : ℕ) → MadeAssigned scene lane first entity t old new next → Lays old.draft new.draft old.accesses new.accesses
+  pub assigned_lays : (first entity : ℕ) (t : Term) (old new : Building) (next : ℕ) → MadeAssigned scene lane first entity t old new next → Lays old.draft new.draft old.accesses new.accesses
   assigned_lays first entity t old new next m =
       lays_again old.draft m.middle new.draft old.accesses new.accesses new.accesses (term_lays old.values.current.items t old.draft m.middle old.accesses new.accesses first next m.value m.term)
       (lays_quiet m.middle new.draft new.accesses new.accesses (held_forms t (held_at scene.held.now entity).kind m.value m.middle new.draft m.held m.holds).extends refl)
 
-  cleared_lays : (entity : ℕ) (old new : Building) → MadeCleared scene lane entity old new → Lays old.draft new.draft old.accesses new.accesses
+  pub cleared_lays : (entity : ℕ) (old new : Building) → MadeCleared scene lane entity old new → Lays old.draft new.draft old.accesses new.accesses
   cleared_lays entity old new m =
       lays_quiet old.draft new.draft old.accesses new.accesses (number_forms (held_at scene.held.now entity).kind false 0 old.draft new.draft m.value m.number).extends m.same
 
-  reduced_lays : (first entity : ℕ) (op : Op) (t : Term) (old new : Building) (next : ℕ) → MadeReduced scene lane first entity op t old new next → Lays old.draft new.draft old.accesses new.accesses
+  pub reduced_lays : (first entity : ℕ) (op : Op) (t : Term) (old new : Building) (next : ℕ) → MadeReduced scene lane first entity op t old new next → Lays old.draft new.draft old.accesses new.accesses
   reduced_lays first entity op t old new next m =
       lays_again old.draft m.middle new.draft old.accesses new.accesses new.accesses (term_lays old.values.current.items t old.draft m.middle old.accesses new.accesses first next m.value m.term)
       (lays_quiet m.middle new.draft new.accesses new.accesses (folded_extends lane old.values.current.items (held_at scene.held.now entity) op t m.value m.middle new.draft m.folded m.folds) refl)
 
-  stored_lays : (first : ℕ) (target t : Term) (old new : Building) (next : ℕ) → MadeStored scene lane first target t old new next → Lays old.draft new.draft old.accesses new.accesses
+  pub stored_lays : (first : ℕ) (target t : Term) (old new : Building) (next : ℕ) → MadeStored scene lane first target t old new next → Lays old.draft new.draft old.accesses new.accesses
   stored_lays first target t old new next m =
       lays_again old.draft m.middle new.draft old.accesses m.between new.accesses (term_lays old.values.current.items t old.draft m.middle old.accesses m.between first m.own m.value m.term)
       (lays_again m.middle m.end new.draft m.between m.behind new.accesses (aim_lays old.values.current.items (form_of target) m.middle m.end m.between m.behind m.own m.aimed m.aims)
@@ -345,7 +345,7 @@ module _ (scene : Scene) (lane : Lane) (stands : StandsIn scene lane.around) whe
 
 -- All paths.
 
-lanes_lay : (One : ℕ → (b d : Building) → ℕ → Type 0) → ((n : ℕ) (b d : Building) (k : ℕ) → One n b d k → Lays b.draft d.draft b.accesses d.accesses)
+pub lanes_lay : (One : ℕ → (b d : Building) → ℕ → Type 0) → ((n : ℕ) (b d : Building) (k : ℕ) → One n b d k → Lays b.draft d.draft b.accesses d.accesses)
     → (count first : ℕ) (old new : Building) (next : ℕ) → MadeLanes One count first old new next → Lays old.draft new.draft old.accesses new.accesses
 lanes_lay One each zero first old new next m = lays_still old new m.0
 lanes_lay One each (suc n) first old new next m =
@@ -359,7 +359,7 @@ tests_lay scene around first t (suc n) old new next tests stands m =
 
 -- Arms.
 
-arm_lays : (Inner : Commanding) (around : Around) (holds : Truth) (tests : List ℕ) (old new : Building) (first next : ℕ) (lefts : List Left) (m : MadeArm Inner around holds tests old new first next lefts)
+pub arm_lays : (Inner : Commanding) (around : Around) (holds : Truth) (tests : List ℕ) (old new : Building) (first next : ℕ) (lefts : List Left) (m : MadeArm Inner around holds tests old new first next lefts)
     → Lays m.begin.draft m.inside.draft m.begin.accesses m.inside.accesses → Lays old.draft new.draft old.accesses new.accesses
 arm_lays Inner around holds tests old new first next lefts m inner =
     lays_again old.draft m.begin.draft new.draft old.accesses m.begin.accesses new.accesses
@@ -371,7 +371,7 @@ arm_lays Inner around holds tests old new first next lefts m inner =
 
 module _ (scene : Scene) where
   mutual
-    command_lays : (a : Action) (around : Around) (old new : Building) (first next : ℕ) → StandsIn scene around → MadeCommand scene a around old new first next → Lays old.draft new.draft old.accesses new.accesses
+    pub command_lays : (a : Action) (around : Around) (old new : Building) (first next : ℕ) → StandsIn scene around → MadeCommand scene a around old new first next → Lays old.draft new.draft old.accesses new.accesses
     command_lays (action id place form) around old new first next s m = action_lays form around old new first next s m
 
     action_lays : (form : ActionForm) (around : Around) (old new : Building) (first next : ℕ) → StandsIn scene around → MadeActionForm scene form around old new first next → Lays old.draft new.draft old.accesses new.accesses
@@ -407,19 +407,19 @@ module _ (scene : Scene) where
     action_lays (repeats test body) around old new first next s m = lays_still old new m.still
     action_lays (counts iterator declared low high factor body combine combine_place) around old new first next s m = lays_still old new m.still
 
-    other_lays : (other : MaybeAction) (around : Around) (tests : List ℕ) (old new : Building) (first next : ℕ) (lefts : List Left) → StandsIn scene around → length tests ≡ paths_counted around
+    pub other_lays : (other : MaybeAction) (around : Around) (tests : List ℕ) (old new : Building) (first next : ℕ) (lefts : List Left) → StandsIn scene around → length tests ≡ paths_counted around
         → MadeOther scene other around tests old new first next lefts → Lays old.draft new.draft old.accesses new.accesses
     other_lays no_action around tests old new first next lefts s many m = lays_still old new m.still
     other_lays (one_action a) around tests old new first next lefts s many m =
         arm_lays (MadeCommand scene a) around false tests old new first next lefts m
         (command_lays a m.arm m.begin m.inside first next (stands_arm scene (MadeCommand scene a) around false tests old new first next lefts m s many) m.command)
 
-    actions_lays : (part : Actions) (around : Around) (old new : Building) (first next : ℕ) → StandsIn scene around → MadeActions scene part around old new first next → Lays old.draft new.draft old.accesses new.accesses
+    pub actions_lays : (part : Actions) (around : Around) (old new : Building) (first next : ℕ) → StandsIn scene around → MadeActions scene part around old new first next → Lays old.draft new.draft old.accesses new.accesses
     actions_lays no_actions around old new first next s m = lays_still old new m.still
     actions_lays (action_then a rest) around old new first next s m =
         lays_again old.draft m.middle.draft new.draft old.accesses m.middle.accesses new.accesses (command_lays a around old m.middle first m.own s m.one) (actions_lays rest around m.middle new m.own next s m.rest)
 
-    groups_lays : (body : Groups) (around : Around) (old new : Building) (first next : ℕ) → StandsIn scene around → MadeGroups scene body around old new first next → Lays old.draft new.draft old.accesses new.accesses
+    pub groups_lays : (body : Groups) (around : Around) (old new : Building) (first next : ℕ) → StandsIn scene around → MadeGroups scene body around old new first next → Lays old.draft new.draft old.accesses new.accesses
     groups_lays no_groups around old new first next s m = lays_still old new m.still
     groups_lays (group_then g rest) around old new first next s m =
         lays_again old.draft m.middle.draft new.draft old.accesses m.middle.accesses new.accesses (actions_lays g around old m.middle first m.own s m.one) (groups_lays rest around m.middle new m.own next s m.rest)

@@ -14,6 +14,7 @@ use Rattle.dh_expressions.specs.declared.scenes.Around.{Around}
 use Rattle.dh_expressions.specs.declared.scenes.Lane.{Lane}
 use Rattle.dh_expressions.specs.declared.scenes.Scene.{Scene}
 use Rattle.dh_expressions.specs.Copying.{AreNone, leaders_at}
+use Rattle.dh_expressions.specs.Drafted.{Extends}
 use Rattle.dh_expressions.specs.MadeTerms.{MadeTerm}
 use Rattle.dh_expressions.specs.Noted.{copy_or_alone, touched_in}
 use Rattle.dh_expressions.specs.Numbers.{narrowed}
@@ -57,12 +58,14 @@ AreLaid named a = (number : ℕ) (t : Touched) → touched_in a number ≡ Some 
 abbrev pub AreNamed : List (FaultKind × Place) → Draft → Type 0
 AreNamed named d = (n : ℕ) (f : FaultKind × Place) → slice_get d.faults n ≡ Some f → slice_get named n ≡ Some f
 
--- What was put down keeps the faults so far at their numbers; and where all of them are those of a list that is short, it
--- keeps that all accesses with operations are laid, and that none is counted.
+-- What was put down keeps the operations and the faults so far at their numbers; and where all faults are those of a list
+-- that is short, it keeps that all accesses with operations are laid, and that none is counted. There are as many accesses
+-- as before.
 pub record Lays (old new : Draft) (before after : Accesses) : Type 0 where
-  pub faults : (n : ℕ) (f : FaultKind × Place) → slice_get old.faults n ≡ Some f → slice_get new.faults n ≡ Some f
+  pub extends : Extends old new
   pub laid : (named : List (FaultKind × Place)) → AreNamed named new → length named ≤ 2 ^ 32 → AreLaid named before → AreNone before.counts.items → AreLaid named after
   pub none : AreNone before.counts.items → AreNone after.counts.items
+  pub long : length after.touched.items ≡ length before.touched.items
 
 abbrev pub TermsLay : Type 0
 TermsLay =
