@@ -214,8 +214,8 @@ module _ (scene : Scene) (paths : Paths) (parts : List (Vec Command Global)) (fi
 
   pub parts_end : (old now : Made) (done : Forms) (i next : ℕ) → drop i parts ≡ [] → PartsAt old now done i next → GathersGroups scene paths old now done first parts
   parts_end old now done i next none h r few rounds inside inner rest bare =
-    subst (λ (n : ℕ). GathersAll scene rounds old now first n done (whole r first parts)) (sym (next_none next) ∙ (ap (λ l. next + groups_accesses (all_parts_seen l)) (sym none) ∙ d.left))
-    (subst (λ (l : List source.Phase). Gathers scene rounds old now done l) (sym (d.is ∙ (ap (λ l. d.far ++ whole r next l) none ∙ append-nil d.far))) d.gathers, d.opens)
+      subst (λ (n : ℕ). GathersAll scene rounds old now first n done (whole r first parts)) (sym (next_none next) ∙ (ap (λ l. next + groups_accesses (all_parts_seen l)) (sym none) ∙ d.left))
+      (subst (λ (l : List source.Phase). Gathers scene rounds old now done l) (sym (d.is ∙ (ap (λ l. d.far ++ whole r next l) none ∙ append-nil d.far))) d.gathers, d.opens)
     where
       next_none : (n : ℕ) → n + 0 ≡ n
       next_none n = omega arith
