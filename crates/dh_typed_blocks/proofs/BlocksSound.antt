@@ -119,7 +119,7 @@ module _ (scene : Scene) (around : Around) (plan : PlainPlan) (rounds : List Rou
           let fits = test_fits (known_of p) places (loops_of rounds) f.of.tested.command t e f.holds.1 in
           record {
             sound = subst (λ (table : List MemEntry). IsSound (known_in scene) table (IsNamedHere scene around.levels.now plan.registers rounds (λ entity. false)) t) (sym same_table)
-                (term_mapped (known_in scene) (table_in (known_in scene)) (IsNamedIn (known_in scene) places (loops_of rounds)) (IsNamedHere scene around.levels.now plan.registers rounds (λ entity. false)) names t fits.0);
+                (term_mapped (known_in scene) (table_in (known_in scene)) (IsNamedIn (known_in scene) places (loops_of rounds)) (IsNamedHere scene around.levels.now plan.registers rounds (λ entity. false)) names t fits.0.0);
             kind_is = fits.1;
           };
     }

@@ -53,8 +53,9 @@ use Rattle.dh_typed_blocks.specs.PlainPrograms.{AreFew, IsPlainTarget, FormPlain
 use Rattle.dh_typed_blocks.proofs.Fitting.{AllInteger, IsNamedIn, IsTargetIn, TermFits, FoldFits, FormFits, OtherFits, GroupsFit, PartFits}
 use Rattle.dh_typed_blocks.proofs.KindsGiven.{written_is}
 use Rattle.dh_typed_blocks.proofs.PhasesHolding.{FormOnlyFolds, GroupsOnlyFold, PartOnlyFolds, OtherOnlyFolds}
-use Rattle.dh_typed_blocks.proofs.SidesFit.{number_is, factors_more, integer_more, bound_is, to_name, can_hold, is_test, can_reduce}
+use Rattle.dh_typed_blocks.proofs.SidesFit.{number_is, factors_more, integer_more, bound_is, to_name, can_hold, is_test, reduced_own, can_reduce}
 use Rattle.dh_typed_blocks.proofs.TermsSound.{term_sound}
+use Rattle.dh_typed_blocks.proofs.TermsTyped.{term_typed}
 
 -- Declarations.
 
@@ -87,7 +88,10 @@ module _ (known : Known) (counters : List Counter) (p : Placing) (few : AreFew k
   right ts facts s want t ai k w e n v b i z near =
       let ready : IsReady known counters facts s.visible t = record { named = n; visible = v; kinds = b; indices = i; sized = z } in (
         term_known known p (factors ts) counters facts s.visible k want w t e ready,
-        term_sound known p (factors ts) few (InScope known ts) (IsNamedIn known p ts) (to_name known p ts ai) counters facts s.visible k want w t e ready near,
+        (
+          term_sound known p (factors ts) few (InScope known ts) (IsNamedIn known p ts) (to_name known p ts ai) counters facts s.visible k want w t e ready near,
+          term_typed known p (factors ts) counters facts s.visible k want w t e ready,
+        ),
       )
 
   let_sized : (loops : List ℕ) (declared : Option Kind) (value : Option Term) → IsSized declared → MaybeKnown known p loops value → IsKind (let_kind declared value)
@@ -271,8 +275,8 @@ module _ (known : Known) (counters : List Counter) (p : Placing) (few : AreFew k
         let v = right ts facts s _ value ai k (for_numbers_sized _ sized) second second_same
         (second_none (term_breaches s.visible target) _ h.visible) (second_none (assigned_breaches (found target) (found value) (place_of value)) _ side)
         (second_none (term_index_breaches (indexed known counters) target) _ h.indices) h.sized.1 sc.1 in
-        let aim = store_target known (IsNamedIn known p ts) target t.0.kind na.0 t.1 t.0.is in (
-          (v.1, aim.0),
+        let aim = store_target known (IsNamedIn known p ts) target t.0.kind na.0 t.1.0 t.0.is in (
+          (v.1, (aim.0, t.1.1)),
           can_hold (kind_aimed known (table_in known) target) (found target) t.0.kind value v.0.kind t.0.is aim.1 v.0.is (first_none (assigned_breaches (found target) (found value) (place_of value)) _ side),
         )
     form_fits (blocks body) ts facts s place l k h sc asg si na pl ai =
@@ -487,10 +491,14 @@ module _ (known : Known) (counters : List Counter) (p : Placing) (few : AreFew k
           (v.1, target_in ts 0 facts target t pl.0 (none_least (depth_of known target))),
           (
             pl.1,
+            (
+            reduced_own target.place (kind_of known target) (target_kind (fact_of facts target)) t.kind value v.0.kind t.is (bound_is known p (factors ts) target t.number t.kind t.entity t.stands) v.0.is t.stands.sized
+                (first_none (reducer_breaches (target_kind (fact_of facts target)) (found value) target.place) _ below),
             can_reduce target.place (kind_of known target) (target_kind (fact_of facts target)) t.kind value v.0.kind t.is (bound_is known p (factors ts) target t.number t.kind t.entity t.stands) v.0.is
                 t.stands.sized (v.0.operand 0).sized
                 (first_none (reducer_breaches (target_kind (fact_of facts target)) (found value) target.place) _ below)
                 (first_none (assigned_breaches (target_kind (fact_of facts target)) (found value) (place_of value)) _ side),
+            ),
           ),
         )
     fold_fits (blocks body) ts facts s place l k h sc fo pl ai =

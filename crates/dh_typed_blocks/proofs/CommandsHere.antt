@@ -100,15 +100,15 @@ module _ (scene : Scene) (levels : List Level) (rounds : List Round) (tells : Te
     pub action_here : (Folds : ℕ → Type 0) (a : Action) → IsSimple a → Fits (known_in scene) places (loops_of rounds) a → SoundAction scene levels (table_in (known_in scene)) Named Folds a
     action_here Folds (action id place (lets name declared None)) s h =
         (own_here name h.0, record { sized = subst IsKind (kind_same name) h.0.sized; kind_is = h.1 ∙ kind_same name })
-    action_here Folds (action id place (lets name declared (Some t))) s h = (h.0, (own_here name h.1.0, holds_here name t h.1.1))
+    action_here Folds (action id place (lets name declared (Some t))) s h = (h.0.0, (own_here name h.1.0, holds_here name t h.1.1))
     action_here Folds (action id place (lets_memory name shape shape_places value)) s h = tt
     action_here Folds (action id place (views name parent form)) s h = tt
-    action_here Folds (action id place (assigns target value)) s h = (h.0, (own_here target h.1.0, holds_here target value h.1.1))
-    action_here Folds (action id place (stores target value)) s h = h
+    action_here Folds (action id place (assigns target value)) s h = (h.0.0, (own_here target h.1.0, holds_here target value h.1.1))
+    action_here Folds (action id place (stores target value)) s h = ((h.0.0.0, h.0.1.0), h.1)
     action_here Folds (action id place (reduces target o value)) s h = elim h [ ]
     action_here Folds (action id place (calls function arguments)) s h = tt
     action_here Folds (action id place (blocks body)) s h = groups_here Folds body s h
-    action_here Folds (action id place (decides test chosen other)) s h = (h.0.0, (action_here (λ entity. ⊥) chosen s.0 h.1.0, other_here (λ entity. ⊥) other s.1 h.1.1))
+    action_here Folds (action id place (decides test chosen other)) s h = (h.0.0.0, (action_here (λ entity. ⊥) chosen s.0 h.1.0, other_here (λ entity. ⊥) other s.1 h.1.1))
     action_here Folds (action id place (repeats test body)) s h = tt
     action_here Folds (action id place (counts iterator declared low high factor body combine combine_place)) s h = tt
 
@@ -151,12 +151,12 @@ module _ (scene : Scene) (levels : List Level) (rounds : List Round) (tells : Te
         → SoundAction scene levels (table_in (known_in scene)) Whole (IsSeen scene levels) a
     fold_here (action id place (reduces r o t)) w h =
         let fits : FoldFits (known_in scene) places (loops_of rounds) (reduces r o t) = h.1 in (
-          (whole_term t w fits.0.0, seen_here scene levels rounds tells top r fits.0.1.inside fits.0.1.plain),
+          (whole_term t w fits.0.0.0, seen_here scene levels rounds tells top r fits.0.1.inside fits.0.1.plain),
           record {
             operator = fits.1.0;
             kind_is = kind_same r;
             sized = subst IsKind (kind_same r) fits.0.1.sized;
-            integer = subst (λ (k : Kind). IsInteger (wider k (kind_written t))) (kind_same r) fits.1.1;
+            integer = subst (λ (k : Kind). IsInteger (wider k (kind_written t))) (kind_same r) fits.1.1.1;
           },
         )
     fold_here (action id place (lets name declared value)) w h = elim w [ ]

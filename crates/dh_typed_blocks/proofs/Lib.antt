@@ -3,7 +3,9 @@ pub mod BlocksHolding
 pub mod SimpleParts
 pub mod SimplePrograms
 pub mod KindsGiven
+pub mod OperandsRight
 pub mod TermsSound
+pub mod TermsTyped
 pub mod Fitting
 pub mod SidesFit
 pub mod CommandsFit
@@ -12,6 +14,7 @@ pub mod FittingParts
 pub mod BlocksFit
 pub mod NamesHere
 pub mod CommandsHere
+pub mod CommandsTyped
 pub mod BlocksSound
 pub mod MemoriesFew
 pub mod IteratorsSorted
