@@ -53,7 +53,7 @@ use Rattle.dh_typed_blocks.specs.PlainPrograms.{AreFew, IsPlainTarget, FormPlain
 use Rattle.dh_typed_blocks.proofs.Fitting.{AllInteger, IsNamedIn, IsTargetIn, TermFits, FoldFits, FormFits, OtherFits, GroupsFit, PartFits}
 use Rattle.dh_typed_blocks.proofs.KindsGiven.{written_is}
 use Rattle.dh_typed_blocks.proofs.PhasesHolding.{FormOnlyFolds, GroupsOnlyFold, PartOnlyFolds, OtherOnlyFolds}
-use Rattle.dh_typed_blocks.proofs.SidesFit.{number_is, factors_more, integer_more, bound_is, to_name, can_hold, is_test, reduced_own, can_reduce}
+use Rattle.dh_typed_blocks.proofs.SidesFit.{number_is, factors_more, integer_more, bound_is, to_name, can_hold, is_test, can_reduce}
 use Rattle.dh_typed_blocks.proofs.TermsSound.{term_sound}
 use Rattle.dh_typed_blocks.proofs.TermsTyped.{term_typed}
 
@@ -491,14 +491,10 @@ module _ (known : Known) (counters : List Counter) (p : Placing) (few : AreFew k
           (v.1, target_in ts 0 facts target t pl.0 (none_least (depth_of known target))),
           (
             pl.1,
-            (
-            reduced_own target.place (kind_of known target) (target_kind (fact_of facts target)) t.kind value v.0.kind t.is (bound_is known p (factors ts) target t.number t.kind t.entity t.stands) v.0.is t.stands.sized
-                (first_none (reducer_breaches (target_kind (fact_of facts target)) (found value) target.place) _ below),
             can_reduce target.place (kind_of known target) (target_kind (fact_of facts target)) t.kind value v.0.kind t.is (bound_is known p (factors ts) target t.number t.kind t.entity t.stands) v.0.is
                 t.stands.sized (v.0.operand 0).sized
                 (first_none (reducer_breaches (target_kind (fact_of facts target)) (found value) target.place) _ below)
                 (first_none (assigned_breaches (target_kind (fact_of facts target)) (found value) (place_of value)) _ side),
-            ),
           ),
         )
     fold_fits (blocks body) ts facts s place l k h sc fo pl ai =

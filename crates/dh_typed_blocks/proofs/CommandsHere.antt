@@ -156,7 +156,7 @@ module _ (scene : Scene) (levels : List Level) (rounds : List Round) (tells : Te
             operator = fits.1.0;
             kind_is = kind_same r;
             sized = subst IsKind (kind_same r) fits.0.1.sized;
-            integer = subst (λ (k : Kind). IsInteger (wider k (kind_written t))) (kind_same r) fits.1.1.1;
+            integer = subst (λ (k : Kind). IsInteger (wider k (kind_written t))) (kind_same r) fits.1.1;
           },
         )
     fold_here (action id place (lets name declared value)) w h = elim w [ ]

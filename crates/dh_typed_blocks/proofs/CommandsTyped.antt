@@ -24,7 +24,7 @@ module _ (known : Known) (p : Placing) where
     fits_typed (action id place (reduces target o value)) ts h = elim h [ ]
     fits_typed (action id place (calls function arguments)) ts h = tt
     fits_typed (action id place (blocks body)) ts h = groups_typed body ts h
-    fits_typed (action id place (decides test chosen other)) ts h = (h.0.0.1, (fits_typed chosen ts h.1.0, other_typed other ts h.1.1))
+    fits_typed (action id place (decides test chosen other)) ts h = ((h.0.0.1, h.0.1), (fits_typed chosen ts h.1.0, other_typed other ts h.1.1))
     fits_typed (action id place (repeats test body)) ts h = tt
     fits_typed (action id place (counts iterator declared low high factor body combine combine_place)) ts h = tt
 
@@ -41,7 +41,7 @@ module _ (known : Known) (p : Placing) where
     part_typed (action_then a rest) ts h = (fits_typed a ts h.0, part_typed rest ts h.1)
 
   reducer_typed : (a : Action) (ts : List Turning) → IsReducer (JoinFits known p) ts (form_of a) → ActionTyped known (table_in known) a
-  reducer_typed (action id place (reduces r o t)) ts h = let fits : FoldFits known p ts (reduces r o t) = h.1 in (fits.0.0.1, fits.1.1.0)
+  reducer_typed (action id place (reduces r o t)) ts h = let fits : FoldFits known p ts (reduces r o t) = h.1 in fits.0.0.1
   reducer_typed (action id place (lets name declared value)) ts h = elim h [ ]
   reducer_typed (action id place (lets_memory name shape shape_places value)) ts h = elim h [ ]
   reducer_typed (action id place (views name parent form)) ts h = elim h [ ]

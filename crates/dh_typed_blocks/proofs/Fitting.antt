@@ -67,8 +67,7 @@ module _ (known : Known) (p : Placing) where
       × CanHold (kind_aimed known (table_in known) target) t
 
   abbrev pub FoldFits : List Turning → ActionForm → Type 0
-  FoldFits loops (reduces r o t) =
-      (TermFits loops t × IsTargetIn loops 0 r) × (Reduces o × (IsInteger (kind_of known r) × IsInteger (wider (kind_of known r) (kind_written t))))
+  FoldFits loops (reduces r o t) = (TermFits loops t × IsTargetIn loops 0 r) × (Reduces o × IsInteger (wider (kind_of known r) (kind_written t)))
   FoldFits loops (lets name declared value) = ⊥
   FoldFits loops (lets_memory name shape shape_places value) = ⊥
   FoldFits loops (views name parent form) = ⊥

@@ -117,18 +117,6 @@ reduced_integer place other (kind.Signed m) kind.Bool s t e h = not_none _ _ h
 reduced_integer place other (kind.Signed m) (kind.Unsigned n) s t e h = not_none _ _ h
 reduced_integer place other (kind.Signed m) (kind.Signed n) s t e h = integer_wider place place (kind.Signed m) (kind.Signed n) s t refl
 
--- it is of an integer kind
-own_integer : (place : Place) (j : Kind) → IsKind j → when (is_truth j) (mismatch place) ≡ [] → IsInteger j
-own_integer place kind.Bool s e = not_none _ _ e
-own_integer place (kind.Unsigned m) s e = s
-own_integer place (kind.Signed m) s e = s
-
-pub reduced_own : (place : Place) (own : Kind) (target : Option Kind) (j : Kind) (t : Term) (k : Kind) → target ≡ Some j → own ≡ j → found t ≡ Some k → IsKind j
-    → reducer_breaches target (found t) place ≡ [] → IsInteger own
-reduced_own place own target j t k is same value s a =
-    let numbers : when (is_truth j) (mismatch place) ≡ [] = sym (ap (λ (x : Option Kind). reducer_breaches x (found t) place) is ∙ ap (λ (x : Option Kind). reducer_breaches (Some j) x place) value) ∙ a in
-    subst IsInteger (sym same) (own_integer place j s numbers)
-
 pub can_reduce : (place : Place) (own : Kind) (target : Option Kind) (j : Kind) (t : Term) (k : Kind) → target ≡ Some j → own ≡ j → found t ≡ Some k → IsKind j → IsKind k
     → reducer_breaches target (found t) place ≡ [] → assigned_breaches target (found t) (place_of t) ≡ [] → IsInteger (wider own (kind_written t))
 can_reduce place own target j t k is same value js ks a b =

@@ -1,9 +1,10 @@
 -- What the rules on kinds and indices tell of expressions and commands, beside what laws on blocks ask: operators have
--- operands that suit them, indices are numbers, as many as there are dimensions, and what is assigned has a kind that
--- has a width. A reducer is of an integer kind. All of it holds of a ready program.
+-- operands that suit them, indices are numbers, as many as there are dimensions, tests are truths, and what is assigned
+-- has a kind that has a width. All of it holds of a ready program.
 use Rattle.std.specs.Prelude.{◌≡◌, ℕ, ◌<◌, List, [], length, Option, Some, None}
 use Rattle.dh_base.specs.declared.places.Place.{Place}
 use Rattle.dh_value.specs.declared.kinds.Kind.{Kind}
+use Rattle.dh_value.specs.declared.kinds.Kind.TheVariants.{Bool}
 use Rattle.dh_value.specs.declared.operators.Op.{Op}
 use Rattle.dh_value.specs.Words.{IsInteger, IsKind}
 use Rattle.dh_tree.specs.declared.tables.MemEntry.{MemEntry}
@@ -64,10 +65,10 @@ module _ (known : Known) (table : List MemEntry) where
     FormTyped (views name parent form) = Unit {0}
     FormTyped (assigns target value) = IsTyped value × IsKind (kind_of known target)
     FormTyped (stores target value) = IsTyped value × IsTyped target
-    FormTyped (reduces target o value) = IsTyped value × IsInteger (kind_of known target)
+    FormTyped (reduces target o value) = IsTyped value
     FormTyped (calls function arguments) = Unit {0}
     FormTyped (blocks body) = GroupsTyped body
-    FormTyped (decides test chosen other) = IsTyped test × (ActionTyped chosen × OtherTyped other)
+    FormTyped (decides test chosen other) = (IsTyped test × (kind_written test ≡ Bool)) × (ActionTyped chosen × OtherTyped other)
     FormTyped (repeats test body) = Unit {0}
     FormTyped (counts iterator declared low high factor body combine combine_place) = Unit {0}
 
