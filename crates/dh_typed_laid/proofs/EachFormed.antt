@@ -40,7 +40,7 @@ again_forms scene around old mid new A B one rest = record {
       let l = one.logs h.ready in
       let g =
       rest.forms x a (started_later x old.draft mid.draft one.extends s) (round_later x old.draft mid.draft scene around one.extends round) f.notes
-      (record { held = f.held; ready = logged_ready old.values mid.values l h.ready; long = l.long ∙ h.long }) w.1 in
+      (record { held = f.held; ready = logged_ready old.values mid.values l h.ready; long = subst (λ (n : ℕ). n ≤ length x.plan.registers) (sym l.long) h.long }) w.1 in
       record { forms = forms_again x old.draft mid.draft new.draft rest.extends f.forms g.forms; notes = g.notes; held = g.held };
 }
 
