@@ -268,7 +268,7 @@ module _ (x : Block) (scene : Scene) (count : ℕ) (rounds : List Round) (touche
           (y.0.1, λ n l. value_suits around stands test first s.0 y.0.0 (places_front x.sites first tests (firsts ++ others) h) n l),
           (
             command_suits chosen m.chosen.arm m.chosen.begin m.chosen.inside m.own m.behind m.chosen.command (λ entity. ⊥) (λ e f. absurd f) inner sound y.1.0 fewer (places_front x.sites m.own firsts others inside),
-            other_suits other around m.tests m.after_chosen m.after_other m.behind next m.other_left m.other long stands s.1.1 y.1.1 (omega (arith, few, own, next_is))
+            other_suits other around m.tests m.after_chosen m.after_other m.behind next m.other_left m.other (λ entity. ⊥) (λ e f. absurd f) long stands s.1.1 y.1.1 (omega (arith, few, own, next_is))
                 (places_behind x.sites m.own m.behind firsts others (next_is ∙ behind m.own (length firsts) (accesses_of chosen) size) inside),
           ),
         )
@@ -279,14 +279,15 @@ module _ (x : Block) (scene : Scene) (count : ℕ) (rounds : List Round) (touche
     command_suits (action id place (repeats test body)) around old new first next m Folds seen stands s y few h = tt
     command_suits (action id place (counts iterator declared low high factor body combine combine_place)) around old new first next m Folds seen stands s y few h = tt
 
-    other_suits : (other : MaybeAction) (around : Around) (tests : List ℕ) (old new : Building) (first next : ℕ) (lefts : List Left) (m : MadeOther scene other around tests old new first next lefts) → length tests ≡ paths_counted around
-        → StandsSo x scene count around → SoundOtherIn around.levels.now (λ entity. ⊥) other → OtherTyped known table other → first + other_accesses other < 2 ^ 32 → HasPlaces x.sites first (other_sites scene other around tests old new first next lefts m)
+    other_suits : (other : MaybeAction) (around : Around) (tests : List ℕ) (old new : Building) (first next : ℕ) (lefts : List Left) (m : MadeOther scene other around tests old new first next lefts) (Folds : ℕ → Type 0) → ((e : ℕ) → Folds e → IsSeen scene around.levels.now e) → length tests ≡ paths_counted around
+        → StandsSo x scene count around → SoundOtherIn around.levels.now Folds other → OtherTyped known table other → first + other_accesses other < 2 ^ 32 → HasPlaces x.sites first (other_sites scene other around tests old new first next lefts m)
         → OtherSuits x scene other around tests old new first next lefts m
-    other_suits no_action around tests old new first next lefts m long stands s y few h = tt
-    other_suits (one_action a) around tests old new first next lefts m long stands s y few h =
+    other_suits no_action around tests old new first next lefts m Folds seen long stands s y few h = tt
+    other_suits (one_action a) around tests old new first next lefts m Folds seen long stands s y few h =
         let arm : paths_counted m.arm ≡ paths_counted around = arm_long false around.guards.now tests (length tests) old.draft m.guarded m.arm.guards.now m.guards ∙ long in
-        let sound : SoundIn m.arm.levels.now (λ entity. ⊥) a = subst (λ (ls : List Level). SoundIn ls (λ entity. ⊥) a) (sym m.levels) s in
-        command_suits a m.arm m.begin m.inside first next m.command (λ entity. ⊥) (λ e f. absurd f) (arm_stands around m.arm m.levels arm stands) sound y few h
+        let sound : SoundIn m.arm.levels.now Folds a = subst (λ (ls : List Level). SoundIn ls Folds a) (sym m.levels) s in
+        let seen_inside : (e : ℕ) → Folds e → IsSeen scene m.arm.levels.now e = λ e f. subst (λ (ls : List Level). IsSeen scene ls e) (sym m.levels) (seen e f) in
+        command_suits a m.arm m.begin m.inside first next m.command Folds seen_inside (arm_stands around m.arm m.levels arm stands) sound y few h
 
     actions_suit : (part : Actions) (around : Around) (old new : Building) (first next : ℕ) (m : MadeActions scene part around old new first next) (Folds : ℕ → Type 0) → ((e : ℕ) → Folds e → IsSeen scene around.levels.now e)
         → StandsSo x scene count around → SoundPartIn around.levels.now Folds part → PartTyped known table part → first + part_accesses part < 2 ^ 32 → HasPlaces x.sites first (actions_sites scene part around old new first next m)

@@ -37,7 +37,7 @@ operands_suit : (o : Op) (j k whole : Kind) → AreOperands o j k whole → Oper
 operands_suit o j k whole h = subst (λ (x : Kind). OperandsSuit o j k x) (sym h.is) (typed_operands_suit o h.left_place h.right_place j k h.left h.right h.none)
 
 -- indices
-numbers : (known : Known) (table : List MemEntry) (ts : plain.Terms) → AreTyped known table ts → AreNumbers ts
+pub numbers : (known : Known) (table : List MemEntry) (ts : plain.Terms) → AreTyped known table ts → AreNumbers ts
 numbers known table plain.no_terms h = tt
 numbers known table (plain.term_then t ts) h = (h.0.1, numbers known table ts h.1)
 
