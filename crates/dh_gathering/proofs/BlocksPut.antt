@@ -14,6 +14,7 @@ use Rattle.dh_expressions.specs.Shown.{is_read_term}
 use Rattle.dh_expressions.proofs.Pushing.{extends_self}
 use Rattle.dh_commands.specs.declared.buildings.Building.{Building}
 use Rattle.dh_commands.specs.Done.{DoesCommand}
+use Rattle.dh_commands.specs.MadeCommands.{MadeCommand}
 use Rattle.dh_gathering.specs.declared.joining.Located.{Located}
 use Rattle.dh_gathering.specs.MadeBlocks.{SetsFlag}
 use Rattle.dh_gathering.specs.Gathered.{DoesNumbered, all_numbered}
@@ -23,8 +24,8 @@ module _ (scene : Scene) (around : Around) where
   abbrev pub CommandsLead : (all left : List Located) → (old here : Building) → Type 0
   CommandsLead all left old here = (new : Building) → DoesNumbered scene around (all_numbered left) here new → DoesNumbered scene around (all_numbered all) old new
 
-  pub commands_turn : (all : List Located) (i next : ℕ) (old here mid : Building) (l : Located) → i < length all → l ≡ get_or all i l → DoesCommand scene around (action_seen l.command.now) l.first next here mid
-      → CommandsLead all (drop i all) old here → CommandsLead all (drop (i + 1) all) old mid
+  pub commands_turn : (all : List Located) (i next : ℕ) (old here mid : Building) (l : Located) → i < length all → l ≡ get_or all i l
+      → DoesCommand scene around (action_seen l.command.now) l.first next here mid × MadeCommand scene (action_seen l.command.now) around here mid l.first next → CommandsLead all (drop i all) old here → CommandsLead all (drop (i + 1) all) old mid
   commands_turn all i next old here mid l within is does h new rest =
       h new (subst (λ (ls : List Located). DoesNumbered scene around (all_numbered ls) here new) (sym (at_item all i l within is)) (mid, (next, (does, rest))))
 

@@ -12,3 +12,4 @@ pub mod CommandsQuiet
 pub mod CommandsMultiply
 pub mod ProductsOfCore
 pub mod CommandsProbe
+pub mod AccessesLaid

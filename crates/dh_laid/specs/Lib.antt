@@ -12,3 +12,7 @@ pub mod LaidProducts
 pub mod LaidProbes
 -- where the accesses of blocks stand
 pub mod BlockSites
+-- accesses without operations
+pub mod BareCommands
+-- accesses are laid
+pub mod LaidAccesses

@@ -17,7 +17,7 @@ use Rattle.dh_formed.proofs.ValuesFormed.{agrees_before, forms_again, started_la
 use Rattle.dh_commands.specs.declared.buildings.Building.{Building}
 use Rattle.dh_commands.specs.LanesRun.{paths_counted}
 use Rattle.dh_commands.specs.ShownVariables.{IsSeen}
-use Rattle.dh_blocks.specs.BlockMade.{AreRising}
+use Rattle.dh_laid.specs.BareCommands.{AreRising}
 use Rattle.dh_blocks.specs.NamedVariables.{IsNamedHere}
 use Rattle.dh_laid.specs.BlockSites.{MadeEach, block_sites, command_sites, one_site, places_from, site_or}
 use Rattle.dh_laid.specs.LaidCommands.{CommandSuits, FormsCommand}

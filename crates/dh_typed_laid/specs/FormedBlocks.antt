@@ -16,7 +16,7 @@ use Rattle.dh_formed.specs.Formed.{Agrees, Block, IsNoted, Started, TermSuits}
 use Rattle.dh_formed.specs.WholeBlocks.{IsCut, block_of}
 use Rattle.dh_commands.specs.declared.buildings.Building.{Building}
 use Rattle.dh_commands.specs.LanesRun.{lane_of, paths_counted}
-use Rattle.dh_blocks.specs.BlockMade.{AreRising}
+use Rattle.dh_laid.specs.BareCommands.{AreRising}
 use Rattle.dh_blocks.specs.SoundTerms.{IsSound}
 use Rattle.dh_laid.specs.BlockSites.{MadeEach, block_sites, test_sites}
 use Rattle.dh_laid.specs.Laid.{StandsRound}
