@@ -91,11 +91,11 @@ module _ (scene : Scene) (around : Around) (plan : PlainPlan) (rounds : List Rou
       of = f.of;
       simple = all_simple (known_of p) places (loops_of rounds) f.of.done f.holds;
       typed = all_typed (known_of p) places (loops_of rounds) f.of.done f.of.folds f.holds f.quiet;
-      sound = λ whole. record {
+      sound = record {
         first = subst (λ (table : List MemEntry). AllByRecursion (λ (c : Located). SoundAction scene around.levels.now table (IsNamedHere scene around.levels.now plan.registers rounds touched) (IsSeen scene around.levels.now) c.command) f.of.done)
             (sym same_table) (all_here scene around.levels.now rounds place.tells place.top.factors_are plan.registers touched names f.of.done f.holds);
         then_folds = subst (λ (table : List MemEntry). AllByRecursion (λ (c : Located). SoundAction scene around.levels.now table (IsNamedHere scene around.levels.now plan.registers rounds (λ entity. true)) (IsSeen scene around.levels.now) c.command) f.of.folds)
-            (sym same_table) (folds_here scene around.levels.now rounds place.tells place.top.factors_are plan.registers f.of.folds whole f.quiet);
+            (sym same_table) (folds_here scene around.levels.now rounds place.tells place.top.factors_are plan.registers f.of.folds f.quiet);
       };
     }
       where

@@ -21,7 +21,7 @@ use Rattle.dh_expressions.specs.Shown.{kind_written}
 use Rattle.dh_blocks.specs.SoundTerms.{IsSound, IsSoundTarget}
 use Rattle.dh_tree.specs.TextNumbers.{Reduces}
 use Rattle.dh_blocks.specs.SoundCommands.{CanHold, kind_aimed}
-use Rattle.dh_typed_blocks.specs.PlainPrograms.{IsPlainTarget}
+use Rattle.dh_typed_blocks.specs.PlainPrograms.{IsPlainTarget, IsWholeTerm}
 use Rattle.dh_typed_blocks.specs.TypedTerms.{IsTyped}
 use Rattle.dh_typed_blocks.proofs.PhasesHolding.{OtherOnlyFolds}
 
@@ -67,7 +67,8 @@ module _ (known : Known) (p : Placing) where
       × CanHold (kind_aimed known (table_in known) target) t
 
   abbrev pub FoldFits : List Turning → ActionForm → Type 0
-  FoldFits loops (reduces r o t) = (TermFits loops t × IsTargetIn loops 0 r) × (Reduces o × IsInteger (wider (kind_of known r) (kind_written t)))
+  FoldFits loops (reduces r o t) =
+      (TermFits loops t × IsTargetIn loops 0 r) × ((Reduces o × IsWholeTerm known (length (factors loops)) t) × IsInteger (wider (kind_of known r) (kind_written t)))
   FoldFits loops (lets name declared value) = ⊥
   FoldFits loops (lets_memory name shape shape_places value) = ⊥
   FoldFits loops (views name parent form) = ⊥

@@ -138,7 +138,7 @@ module _ (es : List Entity) where
       by sort.View h = refl
       by sort.Function h = refl
 
-  variable_plain : (o : Option ℕ) → names_variable es o ≡ true → names_iterator es o ≡ false
+  pub variable_plain : (o : Option ℕ) → names_variable es o ≡ true → names_iterator es o ≡ false
   variable_plain None h = refl
   variable_plain (Some n) h = varies_plain (slice_get es n) h
 
@@ -149,7 +149,7 @@ module _ (es : List Entity) where
       (none_when (not (is_folded_into es i target.entity)) (breach Reducer target.place) (first_none (when (not (is_folded_into es i target.entity)) (breach Reducer target.place ∷ [])) _ e)))
 
   module _ (known : Known) (all : AllSorted known.bindings) where
-    plain_of : (r : Ref) → Stands r → names_iterator es r.entity ≡ false → IsPlainTarget known r
+    pub plain_of : (r : Ref) → Stands r → names_iterator es r.entity ≡ false → IsPlainTarget known r
     plain_of r (n, is) e =
         subst (λ (k : ℕ). IsNoIterator (binding_in known.bindings k)) (sym (ap entity_number is)) (found_plain known.bindings n all (ap (names_iterator es) (sym is) ∙ e))
 
@@ -216,9 +216,15 @@ module _ (es : List Entity) where
             groups_plain rest after c second (second_none (actions_placement_breaches es c g) _ b) n.1 w.1 on,
           )
 
+-- the bindings of a ready program
+pub ready_sorted : (p : Program) → IsReady p → AllSorted p.entities (known_of p).bindings
+ready_sorted p r =
+    let same : resolved_action (body_scope p) p.body ≡ p.body = ap (λ (x : Program). x.body) r.entities in
+    sorted p.entities p.body (body_scope p) 0 same (record { more = []; is = sym (ap (λ (x : Program). x.entities) r.entities) ∙ sym (append-nil (last_scope p).entities) })
+
 -- a ready program
 pub ready_plain : (p : Program) → IsReady p → AssignsPlain (known_of p) p.body
 ready_plain p r =
     let same : resolved_action (body_scope p) p.body ≡ p.body = ap (λ (x : Program). x.body) r.entities in
     let on : GoesOn (last_scope p).entities p.entities = record { more = []; is = sym (ap (λ (x : Program). x.entities) r.entities) ∙ sym (append-nil (last_scope p).entities) } in
-    plain p.entities (known_of p) (sorted p.entities p.body (body_scope p) 0 same on) p.body (body_scope p) nothing_round same (second_none (decls_placement_breaches p.decls) _ r.placements) (ready_named p r) r.of_text.numbers on
+    plain p.entities (known_of p) (ready_sorted p r) p.body (body_scope p) nothing_round same (second_none (decls_placement_breaches p.decls) _ r.placements) (ready_named p r) r.of_text.numbers on

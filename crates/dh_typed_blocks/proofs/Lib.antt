@@ -8,6 +8,9 @@ pub mod TermsSound
 pub mod TermsTyped
 pub mod Fitting
 pub mod SidesFit
+pub mod IteratorsSorted
+pub mod ProgramsEnough
+pub mod ReducersWhole
 pub mod CommandsFit
 pub mod ProgramsFit
 pub mod FittingParts
@@ -17,4 +20,3 @@ pub mod CommandsHere
 pub mod CommandsTyped
 pub mod BlocksSound
 pub mod MemoriesFew
-pub mod IteratorsSorted

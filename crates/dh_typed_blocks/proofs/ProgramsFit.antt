@@ -44,13 +44,15 @@ use Rattle.dh_typed_blocks.specs.PlainPrograms.{AssignsPlain}
 use Rattle.dh_typed_blocks.proofs.Fitting.{Fits}
 use Rattle.dh_typed_blocks.proofs.SimplePrograms.{body_simple}
 use Rattle.dh_typed_blocks.specs.PlainPrograms.{AreFew}
+use Rattle.dh_typed_blocks.proofs.ProgramsEnough.{enough}
+use Rattle.dh_typed_blocks.proofs.ReducersWhole.{JoinsWhole, ready_whole}
 
 -- a body of which each walk tells its own
 body_fits : (known : Known) (counters : List Counter) (p : Placing) (few : AreFew known) (a : Action) (facts : Facts) (s : Scope) → InStep s facts → Knows known p [] facts s.visible
     → typed_action facts a ≡ a → resolved_action s a ≡ a → breaches s a ≡ [] → action_kind_breaches facts a ≡ [] → action_index_breaches (indexed known counters) a ≡ [] → unchecked_action a ≡ []
     → ActionSized a → copies_excess 1 a ≡ None → HasTextNumbers a → ArePlaced known p [] a → Declares known.memories a
-    → IsScoped known [] a → AssignsInside known 0 a → IsSimple a → IsNamedAction a → AssignsPlain known a → Fits known p [] a
-body_fits known counters p few (action id place form) facts s l k typed named visible kinds indices forms sized copies numbers places declares sc asg si na pl =
+    → IsScoped known [] a → AssignsInside known 0 a → JoinsWhole known 0 a → IsSimple a → IsNamedAction a → AssignsPlain known a → Fits known p [] a
+body_fits known counters p few (action id place form) facts s l k typed named visible kinds indices forms sized copies numbers places declares sc asg wh si na pl =
     let form_typed : typed_action_form facts form ≡ form = cc in
     let form_named : resolved_form s form ≡ form = cc in
     form_fits known counters p few form [] facts s place l k (record {
@@ -65,26 +67,7 @@ body_fits known counters p few (action id place form) facts s l k typed named vi
       numbers = numbers;
       placed = places;
       declares_memories = declares;
-    }) sc asg si na pl tt
-
--- what the interpreter asks is told of a ready program
-enough : (q : Program) → IsReady q → TellsEnough q
-enough q r =
-    let dims = second_within (first_above limit.Dimensions (λ (m : Memory). length m.shape.dims) (memories_of q)) _ r.limits in
-    let banks = second_within (first_above limit.Banks (λ (m : Memory). banks_of m.shape.dims) (memories_of q)) _ dims in
-    let ports = second_within (first_above limit.Ports (λ (m : Memory). m.shape.ports) (memories_of q)) _ banks in
-    record {
-      widths = r.of_text.widths;
-      numbers = r.of_text.numbers;
-      declared = r.of_text.names;
-      built = r.built;
-      names = r.names;
-      entities = r.entities;
-      kinds = r.kinds;
-      suits = r.suits;
-      indices = r.indices;
-      copies = first_within (copies_excess 1 q.body) _ ports;
-    }
+    }) sc asg wh si na pl tt
 
 -- the body of a ready program fits, if its memories are few, it assigns inside its loops and to no iterators
 pub ready_fits : (q : Program) → IsReady q → AreFew (known_of q) → AssignsInside (known_of q) 0 q.body → AssignsPlain (known_of q) q.body → Fits (known_of q) (placing_of q) [] q.body
@@ -100,7 +83,7 @@ ready_fits q r few inside plain =
     (second_none (functions_kind_breaches (first_facts q) q.functions) _ h.suits)
     (second_none (decls_shape_breaches q.decls) _ h.indices)
     (second_none (unbuilt_functions q.functions) _ h.built)
-    h.widths.body h.copies h.numbers places memories.found (body_scoped q r) inside (body_simple q r) (ready_named q r) plain
+    h.widths.body h.copies h.numbers places memories.found (body_scoped q r) inside (ready_whole q r) (body_simple q r) (ready_named q r) plain
   where
     at_most : (m n : ℕ) → m ≡ n → m ≤ n
     at_most m n e = omega (arith, e)

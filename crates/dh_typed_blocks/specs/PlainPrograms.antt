@@ -3,9 +3,9 @@
 use Rattle.std.specs.Prelude.{ℕ, ◌≤◌, ◌^◌, length}
 use Rattle.dh_tree.specs.declared.trees.expressions.Ref.{Ref}
 use Rattle.dh_tree.specs.Elements.{banks_of, dims_at}
-use Rattle.dh_tree.specs.PlainTrees.{Action, action, ActionForm, lets, lets_memory, views, assigns, stores, reduces, calls, blocks, decides, repeats, counts, MaybeAction, no_action, one_action, Actions, no_actions, action_then, Groups, no_groups, group_then}
+use Rattle.dh_tree.specs.PlainTrees.{Term, term, number, truth_value, named, accessed, in_bank, applied, converted, Action, action, ActionForm, lets, lets_memory, views, assigns, stores, reduces, calls, blocks, decides, repeats, counts, MaybeAction, no_action, one_action, Actions, no_actions, action_then, Groups, no_groups, group_then}
 use Rattle.dh_meaning.specs.Bindings.{binding_in}
-use Rattle.dh_meaning.specs.CoreOf.{Known, entity_number}
+use Rattle.dh_meaning.specs.CoreOf.{Known, depth_of, entity_number}
 use Rattle.dh_runnable.specs.ActionsRun.{table_in}
 use Rattle.dh_sound.specs.SameKeys.{IsNoIterator}
 use Rattle.dh_tree.specs.TextNumbers.{Reduces}
@@ -48,3 +48,13 @@ module _ (known : Known) where
     pub PartPlain : Actions → Type 0
     PartPlain no_actions = Unit {0}
     PartPlain (action_then a rest) = AssignsPlain a × PartPlain rest
+
+-- what a reducer puts together is a variable that is declared inside so many loops
+abbrev pub IsWholeTerm : Known → (depth : ℕ) → Term → Type 0
+IsWholeTerm known depth (term place k (named r)) = IsPlainTarget known r × (depth ≤ depth_of known r)
+IsWholeTerm known depth (term place k (number negative x)) = ⊥
+IsWholeTerm known depth (term place k (truth_value x)) = ⊥
+IsWholeTerm known depth (term place k (accessed r ts)) = ⊥
+IsWholeTerm known depth (term place k (in_bank r bank at t)) = ⊥
+IsWholeTerm known depth (term place k (applied o l r)) = ⊥
+IsWholeTerm known depth (term place k (converted t to)) = ⊥
