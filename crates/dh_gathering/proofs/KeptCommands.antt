@@ -3,21 +3,21 @@
 use Rattle.std.proofs.Common.{◌≡◌, Bool, true, List, [], ◌∷◌, ◌++◌, refl, ap, sym, ◌∙◌, subst, append_assoc, append-nil}
 use Rattle.dh_gathering.specs.KeptPhases.{KeepNoOther, Kept, another, at_once, commands_kept, done_at_once, ended_all, ended_at, folded_with, joined_with}
 
+pub commands_ended : {A : Type 0} (F : Type 0) (cs : List A) → commands_kept (ended_at {F = F} cs) ≡ cs
+commands_ended F [] = refl
+commands_ended F (c ∷ cs) = append-nil (c ∷ cs)
+
 module _ {A F : Type 0} where
   pub commands_append : (xs ys : List (Kept A F)) → commands_kept (xs ++ ys) ≡ commands_kept xs ++ commands_kept ys
   commands_append [] ys = refl
   commands_append (done_at_once cs ∷ xs) ys = ap (λ (l : List A). cs ++ l) (commands_append xs ys) ∙ sym (append_assoc cs (commands_kept xs) (commands_kept ys))
   commands_append (another form ∷ xs) ys = commands_append xs ys
 
-  pub commands_ended : (cs : List A) → commands_kept {F = F} (ended_at cs) ≡ cs
-  commands_ended [] = refl
-  commands_ended (c ∷ cs) = append-nil (c ∷ cs)
-
   behind : (done : List (Kept A F)) (current : List A) (ks : List (Kept A F)) → commands_kept (done ++ (ended_at current ++ ks)) ++ [] ≡ (commands_kept done ++ current) ++ commands_kept ks
   behind done current ks =
       append-nil (commands_kept (done ++ (ended_at current ++ ks)))
       ∙ (commands_append done (ended_at current ++ ks)
-      ∙ (ap (λ (l : List A). commands_kept done ++ l) (commands_append (ended_at current) ks ∙ ap (λ (l : List A). l ++ commands_kept ks) (commands_ended current))
+      ∙ (ap (λ (l : List A). commands_kept done ++ l) (commands_append (ended_at current) ks ∙ ap (λ (l : List A). l ++ commands_kept ks) (commands_ended F current))
       ∙ sym (append_assoc (commands_kept done) current (commands_kept ks))))
 
   -- of the open phase, too
@@ -31,7 +31,7 @@ module _ {A F : Type 0} where
   commands_all : (done : List (Kept A F)) (current : List A) (ks : List (Kept A F)) → commands_kept (ended_all (joined_with done current ks)) ≡ (commands_kept done ++ current) ++ commands_kept ks
   commands_all done current ks =
       let j = joined_with done current ks in
-      commands_append j.done (ended_at j.open_phase) ∙ (ap (λ (l : List A). commands_kept j.done ++ l) (commands_ended j.open_phase) ∙ commands_joined done current ks)
+      commands_append j.done (ended_at j.open_phase) ∙ (ap (λ (l : List A). commands_kept j.done ++ l) (commands_ended F j.open_phase) ∙ commands_joined done current ks)
 
   pub commands_folded : (xs ys : List (Kept A F)) → commands_kept (folded_with xs ys) ≡ commands_kept xs ++ commands_kept ys
   commands_folded [] ys = refl

@@ -170,10 +170,10 @@ module _ (scene : Scene) (paths : Paths) (parts : List (Vec Command Global)) (fi
       low = open_within now.building.accesses first next (commands_kept done ++ current) d.opens.bare
 
       high : next + accesses_of (action_seen c) ≤ first + all
-      high = within next (accesses_of (action_seen c)) (part_accesses (actions (map action_seen (drop (j + 1) cs)))) (groups_accesses (all_parts_seen (drop (i + 1) parts))) (first + all) left_here
+      high = at_most next (accesses_of (action_seen c)) (part_accesses (actions (map action_seen (drop (j + 1) cs)))) (groups_accesses (all_parts_seen (drop (i + 1) parts))) (first + all) left_here
         where
-          within : (n a p g all : ℕ) → n + (a + p + g) ≡ all → n + a ≤ all
-          within n a p g all e = omega (arith, e)
+          at_most : (n a p g all : ℕ) → n + (a + p + g) ≡ all → n + a ≤ all
+          at_most n a p g all e = omega (arith, e)
 
       all_here : GathersAll scene rounds now new next (next + accesses_of (action_seen c)) ks qs
       all_here = k r few_here rounds inside
@@ -201,7 +201,7 @@ module _ (scene : Scene) (paths : Paths) (parts : List (Vec Command Global)) (fi
       means = are_append IsLocated (IsMadeAs scene now rounds) done (ended_at current) d.far (one_straight d.ls) d.gathers.means (ended_are IsLocated (IsMadeAs scene now rounds) current d.ls d.opened);
     });
     opens = subst (λ (l : Forms). Opens old now first next l (commands_kept l)) (sym is)
-        (subst (λ (c : List Numbered). Opens old now first next (done ++ ended_at current) c) (sym (commands_append done (ended_at current) ∙ ap (λ (c : List Numbered). commands_kept done ++ c) (commands_ended current)))
+        (subst (λ (c : List Numbered). Opens old now first next (done ++ ended_at current) c) (sym (commands_append done (ended_at current) ∙ ap (λ (c : List Numbered). commands_kept done ++ c) (commands_ended Node current)))
         (record { touches = d.opens.touches; bare = d.opens.bare; still = λ none. d.opens.still (none_split done (ended_at current) none).0 }));
     bare = d.bare;
   }
@@ -213,9 +213,9 @@ module _ (scene : Scene) (paths : Paths) (parts : List (Vec Command Global)) (fi
       add_none n = omega arith
 
   pub parts_end : (old now : Made) (done : Forms) (i next : ℕ) → drop i parts ≡ [] → PartsAt old now done i next → GathersGroups scene paths old now done first parts
-  parts_end old now done i next none h r few rounds inside inner rest =
-    subst (λ (n : ℕ). GathersAll scene rounds old now first n done (whole r first parts)) (sym (next_none next) ∙ (ap (λ l. next + groups_accesses (all_parts_seen l)) (sym none) ∙ d.left))
-    (subst (λ (l : List source.Phase). Gathers scene rounds old now done l) (sym (d.is ∙ (ap (λ l. d.far ++ whole r next l) none ∙ append-nil d.far))) d.gathers, d.opens)
+  parts_end old now done i next none h r few rounds inside inner rest bare =
+      subst (λ (n : ℕ). GathersAll scene rounds old now first n done (whole r first parts)) (sym (next_none next) ∙ (ap (λ l. next + groups_accesses (all_parts_seen l)) (sym none) ∙ d.left))
+      (subst (λ (l : List source.Phase). Gathers scene rounds old now done l) (sym (d.is ∙ (ap (λ l. d.far ++ whole r next l) none ∙ append-nil d.far))) d.gathers, d.opens)
     where
       next_none : (n : ℕ) → n + 0 ≡ n
       next_none n = omega arith

@@ -489,9 +489,10 @@ pub turns_of_code : (scene : Scene) (paths within : Paths) (old mid now new : Ma
 turns_of_code scene paths within old mid now new xs ys turn forms first after id place iterator declared low high factor body combine combine_place count counted some levels copies told h k folds makes r few rounds inside inside_it rest bare =
     subst (λ (m : ℕ). GathersAll scene rounds old new first last forms (turn_phases loop_here m all)) counted
     (gathers_turns scene paths within old now new turn forms iterator declared low high factor body combine combine_place id place r first count rounds first last deeper (ne_eqb count 0 some) all counted_inner
-    (subst (λ (l : Forms). GathersAll scene inner old now first last l all) (sym folds)
-    (gathers_fold scene inner old mid now xs ys (phases around first body) (other_phases around (first + accesses_of body) combine) one.0 two.0,
-    opens_fold scene inner old mid now first (first + accesses_of body) last xs ys (more first (accesses_of body)) one.1 two.1)) makes)
+    (subst (λ (l : Forms). GathersAll scene inner old now first last l all) (sym folds) (
+      gathers_fold scene inner old mid now xs ys (phases around first body) (other_phases around (first + accesses_of body) combine) one.0 two.0,
+      opens_fold scene inner old mid now first (first + accesses_of body) last xs ys (more first (accesses_of body)) one.1 two.1,
+    )) makes)
   where
     around : Around
     around = in_loop r (loop_of iterator low high factor)

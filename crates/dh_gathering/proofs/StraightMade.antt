@@ -208,7 +208,7 @@ reach_numbered (c ∷ cs) (l ∷ ls) (is, beside) h = (subst (λ (a : Action). S
 
 -- what was laid is laid while faults are only added
 pub laid_later : (old new : Building) → Lays old.draft new.draft old.accesses new.accesses → AreAllLaid old → AreNone old.accesses.counts.items → AreAllLaid new
-laid_later old new lays laid counts named holds short = lays.laid named holds short (laid named (λ n f at. holds n f (lays.faults n f at)) short) counts
+laid_later old new lays laid counts named holds short = lays.laid named holds short (laid named (λ n f at. holds n f (lays.extends.faults n f at)) short) counts
 
 pub few_located : (items : List Numbered) (ls : List source.Located) → AreBeside IsLocated items ls → AllByRecursion AreFew ls
 few_located [] [] beside = tt

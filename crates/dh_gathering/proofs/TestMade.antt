@@ -16,6 +16,7 @@ use Rattle.dh_expressions.specs.declared.scenes.Around.{Around}
 use Rattle.dh_expressions.specs.declared.scenes.Scene.{Scene}
 use Rattle.dh_expressions.specs.Drafted.{Extends}
 use Rattle.dh_expressions.specs.Noted.{touched_in}
+use Rattle.dh_expressions.specs.Shown.{is_read_term}
 use Rattle.dh_expressions.proofs.Pushing.{at_seam, extends_again, in_front, pushed_extends}
 use Rattle.dh_commands.specs.declared.assignments.Change.{Change}
 use Rattle.dh_commands.specs.declared.assignments.Values.{Values}
@@ -30,7 +31,7 @@ use Rattle.dh_laid.proofs.AccessesLaid.{lays_again, lays_quiet, tests_lay}
 use Rattle.dh_laid.proofs.CommandsNumbered.{tests_number}
 use Rattle.dh_gathering.specs.declared.blocks.Made.{Made}
 use Rattle.dh_gathering.specs.Growing.{Grows, IsAtRest, IsClear, registers_given}
-use Rattle.dh_gathering.specs.MadeBlocks.{AreInside, ArePathsOf, IsFlagOf, SetsFlag, StandsAt}
+use Rattle.dh_gathering.specs.MadeBlocks.{AddsFlag, AreInside, ArePathsOf, IsFlagOf, PutsFlag, SetsFlag, StandsAt}
 use Rattle.dh_gathering.specs.OpenAccesses.{AreUntouched, TouchesWithin}
 use Rattle.dh_gathering.specs.Gathered.{MakesTest, MakesTestIn, SetsFirst}
 use Rattle.dh_gathering.proofs.MadeGrows.{AddsBlock, block_grows, block_rests, block_stands}
@@ -78,7 +79,7 @@ module _ (scene : Scene) (paths : Paths) (old new : Made) (between : Building) (
       by [] long some e = zero_none (paths_counted around) long some
       by (x ∷ ts) long some e = absurd cc
 
-  module _ (value : ℕ) (first : slice_get tests 0 ≡ Some value) (sets : SetsFlag between.draft draft t value flag)
+  module _ (value : ℕ) (first : slice_get tests 0 ≡ Some value) (puts : PutsFlag between.draft draft t value flag)
       (draft_is : new.building.draft ≡ draft) (accesses_are : new.building.accesses ≡ between.accesses) (values_are : new.building.values ≡ between.values)
       (starts : new.starts.items ≡ old.starts.items ++ start ∷ []) (registers : new.registers ≡ old.registers ++ kind.Bool ∷ [])
       (flag_is : flag ≡ length old.registers) (number_is : block ≡ length old.starts.items) (start_is : start ≡ length old.building.draft.operations.items) where
@@ -91,7 +92,7 @@ module _ (scene : Scene) (paths : Paths) (old new : Made) (between : Building) (
       lays =
           lays_again old.building.draft between.draft new.building.draft old.building.accesses between.accesses new.building.accesses
           (tests_lay scene around n t (paths_counted around) old.building between next tests stands_in made)
-          (lays_quiet between.draft new.building.draft between.accesses new.building.accesses (subst (λ (d : Draft). Extends between.draft d) (sym draft_is) (flag_extends between.draft draft t value flag sets)) accesses_are)
+          (lays_quiet between.draft new.building.draft between.accesses new.building.accesses (subst (λ (d : Draft). Extends between.draft d) (sym draft_is) (flag_extends between.draft draft t value flag puts.0)) accesses_are)
 
       touches : TouchesWithin old.building.accesses new.building.accesses n (n + term_accesses t)
       touches = record {
@@ -108,7 +109,7 @@ module _ (scene : Scene) (paths : Paths) (old new : Made) (between : Building) (
 
       adds : AddsBlock old new
       adds = record {
-        draft = subst (λ (d : Draft). Extends old.building.draft d) (sym draft_is) (extends_again old.building.draft between.draft draft (does.does.so few).extends (flag_extends between.draft draft t value flag sets));
+        draft = subst (λ (d : Draft). Extends old.building.draft d) (sym draft_is) (extends_again old.building.draft between.draft draft (does.does.so few).extends (flag_extends between.draft draft t value flag puts.0));
         starts = starts ∙ ap (λ (n : ℕ). old.starts.items ++ n ∷ []) start_is;
         registers = λ register k at. ap (λ (l : List Kind). slice_get l register) registers ∙ in_front old.registers (kind.Bool ∷ []) register k at;
         longer = one_more (length old.registers) (length new.registers) (ap (λ (l : List Kind). length l) registers ∙ length-append old.registers (kind.Bool ∷ []));
@@ -149,7 +150,8 @@ module _ (scene : Scene) (paths : Paths) (old new : Made) (between : Building) (
           accesses = accesses_are;
           values = values_are;
           first = first;
-          sets = subst (λ (d : Draft). SetsFlag between.draft d t value flag) (sym draft_is) sets;
+          sets = subst (λ (d : Draft). SetsFlag between.draft d t value flag) (sym draft_is) puts.0;
+          adds = subst (λ (d : Draft). AddsFlag (is_read_term t) between.draft d value flag) (sym draft_is) puts.1;
           is_flag = is_flag final more;
         };
       }

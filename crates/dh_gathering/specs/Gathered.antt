@@ -35,7 +35,7 @@ use Rattle.dh_gathering.specs.KeptPhases.{AreBeside, AreOf, KeepNoOther, Kept, a
 use Rattle.dh_gathering.specs.Growing.{Grows, IsAtRest}
 use Rattle.dh_gathering.specs.OpenAccesses.{AreOpen, AreUntouched, Numbered, TouchesWithin, numbered}
 use Rattle.dh_gathering.specs.PlacedPhases.{AreInner, ArePlaced, loops_round}
-use Rattle.dh_gathering.specs.MadeBlocks.{AreInside, IsFlagOf, IsTold, MadeStraight, MadeTest, SetsFlag, made_tie}
+use Rattle.dh_gathering.specs.MadeBlocks.{AreInside, IsFlagOf, IsTold, MadeStraight, MadeTest, PutsFlag, made_tie}
 
 -- Lists of phases.
 
@@ -126,7 +126,7 @@ pub record EndsBlock (old new : Made) (start block : ℕ) : Type 0 where
 -- a flag is set to the first of these values, where there is one
 abbrev pub SetsFirst : (old new : Draft) → tree.Term → (tests : List ℕ) → (flag : ℕ) → Type 0
 SetsFirst old new t [] flag = new ≡ old
-SetsFirst old new t (value ∷ tests) flag = SetsFlag old new t value flag
+SetsFirst old new t (value ∷ tests) flag = PutsFlag old new t value flag
 
 -- so has a test, with its flag
 pub record MakesTest (scene : Scene) (rounds : List Round) (old new : Made) (n : ℕ) (t : tree.Term) (flag block : ℕ) : Type 0 where

@@ -1,6 +1,6 @@
 -- The blocks of a plan as they stand in its one list of operations: which commands each is made of, inside which
 -- loops, and where it begins and ends. This ties nodes to phases.
-use Rattle.std.specs.Prelude.{◌≡◌, ℕ, suc, ◌+◌, ◌*◌, ◌-◌, ◌<◌, ◌≤◌, ◌^◌, nat_le, if◌then◌else◌, min, List, [], ◌∷◌, ◌++◌, length, replicate, slice_get, Option, Some, None}
+use Rattle.std.specs.Prelude.{◌≡◌, ℕ, suc, ◌+◌, ◌*◌, ◌-◌, ◌<◌, ◌≤◌, ◌^◌, nat_le, Bool as Truth, true, false, if◌then◌else◌, min, List, [], ◌∷◌, ◌++◌, length, replicate, slice_get, Option, Some, None}
 use Rattle.std.specs.List.{AllByRecursion}
 use Rattle.dh_value.specs.declared.kinds.Kind.TheVariants as kind
 use Rattle.dh_value.specs.declared.operators.Op.TheVariants.{Both}
@@ -13,7 +13,7 @@ use Rattle.dh_meaning.specs.CoreOf.{core_commands, core_test, entity_number, for
 use Rattle.dh_meaning.specs.Phases.{Located, phases_of}
 use Rattle.dh_tree.specs.Seen.{program_seen}
 use Rattle.dh_code.specs.Slots.{held_at}
-use Rattle.dh_plan.specs.declared.operations.OperationForm.TheVariants.{Set}
+use Rattle.dh_plan.specs.declared.operations.OperationForm.TheVariants.{Compute, Set}
 use Rattle.dh_plan.specs.Correspondence.{Round}
 use Rattle.dh_plan.specs.PlanPhases.{Tie}
 use Rattle.dh_expressions.specs.declared.drafts.Draft.{Draft}
@@ -146,6 +146,15 @@ pub record SetsFlag (old new : Draft) (t : plain.Term) (value flag : ℕ) : Type
   pub gives : Gives old mid made (λ x. flag_shown t (shown x value))
   pub set : Pushes mid new number None (Set flag made)
 
+-- The operations of a flag: of a read, whose value need be no word, both of it and itself.
+abbrev pub AddsFlag : (is_read : Truth) → (old new : Draft) → (value flag : ℕ) → Type 0
+AddsFlag true old new value flag = (mid : Draft) × ((made : ℕ) × ((number : ℕ) × (Pushes old mid made None (Compute Both value value) × Pushes mid new number None (Set flag made))))
+AddsFlag false old new value flag = (number : ℕ) × Pushes old new number None (Set flag value)
+
+-- so is a flag put down
+abbrev pub PutsFlag : (old new : Draft) → plain.Term → (value flag : ℕ) → Type 0
+PutsFlag old new t value flag = SetsFlag old new t value flag × AddsFlag (is_read_term t) old new value flag
+
 -- a flag is a truth, and the register of no variable
 pub record IsFlagOf (final : Made) (flag : ℕ) : Type 0 where
   pub truth : slice_get final.registers flag ≡ Some kind.Bool
@@ -174,6 +183,7 @@ pub record MadeTest (scene : Scene) (final : Made) (rounds : List Round) (n : �
   pub values : after.values ≡ between.values
   pub first : slice_get tests 0 ≡ Some value
   pub sets : SetsFlag between.draft after.draft t value flag
+  pub adds : AddsFlag (is_read_term t) between.draft after.draft value flag
   pub is_flag : IsFlagOf final flag
 
 -- The tie.
