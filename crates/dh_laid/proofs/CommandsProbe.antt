@@ -70,11 +70,11 @@ AddsNone old new = AddsProbes old new nothing
 none_same : (old new : Draft) → new.operations.items ≡ old.operations.items → AddsNone old new
 none_same old new same = record { more = []; adds = same ∙ sym (append-nil old.operations.items); probes_are = λ access. refl }
 
-none_none : (old new : Draft) → new ≡ old → AddsNone old new
+pub none_none : (old new : Draft) → new ≡ old → AddsNone old new
 none_none old new same = none_same old new (ap (λ (d : Draft). d.operations.items) same)
 
 -- one behind the other, where this is their sum
-probes_again : (a b c : Draft) (f g h : ℕ → ℕ) → ((access : ℕ) → f access + g access ≡ h access) → AddsProbes a b f → AddsProbes b c g → AddsProbes a c h
+pub probes_again : (a b c : Draft) (f g h : ℕ → ℕ) → ((access : ℕ) → f access + g access ≡ h access) → AddsProbes a b f → AddsProbes b c g → AddsProbes a c h
 probes_again a b c f g h sum one two = record {
   more = one.more ++ two.more;
   adds = two.adds ∙ (ap (λ (os : List Operation). os ++ two.more) one.adds ∙ append_assoc a.operations.items one.more two.more);
@@ -291,7 +291,7 @@ module _ (scene : Scene) (lane : Lane) (stands : StandsIn scene lane.around) whe
 -- All paths.
 
 -- at so many paths
-abbrev often : (n count paths : ℕ) → ℕ → ℕ
+abbrev pub often : (n count paths : ℕ) → ℕ → ℕ
 often n count paths = ranged n count (λ access. paths)
 
 often_more : (n count k access : ℕ) → often n count k access + once n count access ≡ often n count (suc k) access
@@ -318,7 +318,7 @@ lanes_probed One first count each (suc n) old new next m =
     probes_again old.draft (m.0).draft new.draft (often first count n) (once first count) (often first count (suc n)) (λ access. often_more first count n access)
     (lanes_probed One first count each n old m.0 m.1.0 m.1.1.0) (each n m.0 new next m.1.1.1)
 
-tests_probed : (scene : Scene) (around : Around) → StandsIn scene around → (first : ℕ) (t : Term) → AreFewIn first t → (paths : ℕ) (old new : Building) (next : ℕ) (tests : List ℕ) → MadeTests scene around first t paths old new next tests
+pub tests_probed : (scene : Scene) (around : Around) → StandsIn scene around → (first : ℕ) (t : Term) → AreFewIn first t → (paths : ℕ) (old new : Building) (next : ℕ) (tests : List ℕ) → MadeTests scene around first t paths old new next tests
     → AddsProbes old.draft new.draft (often first (term_accesses t) paths)
 tests_probed scene around stands first t few zero old new next tests m = none_often old.draft new.draft first (term_accesses t) (none_none old.draft new.draft (ap (λ (b : Building). b.draft) m.0))
 tests_probed scene around stands first t few (suc n) old new next tests m =
@@ -370,7 +370,7 @@ choices_probed tests choices zero old new before after m = none_none old new m.0
 choices_probed tests choices (suc n) old new before after m =
     none_again old m.0 new (choices_probed tests choices n old m.0 before m.1.0 m.1.1.1.0) (choice_probed (slice_get tests (m.1.1.0).path) m.1.1.0 m.0 new m.1.0 after m.1.1.1.1.1)
 
-stands_arm : (scene : Scene) (Inner : Commanding) (around : Around) (holds : Truth) (tests : List ℕ) (old new : Building) (first next : ℕ) (lefts : List Left) (m : MadeArm Inner around holds tests old new first next lefts)
+pub stands_arm : (scene : Scene) (Inner : Commanding) (around : Around) (holds : Truth) (tests : List ℕ) (old new : Building) (first next : ℕ) (lefts : List Left) (m : MadeArm Inner around holds tests old new first next lefts)
     → StandsIn scene around → length tests ≡ paths_counted around → StandsIn scene m.arm
 stands_arm scene Inner around holds tests old new first next lefts m s many = record {
   scopes = s.scopes;
@@ -399,7 +399,7 @@ inner_probed old new n c paths h = often_count old new n c (0 + c) paths (omega 
 
 module _ (scene : Scene) where
   mutual
-    command_probed : (a : Action) (around : Around) (old new : Building) (first next : ℕ) → StandsIn scene around → MadeCommand scene a around old new first next → IsStraight a → 0 < paths_counted around → first + accesses_of a < 2 ^ 32
+    pub command_probed : (a : Action) (around : Around) (old new : Building) (first next : ℕ) → StandsIn scene around → MadeCommand scene a around old new first next → IsStraight a → 0 < paths_counted around → first + accesses_of a < 2 ^ 32
         → AddsProbes old.draft new.draft (often first (accesses_of a) (paths_counted around))
     command_probed (action id place (lets name declared (Some value))) around old new first next s m is some few =
         own_probed old.draft new.draft first (term_accesses value) (paths_counted around)
