@@ -21,7 +21,7 @@ use Rattle.dh_commands.specs.LanesRun.{paths_counted}
 use Rattle.dh_commands.specs.MadeCommands.{MadeTests}
 use Rattle.dh_laid.specs.BlockSites.{MadeEach, block_sites, test_sites}
 use Rattle.dh_laid.specs.Laid.{aim_accesses}
-use Rattle.dh_laid.specs.LaidNumbers.{IsStraight}
+use Rattle.dh_laid.specs.LaidNumbers.{StoresReach}
 use Rattle.dh_laid.specs.LaidProbes.{AddsProbes}
 use Rattle.dh_laid.specs.LaidQuiet.{StandsIn}
 
@@ -102,11 +102,11 @@ module _ (P : (number : ℕ) → Type 0) where
 
 -- The commands of a block.
 
--- a straight command whose accesses have numbers from a first one on, few
+-- a command whose stores are into accesses, with numbers from a first one on, few
 pub record IsAlong (from : ℕ) (c : Located) : Type 0 where
   pub behind : from ≤ c.first
   pub few : c.first + accesses_of c.command < 2 ^ 32
-  pub straight : IsStraight c.command
+  pub reaches : StoresReach c.command
 
 -- each behind the one before
 abbrev pub AreAlong : (from : ℕ) → List Located → Type 0
