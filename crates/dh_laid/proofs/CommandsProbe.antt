@@ -94,10 +94,10 @@ nothing_plus : (f : ℕ → ℕ) (access : ℕ) → nothing access + f access �
 nothing_plus f access = omega arith
 
 -- nothing behind, and nothing before
-probes_then_none : (a b c : Draft) (f : ℕ → ℕ) → AddsProbes a b f → AddsNone b c → AddsProbes a c f
+pub probes_then_none : (a b c : Draft) (f : ℕ → ℕ) → AddsProbes a b f → AddsNone b c → AddsProbes a c f
 probes_then_none a b c f h k = probes_again a b c f nothing f (plus_nothing f) h k
 
-none_then_probes : (a b c : Draft) (f : ℕ → ℕ) → AddsNone a b → AddsProbes b c f → AddsProbes a c f
+pub none_then_probes : (a b c : Draft) (f : ℕ → ℕ) → AddsNone a b → AddsProbes b c f → AddsProbes a c f
 none_then_probes a b c f h k = probes_again a b c nothing f f (nothing_plus f) h k
 
 none_pushed : (old new : Draft) (n : ℕ) (guard : Option ℕ) (form : OperationForm) → Pushes old new n guard form → ((access : ℕ) → counts_probe access form ≡ 0) → AddsNone old new
@@ -263,23 +263,23 @@ folded_probed lane current held op t value old new v m =
     (converted_probed (same_kind held.kind (extension_of op held.kind (kind_written t))) held.kind m.all m.fourth new v m.own))))
 
 module _ (scene : Scene) (lane : Lane) (stands : StandsIn scene lane.around) where
-  assigned_probed : (first entity : ℕ) (t : Term) (old new : Building) (next : ℕ) → AreFewIn first t → MadeAssigned scene lane first entity t old new next → AddsProbes old.draft new.draft (once first (term_accesses t))
+  pub assigned_probed : (first entity : ℕ) (t : Term) (old new : Building) (next : ℕ) → AreFewIn first t → MadeAssigned scene lane first entity t old new next → AddsProbes old.draft new.draft (once first (term_accesses t))
   assigned_probed first entity t old new next few m =
       probes_then_none old.draft m.middle new.draft (once first (term_accesses t))
       (term_probed scene lane stands old.values.current.items t old.draft m.middle old.accesses new.accesses first next m.value m.term few)
       (held_probed t (held_at scene.held.now entity).kind m.value m.middle new.draft m.held m.holds)
 
-  cleared_probed : (first entity : ℕ) (old new : Building) → MadeCleared scene lane entity old new → AddsProbes old.draft new.draft (once first 0)
+  pub cleared_probed : (first entity : ℕ) (old new : Building) → MadeCleared scene lane entity old new → AddsProbes old.draft new.draft (once first 0)
   cleared_probed first entity old new m =
       no_accesses old.draft new.draft first (probes_counted old.draft new.draft 0 _ _ (number_counts any_register any_reach any_reach any_reach (held_at scene.held.now entity).kind false 0 old.draft new.draft m.value m.number))
 
-  reduced_probed : (first entity : ℕ) (op : Op) (t : Term) (old new : Building) (next : ℕ) → AreFewIn first t → MadeReduced scene lane first entity op t old new next → AddsProbes old.draft new.draft (once first (term_accesses t))
+  pub reduced_probed : (first entity : ℕ) (op : Op) (t : Term) (old new : Building) (next : ℕ) → AreFewIn first t → MadeReduced scene lane first entity op t old new next → AddsProbes old.draft new.draft (once first (term_accesses t))
   reduced_probed first entity op t old new next few m =
       probes_then_none old.draft m.middle new.draft (once first (term_accesses t))
       (term_probed scene lane stands old.values.current.items t old.draft m.middle old.accesses new.accesses first next m.value m.term few)
       (folded_probed lane old.values.current.items (held_at scene.held.now entity) op t m.value m.middle new.draft m.folded m.folds)
 
-  stored_probed : (first : ℕ) (target t : Term) (old new : Building) (next : ℕ) → IsAccessForm (form_of target) → first + (term_accesses t + term_accesses target) < 2 ^ 32 → MadeStored scene lane first target t old new next
+  pub stored_probed : (first : ℕ) (target t : Term) (old new : Building) (next : ℕ) → IsAccessForm (form_of target) → first + (term_accesses t + term_accesses target) < 2 ^ 32 → MadeStored scene lane first target t old new next
       → AddsProbes old.draft new.draft (once first (term_accesses t + term_accesses target))
   stored_probed first (plain.term place k form) t old new next is few m =
       let less : AreFewIn first t = omega (arith, few) in
@@ -311,7 +311,7 @@ often_none n count access = by (nat_le n access && nat_lt access (n + count)) 0
 none_often : (old new : Draft) (n count : ℕ) → AddsNone old new → AddsProbes old new (often n count 0)
 none_often old new n count h = record { more = h.more; adds = h.adds; probes_are = λ access. h.probes_are access ∙ often_none n count access }
 
-lanes_probed : (One : ℕ → (b d : Building) → ℕ → Type 0) (first count : ℕ) → ((n : ℕ) (b d : Building) (k : ℕ) → One n b d k → AddsProbes b.draft d.draft (once first count))
+pub lanes_probed : (One : ℕ → (b d : Building) → ℕ → Type 0) (first count : ℕ) → ((n : ℕ) (b d : Building) (k : ℕ) → One n b d k → AddsProbes b.draft d.draft (once first count))
     → (paths : ℕ) (old new : Building) (next : ℕ) → MadeLanes One paths first old new next → AddsProbes old.draft new.draft (often first count paths)
 lanes_probed One first count each zero old new next m = none_often old.draft new.draft first count (none_none old.draft new.draft (ap (λ (b : Building). b.draft) m.0))
 lanes_probed One first count each (suc n) old new next m =
@@ -348,7 +348,7 @@ guard_probed : (guard : Option ℕ) (t : ℕ) (old new : Draft) (v : ℕ) → Ma
 guard_probed None t old new v m = none_none old new m.0
 guard_probed (Some g) t old new v m = none_pushed old new v None (Compute Both g t) m (λ access. refl)
 
-guards_probed : (holds : Truth) (guards : List (Option ℕ)) (tests : List ℕ) (count : ℕ) (old new : Draft) (arm : List (Option ℕ)) → MadeArmGuards holds guards tests count old new arm → AddsNone old new
+pub guards_probed : (holds : Truth) (guards : List (Option ℕ)) (tests : List ℕ) (count : ℕ) (old new : Draft) (arm : List (Option ℕ)) → MadeArmGuards holds guards tests count old new arm → AddsNone old new
 guards_probed holds guards tests zero old new arm m = none_none old new m.0
 guards_probed holds guards tests (suc n) old new arm m = none_again old m.0 new (guards_probed holds guards tests n old m.0 m.1.0 m.1.1.1.1.0) (one m.0 m.1.1.0 m.1.1.1.0 m.1.1.1.1.1.1.0)
   where
@@ -365,7 +365,7 @@ choice_probed (Some test) c old new before after m =
     none_again old m.first new (behind_probed before.current.items c.register c.chosen old m.first m.yes_value m.chosen)
     (none_again m.first m.second new (behind_probed before.current.items c.register c.other m.first m.second m.no_value m.other) (none_pushed m.second new m.value None (Select test m.yes_value m.no_value) m.pushes (λ access. refl)))
 
-choices_probed : (tests : List ℕ) (choices : List Choice) (count : ℕ) (old new : Draft) (before after : Values) → MadeChoices tests choices count old new before after → AddsNone old new
+pub choices_probed : (tests : List ℕ) (choices : List Choice) (count : ℕ) (old new : Draft) (before after : Values) → MadeChoices tests choices count old new before after → AddsNone old new
 choices_probed tests choices zero old new before after m = none_none old new m.0
 choices_probed tests choices (suc n) old new before after m =
     none_again old m.0 new (choices_probed tests choices n old m.0 before m.1.0 m.1.1.1.0) (choice_probed (slice_get tests (m.1.1.0).path) m.1.1.0 m.0 new m.1.0 after m.1.1.1.1.1)

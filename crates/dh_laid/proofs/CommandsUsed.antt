@@ -21,18 +21,18 @@ use Rattle.dh_commands.specs.declared.buildings.Building.{Building}
 use Rattle.dh_commands.specs.declared.choices.Left.{Left}
 use Rattle.dh_commands.specs.LanesRun.{lane_of, paths_counted}
 use Rattle.dh_commands.specs.MadeCommands.{Commanding, MadeActions, MadeArm, MadeAssigned, MadeCleared, MadeCommand, MadeGroups, MadeLanes, MadeOther, MadeReduced, MadeStored, MadeTested, MadeTests}
-use Rattle.dh_laid.specs.BlockSites.{actions_sites, command_sites, groups_sites, other_sites, target_sites, term_sites}
+use Rattle.dh_laid.specs.BlockSites.{actions_sites, all_there, command_sites, groups_sites, other_sites, target_sites, term_sites}
 use Rattle.dh_laid.specs.Laid.{aim_accesses}
 use Rattle.dh_laid.specs.LaidCommands.{AreFewIn}
-use Rattle.dh_laid.specs.LaidNumbers.{AreStraight, AreStraightGroups, IsAccessForm, IsOutside, IsStraight, IsStraightOther, Numbers}
+use Rattle.dh_laid.specs.LaidNumbers.{IsAccessForm, IsOutside, Numbers, StoresReach, StoresReachGroups, StoresReachOther, StoresReachPart}
 use Rattle.dh_laid.specs.LaidQuiet.{StandsIn}
-use Rattle.dh_laid.specs.LaidUses.{AddsUses, EachWrite, EachWriteActions, EachWriteGroups, EachWriteOther, IsUnshared, PathsLead, SharesInside, used_to}
-use Rattle.dh_laid.proofs.CommandsNumbered.{actions_numbered, aims_within, arm_number, command_numbered, groups_numbered, numbers_then, other_numbered, some_arm, tests_number}
+use Rattle.dh_laid.specs.LaidUses.{AddsUses, used_by, EachWrite, EachWriteActions, EachWriteGroups, EachWriteOther, IsUnshared, PathsLead, SharesInside, used_to}
+use Rattle.dh_laid.proofs.CommandsNumbered.{actions_reached, aims_within, arm_number, command_reached, groups_reached, numbers_then, other_reached, some_arm, tests_number}
 use Rattle.dh_laid.proofs.CommandsProbe.{stands_arm}
 use Rattle.dh_laid.proofs.ReadsUsed.{AreLed, UsesPart, led_same}
-use Rattle.dh_laid.proofs.SitesLaid.{HasSites, actions_sites_long, command_sites_long, sites_behind, sites_front, target_sites_long, term_sites_long, two_long}
+use Rattle.dh_laid.proofs.SitesLaid.{HasSites, PlacesAgree, actions_sites_long, all_sites, command_sites_long, no_sites, places_behind, places_front, target_sites_long, term_sites_long, test_places_long, two_long}
 use Rattle.dh_laid.proofs.TermsUsed.{UsesLane, assigned_used, cleared_used, long_is, reduced_used, stored_used, term_used}
-use Rattle.dh_laid.proofs.UsesAdded.{AddsNone, choices_used, guards_used, no_accesses, none_none, none_then_uses, ranged_count, ranged_more, ranged_nothing, ranged_then, uses_then_none}
+use Rattle.dh_laid.proofs.UsesAdded.{AddsNone, choices_used, guards_used, no_accesses, none_none, none_then_uses, ranged_count, ranged_more, ranged_nothing, ranged_then, ranged_without, used_nowhere, uses_then_none}
 use Rattle.dh_laid.proofs.ValuesLogged.{arm_long, tests_same}
 
 -- What stands before and behind.
@@ -40,14 +40,14 @@ use Rattle.dh_laid.proofs.ValuesLogged.{arm_long, tests_same}
 -- As a command begins its own reads gave nothing; each access of the block before it gave at all paths, where one shares it.
 pub record Begins (scene : Scene) (sites : ℕ → Option Site) (paths : ℕ) (a : Accesses) (first count : ℕ) : Type 0 where
   pub led : AreLed sites a
-  pub fresh : (m : ℕ) → first ≤ m → m < first + count → given_at_paths a m ≡ 0
+  pub fresh : (m : ℕ) (s : Site) → sites m ≡ Some s → first ≤ m → m < first + count → given_at_paths a m ≡ 0
   pub before : (e reader : ℕ) (t : Site) → sites e ≡ Some t → e < first → slice_get scene.shares.now reader ≡ Some (Some e) → paths ≤ given_at_paths a e
 
 -- Behind it so have its own.
 pub record Used (scene : Scene) (sites : ℕ → Option Site) (paths : ℕ) (old new : Building) (first count : ℕ) : Type 0 where
   pub uses : AddsUses old.draft new.draft (ranged first count (used_to scene sites paths))
   pub led : AreLed sites new.accesses
-  pub given : (m reader : ℕ) → first ≤ m → m < first + count → slice_get scene.shares.now reader ≡ Some (Some m) → paths ≤ given_at_paths new.accesses m
+  pub given : (m reader : ℕ) (t : Site) → sites m ≡ Some t → first ≤ m → m < first + count → slice_get scene.shares.now reader ≡ Some (Some m) → paths ≤ given_at_paths new.accesses m
 
 -- Of a command at its first paths: its reads gave at these, all others what they gave.
 pub record UsedTo (scene : Scene) (sites : ℕ → Option Site) (old new : Building) (paths first count all : ℕ) : Type 0 where
@@ -89,7 +89,7 @@ module _ (scene : Scene) (sites : ℕ → Option Site) (inside : SharesInside sc
     used_none : count ≤ all → (new : Building) → new ≡ old → UsedTo scene sites old new 0 first count all
     used_none few new same = record {
       uses = ranged_nothing old.draft new.draft first all (used_to scene sites 0) (λ access. refl) (none_none old.draft new.draft (ap (λ (b : Building). b.draft) same));
-      own = λ m from below. ap (λ (b : Building). given_at_paths b.accesses m) same ∙ begins.fresh m from (omega (arith, below, few));
+      own = λ m from below. ap (λ (b : Building). given_at_paths b.accesses m) same ∙ (let s = are m from below in begins.fresh m s.0 s.1 from (omega (arith, below, few)));
       others = λ m out. ap (λ (b : Building). given_at_paths b.accesses m) same;
       led = led_same sites old.accesses new.accesses (ap (λ (b : Building). b.accesses) same) begins.led;
     }
@@ -133,11 +133,11 @@ module _ (scene : Scene) (sites : ℕ → Option Site) (inside : SharesInside sc
 
   -- at all paths
   used_all : (paths : ℕ) (old new : Building) (first count : ℕ) → UsedTo scene sites old new paths first count count → Used scene sites paths old new first count
-  used_all paths old new first count u = record { uses = u.uses; led = u.led; given = λ m reader from below share. let e = u.own m from below in omega (arith, e) }
+  used_all paths old new first count u = record { uses = u.uses; led = u.led; given = λ m reader t at from below share. let e = u.own m from below in omega (arith, e) }
 
   -- the last access is a write, which no read shares
   used_write : (paths : ℕ) (old new : Building) (first count all : ℕ) → count + 1 ≡ all → IsUnshared scene (first + count) → UsedTo scene sites old new paths first count all → Used scene sites paths old new first all
-  used_write paths old new first count all is alone u = record { uses = u.uses; led = u.led; given = λ m reader from below share. by m reader from below share (cases_lt m (first + count)) }
+  used_write paths old new first count all is alone u = record { uses = u.uses; led = u.led; given = λ m reader t at from below share. by m reader from below share (cases_lt m (first + count)) }
     where
       last : (m : ℕ) → m < first + all → first + count ≤ m → m ≡ first + count
       last m below more = omega (arith, is, below, more)
@@ -149,7 +149,7 @@ module _ (scene : Scene) (sites : ℕ → Option Site) (inside : SharesInside sc
   -- Parts.
 
   begins_first : (paths : ℕ) (a : Accesses) (first p q : ℕ) → Begins scene sites paths a first (p + q) → Begins scene sites paths a first p
-  begins_first paths a first p q b = record { led = b.led; fresh = λ m from below. b.fresh m from (omega (arith, below)); before = b.before }
+  begins_first paths a first p q b = record { led = b.led; fresh = λ m s at from below. b.fresh m s at from (omega (arith, below)); before = b.before }
 
   given_kept : (a b : Building) (first own count : ℕ) (m : ℕ) → Numbers a b first count own → IsOutside first count m → given_at_paths b.accesses m ≡ given_at_paths a.accesses m
   given_kept a b first own count m h out = ap length_given (h.only m out)
@@ -157,7 +157,7 @@ module _ (scene : Scene) (sites : ℕ → Option Site) (inside : SharesInside sc
   begins_then : (paths : ℕ) (a b : Building) (first own p q : ℕ) → Begins scene sites paths a.accesses first (p + q) → Used scene sites paths a b first p → Numbers a b first p own → Begins scene sites paths b.accesses own q
   begins_then paths a b first own p q begins u h = record {
     led = u.led;
-    fresh = λ m from below. given_kept a b first own p m h (inr (behind m from)) ∙ begins.fresh m (later m from) (within m below);
+    fresh = λ m s at from below. given_kept a b first own p m h (inr (behind m from)) ∙ begins.fresh m s at (later m from) (within m below);
     before = λ e reader t at low share. by e reader t at low share (cases_lt e first);
   }
     where
@@ -175,21 +175,21 @@ module _ (scene : Scene) (sites : ℕ → Option Site) (inside : SharesInside sc
 
       by : (e reader : ℕ) (t : Site) → sites e ≡ Some t → e < own → slice_get scene.shares.now reader ≡ Some (Some e) → (e < first) ⊎ (first ≤ e) → paths ≤ given_at_paths b.accesses e
       by e reader t at low share (inl less) = let k = given_kept a b first own p e h (inl less) in let g = begins.before e reader t at less share in omega (arith, k, g)
-      by e reader t at low share (inr from) = u.given e reader from (omega (arith, is, low)) share
+      by e reader t at low share (inr from) = u.given e reader t at from (omega (arith, is, low)) share
 
   used_then : (paths : ℕ) (a b d : Building) (first own next p q : ℕ) → Numbers a b first p own → Numbers b d own q next → Used scene sites paths a b first p → Used scene sites paths b d own q → Used scene sites paths a d first (p + q)
   used_then paths a b d first own next p q h k u w = record {
     uses = ranged_then a.draft b.draft d.draft first own p q (used_to scene sites paths) h.next_is u.uses w.uses;
     led = w.led;
-    given = λ m reader from below share. by m reader from below share (cases_lt m own);
+    given = λ m reader t at from below share. by m reader t at from below share (cases_lt m own);
   }
     where
       is : own ≡ first + p
       is = h.next_is
 
-      by : (m reader : ℕ) → first ≤ m → m < first + (p + q) → slice_get scene.shares.now reader ≡ Some (Some m) → (m < own) ⊎ (own ≤ m) → paths ≤ given_at_paths d.accesses m
-      by m reader from below share (inl less) = let e = given_kept b d own next q m k (inl less) in let g = u.given m reader from (omega (arith, is, less)) share in omega (arith, e, g)
-      by m reader from below share (inr more) = w.given m reader more (omega (arith, is, below)) share
+      by : (m reader : ℕ) (t : Site) → sites m ≡ Some t → first ≤ m → m < first + (p + q) → slice_get scene.shares.now reader ≡ Some (Some m) → (m < own) ⊎ (own ≤ m) → paths ≤ given_at_paths d.accesses m
+      by m reader t at from below share (inl less) = let e = given_kept b d own next q m k (inl less) in let g = u.given m reader t at from (omega (arith, is, less)) share in omega (arith, e, g)
+      by m reader t at from below share (inr more) = w.given m reader t at more (omega (arith, is, below)) share
 
   used_count : (paths : ℕ) (a b : Building) (first p q : ℕ) → p ≡ q → Used scene sites paths a b first p → Used scene sites paths a b first q
   used_count paths a b first p q same u = subst (λ (n : ℕ). Used scene sites paths a b first n) same u
@@ -201,11 +201,24 @@ module _ (scene : Scene) (sites : ℕ → Option Site) (inside : SharesInside sc
   still_used paths old new first still b = record {
     uses = no_accesses old.draft new.draft first (used_to scene sites paths) (none_none old.draft new.draft (ap (λ (b : Building). b.draft) still));
     led = led_same sites old.accesses new.accesses (ap (λ (b : Building). b.accesses) still) b.led;
-    given = λ m reader from below share. absurd (never m from below);
+    given = λ m reader t at from below share. absurd (never m from below);
   }
     where
       never : (m : ℕ) → first ≤ m → m < first + 0 → ⊥
       never m from below = omega (arith, from, below)
+
+  -- a loop for which nothing is put down, whose accesses have no sites
+  idle_used : (paths : ℕ) (old new : Building) (first count : ℕ) → new ≡ old → ((m : ℕ) → first ≤ m → m < first + count → sites m ≡ None) → Begins scene sites paths old.accesses first count → Used scene sites paths old new first count
+  idle_used paths old new first count still none b = record {
+    uses =
+        ranged_without old.draft new.draft first count (used_to scene sites paths) (λ m from below. ap (λ (s : Option Site). used_by (slice_get scene.shares.now m) s paths) (none m from below) ∙ used_nowhere (slice_get scene.shares.now m) paths)
+        (none_none old.draft new.draft (ap (λ (b : Building). b.draft) still));
+    led = led_same sites old.accesses new.accesses (ap (λ (b : Building). b.accesses) still) b.led;
+    given = λ m reader t at from below share. absurd (lost t (sym (none m from below) ∙ at));
+  }
+    where
+      lost : (t : Site) → None ≡ Some t → ⊥
+      lost t e = cc
 
   -- Arms.
 
@@ -228,7 +241,7 @@ module _ (scene : Scene) (sites : ℕ → Option Site) (inside : SharesInside sc
             (guards_used holds around.guards.now tests (length tests) old.draft m.guarded m.arm.guards.now m.guards)
             (subst (λ (d : Draft). AddsUses d m.inside.draft (ranged first count (used_to scene sites (paths_counted around)))) m.begin_draft w.uses));
         led = led_same sites m.inside.accesses new.accesses m.accesses w.led;
-        given = λ i reader from below share. subst (λ (a : Accesses). paths_counted around ≤ given_at_paths a i) (sym m.accesses) (w.given i reader from below share);
+        given = λ i reader t at from below share. subst (λ (a : Accesses). paths_counted around ≤ given_at_paths a i) (sym m.accesses) (w.given i reader t at from below share);
       }
 
   arm_leads : (Inner : Commanding) (around : Around) (holds : Truth) (tests : List ℕ) (old new : Building) (first next : ℕ) (lefts : List Left) (m : MadeArm Inner around holds tests old new first next lefts) → length tests ≡ paths_counted around
@@ -241,7 +254,7 @@ module _ (scene : Scene) (sites : ℕ → Option Site) (inside : SharesInside sc
   joined_used paths a b d first count none same u = record {
     uses = uses_then_none a.draft b.draft d.draft (ranged first count (used_to scene sites paths)) u.uses none;
     led = led_same sites b.accesses d.accesses same u.led;
-    given = λ m reader from below share. subst (λ (k : Accesses). paths ≤ given_at_paths k m) (sym same) (u.given m reader from below share);
+    given = λ m reader t at from below share. subst (λ (k : Accesses). paths ≤ given_at_paths k m) (sym same) (u.given m reader t at from below share);
   }
 
   -- Whole commands.
@@ -316,18 +329,18 @@ module _ (scene : Scene) (sites : ℕ → Option Site) (inside : SharesInside sc
         used_all (paths_counted around) old new first (term_accesses t) (tests_used_to around first t old stands few has begins (paths_counted around) new next tests (omega arith) m)
 
   mutual
-    pub command_used : (a : Action) (around : Around) (old new : Building) (first next : ℕ) → StandsIn scene around → PathsLead around → (m : MadeCommand scene a around old new first next) → IsStraight a → 0 < paths_counted around
-        → first + accesses_of a < 2 ^ 32 → OwnWrites first a → HasSites sites first (command_sites scene a around old new first next m) → Begins scene sites (paths_counted around) old.accesses first (accesses_of a)
+    pub command_used : (a : Action) (around : Around) (old new : Building) (first next : ℕ) → StandsIn scene around → PathsLead around → (m : MadeCommand scene a around old new first next) → StoresReach a → 0 < paths_counted around
+        → first + accesses_of a < 2 ^ 32 → OwnWrites first a → PlacesAgree sites first (command_sites scene a around old new first next m) → Begins scene sites (paths_counted around) old.accesses first (accesses_of a)
         → Used scene sites (paths_counted around) old new first (accesses_of a)
     command_used (action id place (lets name declared (Some value))) around old new first next s leads m is some few writes has begins =
-        assigned_all around old new first next s (entity_number name.entity) value (omega (arith, few)) has begins m
+        assigned_all around old new first next s (entity_number name.entity) value (omega (arith, few)) (all_sites sites first (term_sites scene around value) has) begins m
     command_used (action id place (lets name declared None)) around old new first next s leads m is some few writes has begins = cleared_all around old new first next s (entity_number name.entity) begins m
     command_used (action id place (assigns target value)) around old new first next s leads m is some few writes has begins =
-        assigned_all around old new first next s (entity_number target.entity) value (omega (arith, few)) has begins m
+        assigned_all around old new first next s (entity_number target.entity) value (omega (arith, few)) (all_sites sites first (term_sites scene around value) has) begins m
     command_used (action id place (stores target value)) around old new first next s leads m is some few writes has begins =
-        stored_all around old new first next s target value is (omega (arith, few)) has leads writes begins m
+        stored_all around old new first next s target value is (omega (arith, few)) (all_sites sites first (term_sites scene around value ++ target_sites scene around target) has) leads writes begins m
     command_used (action id place (reduces target op value)) around old new first next s leads m is some few writes has begins =
-        reduced_all around old new first next s (entity_number target.entity) op value (omega (arith, few)) has begins m
+        reduced_all around old new first next s (entity_number target.entity) op value (omega (arith, few)) (all_sites sites first (term_sites scene around value) has) begins m
     command_used (action id place (decides test chosen other)) around old new first next s leads m is some few writes has begins =
         let less : AreFewIn first test = omega (arith, few) in
         let many : length m.tests ≡ paths_counted around = (tests_same scene around first test (paths_counted around) old m.tested m.own m.tests m.test).1 in
@@ -338,18 +351,18 @@ module _ (scene : Scene) (sites : ℕ → Option Site) (inside : SharesInside sc
         let few_in : m.own + accesses_of chosen < 2 ^ 32 = omega (arith, few, own) in
         let in_chosen : Numbers m.tested m.after_chosen m.own (accesses_of chosen) m.behind =
         arm_number (MadeCommand scene chosen) around true m.tests m.tested m.after_chosen m.own m.behind m.chosen_left m.chosen (accesses_of chosen)
-        (command_numbered scene chosen m.chosen.arm m.chosen.begin m.chosen.inside m.own m.behind m.chosen.command is.0 some_in few_in).1 in
+        (command_reached scene chosen m.chosen.arm m.chosen.begin m.chosen.inside m.own m.behind m.chosen.command is.0 some_in few_in).1 in
         let behind = in_chosen.next_is in
         let few_other : m.behind + other_accesses other < 2 ^ 32 = omega (arith, few, own, behind) in
         let in_other : Numbers m.after_chosen m.after_other m.behind (other_accesses other) next =
-        (other_numbered scene other around m.tests m.after_chosen m.after_other m.behind next m.other_left m.other is.1 some_tests few_other).1 in
+        (other_reached scene other around m.tests m.after_chosen m.after_other m.behind next m.other_left m.other is.1 some_tests few_other).1 in
         let chosen_sites = command_sites scene chosen m.chosen.arm m.chosen.begin m.chosen.inside m.own m.behind m.chosen.command in
         let last_sites = other_sites scene other around m.tests m.after_chosen m.after_other m.behind next m.other_left m.other in
-        let has_test = sites_front sites first (term_sites scene around test) (chosen_sites ++ last_sites) has in
-        let has_arms = sites_behind sites first m.own (term_sites scene around test) (chosen_sites ++ last_sites) (long_is first m.own (term_sites scene around test) (term_accesses test) (term_sites_long scene around test) own) has in
-        let has_chosen = sites_front sites m.own chosen_sites last_sites has_arms in
+        let has_test = all_sites sites first (term_sites scene around test) (places_front sites first (all_there (term_sites scene around test)) (chosen_sites ++ last_sites) has) in
+        let has_arms = places_behind sites first m.own (all_there (term_sites scene around test)) (chosen_sites ++ last_sites) (long_is first m.own (all_there (term_sites scene around test)) (term_accesses test) (test_places_long scene around test) own) has in
+        let has_chosen = places_front sites m.own chosen_sites last_sites has_arms in
         let has_other =
-        sites_behind sites m.own m.behind chosen_sites last_sites
+        places_behind sites m.own m.behind chosen_sites last_sites
         (long_is m.own m.behind chosen_sites (accesses_of chosen) (command_sites_long scene chosen m.chosen.arm m.chosen.begin m.chosen.inside m.own m.behind m.chosen.command is.0) behind) has_arms in
         let one : Used scene sites (paths_counted around) old m.tested first (term_accesses test) =
         tests_used around old m.tested first m.own s test m.tests less has_test (begins_first (paths_counted around) old.accesses first (term_accesses test) (accesses_of chosen + other_accesses other) begins) m.test in
@@ -379,12 +392,16 @@ module _ (scene : Scene) (sites : ℕ → Option Site) (inside : SharesInside sc
     command_used (action id place (lets_memory name shape shape_places value)) around old new first next s leads m is some few writes has begins = still_used (paths_counted around) old new first m.still begins
     command_used (action id place (views name parent form)) around old new first next s leads m is some few writes has begins = still_used (paths_counted around) old new first m.still begins
     command_used (action id place (calls function arguments)) around old new first next s leads m is some few writes has begins = still_used (paths_counted around) old new first m.still begins
-    command_used (action id place (repeats test body)) around old new first next s leads m is some few writes has begins = absurd is
-    command_used (action id place (counts iterator declared low high factor body combine combine_place)) around old new first next s leads m is some few writes has begins = absurd is
+    command_used (action id place (repeats test body)) around old new first next s leads m is some few writes has begins =
+        idle_used (paths_counted around) old new first (term_accesses test + accesses_of body) m.still (no_sites sites first (term_accesses test + accesses_of body) has) begins
+    command_used (action id place (counts iterator declared low high factor body combine combine_place)) around old new first next s leads m is some few writes has begins =
+        used_count (paths_counted around) old new first (accesses_of body + other_accesses combine) (0 + (accesses_of body + other_accesses combine)) (none_before (accesses_of body + other_accesses combine))
+        (idle_used (paths_counted around) old new first (accesses_of body + other_accesses combine) m.still (no_sites sites first (accesses_of body + other_accesses combine) has)
+        (begins_count (paths_counted around) old.accesses first (0 + (accesses_of body + other_accesses combine)) (accesses_of body + other_accesses combine) (sym (none_before (accesses_of body + other_accesses combine))) begins))
 
     other_used : (other : MaybeAction) (around : Around) (tests : List ℕ) (old new : Building) (first next : ℕ) (lefts : List Left) → StandsIn scene around → PathsLead around → length tests ≡ paths_counted around
-        → (m : MadeOther scene other around tests old new first next lefts) → IsStraightOther other → 0 < length tests → first + other_accesses other < 2 ^ 32
-        → EachWriteOther (λ number. IsUnshared scene number) first other → HasSites sites first (other_sites scene other around tests old new first next lefts m) → Begins scene sites (paths_counted around) old.accesses first (other_accesses other)
+        → (m : MadeOther scene other around tests old new first next lefts) → StoresReachOther other → 0 < length tests → first + other_accesses other < 2 ^ 32
+        → EachWriteOther (λ number. IsUnshared scene number) first other → PlacesAgree sites first (other_sites scene other around tests old new first next lefts m) → Begins scene sites (paths_counted around) old.accesses first (other_accesses other)
         → Used scene sites (paths_counted around) old new first (other_accesses other)
     other_used no_action around tests old new first next lefts s leads many m is some few writes has begins = still_used (paths_counted around) old new first m.still begins
     other_used (one_action a) around tests old new first next lefts s leads many m is some few writes has begins =
@@ -393,40 +410,40 @@ module _ (scene : Scene) (sites : ℕ → Option Site) (inside : SharesInside sc
         (arm_leads (MadeCommand scene a) around false tests old new first next lefts m many leads) m.command is (some_arm (MadeCommand scene a) around false tests old new first next lefts m some) few writes has
         (arm_begins (MadeCommand scene a) around false tests old new first next lefts m (accesses_of a) many begins))
 
-    pub actions_used : (part : Actions) (around : Around) (old new : Building) (first next : ℕ) → StandsIn scene around → PathsLead around → (m : MadeActions scene part around old new first next) → AreStraight part → 0 < paths_counted around
-        → first + part_accesses part < 2 ^ 32 → EachWriteActions (λ number. IsUnshared scene number) first part → HasSites sites first (actions_sites scene part around old new first next m)
+    pub actions_used : (part : Actions) (around : Around) (old new : Building) (first next : ℕ) → StandsIn scene around → PathsLead around → (m : MadeActions scene part around old new first next) → StoresReachPart part → 0 < paths_counted around
+        → first + part_accesses part < 2 ^ 32 → EachWriteActions (λ number. IsUnshared scene number) first part → PlacesAgree sites first (actions_sites scene part around old new first next m)
         → Begins scene sites (paths_counted around) old.accesses first (part_accesses part) → Used scene sites (paths_counted around) old new first (part_accesses part)
     actions_used no_actions around old new first next s leads m is some few writes has begins = still_used (paths_counted around) old new first m.still begins
     actions_used (action_then a rest) around old new first next s leads m is some few writes has begins =
         let less : first + accesses_of a < 2 ^ 32 = omega (arith, few) in
-        let number : Numbers old m.middle first (accesses_of a) m.own = (command_numbered scene a around old m.middle first m.own m.one is.0 some less).1 in
+        let number : Numbers old m.middle first (accesses_of a) m.own = (command_reached scene a around old m.middle first m.own m.one is.0 some less).1 in
         let own = number.next_is in
         let few_rest : m.own + part_accesses rest < 2 ^ 32 = omega (arith, few, own) in
         let own_sites = command_sites scene a around old m.middle first m.own m.one in
         let rest_sites = actions_sites scene rest around m.middle new m.own next m.rest in
         let one : Used scene sites (paths_counted around) old m.middle first (accesses_of a) =
-        command_used a around old m.middle first m.own s leads m.one is.0 some less writes.0 (sites_front sites first own_sites rest_sites has)
+        command_used a around old m.middle first m.own s leads m.one is.0 some less writes.0 (places_front sites first own_sites rest_sites has)
         (begins_first (paths_counted around) old.accesses first (accesses_of a) (part_accesses rest) begins) in
-        used_then (paths_counted around) old m.middle new first m.own next (accesses_of a) (part_accesses rest) number (actions_numbered scene rest around m.middle new m.own next m.rest is.1 some few_rest).1 one
+        used_then (paths_counted around) old m.middle new first m.own next (accesses_of a) (part_accesses rest) number (actions_reached scene rest around m.middle new m.own next m.rest is.1 some few_rest).1 one
         (actions_used rest around m.middle new m.own next s leads m.rest is.1 some few_rest (subst (λ (i : ℕ). EachWriteActions (λ n. IsUnshared scene n) i rest) (sym own) writes.1)
-        (sites_behind sites first m.own own_sites rest_sites (long_is first m.own own_sites (accesses_of a) (command_sites_long scene a around old m.middle first m.own m.one is.0) own) has)
+        (places_behind sites first m.own own_sites rest_sites (long_is first m.own own_sites (accesses_of a) (command_sites_long scene a around old m.middle first m.own m.one is.0) own) has)
         (begins_then (paths_counted around) old m.middle first m.own (accesses_of a) (part_accesses rest) begins one number))
 
-    pub groups_used : (body : Groups) (around : Around) (old new : Building) (first next : ℕ) → StandsIn scene around → PathsLead around → (m : MadeGroups scene body around old new first next) → AreStraightGroups body → 0 < paths_counted around
-        → first + groups_accesses body < 2 ^ 32 → EachWriteGroups (λ number. IsUnshared scene number) first body → HasSites sites first (groups_sites scene body around old new first next m)
+    pub groups_used : (body : Groups) (around : Around) (old new : Building) (first next : ℕ) → StandsIn scene around → PathsLead around → (m : MadeGroups scene body around old new first next) → StoresReachGroups body → 0 < paths_counted around
+        → first + groups_accesses body < 2 ^ 32 → EachWriteGroups (λ number. IsUnshared scene number) first body → PlacesAgree sites first (groups_sites scene body around old new first next m)
         → Begins scene sites (paths_counted around) old.accesses first (groups_accesses body) → Used scene sites (paths_counted around) old new first (groups_accesses body)
     groups_used no_groups around old new first next s leads m is some few writes has begins = still_used (paths_counted around) old new first m.still begins
     groups_used (group_then part rest) around old new first next s leads m is some few writes has begins =
         let less : first + part_accesses part < 2 ^ 32 = omega (arith, few) in
-        let number : Numbers old m.middle first (part_accesses part) m.own = (actions_numbered scene part around old m.middle first m.own m.one is.0 some less).1 in
+        let number : Numbers old m.middle first (part_accesses part) m.own = (actions_reached scene part around old m.middle first m.own m.one is.0 some less).1 in
         let own = number.next_is in
         let few_rest : m.own + groups_accesses rest < 2 ^ 32 = omega (arith, few, own) in
         let own_sites = actions_sites scene part around old m.middle first m.own m.one in
         let rest_sites = groups_sites scene rest around m.middle new m.own next m.rest in
         let one : Used scene sites (paths_counted around) old m.middle first (part_accesses part) =
-        actions_used part around old m.middle first m.own s leads m.one is.0 some less writes.0 (sites_front sites first own_sites rest_sites has)
+        actions_used part around old m.middle first m.own s leads m.one is.0 some less writes.0 (places_front sites first own_sites rest_sites has)
         (begins_first (paths_counted around) old.accesses first (part_accesses part) (groups_accesses rest) begins) in
-        used_then (paths_counted around) old m.middle new first m.own next (part_accesses part) (groups_accesses rest) number (groups_numbered scene rest around m.middle new m.own next m.rest is.1 some few_rest).1 one
+        used_then (paths_counted around) old m.middle new first m.own next (part_accesses part) (groups_accesses rest) number (groups_reached scene rest around m.middle new m.own next m.rest is.1 some few_rest).1 one
         (groups_used rest around m.middle new m.own next s leads m.rest is.1 some few_rest (subst (λ (i : ℕ). EachWriteGroups (λ n. IsUnshared scene n) i rest) (sym own) writes.1)
-        (sites_behind sites first m.own own_sites rest_sites (long_is first m.own own_sites (part_accesses part) (actions_sites_long scene part around old m.middle first m.own m.one is.0) own) has)
+        (places_behind sites first m.own own_sites rest_sites (long_is first m.own own_sites (part_accesses part) (actions_sites_long scene part around old m.middle first m.own m.one is.0) own) has)
         (begins_then (paths_counted around) old m.middle first m.own (part_accesses part) (groups_accesses rest) begins one number))

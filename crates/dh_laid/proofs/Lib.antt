@@ -17,4 +17,5 @@ pub mod UsesAdded
 pub mod ReadsUsed
 pub mod TermsUsed
 pub mod CommandsUsed
+pub mod ProbesSited
 pub mod BlocksUsed

@@ -166,7 +166,7 @@ module _ (scene : Scene) (around : Around) where
   target_sites_long (plain.term place k (plain.converted inner to)) is = absurd is
 
   all_long : (ss : List Site) (count : ℕ) → length ss ≡ count → length (all_there ss) ≡ count
-  all_long ss count long = length-map (λ (s : Site). Some s) ss ∙ long
+  all_long ss count long = length-map ss (λ (s : Site). Some s) ∙ long
 
   pub none_long : (count : ℕ) → length (none_there count) ≡ count
   none_long count = length-replicate count None

@@ -74,7 +74,7 @@ module _ (scene : Scene) (sites : ℕ → Option Site) (lane : Lane) where
   next_one : (x : Accesses) (n p : ℕ) → AreNext scene lane x n (suc p) → AreNext scene lane x n (p + 1)
   next_one x n p next = subst (λ (i : ℕ). AreNext scene lane x n i) (sym (add-one p)) next
 
-long_is : (n own : ℕ) (ss : List Site) (count : ℕ) → length ss ≡ count → own ≡ n + count → own ≡ n + length ss
+pub long_is : {A : Type 0} (n own : ℕ) (ss : List A) (count : ℕ) → length ss ≡ count → own ≡ n + count → own ≡ n + length ss
 long_is n own ss count long is = is ∙ ap (λ i. n + i) (sym long)
 
 module _ (scene : Scene) (sites : ℕ → Option Site) (lane : Lane) (stands : StandsIn scene lane.around) (within : lane.number < paths_counted lane.around) (current : List (Option ℕ)) where

@@ -1,6 +1,8 @@
 -- Reads and writes that are added, one part behind the other; values, guards and choices add none.
-use Rattle.std.proofs.Common.{◌≡◌, ◌<◌, ◌+◌, ◌^◌, ℕ, zero, suc, List, Some, None, ap, sym, ◌∙◌, subst, length, arith, append_assoc, refl}
+use Rattle.std.proofs.Common.{◌≡◌, ◌⊎◌, inl, inr, ◌<◌, ◌≤◌, ◌+◌, ◌^◌, ℕ, zero, suc, List, Some, None, ap, sym, ◌∙◌, subst, length, arith, append_assoc, refl}
 use Rattle.std.specs.Prelude.{◌&&◌, nat_le, nat_lt, Bool as Truth, true, false, if◌then◌else◌, [], ◌∷◌, ◌++◌, Option, slice_get}
+use Rattle.std.proofs.lemmas.Bool.{cases_lt}
+use Rattle.std.proofs.lemmas.Bool.Decides.{nat_tests}
 use Rattle.std.proofs.lemmas.List.{append-nil}
 use Rattle.dh_value.specs.declared.kinds.Kind.{Kind}
 use Rattle.dh_value.specs.declared.kinds.Kind.TheVariants as kind
@@ -22,13 +24,13 @@ use Rattle.dh_expressions.specs.declared.scenes.Lane.{Lane}
 use Rattle.dh_expressions.specs.Drafted.{Pushes}
 use Rattle.dh_expressions.specs.MadeValues.{MadeConverted, MadeHeld, MadeShown}
 use Rattle.dh_expressions.specs.Shown.{guard_of, kind_written, register_at}
-use Rattle.dh_formed.specs.Counted.{Counts, FormIs, nothing, ranged}
+use Rattle.dh_formed.specs.Counted.{Counts, FormIs, nothing, ranged, use_shared}
 use Rattle.dh_formed.proofs.PartsCounted.{ranged_none, ranged_sum, uses_append}
 use Rattle.dh_formed.proofs.ValuesCounted.{held_counts, shown_counts}
 use Rattle.dh_commands.specs.declared.assignments.Values.{Values}
 use Rattle.dh_commands.specs.declared.choices.Choice.{Choice}
 use Rattle.dh_commands.specs.MadeCommands.{FoldedWith, MadeArmGuard, MadeArmGuards, MadeBehind, MadeChoiceBy, MadeChoices, MadeGuard, MadeOldOperand, MadeOperand, MadeOutcome}
-use Rattle.dh_laid.specs.LaidUses.{AddsUses}
+use Rattle.dh_laid.specs.LaidUses.{AddsUses, used_by}
 
 -- no access was read or written
 abbrev pub AddsNone : (old new : Draft) → Type 0
@@ -112,6 +114,42 @@ ranged_nothing a b n p f none h = uses_same a b nothing (ranged n p f) (λ acces
     by : (access : ℕ) (t : Truth) → 0 ≡ (if t then f access else 0)
     by access true = sym (none access)
     by access false = refl
+
+-- within the range there is nothing to count
+pub ranged_without : (a b : Draft) (n p : ℕ) (f : ℕ → ℕ) → ((access : ℕ) → n ≤ access → access < n + p → f access ≡ 0) → AddsNone a b → AddsUses a b (ranged n p f)
+ranged_without a b n p f none h = uses_same a b nothing (ranged n p f) (λ access. by access (cases_lt access n) (cases_lt access (n + p))) h
+  where
+    low : (access : ℕ) → access < n → (nat_le n access && nat_lt access (n + p)) ≡ false
+    low access l = grind (arith, nat_tests, l)
+
+    far : (access : ℕ) → n + p ≤ access → (nat_le n access && nat_lt access (n + p)) ≡ false
+    far access l = grind (arith, nat_tests, l)
+
+    outside : (access : ℕ) (t : Truth) → t ≡ false → 0 ≡ (if t then f access else 0)
+    outside access true e = absurd (cc)
+    outside access false e = refl
+
+    inside : (access : ℕ) (t : Truth) → f access ≡ 0 → 0 ≡ (if t then f access else 0)
+    inside access true e = sym e
+    inside access false e = refl
+
+    by : (access : ℕ) → (access < n) ⊎ (n ≤ access) → (access < n + p) ⊎ (n + p ≤ access) → 0 ≡ ranged n p f access
+    by access (inl l) other = outside access (nat_le n access && nat_lt access (n + p)) (low access l)
+    by access (inr from) (inl below) = inside access (nat_le n access && nat_lt access (n + p)) (none access from below)
+    by access (inr from) (inr l) = outside access (nat_le n access && nat_lt access (n + p)) (far access l)
+
+-- an access without a site
+pub used_nowhere : (share : Option (Option ℕ)) (paths : ℕ) → used_by share None paths ≡ 0
+used_nowhere share zero = refl
+used_nowhere share (suc n) = sum (used_by share None n) (use_shared share None n) (used_nowhere share n) (none share)
+  where
+    sum : (a b : ℕ) → a ≡ 0 → b ≡ 0 → a + b ≡ 0
+    sum a b e g = omega (arith, e, g)
+
+    none : (share : Option (Option ℕ)) → use_shared share None n ≡ 0
+    none None = refl
+    none (Some None) = refl
+    none (Some (Some earlier)) = refl
 
 -- Values.
 
