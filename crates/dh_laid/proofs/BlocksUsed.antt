@@ -37,7 +37,7 @@ use Rattle.dh_laid.proofs.UsesAdded.{none_none, used_nowhere, uses_again, uses_s
 -- What is asked of a number and its site, 0 where it has none, over numbers from a first one on: the part of it that is
 -- counted within a range is the whole of what stands there.
 module _ (f : Option Site → (access : ℕ) → ℕ) (nothing : (access : ℕ) → f None access ≡ 0) (first : ℕ) (ss : List (Option Site)) (count : ℕ) (long : length ss ≡ count) (access : ℕ) where
-  here : Option Site
+  abbrev here : Option Site
   here = places_from first ss access
 
   is_inside : first ≤ access → access < first + count → (nat_le first access && nat_lt access (first + count)) ≡ true
@@ -84,10 +84,10 @@ module _ (f : Option Site → (access : ℕ) → ℕ) (nothing : (access : ℕ) 
 
 -- One command among those of a block.
 module _ (scene : Scene) (around : Around) (sites : ℕ → Option Site) (c : Located) (cs : List Located) (from : ℕ) (old mid new : Building) (next : ℕ) (m : MadeCommand scene c.command around old mid c.first next) (rest : MadeEach scene around cs mid new) (along : AreAlong from (c ∷ cs)) (agree : (number : ℕ) → from ≤ number → sites number ≡ block_sites scene around (c ∷ cs) old new (mid, (next, (m, rest))) number) where
-  own_sites : List (Option Site)
+  abbrev own_sites : List (Option Site)
   own_sites = command_sites scene c.command around old mid c.first next m
 
-  later : ℕ → Option Site
+  abbrev later : ℕ → Option Site
   later number = block_sites scene around cs mid new rest number
 
   own_long : length own_sites ≡ accesses_of c.command
