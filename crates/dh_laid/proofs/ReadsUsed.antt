@@ -1,12 +1,12 @@
 -- Reads and writes at one path: a read is done where the path leads and no earlier read is shared, a write always. What
 -- is noted of accesses tells their leaders, and what was given.
-use Rattle.std.proofs.Common.{◌≡◌, ◌⊎◌, inl, inr, ⊎_elim, ◌<◌, ◌≤◌, ◌+◌, ◌^◌, ℕ, zero, suc, List, Some, None, ap, sym, ◌∙◌, subst, length, arith, refl}
-use Rattle.std.specs.Prelude.{◌==◌, Bool as Truth, true, false, if◌then◌else◌, [], ◌∷◌, ◌++◌, Option, slice_get}
+use Rattle.std.proofs.Common.{◌≡◌, ◌⊎◌, inl, inr, ⊎_elim, ◌<◌, ◌≤◌, ◌+◌, ◌^◌, ℕ, List, Some, None, ap, sym, ◌∙◌, subst, length, arith, refl}
+use Rattle.std.specs.Prelude.{◌==◌, Bool as Truth, true, false, if◌then◌else◌, Option, slice_get}
 use Rattle.std.proofs.lemmas.Bool.{cases_eq}
 use Rattle.std.proofs.lemmas.Bool.Decides.{nat_tests}
 use Rattle.dh_tree.specs.Indices.{form_of}
 use Rattle.dh_tree.specs.PlainTrees.{Term}
-use Rattle.dh_plan.specs.declared.operations.OperationForm.TheVariants.{Read, Write}
+use Rattle.dh_plan.specs.declared.operations.OperationForm.TheVariants.{Read}
 use Rattle.dh_expressions.specs.declared.accesses.Accesses.{Accesses}
 use Rattle.dh_expressions.specs.declared.accesses.Touched.{Touched}
 use Rattle.dh_expressions.specs.declared.copies.AccessAt.{AccessAt}

@@ -1,6 +1,6 @@
 -- Expressions and stores at one path: what each part uses, behind the parts before it.
-use Rattle.std.proofs.Common.{◌≡◌, ◌<◌, ◌≤◌, ◌+◌, ◌^◌, ℕ, zero, suc, List, Some, None, ap, sym, ◌∙◌, subst, length, arith, refl, add-one}
-use Rattle.std.specs.Prelude.{Bool as Truth, true, false, [], ◌∷◌, ◌++◌, Option, slice_get}
+use Rattle.std.proofs.Common.{◌≡◌, ◌<◌, ◌+◌, ◌^◌, ℕ, suc, List, Some, None, ap, sym, ◌∙◌, subst, length, arith, refl, add-one}
+use Rattle.std.specs.Prelude.{false, [], ◌∷◌, ◌++◌, Option, slice_get}
 use Rattle.dh_base.specs.declared.places.Place.{Place}
 use Rattle.dh_value.specs.declared.kinds.Kind.{Kind}
 use Rattle.dh_value.specs.Operations.{truth}
@@ -19,7 +19,7 @@ use Rattle.dh_expressions.specs.declared.elements.Aim.{Aim}
 use Rattle.dh_expressions.specs.declared.scenes.Lane.{Lane}
 use Rattle.dh_expressions.specs.declared.scenes.Scene.{Scene}
 use Rattle.dh_expressions.specs.Evaluated.{counter_of, known_in}
-use Rattle.dh_expressions.specs.MadeTerms.{MadeRead, MadeTerm, MadeTerms, MadeWrite}
+use Rattle.dh_expressions.specs.MadeTerms.{MadeRead, MadeTerm, MadeTerms}
 use Rattle.dh_expressions.specs.Shown.{is_kept}
 use Rattle.dh_formed.specs.Counted.{AreNext, HaveGiven, given_at_paths, ranged, use_shared}
 use Rattle.dh_formed.specs.Formed.{Site}
