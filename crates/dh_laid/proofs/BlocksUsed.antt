@@ -224,7 +224,7 @@ blocks_use scene around cs old new m stands leads some along writes inside bare 
     })
 
 -- The sites of a test are places of which none lacks.
-test_places : (first : ℕ) (ss : List Site) (number : ℕ) → sites_from first ss number ≡ places_from first (all_there ss) number
+pub test_places : (first : ℕ) (ss : List Site) (number : ℕ) → sites_from first ss number ≡ places_from first (all_there ss) number
 test_places first ss number = by (nat_lt number first)
   where
     whole : (o : Option Site) → o ≡ one_site (option_map (λ (s : Site). Some s) o)
