@@ -16,3 +16,5 @@ pub mod BlockSites
 pub mod BareCommands
 -- accesses are laid
 pub mod LaidAccesses
+-- how often accesses are made
+pub mod LaidUses
