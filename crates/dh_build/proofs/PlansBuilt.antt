@@ -1,5 +1,6 @@
 -- The net that is built of a plan plays it.
 use Rattle.std.proofs.Common.{◌≡◌, ℕ, ◌+◌, ◌<◌, ◌≤◌, List, [], ◌∷◌, length, get_or, refl, sym, ap, subst, ◌∙◌, arith}
+use Rattle.dh_net.specs.Valid.{HasReadsZero}
 use Rattle.dh_net.specs.declared.nets.Net.{Net}
 use Rattle.dh_plan.specs.declared.graphs.Graph.{Graph}
 use Rattle.dh_plan.specs.declared.graphs.Group.{Group}
@@ -17,7 +18,7 @@ use Rattle.dh_control.specs.WiredNets.{IsStraight}
 use Rattle.dh_build.specs.declared.building.Sizes.{Sizes}
 use Rattle.dh_build.specs.BuiltNets.{IsBuilt, making_of}
 use Rattle.dh_build.specs.BuiltParts.{AreSizes, CanMake}
-use Rattle.dh_build.specs.BuiltPlans.{AreSizesOf, CanBuild, IsNetBuilt, timing_of}
+use Rattle.dh_build.specs.BuiltPlans.{AreSizesOf, CanBuild, timing_of}
 use Rattle.dh_build.proofs.NetValid.{net_valid, net_reads_zero}
 use Rattle.dh_build.proofs.OneGroup.{one_group}
 use Rattle.dh_build.proofs.ThreadsBuilt.{net_of_thread}
@@ -52,12 +53,12 @@ module _ (plan : PlainPlan) (g : Graph) (t : Timing) (u : Uses) (group : Group) 
     own_legal : IsLegal plan can.limits own_times
     own_legal = subst (λ (x : Timing). IsLegal plan can.limits x) (λ i. timing_of (sizes.clocks_are (~ i)) (sizes.lengths_are (~ i))) can.may.legal
 
-    pub net_built : IsNetBuilt plan t.lengths net
-    net_built = record {
-      plays =
-          subst (λ (l : List ℕ). PlaysPlan plan l net) sizes.lengths_are
-          (net_plays (making_of plan can.may.graph.flow u s built.made_of.shown.wires) can.limits net (holds_thread (length can.may.graph.flow.states) (length plan.registers))
-          (record { sound = can.may.sound; addressed = can.may.addressed; flows = can.may.graph.does; legal = own_legal; ports = can.may.bound.ports })
-          (net_of_thread plan u g group s net can.may.graph one can_make sizes.are built (net_valid plan u g.states.items group.first s net can_make sizes.are straight built)));
-      zero_reads = net_reads_zero plan u g.states.items group.first s net can_make sizes.are straight built;
-    }
+    pub built_plays : PlaysPlan plan t.lengths net
+    built_plays =
+        subst (λ (l : List ℕ). PlaysPlan plan l net) sizes.lengths_are
+        (net_plays (making_of plan can.may.graph.flow u s built.made_of.shown.wires) can.limits net (holds_thread (length can.may.graph.flow.states) (length plan.registers))
+        (record { sound = can.may.sound; addressed = can.may.addressed; flows = can.may.graph.does; legal = own_legal; ports = can.may.bound.ports })
+        (net_of_thread plan u g group s net can.may.graph one can_make sizes.are built (net_valid plan u g.states.items group.first s net can_make sizes.are straight built)))
+
+    pub built_reads : HasReadsZero net
+    built_reads = net_reads_zero plan u g.states.items group.first s net can_make sizes.are straight built
