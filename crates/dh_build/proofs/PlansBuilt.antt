@@ -51,7 +51,7 @@ module _ (plan : PlainPlan) (g : Graph) (t : Timing) (u : Uses) (group : Group) 
     own_times = timing_of s.clocks s.lengths
 
     own_legal : IsLegal plan can.limits own_times
-    own_legal = subst (λ (x : Timing). IsLegal plan can.limits x) (λ i. timing_of (sizes.clocks_are (~ i)) (sizes.lengths_are (~ i))) can.may.legal
+    own_legal = subst (λ (x : Timing). IsLegal plan can.limits x) (sym (λ i. timing_of (sizes.clocks_are i) (sizes.lengths_are i))) can.may.legal
 
     pub built_plays : PlaysPlan plan t.lengths net
     built_plays =
@@ -62,3 +62,26 @@ module _ (plan : PlainPlan) (g : Graph) (t : Timing) (u : Uses) (group : Group) 
 
     pub built_reads : HasReadsZero net
     built_reads = net_reads_zero plan u g.states.items group.first s net can_make sizes.are straight built
+
+-- The same by lists that are those of the graph.
+
+module _ (plan : PlainPlan) (g : Graph) (t : Timing) (u : Uses) (can : CanBuild plan g t u) (groups : List Group) (group : Group) (groups_are : groups ≡ g.groups.items) (is : group ≡ get_or groups 0 group) where
+  one : g.groups.items ≡ group ∷ []
+  one = alone_is g.groups.items group can.alone (subst (λ (l : List Group). group ≡ get_or l 0 group) groups_are is)
+
+  module _ (states : List State) (states_are : states ≡ g.states.items) where
+    pub can_make_as : CanMake plan u states
+    can_make_as = subst (λ (l : List State). CanMake plan u l) (sym states_are) (can_make plan g t u group can one)
+
+    module _ (s : Sizes) (sizes : AreSizesOf plan (length states) t s) (net : Net) (built : IsBuilt plan u states group.first s net) where
+      sizes_here : AreSizesOf plan (length g.states.items) t s
+      sizes_here = subst (λ (l : List State). AreSizesOf plan (length l) t s) states_are sizes
+
+      built_here : IsBuilt plan u g.states.items group.first s net
+      built_here = subst (λ (l : List State). IsBuilt plan u l group.first s net) states_are built
+
+      pub plays_as : PlaysPlan plan t.lengths net
+      plays_as = built_plays plan g t u group can one s sizes_here net built_here
+
+      pub reads_as : HasReadsZero net
+      reads_as = built_reads plan g t u group can one s sizes_here net built_here
