@@ -1,1 +1,2 @@
 pub mod SitesOfSource
+pub mod SharesOfProgram
