@@ -1,0 +1,4 @@
+pub mod TermsSee
+pub mod CommandsSee
+pub mod NamesFound
+pub mod BlocksTouch

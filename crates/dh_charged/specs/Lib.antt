@@ -1,0 +1,4 @@
+-- registers that commands see, and give values to
+pub mod SeenRegisters
+-- blocks that see and set registers as a plan asks
+pub mod TouchedBlocks

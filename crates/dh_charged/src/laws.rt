@@ -1,0 +1,10 @@
+//! Laws on the blocks of a plan, stated on functions that do nothing.
+
+ghost use Rattle.dh_charged.specs.TouchedBlocks.{StraightsTouch, TestsTouch};
+
+/// A block sees registers of variables that it mentions, and counters of loops round it; it sets registers of what it
+/// assigns to, or the flag of its test.
+pub fn made_blocks_touch()
+    ensures straight { StraightsTouch }
+    ensures tests { TestsTouch }
+{}
