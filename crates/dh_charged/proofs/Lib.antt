@@ -2,3 +2,4 @@ pub mod TermsSee
 pub mod CommandsSee
 pub mod NamesFound
 pub mod BlocksTouch
+pub mod KeysLed

@@ -2,3 +2,5 @@
 pub mod SeenRegisters
 -- blocks that see and set registers as a plan asks
 pub mod TouchedBlocks
+-- leaders and keys
+pub mod LeadersCounted

@@ -1,5 +1,6 @@
 //! Laws on the blocks of a plan, stated on functions that do nothing.
 
+ghost use Rattle.dh_charged.specs.LeadersCounted.{AllLeadersAreKeys};
 ghost use Rattle.dh_charged.specs.TouchedBlocks.{StraightsTouch, TestsTouch};
 
 /// A block sees registers of variables that it mentions, and counters of loops round it; it sets registers of what it
@@ -7,4 +8,9 @@ ghost use Rattle.dh_charged.specs.TouchedBlocks.{StraightsTouch, TestsTouch};
 pub fn made_blocks_touch()
     ensures straight { StraightsTouch }
     ensures tests { TestsTouch }
+{}
+
+/// The paths that lead are as many as the keys that differ, and those on a bank no more than the keys that reach it.
+pub fn leaders_are_keys()
+    ensures { AllLeadersAreKeys }
 {}

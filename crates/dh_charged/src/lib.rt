@@ -4,4 +4,4 @@
 
 mod laws;
 
-pub use laws::made_blocks_touch;
+pub use laws::{leaders_are_keys, made_blocks_touch};
