@@ -3,3 +3,4 @@ pub mod CommandsSee
 pub mod NamesFound
 pub mod BlocksTouch
 pub mod KeysLed
+pub mod MeetsInRange

@@ -4,3 +4,5 @@ pub mod SeenRegisters
 pub mod TouchedBlocks
 -- leaders and keys
 pub mod LeadersCounted
+-- accesses that may meet
+pub mod MetAccesses

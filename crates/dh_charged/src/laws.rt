@@ -1,6 +1,7 @@
 //! Laws on the blocks of a plan, stated on functions that do nothing.
 
 ghost use Rattle.dh_charged.specs.LeadersCounted.{AllLeadersAreKeys};
+ghost use Rattle.dh_charged.specs.MetAccesses.{CommandsMeetInRange, PlansMeet};
 ghost use Rattle.dh_charged.specs.TouchedBlocks.{StraightsTouch, TestsTouch};
 
 /// A block sees registers of variables that it mentions, and counters of loops round it; it sets registers of what it
@@ -13,4 +14,11 @@ pub fn made_blocks_touch()
 /// The paths that lead are as many as the keys that differ, and those on a bank no more than the keys that reach it.
 pub fn leaders_are_keys()
     ensures { AllLeadersAreKeys }
+{}
+
+/// Accesses that may meet are those of commands, each once and in the order of their numbers; those of a plan are the
+/// program's.
+pub fn plans_meet_as_programs()
+    ensures commands { CommandsMeetInRange }
+    ensures plans { PlansMeet }
 {}
