@@ -34,7 +34,7 @@ use Rattle.dh_commands.specs.LanesRun.{lane_of, paths_counted}
 use Rattle.dh_commands.specs.MadeCommands.{MadeTests}
 use Rattle.dh_commands.specs.ShownVariables.{IsSeen, register_in, seen_path}
 use Rattle.dh_commands.specs.Undone.{AreReady, NoneGiven, given_at}
-use Rattle.dh_laid.specs.BlockSites.{MadeEach}
+use Rattle.dh_charged.specs.EachMade.{MadeEach}
 use Rattle.dh_laid.specs.LaidQuiet.{StandsIn}
 use Rattle.dh_laid.proofs.ValuesLogged.{logged_ready}
 use Rattle.dh_blocks.specs.BlockMade.{AreSoundBy, AreSoundHere, IsPut, set_made, sets_made}
@@ -50,11 +50,11 @@ use Rattle.dh_charged.specs.TouchedBlocks.{HaveCounters, StandsInPlan, Straights
 use Rattle.dh_charged.proofs.CommandsSee.{command_sees, does_again, does_none, logged, tests_do}
 use Rattle.dh_charged.proofs.NamesFound.{Holds, action_named, assigned_seen, either_of, first_of, second_of, term_named}
 
-pub place_holds : {A : Type 0} (P : A → Type 0) (xs : List A) (i : ℕ) (x : A) → AllByRecursion P xs → slice_get xs i ≡ Some x → P x
+pub place_holds : (P : Operation → Type 0) (xs : List Operation) (i : ℕ) (x : Operation) → AllByRecursion P xs → slice_get xs i ≡ Some x → P x
 place_holds P [] i x all at = absurd (cc)
-place_holds P (y ∷ xs) zero x all at = subst (λ y. P y) (the y x at) all.0
+place_holds P (y ∷ xs) zero x all at = subst (λ (o : Operation). P o) (the y x at) all.0
   where
-    the : (y z : _) → Some y ≡ Some z → y ≡ z
+    the : (y z : Operation) → Some y ≡ Some z → y ≡ z
     the y z e = cc
 place_holds P (y ∷ xs) (suc i) x all at = place_holds P xs i x all.1 at
 
@@ -209,12 +209,12 @@ module _ (scene : Scene) (around : Around) (plan : PlainPlan) (rounds : List Rou
 
     each_sees : (cs : List Located) (old new : Building) → AllByRecursion (λ (c : Located). NamesCommand Named Goal c.command) cs → MadeEach scene around cs old new → AreReady old.values → Does old new
     each_sees [] old new named m ready = does_none scene Sees Target Named Goal old new m
-    each_sees (c ∷ cs) old new named (mid, (next, (m, rest))) ready = by (command_sees scene Sees Target Named Goal c.command around old mid c.first next stands_in tells named.0 m ready)
+    each_sees (c ∷ cs) old new named (mid, (next, (m, rest))) ready =
+        by (command_sees scene Sees Target Named Goal c.command around old mid c.first next stands_in tells named.0 m ready) (λ r. each_sees cs mid new named.1 rest r)
       where
-        by : Does old mid → Does old new
-        by one =
-            does_again scene Sees Target Named Goal old mid new one
-            (each_sees cs mid new named.1 rest (logged_ready old.values mid.values (logged (λ (k : Change). Target k.register) old.values mid.values one.logs) ready))
+        by : Does old mid → (AreReady mid.values → Does mid new) → Does old new
+        by one rest =
+            does_again scene Sees Target Named Goal old mid new one (rest (logged_ready old.values mid.values (logged (λ (k : Change). Target k.register) old.values mid.values one.logs) ready))
 
   -- straight commands
 

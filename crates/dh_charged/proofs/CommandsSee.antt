@@ -70,7 +70,7 @@ lefts_changed : (P : ℕ → Type 0) (cs : List Change) (current : List (Option 
 lefts_changed P [] current all = tt
 lefts_changed P (c ∷ cs) current all = all_more (λ (l : Left). P l.register) (lefts_of cs current) (left_at c (undone cs current)) (lefts_changed P cs current all.1) all.0
 
-logged : (P : Change → Type 0) (old new : Values) → Logs P old new → AreLogged old new
+pub logged : (P : Change → Type 0) (old new : Values) → Logs P old new → AreLogged old new
 logged P old new h = record { more = h.more; log = h.log; back = h.back; long = h.long; marks = h.marks; each = any h.more; room = h.room; given = h.given }
   where
     any : (cs : List Change) → AllByRecursion (λ (c : Change). Unit {0}) cs
@@ -113,10 +113,10 @@ module _ (scene : Scene) (Sees Target : ℕ → Type 0) (Named : Ref → Type 0)
   abbrev Does : (old new : Building) → Type 0
   Does old new = SeesAndGives Sees Target old new
 
-  does_none : (old new : Building) → new ≡ old → Does old new
+  pub does_none : (old new : Building) → new ≡ old → Does old new
   does_none old new e = record { sees = seeing_none Sees old.draft new.draft (ap (λ (b : Building). b.draft) e); logs = logs_equal IsTarget old.values new.values (ap (λ (b : Building). b.values) e) }
 
-  does_again : (a b c : Building) → Does a b → Does b c → Does a c
+  pub does_again : (a b c : Building) → Does a b → Does b c → Does a c
   does_again a b c h k = record { sees = seeing_again Sees a.draft b.draft c.draft h.sees k.sees; logs = logs_again IsTarget a.values b.values c.values h.logs k.logs }
 
   -- readiness goes on behind what was done

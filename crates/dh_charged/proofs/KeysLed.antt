@@ -250,7 +250,7 @@ module _ (f : ℕ → Path) (key : Path → Path) (leader : ℕ → ℕ) (copies
       none : (m : ℕ) → m < 0 → ⊥
       none m h = omega (arith, h)
   has_led (suc n) m less =
-      ap (λ l. is_member same_path l (key (f m))) (map_more key (below n) (f n)) ∙ (any_append (same_path (key (f m))) (map key (below n)) (key (f n)) ∙ by (cases_lt m n))
+      ap (λ l. is_member same_path l (key (f m))) (map_more key (below n) (f n)) ∙ (any_append (same_path (key (f m))) (map key (below n)) (key (f n)) ∙ by (λ h. has_led n m h) (cases_lt m n))
     where
       first : (a b : Bool) → a ≡ true → (a || b) ≡ true
       first true b e = refl
@@ -260,9 +260,9 @@ module _ (f : ℕ → Path) (key : Path → Path) (leader : ℕ → ℕ) (copies
       second true b e = refl
       second false b e = e
 
-      by : (m < n) ⊎ (n ≤ m) → (list_any (same_path (key (f m))) (map key (below n)) || same_path (key (f m)) (key (f n))) ≡ true
-      by (inl h) = first _ _ (has_led n m h)
-      by (inr h) = second (list_any (same_path (key (f m))) (map key (below n))) _ (ap (λ i. same_path (key (f m)) (key (f i))) (last n m less h) ∙ own_path (key (f m)))
+      by : (m < n → is_member same_path (map key (below n)) (key (f m)) ≡ true) → (m < n) ⊎ (n ≤ m) → (list_any (same_path (key (f m))) (map key (below n)) || same_path (key (f m)) (key (f n))) ≡ true
+      by before (inl h) = first _ _ (before h)
+      by before (inr h) = second (list_any (same_path (key (f m))) (map key (below n))) _ (ap (λ i. same_path (key (f m)) (key (f i))) (last n m less h) ∙ own_path (key (f m)))
         where
           last : (n m : ℕ) → m < suc n → n ≤ m → n ≡ m
           last n m a b = omega (arith, a, b)
@@ -343,6 +343,21 @@ picked_same counts level (c ∷ p) (d ∷ q) long h =
     by true e g = ap (λ (x : ℕ). x ∷ picked counts (suc level) p) (h 0 (some (length p)) (ap counts (none level) ∙ e)) ∙ ap (λ (l : Path). d ∷ l) g
     by false e g = g
 
+front : (xs : List Path) (y : Path) (k : ℕ) → k < length xs → get_or (xs ++ y ∷ []) k [] ≡ get_or xs k []
+front [] y k h = absurd (none k h)
+  where
+    none : (i : ℕ) → i < 0 → ⊥
+    none i h = omega (arith, h)
+front (x ∷ xs) y zero h = refl
+front (x ∷ xs) y (suc k) h = front xs y k (less k (length xs) h)
+  where
+    less : (a b : ℕ) → suc a < suc b → a < b
+    less a b h = omega (arith, h)
+
+seam : (xs : List Path) (y : Path) → get_or (xs ++ y ∷ []) (length xs) [] ≡ y
+seam [] y = refl
+seam (x ∷ xs) y = seam xs y
+
 module _ (levels : List Level) (s : AreSpread levels) (counts : ℕ → Bool) where
   abbrev all_copies : ℕ
   all_copies = copies_in (factors_of levels)
@@ -371,40 +386,27 @@ module _ (levels : List Level) (s : AreSpread levels) (counts : ℕ → Bool) wh
       one : (n : ℕ) → n + 1 ≡ suc n
       one n = omega arith
 
-  pub paths_are_below : paths_in (factors_of levels) ≡ paths_below levels all_copies
-  paths_are_below = ext_get_or [] (paths_in (factors_of levels)) (paths_below levels all_copies) (length_paths (factors_of levels) ∙ sym (long_below all_copies)) (λ i h. at i (subst (λ (n : ℕ). i < n) (length_paths (factors_of levels)) h))
+  in_front : (n i : ℕ) → i < n → get_or (paths_below levels n) i [] ≡ path_at levels i
+  in_front zero i h = absurd (none i h)
     where
-      in_front : (n i : ℕ) → i < n → get_or (paths_below levels n) i [] ≡ path_at levels i
-      in_front zero i h = absurd (none i h)
+      none : (i : ℕ) → i < 0 → ⊥
+      none i h = omega (arith, h)
+  in_front (suc n) i h = by (λ less. in_front n i less) (cases_lt i n)
+    where
+      by : (i < n → get_or (paths_below levels n) i [] ≡ path_at levels i) → (i < n) ⊎ (n ≤ i) → get_or (paths_below levels (suc n)) i [] ≡ path_at levels i
+      by before (inl less) = front (paths_below levels n) (path_at levels n) i (subst (λ (m : ℕ). i < m) (sym (long_below n)) less) ∙ before less
+      by before (inr past) =
+          ap (λ k. get_or (paths_below levels (suc n)) k []) (last n i h past ∙ sym (long_below n))
+          ∙ (seam (paths_below levels n) (path_at levels n) ∙ ap (λ k. path_at levels k) (sym (last n i h past)))
         where
-          none : (i : ℕ) → i < 0 → ⊥
-          none i h = omega (arith, h)
-      in_front (suc n) i h = by (cases_lt i n)
-        where
-          front : (xs : List Path) (y : Path) (k : ℕ) → k < length xs → get_or (xs ++ y ∷ []) k [] ≡ get_or xs k []
-          front [] y k h = absurd (none k h)
-            where
-              none : (i : ℕ) → i < 0 → ⊥
-              none i h = omega (arith, h)
-          front (x ∷ xs) y zero h = refl
-          front (x ∷ xs) y (suc k) h = front xs y k (less k (length xs) h)
-            where
-              less : (a b : ℕ) → suc a < suc b → a < b
-              less a b h = omega (arith, h)
+          last : (n i : ℕ) → i < suc n → n ≤ i → i ≡ n
+          last n i a b = omega (arith, a, b)
 
-          seam : (xs : List Path) (y : Path) → get_or (xs ++ y ∷ []) (length xs) [] ≡ y
-          seam [] y = refl
-          seam (x ∷ xs) y = seam xs y
-
-          by : (i < n) ⊎ (n ≤ i) → get_or (paths_below levels (suc n)) i [] ≡ path_at levels i
-          by (inl less) = front (paths_below levels n) (path_at levels n) i (subst (λ (m : ℕ). i < m) (sym (long_below n)) less) ∙ in_front n i less
-          by (inr past) =
-              ap (λ k. get_or (paths_below levels (suc n)) k []) (last n i h past ∙ sym (long_below n))
-              ∙ (seam (paths_below levels n) (path_at levels n) ∙ ap (λ k. path_at levels k) (sym (last n i h past)))
-            where
-              last : (n i : ℕ) → i < suc n → n ≤ i → i ≡ n
-              last n i a b = omega (arith, a, b)
-
+  pub paths_are_below : paths_in (factors_of levels) ≡ paths_below levels all_copies
+  paths_are_below =
+      ext_get_or [] (paths_in (factors_of levels)) (paths_below levels all_copies) (length_paths (factors_of levels) ∙ sym (long_below all_copies))
+      (λ i h. at i (subst (λ (n : ℕ). i < n) (length_paths (factors_of levels)) h))
+    where
       at : (i : ℕ) → i < all_copies → get_or (paths_in (factors_of levels)) i [] ≡ get_or (paths_below levels all_copies) i []
       at i h = (numbered levels s i h).listed ∙ sym (in_front all_copies i h)
 

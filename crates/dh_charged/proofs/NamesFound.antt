@@ -11,9 +11,9 @@ use Rattle.dh_tree.specs.Indices.{form_of}
 use Rattle.dh_tree.specs.PlainTrees as plain
 use Rattle.dh_tree.specs.PlainTrees.{Action, action, lets, lets_memory, views, assigns, stores, reduces, calls, blocks, decides, repeats, counts, MaybeAction, no_action, one_action, Actions, no_actions, action_then, Groups, no_groups, group_then}
 use Rattle.dh_meaning.specs.AccessNumbers.{accesses_of, part_accesses, term_accesses, terms_accesses}
-use Rattle.dh_meaning.specs.Bindings.{kind_or_first}
+use Rattle.dh_meaning.specs.Bindings.{kind_found, kind_or_first}
 use Rattle.dh_meaning.specs.Core.{CoreCommands, CoreTerm, Target, command_and, no_commands, variable}
-use Rattle.dh_meaning.specs.CoreOf.{Known, assigned, core_action, core_groups, core_other, core_part, core_term, core_terms, depth_of, entity_number, kind_found, kind_of, operation_of, store_to}
+use Rattle.dh_meaning.specs.CoreOf.{Known, assigned, core_action, core_groups, core_other, core_part, core_term, core_terms, depth_of, entity_number, kind_of, operation_of, store_to}
 use Rattle.dh_meaning.specs.Levels.{any_assigns, assigns_to}
 use Rattle.dh_plan.specs.PlanPhases.{command_mentions, commands_mention, target_mentions, term_mentions, terms_mention}
 use Rattle.dh_expressions.specs.declared.paths.Level.{Level}
@@ -28,15 +28,15 @@ use Rattle.dh_charged.specs.SeenRegisters.{NamesActions, NamesAim, NamesCommand,
 itself : (e : ℕ) → (e == e) ≡ true
 itself e = eq-eqb e e refl
 
-first_of : (a b : Truth) → a ≡ true → (a || b) ≡ true
+pub first_of : (a b : Truth) → a ≡ true → (a || b) ≡ true
 first_of true b e = refl
 first_of false b e = absurd (cc)
 
-second_of : (a b : Truth) → b ≡ true → (a || b) ≡ true
+pub second_of : (a b : Truth) → b ≡ true → (a || b) ≡ true
 second_of true b e = refl
 second_of false b e = e
 
-either_of : (a b : Truth) → (a || b) ≡ true → (a ≡ true) ⊎ (b ≡ true)
+pub either_of : (a b : Truth) → (a || b) ≡ true → (a ≡ true) ⊎ (b ≡ true)
 either_of true b e = inl refl
 either_of false b e = inr e
 
@@ -144,7 +144,7 @@ module _ (scene : Scene) (levels : List Level) (table : List MemEntry) (Name : R
     action_named Folds seen n (action id place (decides test chosen other)) rest s h =
         let one = action_named (λ e. ⊥) (λ e f. absurd f) (n + term_accesses test) chosen no_commands s.1.0 first_arm in
         ((term_named (known_in scene) table Name P n test s.0 (λ e m. h.mentions e (first_of _ (commands_mention e rest) (first_of (term_mentions e (core_term (known_in scene) n test)) _ m))),
-        (one.0, other_named (n + term_accesses test + accesses_of chosen) other s.1.1 second_arm)),
+        (one.0, other_named Folds (n + term_accesses test + accesses_of chosen) other s.1.1 second_arm)),
         holds_rest _ rest h)
       where
         first_arm : Holds P Q (core_action (known_in scene) (n + term_accesses test) chosen no_commands)
@@ -165,9 +165,9 @@ module _ (scene : Scene) (levels : List Level) (table : List MemEntry) (Name : R
     action_named Folds seen n (action id place (repeats test body)) rest s h = (tt, h)
     action_named Folds seen n (action id place (counts iterator declared low high factor body combine combine_place)) rest s h = (tt, h)
 
-    other_named : (n : ℕ) (other : MaybeAction) → SoundOther scene levels table Name (λ e. ⊥) other → Holds P Q (core_other (known_in scene) n other) → NamesOther Named Goal other
-    other_named n no_action s h = tt
-    other_named n (one_action a) s h = (action_named (λ e. ⊥) (λ e f. absurd f) n a no_commands s h).0
+    other_named : (Folds : ℕ → Type 0) (n : ℕ) (other : MaybeAction) → SoundOther scene levels table Name (λ e. ⊥) other → Holds P Q (core_other (known_in scene) n other) → NamesOther Named Goal other
+    other_named Folds n no_action s h = tt
+    other_named Folds n (one_action a) s h = (action_named (λ e. ⊥) (λ e f. absurd f) n a no_commands s h).0
 
     groups_named : (Folds : ℕ → Type 0) → ((e : ℕ) → Folds e → IsSeen scene levels e) → (n : ℕ) (body : Groups) (rest : CoreCommands) → SoundGroups scene levels table Name Folds body
         → Holds P Q (core_groups (known_in scene) n body rest) → NamesGroups Named Goal body × Holds P Q rest
@@ -191,8 +191,8 @@ module _ (scene : Scene) (levels : List Level) (table : List MemEntry) (Name : R
   abbrev SeenOr : CoreCommands → Type 0
   SeenOr rest = IsSeen scene levels e ⊎ (any_assigns e rest ≡ true)
 
-  target_seen : (r : Ref) (t : CoreTerm) (rest : CoreCommands) → IsSeen scene levels (entity_number r.entity) → any_assigns e (command_and (assigned (known_in scene) r t) rest) ≡ true → SeenOr rest
-  target_seen r t rest s h = elim (either_of (e == entity_number r.entity) (any_assigns e rest) h) [
+  target_seen : (r : Ref) (rest : CoreCommands) → IsSeen scene levels (entity_number r.entity) → ((e == entity_number r.entity) || any_assigns e rest) ≡ true → SeenOr rest
+  target_seen r rest s h = elim (either_of (e == entity_number r.entity) (any_assigns e rest) h) [
     inl is ↦ inl (subst (λ (i : ℕ). IsSeen scene levels i) (sym (eqb-true e (entity_number r.entity) is)) s)
     | inr m ↦ inr m
   ]
@@ -224,13 +224,13 @@ module _ (scene : Scene) (levels : List Level) (table : List MemEntry) (Name : R
   mutual
     pub assigned_seen : (Folds : ℕ → Type 0) → ((i : ℕ) → Folds i → IsSeen scene levels i) → (n : ℕ) (a : Action) (rest : CoreCommands) → SoundAction scene levels table Name Folds a
         → any_assigns e (core_action (known_in scene) n a rest) ≡ true → SeenOr rest
-    assigned_seen Folds seen n (action id place (lets name declared (Some value))) rest s h = target_seen name _ rest s.1.0.seen h
-    assigned_seen Folds seen n (action id place (lets name declared None)) rest s h = target_seen name _ rest s.0.seen h
-    assigned_seen Folds seen n (action id place (assigns target value)) rest s h = target_seen target _ rest s.1.0.seen h
+    assigned_seen Folds seen n (action id place (lets name declared (Some value))) rest s h = target_seen name rest s.1.0.seen h
+    assigned_seen Folds seen n (action id place (lets name declared None)) rest s h = target_seen name rest s.0.seen h
+    assigned_seen Folds seen n (action id place (assigns target value)) rest s h = target_seen target rest s.1.0.seen h
     assigned_seen Folds seen n (action id place (stores target value)) rest s h = inr (behind_store _ (any_assigns e rest) (store_assigns (n + term_accesses value) target (core_term (known_in scene) n value)) h)
-    assigned_seen Folds seen n (action id place (reduces target o value)) rest s h = target_seen target _ rest (seen (entity_number target.entity) s.0.1) h
+    assigned_seen Folds seen n (action id place (reduces target o value)) rest s h = target_seen target rest (seen (entity_number target.entity) s.0.1) h
     assigned_seen Folds seen n (action id place (decides test chosen other)) rest s h =
-        by (assigned_seen (λ i. ⊥) (λ i f. absurd f) (n + term_accesses test) chosen no_commands s.1.0) (other_seen (n + term_accesses test + accesses_of chosen) other s.1.1)
+        by (assigned_seen (λ i. ⊥) (λ i f. absurd f) (n + term_accesses test) chosen no_commands s.1.0) (other_seen Folds (n + term_accesses test + accesses_of chosen) other s.1.1)
         (either_of (any_assigns e (core_action (known_in scene) (n + term_accesses test) chosen no_commands) || any_assigns e (core_other (known_in scene) (n + term_accesses test + accesses_of chosen) other)) (any_assigns e rest) h)
       where
         arms : (any_assigns e (core_action (known_in scene) (n + term_accesses test) chosen no_commands) ≡ true → SeenOr no_commands) → (any_assigns e (core_other (known_in scene) (n + term_accesses test + accesses_of chosen) other) ≡ true → IsSeen scene levels e)
@@ -249,9 +249,9 @@ module _ (scene : Scene) (levels : List Level) (table : List MemEntry) (Name : R
     assigned_seen Folds seen n (action id place (repeats test body)) rest s h = inr h
     assigned_seen Folds seen n (action id place (counts iterator declared low high factor body combine combine_place)) rest s h = inr h
 
-    other_seen : (n : ℕ) (other : MaybeAction) → SoundOther scene levels table Name (λ i. ⊥) other → any_assigns e (core_other (known_in scene) n other) ≡ true → IsSeen scene levels e
-    other_seen n no_action s h = no_more (inr h)
-    other_seen n (one_action a) s h = no_more (assigned_seen (λ i. ⊥) (λ i f. absurd f) n a no_commands s h)
+    other_seen : (Folds : ℕ → Type 0) (n : ℕ) (other : MaybeAction) → SoundOther scene levels table Name (λ i. ⊥) other → any_assigns e (core_other (known_in scene) n other) ≡ true → IsSeen scene levels e
+    other_seen Folds n no_action s h = no_more (inr h)
+    other_seen Folds n (one_action a) s h = no_more (assigned_seen (λ i. ⊥) (λ i f. absurd f) n a no_commands s h)
 
     groups_seen : (Folds : ℕ → Type 0) → ((i : ℕ) → Folds i → IsSeen scene levels i) → (n : ℕ) (body : Groups) (rest : CoreCommands) → SoundGroups scene levels table Name Folds body
         → any_assigns e (core_groups (known_in scene) n body rest) ≡ true → SeenOr rest

@@ -1,3 +1,5 @@
+-- temporary: MadeEach as dh_laid has it
+pub mod EachMade
 -- registers that commands see, and give values to
 pub mod SeenRegisters
 -- blocks that see and set registers as a plan asks
