@@ -71,14 +71,14 @@ mutual
   command_assigned e (choose test chosen other) h =
       second_of (term_mentions e test) _
       (elim (either_of (any_assigns e chosen) (any_assigns e other) h) [
-        inl m ↦ first_of (commands_mention e chosen) (commands_mention e other) (all_assigned e chosen m)
+        | inl m ↦ first_of (commands_mention e chosen) (commands_mention e other) (all_assigned e chosen m)
         | inr m ↦ second_of (commands_mention e chosen) (commands_mention e other) (all_assigned e other m)
       ])
 
   all_assigned : (e : ℕ) (cs : CoreCommands) → any_assigns e cs ≡ true → commands_mention e cs ≡ true
   all_assigned e no_commands h = absurd (cc)
   all_assigned e (command_and c cs) h = elim (either_of (assigns_to e c) (any_assigns e cs) h) [
-    inl m ↦ first_of (command_mentions e c) (commands_mention e cs) (command_assigned e c m)
+    | inl m ↦ first_of (command_mentions e c) (commands_mention e cs) (command_assigned e c m)
     | inr m ↦ second_of (command_mentions e c) (commands_mention e cs) (all_assigned e cs m)
   ]
 
@@ -267,13 +267,13 @@ module _ (scene : Scene) (around : Around) (plan : PlainPlan) (rounds : List Rou
         never e = cc
     all_seen e (c ∷ ds) s h =
         elim (assigned_seen scene around.levels.now plan.table OurName e (IsSeen scene around.levels.now) (λ i is. is) c.first c.command (cores ds) s.0 h) [
-          inl is ↦ is
+          | inl is ↦ is
           | inr m ↦ all_seen e ds s.1 m
         ]
 
     spared : (e : ℕ) → IsIteratorOf rounds e → assigns_them e ≡ false
     spared e is = elim (cases_Bool (assigns_them e)) [
-      inl m ↦ absurd (clash (iterator_counted scene rounds e stands.counters is).0 (sym (iterator_counted scene rounds e stands.counters is).1 ∙ (all_seen e cs sound m).no_counter))
+      | inl m ↦ absurd (clash (iterator_counted scene rounds e stands.counters is).0 (sym (iterator_counted scene rounds e stands.counters is).1 ∙ (all_seen e cs sound m).no_counter))
       | inr m ↦ m
     ]
       where
@@ -338,7 +338,7 @@ straights_touch scene around plan rounds count block done folds before between s
     one_list touched [] s = tt
     one_list touched (c ∷ ds) s = (
       action_mapped scene around.levels.now plan.table (IsNamedHere scene around.levels.now plan.registers rounds touched) (λ r k. (touched : ℕ → Truth) × IsNamedHere scene around.levels.now plan.registers rounds touched r k)
-      (λ r k is. (touched, is)) (IsSeen scene around.levels.now) c.command s.0,
+          (λ r k is. (touched, is)) (IsSeen scene around.levels.now) c.command s.0,
       one_list touched ds s.1,
     )
 

@@ -131,7 +131,7 @@ module _ (f : ℕ → Path) (key : Path → Path) (leader : ℕ → ℕ) (copies
   -- the key of a leader is none of those before it
   apart : (n m : ℕ) → m < n → n < copies → leader n ≡ n → same_path (key (f n)) (key (f m)) ≡ false
   apart n m less inside leads = elim (cases_Bool (same_path (key (f n)) (key (f m)))) [
-    inl e ↦ absurd (never (same n m inside (omega (arith, less, inside)) (same_paths (key (f n)) (key (f m)) e)))
+    | inl e ↦ absurd (never (same n m inside (omega (arith, less, inside)) (same_paths (key (f n)) (key (f m)) e)))
     | inr e ↦ e
   ]
     where
@@ -168,7 +168,7 @@ module _ (f : ℕ → Path) (key : Path → Path) (leader : ℕ → ℕ) (copies
   -- further paths reach a bank with no fewer keys
   rises_one : (reaches : Path → Bool) (n : ℕ) → distinct_count same_path (reached reaches n) ≤ distinct_count same_path (reached reaches (suc n))
   rises_one reaches n = elim (cases_Bool (reaches (f n))) [
-    inl is ↦ subst (λ (d : ℕ). distinct_count same_path (reached reaches n) ≤ d) (sym (count_next reaches n is)) (more_is (is_member same_path (reached reaches n) (key (f n))) _)
+    | inl is ↦ subst (λ (d : ℕ). distinct_count same_path (reached reaches n) ≤ d) (sym (count_next reaches n is)) (more_is (is_member same_path (reached reaches n) (key (f n))) _)
     | inr is ↦ subst (λ (d : ℕ). distinct_count same_path (reached reaches n) ≤ d) (sym (count_still reaches n is)) (least (distinct_count same_path (reached reaches n)))
   ]
     where

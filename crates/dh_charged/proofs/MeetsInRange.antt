@@ -49,7 +49,7 @@ module _ (l r : Meets) (n p q : ℕ) (h : StandInRange l n p) (k : StandInRange 
 
   both_there : (a : ℕ) → n ≤ a → a < n + (p + q) → In a l ⊎ In a r
   both_there a from less = elim (cases_lt a (n + p)) [
-    inl before ↦ inl (h.there a from before)
+    | inl before ↦ inl (h.there a from before)
     | inr behind ↦ inr (k.there a behind (omega (arith, less)))
   ]
 

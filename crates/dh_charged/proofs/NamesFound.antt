@@ -132,20 +132,26 @@ module _ (scene : Scene) (levels : List Level) (table : List MemEntry) (Name : R
         let aim =
         aim_named (known_in scene) table Name P (n + term_accesses value) target (core_term (known_in scene) n value) s.0.1 (λ e m. h.mentions e (first_of _ (commands_mention e rest) m)) in
         ((term_named (known_in scene) table Name P n value s.0.0 aim.1, aim.0), holds_rest _ rest h)
-    action_named Folds seen n (action id place (reduces target o value)) rest s h =
-        ((term_named (known_in scene) table Name P n value s.0.0
-        (λ e m. h.mentions e (first_of _ (commands_mention e rest) (second_of (e == entity_number target.entity) _ (sym (folded e) ∙ second_of (e == entity_number target.entity) _ m)))),
-        goal_named target _ rest (seen (entity_number target.entity) s.0.1) h),
-        holds_rest _ rest h)
+    action_named Folds seen n (action id place (reduces target o value)) rest s h = (
+      (
+        term_named (known_in scene) table Name P n value s.0.0
+            (λ e m. h.mentions e (first_of _ (commands_mention e rest) (second_of (e == entity_number target.entity) _ (sym (folded e) ∙ second_of (e == entity_number target.entity) _ m)))),
+        goal_named target _ rest (seen (entity_number target.entity) s.0.1) h,
+      ),
+      holds_rest _ rest h,
+    )
       where
         folded : (e : ℕ) → ((e == entity_number target.entity) || term_mentions e (core_term (known_in scene) n value))
             ≡ term_mentions e (operation_of o (kind_of (known_in scene) target) (kind_found value) (variable (kind_of (known_in scene) target) (depth_of (known_in scene) target) (entity_number target.entity)) (core_term (known_in scene) n value))
         folded e = operation_mentions e o (kind_of (known_in scene) target) (kind_found value) (variable (kind_of (known_in scene) target) (depth_of (known_in scene) target) (entity_number target.entity)) (core_term (known_in scene) n value)
     action_named Folds seen n (action id place (decides test chosen other)) rest s h =
-        let one = action_named (λ e. ⊥) (λ e f. absurd f) (n + term_accesses test) chosen no_commands s.1.0 first_arm in
-        ((term_named (known_in scene) table Name P n test s.0 (λ e m. h.mentions e (first_of _ (commands_mention e rest) (first_of (term_mentions e (core_term (known_in scene) n test)) _ m))),
-        (one.0, other_named Folds (n + term_accesses test + accesses_of chosen) other s.1.1 second_arm)),
-        holds_rest _ rest h)
+        let one = action_named (λ e. ⊥) (λ e f. absurd f) (n + term_accesses test) chosen no_commands s.1.0 first_arm in (
+          (
+            term_named (known_in scene) table Name P n test s.0 (λ e m. h.mentions e (first_of _ (commands_mention e rest) (first_of (term_mentions e (core_term (known_in scene) n test)) _ m))),
+            (one.0, other_named Folds (n + term_accesses test + accesses_of chosen) other s.1.1 second_arm),
+          ),
+          holds_rest _ rest h,
+        )
       where
         first_arm : Holds P Q (core_action (known_in scene) (n + term_accesses test) chosen no_commands)
         first_arm = record {
@@ -193,7 +199,7 @@ module _ (scene : Scene) (levels : List Level) (table : List MemEntry) (Name : R
 
   target_seen : (r : Ref) (rest : CoreCommands) → IsSeen scene levels (entity_number r.entity) → ((e == entity_number r.entity) || any_assigns e rest) ≡ true → SeenOr rest
   target_seen r rest s h = elim (either_of (e == entity_number r.entity) (any_assigns e rest) h) [
-    inl is ↦ inl (subst (λ (i : ℕ). IsSeen scene levels i) (sym (eqb-true e (entity_number r.entity) is)) s)
+    | inl is ↦ inl (subst (λ (i : ℕ). IsSeen scene levels i) (sym (eqb-true e (entity_number r.entity) is)) s)
     | inr m ↦ inr m
   ]
 
