@@ -4,3 +4,4 @@ pub mod NamesFound
 pub mod BlocksTouch
 pub mod KeysLed
 pub mod MeetsInRange
+pub mod UsesCharge

@@ -8,3 +8,5 @@ pub mod TouchedBlocks
 pub mod LeadersCounted
 -- accesses that may meet
 pub mod MetAccesses
+-- charges of reads and writes
+pub mod ChargedUses

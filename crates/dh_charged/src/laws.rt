@@ -1,5 +1,6 @@
 //! Laws on the blocks of a plan, stated on functions that do nothing.
 
+ghost use Rattle.dh_charged.specs.ChargedUses.{LedUsesCharge};
 ghost use Rattle.dh_charged.specs.LeadersCounted.{AllLeadersAreKeys};
 ghost use Rattle.dh_charged.specs.MetAccesses.{CommandsMeetInRange, PlansMeet};
 ghost use Rattle.dh_charged.specs.TouchedBlocks.{StraightsTouch, TestsTouch};
@@ -21,4 +22,9 @@ pub fn leaders_are_keys()
 pub fn plans_meet_as_programs()
     ensures commands { CommandsMeetInRange }
     ensures plans { PlansMeet }
+{}
+
+/// Reads and writes charge a bank no more than their accesses do in the program.
+pub fn led_uses_charge()
+    ensures { LedUsesCharge }
 {}
