@@ -12,3 +12,10 @@ pub mod CommandsQuiet
 pub mod CommandsMultiply
 pub mod ProductsOfCore
 pub mod CommandsProbe
+pub mod SitesLaid
+pub mod UsesAdded
+pub mod ReadsUsed
+pub mod TermsUsed
+pub mod CommandsUsed
+pub mod ProbesSited
+pub mod BlocksUsed

@@ -12,3 +12,5 @@ pub mod LaidProducts
 pub mod LaidProbes
 -- where the accesses of blocks stand
 pub mod BlockSites
+-- how often accesses are made
+pub mod LaidUses

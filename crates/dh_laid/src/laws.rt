@@ -2,9 +2,10 @@
 
 ghost use Rattle.dh_laid.specs.Laid.{AllAssignmentsForm, AllClearingsForm, AllReducesForm, AllStoresForm, ArmGuardsForm, ArmsEnd, ArmsLeave, AssignmentsForm, ChoicesForm, ClearingsForm, JoinsForm, ReducesForm, StoresForm, TestsForm};
 ghost use Rattle.dh_laid.specs.LaidCommands.{CommandsForm, GroupsForm};
-ghost use Rattle.dh_laid.specs.LaidNumbers.{CommandsNumber, GroupsNumber};
+ghost use Rattle.dh_laid.specs.LaidNumbers.{CommandsNumber, GroupsNumber, ReachingNumber};
 ghost use Rattle.dh_laid.specs.LaidProbes.{CommandsProbe, GroupsProbe};
 ghost use Rattle.dh_laid.specs.LaidProducts.{CommandsHaveProducts, CommandsMultiply, GroupsHaveProducts, GroupsMultiply, TermsMultiply};
+ghost use Rattle.dh_laid.specs.LaidUses.{BlocksProbe, BlocksUse, TestsProbe, TestsUse};
 ghost use Rattle.dh_laid.specs.LaidQuiet.{CommandsAreQuiet, GroupsAreQuiet, QuietSetsNone, TermsAreQuiet};
 
 /// What is put down where a variable is assigned is formed, and it is given a value of the kind of its register.
@@ -47,6 +48,7 @@ pub fn whole_commands_are_formed()
 pub fn whole_commands_are_numbered()
     ensures commands { CommandsNumber }
     ensures groups { GroupsNumber }
+    ensures reaching { ReachingNumber }
 {}
 
 /// What is put down for expressions and commands checks nothing and sets no register.
@@ -74,4 +76,13 @@ pub fn products_are_of_the_program()
 pub fn whole_commands_probe()
     ensures commands { CommandsProbe }
     ensures groups { GroupsProbe }
+{}
+
+/// Each access of a block is read or written at each path that leads, where it shares no earlier read, and probed at each
+/// path; and so is each access of a test.
+pub fn whole_blocks_use()
+    ensures blocks { BlocksUse }
+    ensures blocks_probed { BlocksProbe }
+    ensures tests { TestsUse }
+    ensures tests_probed { TestsProbe }
 {}
