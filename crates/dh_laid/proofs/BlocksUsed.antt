@@ -1,21 +1,18 @@
 -- Blocks, command by command: what all of them use and probe, by the sites of the block.
-use Rattle.std.proofs.Common.{◌≡◌, ◌⊎◌, inl, inr, ◌<◌, ◌≤◌, ◌+◌, ◌-◌, ◌^◌, ℕ, zero, suc, List, Some, None, ap, sym, ◌∙◌, subst, length, arith, refl}
-use Rattle.std.specs.Prelude.{◌&&◌, nat_le, nat_lt, Bool as Truth, true, false, if◌then◌else◌, [], ◌∷◌, ◌++◌, Option, option_map, slice_get}
+use Rattle.std.proofs.Common.{◌≡◌, ◌⊎◌, inl, inr, ◌<◌, ◌≤◌, ◌+◌, ◌-◌, ℕ, List, Some, None, ap, sym, ◌∙◌, subst, length, arith, refl}
+use Rattle.std.specs.Prelude.{◌&&◌, nat_le, nat_lt, Bool as Truth, true, false, if◌then◌else◌, [], ◌∷◌, Option, option_map, slice_get}
 use Rattle.std.proofs.lemmas.Bool.{cases_lt}
 use Rattle.std.proofs.lemmas.Bool.Decides.{nat_tests}
 use Rattle.std.proofs.lemmas.List.{length-map}
 use Rattle.std.proofs.lemmas.Option.{slice_get-map}
-use Rattle.dh_tree.specs.PlainTrees.{Term}
 use Rattle.dh_meaning.specs.AccessNumbers.{accesses_of, term_accesses}
 use Rattle.dh_meaning.specs.Phases.{Located}
 use Rattle.dh_expressions.specs.declared.accesses.Accesses.{Accesses}
 use Rattle.dh_expressions.specs.declared.accesses.Touched.{Touched}
-use Rattle.dh_expressions.specs.declared.drafts.Draft.{Draft}
 use Rattle.dh_expressions.specs.declared.scenes.Around.{Around}
 use Rattle.dh_expressions.specs.declared.scenes.Scene.{Scene}
-use Rattle.dh_expressions.specs.Noted.{touched_in}
 use Rattle.dh_expressions.proofs.ListPlaces.{place_within, there}
-use Rattle.dh_formed.specs.Counted.{given_at_paths, length_given, ranged, use_shared}
+use Rattle.dh_formed.specs.Counted.{given_at_paths, length_given, ranged}
 use Rattle.dh_formed.specs.Formed.{Site}
 use Rattle.dh_commands.specs.declared.buildings.Building.{Building}
 use Rattle.dh_commands.specs.LanesRun.{paths_counted}
@@ -28,7 +25,7 @@ use Rattle.dh_laid.specs.LaidUses.{AddsUses, AreAlong, AreUntouched, BlocksProbe
 use Rattle.dh_laid.proofs.CommandsNumbered.{command_reached}
 use Rattle.dh_laid.proofs.CommandsProbe as probe
 use Rattle.dh_laid.proofs.CommandsProbe.{often, probes_again, tests_probed}
-use Rattle.dh_laid.proofs.CommandsUsed.{AreSites, Begins, Used, command_used, sites_are, tests_used}
+use Rattle.dh_laid.proofs.CommandsUsed.{AreSites, Used, command_used, sites_are, tests_used}
 use Rattle.dh_laid.proofs.ProbesSited.{command_sited, probes_same, same_within}
 use Rattle.dh_laid.proofs.ReadsUsed.{AreLed}
 use Rattle.dh_laid.proofs.SitesLaid.{PlacesAgree, block_sites_low, command_sites_long, places_low, places_own, places_past, sites_low, sites_own, term_sites_long}
@@ -37,7 +34,7 @@ use Rattle.dh_laid.proofs.UsesAdded.{none_none, used_nowhere, uses_again, uses_s
 -- What is asked of a number and its site, 0 where it has none, over numbers from a first one on: the part of it that is
 -- counted within a range is the whole of what stands there.
 module _ (f : Option Site → (access : ℕ) → ℕ) (nothing : (access : ℕ) → f None access ≡ 0) (first : ℕ) (ss : List (Option Site)) (count : ℕ) (long : length ss ≡ count) (access : ℕ) where
-  here : Option Site
+  abbrev here : Option Site
   here = places_from first ss access
 
   is_inside : first ≤ access → access < first + count → (nat_le first access && nat_lt access (first + count)) ≡ true
@@ -84,10 +81,10 @@ module _ (f : Option Site → (access : ℕ) → ℕ) (nothing : (access : ℕ) 
 
 -- One command among those of a block.
 module _ (scene : Scene) (around : Around) (sites : ℕ → Option Site) (c : Located) (cs : List Located) (from : ℕ) (old mid new : Building) (next : ℕ) (m : MadeCommand scene c.command around old mid c.first next) (rest : MadeEach scene around cs mid new) (along : AreAlong from (c ∷ cs)) (agree : (number : ℕ) → from ≤ number → sites number ≡ block_sites scene around (c ∷ cs) old new (mid, (next, (m, rest))) number) where
-  own_sites : List (Option Site)
+  abbrev own_sites : List (Option Site)
   own_sites = command_sites scene c.command around old mid c.first next m
 
-  later : ℕ → Option Site
+  abbrev later : ℕ → Option Site
   later number = block_sites scene around cs mid new rest number
 
   own_long : length own_sites ≡ accesses_of c.command

@@ -1,10 +1,10 @@
 -- Commands at all paths, with their arms: by recursion on what was put down for them.
 use Rattle.std.proofs.Common.{◌≡◌, ◌⊎◌, inl, inr, ◌<◌, ◌≤◌, ◌+◌, ◌-◌, ◌^◌, ℕ, zero, suc, List, Some, None, ap, sym, ◌∙◌, subst, length, arith, refl}
-use Rattle.std.specs.Prelude.{Bool as Truth, true, false, [], ◌∷◌, ◌++◌, Option, slice_get}
+use Rattle.std.specs.Prelude.{Bool as Truth, true, false, ◌++◌, Option, slice_get}
 use Rattle.std.proofs.lemmas.Bool.{cases_lt}
 use Rattle.dh_value.specs.declared.operators.Op.{Op}
 use Rattle.dh_tree.specs.Indices.{form_of}
-use Rattle.dh_tree.specs.PlainTrees.{Term, Action, action, ActionForm, lets, lets_memory, views, assigns, stores, reduces, calls, blocks, decides, repeats, counts, MaybeAction, no_action, one_action, Actions, no_actions, action_then, Groups, no_groups, group_then}
+use Rattle.dh_tree.specs.PlainTrees.{Term, Action, action, lets, lets_memory, views, assigns, stores, reduces, calls, blocks, decides, repeats, counts, MaybeAction, no_action, one_action, Actions, no_actions, action_then, Groups, no_groups, group_then}
 use Rattle.dh_meaning.specs.AccessNumbers.{accesses_of, groups_accesses, other_accesses, part_accesses, term_accesses}
 use Rattle.dh_meaning.specs.CoreOf.{entity_number}
 use Rattle.dh_expressions.specs.declared.accesses.Accesses.{Accesses}
@@ -13,14 +13,13 @@ use Rattle.dh_expressions.specs.declared.paths.Level.{Level}
 use Rattle.dh_expressions.specs.declared.scenes.Around.{Around}
 use Rattle.dh_expressions.specs.declared.scenes.Scene.{Scene}
 use Rattle.dh_expressions.specs.Levels.{leader_number}
-use Rattle.dh_expressions.specs.Noted.{touched_in}
 use Rattle.dh_expressions.proofs.ListPlaces.{there}
 use Rattle.dh_formed.specs.Counted.{AreNext, given_at_paths, length_given, ranged}
 use Rattle.dh_formed.specs.Formed.{Site}
 use Rattle.dh_commands.specs.declared.buildings.Building.{Building}
 use Rattle.dh_commands.specs.declared.choices.Left.{Left}
 use Rattle.dh_commands.specs.LanesRun.{lane_of, paths_counted}
-use Rattle.dh_commands.specs.MadeCommands.{Commanding, MadeActions, MadeArm, MadeAssigned, MadeCleared, MadeCommand, MadeGroups, MadeLanes, MadeOther, MadeReduced, MadeStored, MadeTested, MadeTests}
+use Rattle.dh_commands.specs.MadeCommands.{Commanding, MadeActions, MadeArm, MadeAssigned, MadeCleared, MadeCommand, MadeGroups, MadeLanes, MadeOther, MadeReduced, MadeStored, MadeTests}
 use Rattle.dh_laid.specs.BlockSites.{actions_sites, all_there, command_sites, groups_sites, other_sites, target_sites, term_sites}
 use Rattle.dh_laid.specs.Laid.{aim_accesses}
 use Rattle.dh_laid.specs.LaidCommands.{AreFewIn}
@@ -32,7 +31,7 @@ use Rattle.dh_laid.proofs.CommandsProbe.{stands_arm}
 use Rattle.dh_laid.proofs.ReadsUsed.{AreLed, UsesPart, led_same}
 use Rattle.dh_laid.proofs.SitesLaid.{HasSites, PlacesAgree, actions_sites_long, all_sites, command_sites_long, no_sites, places_behind, places_front, target_sites_long, term_sites_long, test_places_long, two_long}
 use Rattle.dh_laid.proofs.TermsUsed.{UsesLane, assigned_used, cleared_used, long_is, reduced_used, stored_used, term_used}
-use Rattle.dh_laid.proofs.UsesAdded.{AddsNone, choices_used, guards_used, no_accesses, none_none, none_then_uses, ranged_count, ranged_more, ranged_nothing, ranged_then, ranged_without, used_nowhere, uses_then_none}
+use Rattle.dh_laid.proofs.UsesAdded.{AddsNone, choices_used, guards_used, no_accesses, none_none, none_then_uses, ranged_more, ranged_nothing, ranged_then, ranged_without, used_nowhere, uses_then_none}
 use Rattle.dh_laid.proofs.ValuesLogged.{arm_long, tests_same}
 
 -- What stands before and behind.

@@ -1,10 +1,10 @@
 -- Each access of a command that has a site is probed once at each path, and no other is: by recursion on what was put
 -- down for it.
-use Rattle.std.proofs.Common.{◌≡◌, ◌⊎◌, inl, inr, ◌<◌, ◌≤◌, ◌+◌, ◌^◌, ℕ, zero, suc, List, Some, None, ap, sym, ◌∙◌, subst, length, arith, refl}
-use Rattle.std.specs.Prelude.{◌&&◌, nat_le, nat_lt, Bool as Truth, true, false, if◌then◌else◌, [], ◌∷◌, ◌++◌, Option, slice_get}
+use Rattle.std.proofs.Common.{◌≡◌, ◌⊎◌, inl, inr, ◌<◌, ◌≤◌, ◌+◌, ◌^◌, ℕ, List, Some, None, ap, sym, ◌∙◌, subst, length, arith, refl}
+use Rattle.std.specs.Prelude.{◌&&◌, nat_le, nat_lt, Bool as Truth, true, false, if◌then◌else◌, [], ◌++◌, Option}
 use Rattle.std.proofs.lemmas.Bool.{cases_lt}
 use Rattle.std.proofs.lemmas.Bool.Decides.{nat_tests}
-use Rattle.dh_tree.specs.PlainTrees.{Action, action, ActionForm, lets, lets_memory, views, assigns, stores, reduces, calls, blocks, decides, repeats, counts, MaybeAction, no_action, one_action, Actions, no_actions, action_then, Groups, no_groups, group_then}
+use Rattle.dh_tree.specs.PlainTrees.{Action, action, lets, lets_memory, views, assigns, stores, reduces, calls, blocks, decides, repeats, counts, MaybeAction, no_action, one_action, Actions, no_actions, action_then, Groups, no_groups, group_then}
 use Rattle.dh_meaning.specs.AccessNumbers.{accesses_of, groups_accesses, other_accesses, part_accesses, term_accesses}
 use Rattle.dh_meaning.specs.CoreOf.{entity_number}
 use Rattle.dh_expressions.specs.declared.drafts.Draft.{Draft}
@@ -19,14 +19,14 @@ use Rattle.dh_commands.specs.LanesRun.{lane_of, paths_counted}
 use Rattle.dh_commands.specs.MadeCommands.{Commanding, MadeActions, MadeArm, MadeAssigned, MadeCleared, MadeCommand, MadeGroups, MadeOther, MadeReduced, MadeStored}
 use Rattle.dh_laid.specs.BlockSites.{actions_sites, all_there, command_sites, groups_sites, other_sites, target_sites, term_sites}
 use Rattle.dh_laid.specs.LaidCommands.{AreFewIn}
-use Rattle.dh_laid.specs.LaidNumbers.{Numbers, StoresReach, StoresReachGroups, StoresReachOther, StoresReachPart}
+use Rattle.dh_laid.specs.LaidNumbers.{StoresReach, StoresReachGroups, StoresReachOther, StoresReachPart}
 use Rattle.dh_laid.specs.LaidProbes.{AddsProbes}
 use Rattle.dh_laid.specs.LaidQuiet.{StandsIn}
 use Rattle.dh_laid.specs.LaidUses.{probed_by}
-use Rattle.dh_laid.proofs.CommandsNumbered.{actions_reached, arm_number, command_reached, groups_reached, other_reached, some_arm, tests_number}
+use Rattle.dh_laid.proofs.CommandsNumbered.{actions_reached, command_reached, some_arm, tests_number}
 use Rattle.dh_laid.proofs.CommandsProbe.{assigned_probed, choices_probed, cleared_probed, guards_probed, lanes_probed, none_none, none_then_probes, often, probes_again, probes_then_none, reduced_probed, stands_arm, stored_probed, tests_probed}
 use Rattle.dh_laid.proofs.CommandsUsed.{AreSites, sites_are}
-use Rattle.dh_laid.proofs.SitesLaid.{HasSites, PlacesAgree, actions_sites_long, all_sites, command_sites_long, no_sites, places_behind, places_front, target_sites_long, term_sites_long, test_places_long, two_long}
+use Rattle.dh_laid.proofs.SitesLaid.{PlacesAgree, actions_sites_long, all_sites, command_sites_long, no_sites, places_behind, places_front, target_sites_long, term_sites_long, test_places_long, two_long}
 use Rattle.dh_laid.proofs.TermsUsed.{long_is}
 use Rattle.dh_laid.proofs.ValuesLogged.{arm_long, tests_same}
 

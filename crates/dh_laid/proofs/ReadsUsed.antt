@@ -1,12 +1,12 @@
 -- Reads and writes at one path: a read is done where the path leads and no earlier read is shared, a write always. What
 -- is noted of accesses tells their leaders, and what was given.
-use Rattle.std.proofs.Common.{◌≡◌, ◌⊎◌, inl, inr, ⊎_elim, ◌<◌, ◌≤◌, ◌+◌, ◌^◌, ℕ, zero, suc, List, Some, None, ap, sym, ◌∙◌, subst, length, arith, refl}
-use Rattle.std.specs.Prelude.{◌==◌, Bool as Truth, true, false, if◌then◌else◌, [], ◌∷◌, ◌++◌, Option, slice_get}
+use Rattle.std.proofs.Common.{◌≡◌, ◌⊎◌, inl, inr, ⊎_elim, ◌<◌, ◌≤◌, ◌+◌, ◌^◌, ℕ, List, Some, None, ap, sym, ◌∙◌, subst, length, arith, refl}
+use Rattle.std.specs.Prelude.{◌==◌, Bool as Truth, true, false, if◌then◌else◌, Option, slice_get}
 use Rattle.std.proofs.lemmas.Bool.{cases_eq}
 use Rattle.std.proofs.lemmas.Bool.Decides.{nat_tests}
 use Rattle.dh_tree.specs.Indices.{form_of}
 use Rattle.dh_tree.specs.PlainTrees.{Term}
-use Rattle.dh_plan.specs.declared.operations.OperationForm.TheVariants.{Read, Write}
+use Rattle.dh_plan.specs.declared.operations.OperationForm.TheVariants.{Read}
 use Rattle.dh_expressions.specs.declared.accesses.Accesses.{Accesses}
 use Rattle.dh_expressions.specs.declared.accesses.Touched.{Touched}
 use Rattle.dh_expressions.specs.declared.copies.AccessAt.{AccessAt}
@@ -131,29 +131,29 @@ module _ (scene : Scene) (sites : ℕ → Option Site) (lane : Lane) (stands : S
 
   -- What the access uses.
 
-  abbrev use : (number : ℕ) → ℕ
-  use number = use_shared (slice_get scene.shares.now number) (sites number) lane.number
+  abbrev uses_here : (number : ℕ) → ℕ
+  uses_here number = use_shared (slice_get scene.shares.now number) (sites number) lane.number
 
   abbrev own_use : (number : ℕ) → ℕ
-  own_use = ranged aim.number 1 use
+  own_use = ranged aim.number 1 uses_here
 
-  use_told : (writes : Truth) (o : Option (Option ℕ)) → sites aim.number ≡ Some (site writes) → slice_get scene.shares.now aim.number ≡ o → use aim.number ≡ use_shared o (Some (site writes)) lane.number
+  use_told : (writes : Truth) (o : Option (Option ℕ)) → sites aim.number ≡ Some (site writes) → slice_get scene.shares.now aim.number ≡ o → uses_here aim.number ≡ use_shared o (Some (site writes)) lane.number
   use_told writes o at e = ap (λ s. use_shared s (sites aim.number) lane.number) e ∙ ap (λ s. use_shared o s lane.number) at
 
-  one_used : (k : ℕ) → use aim.number ≡ 1 → (if aim.number == k then 1 else 0) ≡ own_use k
-  one_used k one = ap (λ (n : ℕ). if aim.number == k then n else 0) (sym one) ∙ ranged_one aim.number use k
+  one_used : (k : ℕ) → uses_here aim.number ≡ 1 → (if aim.number == k then 1 else 0) ≡ own_use k
+  one_used k one = ap (λ (n : ℕ). if aim.number == k then n else 0) (sym one) ∙ ranged_one aim.number uses_here k
 
-  none_used : (k : ℕ) → use aim.number ≡ 0 → 0 ≡ own_use k
-  none_used k none = both (aim.number == k) ∙ (ap (λ (n : ℕ). if aim.number == k then n else 0) (sym none) ∙ ranged_one aim.number use k)
+  none_used : (k : ℕ) → uses_here aim.number ≡ 0 → 0 ≡ own_use k
+  none_used k none = both (aim.number == k) ∙ (ap (λ (n : ℕ). if aim.number == k then n else 0) (sym none) ∙ ranged_one aim.number uses_here k)
     where
       both : (t : Truth) → ◌≡◌ {A = ℕ} 0 (if t then 0 else 0)
       both true = refl
       both false = refl
 
-  find_none : (d e : Draft) (copy : AccessAt) (v n : ℕ) (found : Option ℕ) → found ≡ Some n → use aim.number ≡ 0 → Finds d e memory aim copy found v → AddsUses d e own_use
+  find_none : (d e : Draft) (copy : AccessAt) (v n : ℕ) (found : Option ℕ) → found ≡ Some n → uses_here aim.number ≡ 0 → Finds d e memory aim copy found v → AddsUses d e own_use
   find_none d e copy v n found is none h = uses_same d e _ own_use (λ k. none_used k none) (none_none d e (subst (λ (o : Option ℕ). Finds d e memory aim copy o v) is h).0)
 
-  find_one : (d e : Draft) (copy : AccessAt) (v : ℕ) (found : Option ℕ) → found ≡ None → use aim.number ≡ 1 → Finds d e memory aim copy found v → AddsUses d e own_use
+  find_one : (d e : Draft) (copy : AccessAt) (v : ℕ) (found : Option ℕ) → found ≡ None → uses_here aim.number ≡ 1 → Finds d e memory aim copy found v → AddsUses d e own_use
   find_one d e copy v found is one h =
       use_pushed d e v copy.guard (Read (reach_told memory aim (Some (copy.bank, copy.place)))) own_use (subst (λ (o : Option ℕ). Finds d e memory aim copy o v) is h) (λ k. one_used k one)
 
@@ -263,7 +263,7 @@ module _ (scene : Scene) (sites : ℕ → Option Site) (lane : Lane) (stands : S
 
   -- a write
   module _ (old new : Draft) (before after : Accesses) (value : ℕ) (m : MadeWrite scene lane access memory aim value old new before after) (at : sites aim.number ≡ Some (site true)) (led : AreLed sites before) (leads : PathsLead lane.around) (alone : IsUnshared scene aim.number) where
-    use_one : use aim.number ≡ 1
+    use_one : uses_here aim.number ≡ 1
     use_one = by (slice_get scene.shares.now aim.number) refl
       where
         test : (l p : ℕ) → l ≡ p → ◌≡◌ {A = ℕ} (if l == p then 1 else 0) 1
@@ -272,7 +272,7 @@ module _ (scene : Scene) (sites : ℕ → Option Site) (lane : Lane) (stands : S
             tested : (l p : ℕ) → l ≡ p → (l == p) ≡ true
             tested l p same = grind (arith, nat_tests, same)
 
-        by : (o : Option (Option ℕ)) → slice_get scene.shares.now aim.number ≡ o → use aim.number ≡ 1
+        by : (o : Option (Option ℕ)) → slice_get scene.shares.now aim.number ≡ o → uses_here aim.number ≡ 1
         by None told = use_told true None at told ∙ test ((stood true).leader lane.number) lane.number (leads lane.number within)
         by (Some None) told = use_told true (Some None) at told ∙ test ((stood true).leader lane.number) lane.number (leads lane.number within)
         by (Some (Some shared)) told = absurd (alone.own shared told)

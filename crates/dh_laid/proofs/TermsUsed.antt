@@ -1,6 +1,6 @@
 -- Expressions and stores at one path: what each part uses, behind the parts before it.
-use Rattle.std.proofs.Common.{◌≡◌, ◌<◌, ◌≤◌, ◌+◌, ◌^◌, ℕ, zero, suc, List, Some, None, ap, sym, ◌∙◌, subst, length, arith, refl, add-one}
-use Rattle.std.specs.Prelude.{Bool as Truth, true, false, [], ◌∷◌, ◌++◌, Option, slice_get}
+use Rattle.std.proofs.Common.{◌≡◌, ◌<◌, ◌+◌, ◌^◌, ℕ, suc, List, Some, None, ap, sym, ◌∙◌, subst, length, arith, refl, add-one}
+use Rattle.std.specs.Prelude.{false, [], ◌∷◌, ◌++◌, Option, slice_get}
 use Rattle.dh_base.specs.declared.places.Place.{Place}
 use Rattle.dh_value.specs.declared.kinds.Kind.{Kind}
 use Rattle.dh_value.specs.Operations.{truth}
@@ -19,7 +19,7 @@ use Rattle.dh_expressions.specs.declared.elements.Aim.{Aim}
 use Rattle.dh_expressions.specs.declared.scenes.Lane.{Lane}
 use Rattle.dh_expressions.specs.declared.scenes.Scene.{Scene}
 use Rattle.dh_expressions.specs.Evaluated.{counter_of, known_in}
-use Rattle.dh_expressions.specs.MadeTerms.{MadeRead, MadeTerm, MadeTerms, MadeWrite}
+use Rattle.dh_expressions.specs.MadeTerms.{MadeRead, MadeTerm, MadeTerms}
 use Rattle.dh_expressions.specs.Shown.{is_kept}
 use Rattle.dh_formed.specs.Counted.{AreNext, HaveGiven, given_at_paths, ranged, use_shared}
 use Rattle.dh_formed.specs.Formed.{Site}
@@ -48,15 +48,15 @@ module _ (scene : Scene) (sites : ℕ → Option Site) (lane : Lane) where
   abbrev Part : (old new : Draft) → (before after : Accesses) → (n count : ℕ) → Type 0
   Part old new before after n count = UsesPart scene sites lane old new before after n count
 
-  abbrev use : ℕ → ℕ
-  use access = use_shared (slice_get scene.shares.now access) (sites access) lane.number
+  abbrev uses_here : ℕ → ℕ
+  uses_here access = use_shared (slice_get scene.shares.now access) (sites access) lane.number
 
   part_none : (old new : Draft) (before after : Accesses) (n : ℕ) → AddsNone old new → after ≡ before → AreLed sites before → Part old new before after n 0
-  part_none old new before after n none same led = record { uses = no_accesses old new n use none; given = given_none scene lane before after n same; led = led_same sites before after same led }
+  part_none old new before after n none same led = record { uses = no_accesses old new n uses_here none; given = given_none scene lane before after n same; led = led_same sites before after same led }
 
   part_then : (a b c : Draft) (x y z : Accesses) (n own p q : ℕ) → own ≡ n + p → Part a b x y n p → Part b c y z own q → Part a c x z n (p + q)
   part_then a b c x y z n own p q is h k = record {
-    uses = ranged_then a b c n own p q use is h.uses k.uses;
+    uses = ranged_then a b c n own p q uses_here is h.uses k.uses;
     given = given_again scene lane x y z n p q h.given (subst (λ (i : ℕ). HaveGiven lane y z i q) is k.given);
     led = k.led;
   }
@@ -65,7 +65,7 @@ module _ (scene : Scene) (sites : ℕ → Option Site) (lane : Lane) where
   part_behind a b c x y z n own p is h k = subst (λ (i : ℕ). Part a c x z n i) (add-one p) (part_then a b c x y z n own p 1 is h k)
 
   part_still : (a b c : Draft) (x y : Accesses) (n p : ℕ) → Part a b x y n p → AddsNone b c → Part a c x y n p
-  part_still a b c x y n p h none = record { uses = uses_then_none a b c (ranged n p use) h.uses none; given = h.given; led = h.led }
+  part_still a b c x y n p h none = record { uses = uses_then_none a b c (ranged n p uses_here) h.uses none; given = h.given; led = h.led }
 
   -- what is next behind a part
   next_behind : (a b : Draft) (x y : Accesses) (n own p q : ℕ) → own ≡ n + p → AreNext scene lane x n (p + q) → Part a b x y n p → AreNext scene lane y own q

@@ -10,6 +10,7 @@ mod laws;
 
 pub use laws::{
     arms_are_formed, assignments_are_formed, choices_are_formed, paths_are_formed,
-    products_are_of_the_program, whole_blocks_use, whole_commands_are_formed, whole_commands_are_numbered,
-    whole_commands_are_quiet, whole_commands_have_products, whole_commands_probe,
+    products_are_of_the_program, whole_blocks_use, whole_commands_are_formed,
+    whole_commands_are_numbered, whole_commands_are_quiet, whole_commands_have_products,
+    whole_commands_probe,
 };
