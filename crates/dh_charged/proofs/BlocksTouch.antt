@@ -34,7 +34,7 @@ use Rattle.dh_commands.specs.LanesRun.{lane_of, paths_counted}
 use Rattle.dh_commands.specs.MadeCommands.{MadeTests}
 use Rattle.dh_commands.specs.ShownVariables.{IsSeen, register_in, seen_path}
 use Rattle.dh_commands.specs.Undone.{AreReady, NoneGiven, given_at}
-use Rattle.dh_charged.specs.EachMade.{MadeEach}
+use Rattle.dh_laid.specs.BlockSites.{MadeEach}
 use Rattle.dh_laid.specs.LaidQuiet.{StandsIn}
 use Rattle.dh_laid.proofs.ValuesLogged.{logged_ready}
 use Rattle.dh_blocks.specs.BlockMade.{AreSoundBy, AreSoundHere, IsPut, set_made, sets_made}

@@ -5,3 +5,4 @@ pub mod BlocksTouch
 pub mod KeysLed
 pub mod MeetsInRange
 pub mod UsesCharge
+pub mod SitesTold

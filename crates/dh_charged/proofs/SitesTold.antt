@@ -58,52 +58,52 @@ module _ (P : Site → SourceAccess → Type 0) where
   -- each site that is there is one of the access beside it
   abbrev pub AreTold : List (Option Site) → List SourceAccess → Type 0
   AreTold [] [] = Unit {0}
-  AreTold [] (a ∷ as) = ⊥
+  AreTold [] (a ∷ ac) = ⊥
   AreTold (s ∷ ss) [] = ⊥
-  AreTold (None ∷ ss) (a ∷ as) = AreTold ss as
-  AreTold (Some s ∷ ss) (a ∷ as) = P s a × AreTold ss as
+  AreTold (None ∷ ss) (a ∷ ac) = AreTold ss ac
+  AreTold (Some s ∷ ss) (a ∷ ac) = P s a × AreTold ss ac
 
-  told_both : (xs ys : List (Option Site)) (as bs : List SourceAccess) → AreTold xs as → AreTold ys bs → AreTold (xs ++ ys) (as ++ bs)
+  told_both : (xs ys : List (Option Site)) (ac bs : List SourceAccess) → AreTold xs ac → AreTold ys bs → AreTold (xs ++ ys) (ac ++ bs)
   told_both [] ys [] bs h k = k
-  told_both [] ys (a ∷ as) bs h k = absurd h
+  told_both [] ys (a ∷ ac) bs h k = absurd h
   told_both (s ∷ xs) ys [] bs h k = absurd h
-  told_both (None ∷ xs) ys (a ∷ as) bs h k = told_both xs ys as bs h k
-  told_both (Some s ∷ xs) ys (a ∷ as) bs h k = (h.0, told_both xs ys as bs h.1 k)
+  told_both (None ∷ xs) ys (a ∷ ac) bs h k = told_both xs ys ac bs h k
+  told_both (Some s ∷ xs) ys (a ∷ ac) bs h k = (h.0, told_both xs ys ac bs h.1 k)
 
-  told_none : (n : ℕ) (as : List SourceAccess) → length as ≡ n → AreTold (replicate n None) as
+  told_none : (n : ℕ) (ac : List SourceAccess) → length ac ≡ n → AreTold (replicate n None) ac
   told_none zero [] e = tt
-  told_none zero (a ∷ as) e = absurd (cc)
+  told_none zero (a ∷ ac) e = absurd (cc)
   told_none (suc n) [] e = absurd (cc)
-  told_none (suc n) (a ∷ as) e = told_none n as (less (length as) n e)
+  told_none (suc n) (a ∷ ac) e = told_none n ac (less (length ac) n e)
     where
       less : (m n : ℕ) → suc m ≡ suc n → m ≡ n
       less m n e = omega (arith, e)
 
-  told_at : (ss : List (Option Site)) (as : List SourceAccess) (i : ℕ) (s : Site) → AreTold ss as → slice_get ss i ≡ Some (Some s) → (a : SourceAccess) × ((slice_get as i ≡ Some a) × P s a)
-  told_at [] as i s h e = absurd (cc)
+  told_at : (ss : List (Option Site)) (ac : List SourceAccess) (i : ℕ) (s : Site) → AreTold ss ac → slice_get ss i ≡ Some (Some s) → (a : SourceAccess) × ((slice_get ac i ≡ Some a) × P s a)
+  told_at [] ac i s h e = absurd (cc)
   told_at (x ∷ ss) [] i s h e = absurd h
-  told_at (None ∷ ss) (a ∷ as) zero s h e = absurd (never e)
+  told_at (None ∷ ss) (a ∷ ac) zero s h e = absurd (never e)
     where
       never : Some None ≡ Some (Some s) → ⊥
       never e = cc
-  told_at (None ∷ ss) (a ∷ as) (suc i) s h e = told_at ss as i s h e
-  told_at (Some x ∷ ss) (a ∷ as) zero s h e = (a, (refl, subst (λ (y : Site). P y a) (the x s e) h.0))
+  told_at (None ∷ ss) (a ∷ ac) (suc i) s h e = told_at ss ac i s h e
+  told_at (Some x ∷ ss) (a ∷ ac) zero s h e = (a, (refl, subst (λ (y : Site). P y a) (the x s e) h.0))
     where
       the : (x y : Site) → Some (Some x) ≡ Some (Some y) → x ≡ y
       the x y e = cc
-  told_at (Some x ∷ ss) (a ∷ as) (suc i) s h e = told_at ss as i s h.1 e
+  told_at (Some x ∷ ss) (a ∷ ac) (suc i) s h e = told_at ss ac i s h.1 e
 
   there_both : (xs ys : List Site) → all_there (xs ++ ys) ≡ all_there xs ++ all_there ys
   there_both [] ys = refl
   there_both (x ∷ xs) ys = ap (λ (l : List (Option Site)). Some x ∷ l) (there_both xs ys)
 
   -- sites that are all there
-  told_then : (xs ys : List Site) (as bs : List SourceAccess) → AreTold (all_there xs) as → AreTold (all_there ys) bs → AreTold (all_there (xs ++ ys)) (as ++ bs)
-  told_then xs ys as bs h k = subst (λ (l : List (Option Site)). AreTold l (as ++ bs)) (sym (there_both xs ys)) (told_both (all_there xs) (all_there ys) as bs h k)
+  told_then : (xs ys : List Site) (ac bs : List SourceAccess) → AreTold (all_there xs) ac → AreTold (all_there ys) bs → AreTold (all_there (xs ++ ys)) (ac ++ bs)
+  told_then xs ys ac bs h k = subst (λ (l : List (Option Site)). AreTold l (ac ++ bs)) (sym (there_both xs ys)) (told_both (all_there xs) (all_there ys) ac bs h k)
 
   -- of events, one behind the other
   told_events : (ss : List (Option Site)) (es fs : List SourceEvent) → AreTold ss (accesses_in es ++ accesses_in fs) → AreTold ss (accesses_in (es ++ fs))
-  told_events ss es fs h = subst (λ (as : List SourceAccess). AreTold ss as) (sym (accesses_joined es fs)) h
+  told_events ss es fs h = subst (λ (ac : List SourceAccess). AreTold ss ac) (sym (accesses_joined es fs)) h
 
 -- Expressions.
 
@@ -179,7 +179,7 @@ module _ (scene : Scene) (levels : List Level) where
 
     -- an assignment behind is no access
     assigned_told : (ss : List (Option Site)) (es : List SourceEvent) (entity : Option ℕ) → Told ss (accesses_in es) → Told ss (accesses_in (es ++ assigned entity ∷ []))
-    assigned_told ss es entity h = told_events Tells ss es (assigned entity ∷ []) (subst (λ (as : List SourceAccess). Told ss as) (sym (append-nil (accesses_in es))) h)
+    assigned_told ss es entity h = told_events Tells ss es (assigned entity ∷ []) (subst (λ (ac : List SourceAccess). Told ss ac) (sym (append-nil (accesses_in es))) h)
 
   -- Commands.
 
@@ -370,10 +370,15 @@ module _ (scene : Scene) (around : Around) (round : sites.Around) (stands : Stan
 
       own : IsPlaceOf c.first (command_sites scene c.command around old mid c.first next m) number s → IsTold number s
       own at =
-          let found = told_at (λ x a. TellsAccess scene around.levels.now x a) (command_sites scene c.command around old mid c.first next m) (accesses_in (of_located c)) at.index s told at.at in
-          (found.0, (ap (λ n. slice_get (accesses_in (trace p)) n) (at.number_is ∙ ap (λ n. n + at.index) st.first)
-          ∙ (ap (λ (l : List SourceEvent). slice_get (accesses_in l) (count (before ++ gap) + at.index)) here_cut
-          ∙ traced_at (before ++ gap) (of_located c) (behind ++ after) at.index found.0 found.1.0), found.1.1))
+          let found = told_at (λ x a. TellsAccess scene around.levels.now x a) (command_sites scene c.command around old mid c.first next m) (accesses_in (of_located c)) at.index s told at.at in (
+            found.0,
+            (
+              ap (λ n. slice_get (accesses_in (trace p)) n) (at.number_is ∙ ap (λ n. n + at.index) st.first)
+                  ∙ (ap (λ (l : List SourceEvent). slice_get (accesses_in l) (count (before ++ gap) + at.index)) here_cut
+                  ∙ traced_at (before ++ gap) (of_located c) (behind ++ after) at.index found.0 found.1.0),
+              found.1.1,
+            ),
+          )
 
       the : (x y : Site) → Some x ≡ Some y → x ≡ y
       the x y e = cc

@@ -1,5 +1,3 @@
--- temporary: MadeEach as dh_laid has it
-pub mod EachMade
 -- registers that commands see, and give values to
 pub mod SeenRegisters
 -- blocks that see and set registers as a plan asks
@@ -10,3 +8,5 @@ pub mod LeadersCounted
 pub mod MetAccesses
 -- charges of reads and writes
 pub mod ChargedUses
+-- sites of blocks, and the accesses of the program
+pub mod TracedSites

@@ -16,7 +16,7 @@ use Rattle.dh_expressions.specs.Shown.{is_read_term}
 use Rattle.dh_commands.specs.declared.buildings.Building.{Building}
 use Rattle.dh_commands.specs.LanesRun.{paths_counted}
 use Rattle.dh_commands.specs.MadeCommands.{MadeTests}
-use Rattle.dh_charged.specs.EachMade.{MadeEach}
+use Rattle.dh_laid.specs.BlockSites.{MadeEach}
 use Rattle.dh_blocks.specs.BlockMade.{AreSoundHere, IsPut, IsTop, sets_made}
 use Rattle.dh_blocks.specs.SlotsOfScene.{HoldsVariables, slots_in}
 use Rattle.dh_blocks.specs.TestMade.{IsSoundTest, flag_made}
