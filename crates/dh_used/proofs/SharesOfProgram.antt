@@ -1,6 +1,6 @@
 -- What the sharing table of a program tells of the accesses of a block: a read shares an earlier read of the block, and a
 -- write shares none and is shared by none.
-use Rattle.std.proofs.Common.{◌≡◌, ◌⊎◌, inl, inr, ◌<◌, ◌≤◌, ◌+◌, ◌-◌, ◌&&◌, not, ℕ, zero, suc, List, Some, None, ap, sym, ◌∙◌, subst, length, arith, refl}
+use Rattle.std.proofs.Common.{◌≡◌, ◌⊎◌, inl, inr, ◌<◌, ◌≤◌, ◌+◌, ◌-◌, ◌&&◌, ◌||◌, not, ℕ, zero, suc, List, Some, None, ap, sym, ◌∙◌, subst, length, arith, refl}
 use Rattle.std.specs.Prelude.{Bool as Truth, true, false, if◌then◌else◌, [], ◌∷◌, ◌++◌, Option, slice_get}
 use Rattle.std.specs.List.{AllByRecursion}
 use Rattle.std.specs.Option.{is_some}
@@ -9,18 +9,19 @@ use Rattle.dh_tree.specs.PlainTrees as plain
 use Rattle.dh_tree.specs.PlainTrees.{Program, Term, Action, action, ActionForm, lets, lets_memory, views, assigns, stores, reduces, calls, blocks, decides, repeats, counts, MaybeAction, no_action, one_action, Actions, no_actions, action_then, Groups, no_groups, group_then}
 use Rattle.dh_tree.specs.Seen.{program_seen}
 use Rattle.dh_meaning.specs.AccessNumbers.{accesses_of, part_accesses, term_accesses}
-use Rattle.dh_meaning.specs.OnePhase.{any_makes, in_one_phase, makes}
+use Rattle.dh_meaning.specs.OnePhase.{any_makes, in_one_phase, makes, test_makes}
 use Rattle.dh_meaning.specs.Phases.{Located}
 use Rattle.dh_meaning.specs.Sites as source
 use Rattle.dh_meaning.specs.Sites.{in_arm, nothing_around}
 use Rattle.dh_meets.specs.Sharing.{shared, shares_with}
-use Rattle.dh_meets.specs.SourceEvents.{SourceAccess, SourceEvent, accesses, assigned, accesses_in, events, groups_events, other_events, part_events, site_of, term_events, terms_events, trace, write_events}
+use Rattle.dh_meets.specs.SourceEvents.{with_indices, SourceAccess, SourceEvent, accesses, assigned, accesses_in, events, groups_events, other_events, part_events, site_of, term_events, terms_events, trace, write_events}
 use Rattle.dh_bridge.proofs.SharedReads.{shared_before, shared_there}
 use Rattle.dh_sound.specs.PhaseFacts.{StandsAmong}
 use Rattle.dh_sound.specs.ToldEvents.{access_at}
 use Rattle.dh_sound.specs.Trails.{count}
 use Rattle.dh_sound.proofs.EventCounts.{accesses_joined, events_counted, part_counted, term_counted, terms_counted}
 use Rattle.dh_sound.proofs.KnownReads.{Shares, shared_found}
+use Rattle.dh_sound.proofs.LocatedSites.{test_first}
 use Rattle.dh_sound.proofs.Makes.{makes_within}
 use Rattle.dh_lengths.specs.SharedReads.{TellsShares, share_told, told}
 use Rattle.dh_expressions.specs.declared.scenes.Scene.{Scene}
@@ -174,11 +175,26 @@ made_below es c k s m =
     again : (f k : ℕ) → f ≤ k → f + (k - f) ≡ k
     again f k h = omega (arith, h)
 
+nothing_at : SourceAccess
+nothing_at = record { place = record { line = 0; column = 0 }; entity = None; element = with_indices plain.no_terms; writes = false; site = record { command = 0; arms = []; loops = [] } }
+
+-- and so is what a test makes
+pub test_below : (es : List SourceEvent) (c : Located) (k : ℕ) → StandsAmong 0 es c → test_makes k c ≡ true → k < length (accesses_in es)
+test_below es c k s m =
+    let w = test_first k nothing_at c.first c.command m in
+    let h = w.0 in
+    let l = w.1 in
+    let a = there (accesses_in (events c.around c.command)) (k - c.first) (subst (λ (n : ℕ). k - c.first < n) (sym (events_counted c.around c.command)) (omega (arith, h, l))) in
+    subst (λ (n : ℕ). n < length (accesses_in es)) (again c.first k h) (place_within (accesses_in es) (c.first + (k - c.first)) a.0 (access_among es c s (k - c.first) a.0 a.1))
+  where
+    again : (f k : ℕ) → f ≤ k → f + (k - f) ≡ k
+    again f k h = omega (arith, h)
+
 pub any_below : (es : List SourceEvent) (cs : List Located) (k : ℕ) → AllByRecursion (λ (c : Located). StandsAmong 0 es c) cs → any_makes k cs ≡ true → k < length (accesses_in es)
 any_below es [] k s m = absurd (cc)
 any_below es (c ∷ cs) k s m = by (makes k c.first c.command) refl m (λ h. any_below es cs k s.1 h)
   where
-    by : (b : Truth) → makes k c.first c.command ≡ b → (if b then true else any_makes k cs) ≡ true → (any_makes k cs ≡ true → k < length (accesses_in es)) → k < length (accesses_in es)
+    by : (b : Truth) → makes k c.first c.command ≡ b → (b || any_makes k cs) ≡ true → (any_makes k cs ≡ true → k < length (accesses_in es)) → k < length (accesses_in es)
     by true e h more = made_below es c k s.0 e
     by false e h more = more h
 
