@@ -195,10 +195,7 @@ module _ (scene : Scene) (sites : ℕ → Option Site) where
       by access (inr from) (inl below) = inside access (nat_le n access && nat_lt access (n + p)) (none access from below)
       by access (inr from) (inr l) = outside access (nat_le n access && nat_lt access (n + p)) (far access l)
 
-
   -- Values.
-
-
 
   pub converted_used : (kept : Truth) (to : Kind) (value : ℕ) (old new : Draft) (v : ℕ) → MadeConverted kept to value old new v → AddsNone old new
   converted_used true to value old new v m = none_none old new m.0
