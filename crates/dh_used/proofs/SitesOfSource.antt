@@ -6,7 +6,7 @@ use Rattle.std.specs.List.{AllByRecursion}
 use Rattle.std.specs.Option.{is_some}
 use Rattle.std.proofs.lemmas.Bool.{cases_lt}
 use Rattle.std.proofs.lemmas.Bool.Decides.{nat_tests}
-use Rattle.std.proofs.lemmas.List.{append-nil, map-append}
+use Rattle.std.proofs.lemmas.List.{append-nil, length-append, map-append}
 use Rattle.dh_base.specs.declared.places.Place.{Place}
 use Rattle.dh_tree.specs.declared.trees.expressions.Ref.{Ref}
 use Rattle.dh_tree.specs.Indices as indices
@@ -37,37 +37,38 @@ use Rattle.dh_commands.specs.LanesRun.{paths_counted}
 use Rattle.dh_commands.specs.MadeCommands.{Commanding, MadeActions, MadeArm, MadeCommand, MadeGroups, MadeOther}
 use Rattle.dh_laid.specs.BlockSites.{MadeEach, actions_sites, all_there, block_sites, command_sites, groups_sites, none_there, one_site, other_sites, places_from, read_site, site_or, sites_from, target_sites, term_sites, terms_sites, test_sites, write_site}
 use Rattle.dh_laid.specs.LaidNumbers.{IsAccessForm, StoresReach, StoresReachGroups, StoresReachOther, StoresReachPart}
+use Rattle.dh_laid.proofs.BlocksUsed.{test_places}
 use Rattle.dh_laid.proofs.SitesLaid.{actions_sites_long, command_sites_long, places_low, places_own, places_past, store_places_long, test_places_long}
 use Rattle.dh_laid.proofs.ValuesLogged.{arm_long, tests_same}
 use Rattle.dh_used.specs.SourceSites.{AllStand, AreSited, AreSitesOf, BlocksAreSited, IsSiteOf, IsSiteOrNone, TestsAreSited}
 
 module _ (scene : Scene) (levels : List Level) (paths : ℕ) where
   abbrev SitesAre : List (Option Site) → List SourceAccess → Type 0
-  SitesAre ss as = AreSitesOf scene levels paths ss as
+  SitesAre ss ls = AreSitesOf scene levels paths ss ls
 
   -- One behind the other.
 
-  both_sited : (xs ys : List (Option Site)) (as bs : List SourceAccess) → SitesAre xs as → SitesAre ys bs → SitesAre (xs ++ ys) (as ++ bs)
+  both_sited : (xs ys : List (Option Site)) (ls bs : List SourceAccess) → SitesAre xs ls → SitesAre ys bs → SitesAre (xs ++ ys) (ls ++ bs)
   both_sited [] ys [] bs h k = k
-  both_sited [] ys (a ∷ as) bs h k = absurd h
+  both_sited [] ys (a ∷ ls) bs h k = absurd h
   both_sited (x ∷ xs) ys [] bs h k = absurd h
-  both_sited (x ∷ xs) ys (a ∷ as) bs h k = (h.0, both_sited xs ys as bs h.1 k)
+  both_sited (x ∷ xs) ys (a ∷ ls) bs h k = (h.0, both_sited xs ys ls bs h.1 k)
 
   places_joined : (xs ys : List (Option Site)) (es fs : List SourceEvent) → SitesAre xs (accesses_in es) → SitesAre ys (accesses_in fs) → SitesAre (xs ++ ys) (accesses_in (es ++ fs))
-  places_joined xs ys es fs h k = subst (λ (as : List SourceAccess). SitesAre (xs ++ ys) as) (sym (accesses_joined es fs)) (both_sited xs ys (accesses_in es) (accesses_in fs) h k)
+  places_joined xs ys es fs h k = subst (λ (ls : List SourceAccess). SitesAre (xs ++ ys) ls) (sym (accesses_joined es fs)) (both_sited xs ys (accesses_in es) (accesses_in fs) h k)
 
   sites_joined : (xs ys : List Site) (es fs : List SourceEvent) → SitesAre (all_there xs) (accesses_in es) → SitesAre (all_there ys) (accesses_in fs) → SitesAre (all_there (xs ++ ys)) (accesses_in (es ++ fs))
   sites_joined xs ys es fs h k = subst (λ (ss : List (Option Site)). SitesAre ss (accesses_in (es ++ fs))) (sym (map-append (λ (s : Site). Some s) xs ys)) (places_joined (all_there xs) (all_there ys) es fs h k)
 
   -- an assignment is no access
   then_assigned : (xs : List (Option Site)) (es : List SourceEvent) (entity : Option ℕ) → SitesAre xs (accesses_in es) → SitesAre xs (accesses_in (es ++ assigned entity ∷ []))
-  then_assigned xs es entity h = subst (λ (as : List SourceAccess). SitesAre xs as) (sym (accesses_joined es (assigned entity ∷ []) ∙ append-nil (accesses_in es))) h
+  then_assigned xs es entity h = subst (λ (ls : List SourceAccess). SitesAre xs ls) (sym (accesses_joined es (assigned entity ∷ []) ∙ append-nil (accesses_in es))) h
 
-  none_sited : (n : ℕ) (as : List SourceAccess) → length as ≡ n → SitesAre (none_there n) as
+  none_sited : (n : ℕ) (ls : List SourceAccess) → length ls ≡ n → SitesAre (none_there n) ls
   none_sited zero [] e = tt
-  none_sited zero (a ∷ as) e = absurd (cc)
+  none_sited zero (a ∷ ls) e = absurd (cc)
   none_sited (suc n) [] e = absurd (cc)
-  none_sited (suc n) (a ∷ as) e = (tt, none_sited n as (omega (arith, e)))
+  none_sited (suc n) (a ∷ ls) e = (tt, none_sited n ls (omega (arith, e)))
 
   module _ (around : Around) (levels_are : around.levels.now ≡ levels) (long : paths_counted around ≡ paths) (site : events.Site) where
     read_sited : (place : Place) (r : Ref) (form : plain.TermForm) → SitesAre (all_there (read_site scene around (memory_of (known_in scene) r) place form ∷ [])) (accesses_in (one_access place r.entity (element_in form) false site))
@@ -161,13 +162,13 @@ module _ (scene : Scene) (levels : List Level) (paths : ℕ) where
         (actions_sited part r around old m.middle first m.own m.one inside long is.0) (groups_sited rest r around m.middle new m.own next m.rest inside long is.1)
 
   -- the site of a place is that of the access there
-  pub site_at : (ss : List (Option Site)) (as : List SourceAccess) → SitesAre ss as → (i : ℕ) (s : Site) (a : SourceAccess) → slice_get ss i ≡ Some (Some s) → slice_get as i ≡ Some a → IsSiteOf scene levels paths s a
+  pub site_at : (ss : List (Option Site)) (ls : List SourceAccess) → SitesAre ss ls → (i : ℕ) (s : Site) (a : SourceAccess) → slice_get ss i ≡ Some (Some s) → slice_get ls i ≡ Some a → IsSiteOf scene levels paths s a
   site_at [] [] h i s a e g = absurd (cc)
-  site_at [] (b ∷ as) h i s a e g = absurd h
+  site_at [] (b ∷ ls) h i s a e g = absurd h
   site_at (x ∷ ss) [] h i s a e g = absurd h
-  site_at (None ∷ ss) (b ∷ as) h zero s a e g = absurd (cc)
-  site_at (Some x ∷ ss) (b ∷ as) h zero s a e g = let same : x ≡ s = cc in let other : b ≡ a = cc in subst (λ (t : Site). IsSiteOf scene levels paths t a) same (subst (λ (c : SourceAccess). IsSiteOf scene levels paths x c) other h.0)
-  site_at (x ∷ ss) (b ∷ as) h (suc i) s a e g = site_at ss as h.1 i s a e g
+  site_at (None ∷ ss) (b ∷ ls) h zero s a e g = absurd (cc)
+  site_at (Some x ∷ ss) (b ∷ ls) h zero s a e g = let same : x ≡ s = cc in let other : b ≡ a = cc in subst (λ (t : Site). IsSiteOf scene levels paths t a) same (subst (λ (c : SourceAccess). IsSiteOf scene levels paths x c) other h.0)
+  site_at (x ∷ ss) (b ∷ ls) h (suc i) s a e g = site_at ss ls h.1 i s a e g
 
 -- Which numbers have sites.
 
@@ -339,7 +340,7 @@ own_access : (es : List SourceEvent) (c : Located) (k : ℕ) (a : SourceAccess) 
     → slice_get (accesses_in (events c.around c.command)) (k - c.first) ≡ Some a
 own_access es c k a s from below at =
     let counted = s.counted in
-    sym (ap (λ (as : List SourceAccess). slice_get as k) (ap accesses_in s.all ∙ (accesses_joined s.before (events c.around c.command ++ s.after) ∙ ap (λ (as : List SourceAccess). accesses_in s.before ++ as) (accesses_joined (events c.around c.command) s.after)))
+    sym (ap (λ (ls : List SourceAccess). slice_get ls k) (ap accesses_in s.all ∙ (accesses_joined s.before (events c.around c.command ++ s.after) ∙ ap (λ (ls : List SourceAccess). accesses_in s.before ++ ls) (accesses_joined (events c.around c.command) s.after)))
     ∙ (ap (λ i. slice_get (accesses_in s.before ++ (accesses_in (events c.around c.command) ++ accesses_in s.after)) i) (split (length (accesses_in s.before)) counted)
     ∙ (behind (accesses_in s.before) (accesses_in (events c.around c.command) ++ accesses_in s.after) (k - c.first) ∙ front (accesses_in (events c.around c.command)) (accesses_in s.after) (k - c.first) (omega (arith, from, below)))))
     ∙ at
@@ -388,7 +389,7 @@ module _ (scene : Scene) (around : Around) where
   block_told : (cs : List Located) (old new : Building) (m : MadeEach scene around cs old new) → AllByRecursion (λ (c : Located). StoresReach c.command) cs → AllStand scene cs → (k : ℕ) (s : Site) (a : SourceAccess)
       → block_sites scene around cs old new m k ≡ Some s → access_at (program_seen scene.program.now) k ≡ Some a → IsSiteOf scene around.levels.now (paths_counted around) s a
   block_told [] old new m is stand k s a e at = absurd (cc)
-  block_told (c ∷ cs) old new (mid, (next, (m, rest))) is stand k s a e at = by (places_from c.first own_sites k) refl e
+  block_told (c ∷ cs) old new (mid, (next, (m, rest))) is stand k s a e at = by (places_from c.first own_sites k) refl e (λ g. block_told cs mid new rest is.1 stand.1 k s a g at)
     where
       own_sites : List (Option Site)
       own_sites = command_sites scene c.command around old mid c.first next m
@@ -400,12 +401,95 @@ module _ (scene : Scene) (around : Around) where
           (command_sited scene around.levels.now (paths_counted around) c.command c.around around old mid c.first next m refl refl is.0) (k - c.first) t a p.1.1
           (own_access (trace (program_seen scene.program.now)) c k a stand.0 p.0 (subst (λ (n : ℕ). k < c.first + n) (command_sites_long scene c.command around old mid c.first next m is.0 ∙ sym (events_counted c.around c.command)) p.1.0) at)
 
-      by : (o : Option Site) → places_from c.first own_sites k ≡ o → site_or o (block_sites scene around cs mid new rest k) ≡ Some s → IsSiteOf scene around.levels.now (paths_counted around) s a
-      by None h g = block_told cs mid new rest is.1 stand.1 k s a g at
-      by (Some t) h g = let same : t ≡ s = cc in subst (λ (u : Site). IsSiteOf scene around.levels.now (paths_counted around) u a) same (here t h)
+      by : (o : Option Site) → places_from c.first own_sites k ≡ o → site_or o (block_sites scene around cs mid new rest k) ≡ Some s
+          → (block_sites scene around cs mid new rest k ≡ Some s → IsSiteOf scene around.levels.now (paths_counted around) s a) → IsSiteOf scene around.levels.now (paths_counted around) s a
+      by None h g later = later g
+      by (Some t) h g later = let same : t ≡ s = cc in subst (λ (u : Site). IsSiteOf scene around.levels.now (paths_counted around) u a) same (here t h)
 
 pub blocks_are_sited : BlocksAreSited
 blocks_are_sited scene around cs old new m is stand = record {
   made = λ number. block_placed scene around number cs old new m is;
   told = λ number s a e at. block_told scene around cs old new m is stand number s a e at;
+}
+
+-- Tests.
+
+-- the events of a command with a test begin with those of the test
+record BeginsWithTest (r : source.Around) (c : Action) (t : Term) : Type 0 where
+  site : events.Site
+  rest : List SourceEvent
+  are : events r c ≡ term_events site t ++ rest
+
+test_begins : (r : source.Around) (c : Action) (t : Term) → test_of (form_of c) ≡ Some t → BeginsWithTest r c t
+test_begins r (action id place (decides test chosen other)) t e = let same : test ≡ t = cc in record {
+  site = site_of r id;
+  rest = events (in_arm r id true) chosen ++ other_events (in_arm r id false) other;
+  are = ap (λ (u : Term). term_events (site_of r id) u ++ (events (in_arm r id true) chosen ++ other_events (in_arm r id false) other)) same;
+}
+test_begins r (action id place (repeats test body)) t e = let same : test ≡ t = cc in record {
+  site = site_of r id;
+  rest = events r body;
+  are = ap (λ (u : Term). term_events (site_of r id) u ++ events r body) same;
+}
+test_begins r (action id place (lets name declared value)) t e = absurd (cc)
+test_begins r (action id place (lets_memory name shape shape_places value)) t e = absurd (cc)
+test_begins r (action id place (views name parent form)) t e = absurd (cc)
+test_begins r (action id place (assigns target value)) t e = absurd (cc)
+test_begins r (action id place (stores target value)) t e = absurd (cc)
+test_begins r (action id place (reduces target op value)) t e = absurd (cc)
+test_begins r (action id place (calls function arguments)) t e = absurd (cc)
+test_begins r (action id place (blocks body)) t e = absurd (cc)
+test_begins r (action id place (counts iterator declared low high factor body combine combine_place)) t e = absurd (cc)
+
+tests_within : (k n : ℕ) (c : Action) (t : Term) → test_of (form_of c) ≡ Some t → tests_make k n c ≡ is_within k n (term_accesses t)
+tests_within k n (action id place (decides test chosen other)) t e = let same : test ≡ t = cc in ap (λ (u : Term). is_within k n (term_accesses u)) same
+tests_within k n (action id place (repeats test body)) t e = let same : test ≡ t = cc in ap (λ (u : Term). is_within k n (term_accesses u)) same
+tests_within k n (action id place (lets name declared value)) t e = absurd (cc)
+tests_within k n (action id place (lets_memory name shape shape_places value)) t e = absurd (cc)
+tests_within k n (action id place (views name parent form)) t e = absurd (cc)
+tests_within k n (action id place (assigns target value)) t e = absurd (cc)
+tests_within k n (action id place (stores target value)) t e = absurd (cc)
+tests_within k n (action id place (reduces target op value)) t e = absurd (cc)
+tests_within k n (action id place (calls function arguments)) t e = absurd (cc)
+tests_within k n (action id place (blocks body)) t e = absurd (cc)
+tests_within k n (action id place (counts iterator declared low high factor body combine combine_place)) t e = absurd (cc)
+
+module _ (scene : Scene) (around : Around) (tested : Located) (t : Term) (has : test_of (form_of tested.command) ≡ Some t) (stand : StandsAmong 0 (trace (program_seen scene.program.now)) tested) where
+  abbrev places : List (Option Site)
+  places = all_there (term_sites scene around t)
+
+  test_placed : (k : ℕ) → is_some (test_sites scene around tested.first t k) ≡ test_makes k tested
+  test_placed k =
+      ap is_some (test_places tested.first (term_sites scene around t) k)
+      ∙ (placed_all tested.first (term_sites scene around t) (term_accesses t) k (test_places_long scene around t) ∙ sym (tests_within k tested.first tested.command t has))
+
+  test_told : (k : ℕ) (s : Site) (a : SourceAccess) → test_sites scene around tested.first t k ≡ Some s → access_at (program_seen scene.program.now) k ≡ Some a → IsSiteOf scene around.levels.now (paths_counted around) s a
+  test_told k s a e at =
+      let b = test_begins tested.around tested.command t has in
+      let p = place_of tested.first places k s (sym (test_places tested.first (term_sites scene around t) k) ∙ e) in
+      let whole : accesses_in (events tested.around tested.command) ≡ accesses_in (term_events b.site t) ++ accesses_in b.rest = ap accesses_in b.are ∙ accesses_joined (term_events b.site t) b.rest in
+      let less : k - tested.first < length (accesses_in (term_events b.site t)) = shorter (length places) (length (accesses_in (term_events b.site t))) (test_places_long scene around t ∙ sym (term_counted b.site t)) p.0 p.1.0 in
+      site_at scene around.levels.now (paths_counted around) places (accesses_in (term_events b.site t)) (term_sited scene around.levels.now (paths_counted around) around refl refl b.site t) (k - tested.first) s a p.1.1
+      (sym (in_front_of (accesses_in (term_events b.site t)) (accesses_in b.rest) (k - tested.first) less)
+      ∙ (ap (λ (ls : List SourceAccess). slice_get ls (k - tested.first)) (sym whole)
+      ∙ own_access (trace (program_seen scene.program.now)) tested k a stand p.0 (inside (length (accesses_in (term_events b.site t))) (length (accesses_in b.rest)) p.0 less (ap length whole ∙ length-append (accesses_in (term_events b.site t)) (accesses_in b.rest))) at))
+    where
+      shorter : (n m : ℕ) → n ≡ m → tested.first ≤ k → k < tested.first + n → k - tested.first < m
+      shorter n m e from below = omega (arith, e, from, below)
+
+      inside : (n m : ℕ) → tested.first ≤ k → k - tested.first < n → length (accesses_in (events tested.around tested.command)) ≡ n + m → k < tested.first + length (accesses_in (events tested.around tested.command))
+      inside n m from less e = omega (arith, from, less, e)
+
+      in_front_of : (xs ys : List SourceAccess) (i : ℕ) → i < length xs → slice_get (xs ++ ys) i ≡ slice_get xs i
+      in_front_of [] ys i l = absurd (never i l)
+        where
+          never : (i : ℕ) → i < 0 → ⊥
+          never i h = omega (arith, h)
+      in_front_of (x ∷ xs) ys zero l = refl
+      in_front_of (x ∷ xs) ys (suc i) l = in_front_of xs ys i (omega (arith, l))
+
+pub tests_are_sited : TestsAreSited
+tests_are_sited scene around tested t has stand = record {
+  made = λ number. test_placed scene around tested t has stand number;
+  told = λ number s a e at. test_told scene around tested t has stand number s a e at;
 }

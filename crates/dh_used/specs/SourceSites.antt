@@ -43,9 +43,9 @@ IsSiteOrNone scene levels paths (Some s) a = IsSiteOf scene levels paths s a
 
 abbrev pub AreSitesOf : Scene → List Level → (paths : ℕ) → List (Option Site) → List SourceAccess → Type 0
 AreSitesOf scene levels paths [] [] = Unit {0}
-AreSitesOf scene levels paths [] (a ∷ as) = ⊥
+AreSitesOf scene levels paths [] (a ∷ ls) = ⊥
 AreSitesOf scene levels paths (s ∷ ss) [] = ⊥
-AreSitesOf scene levels paths (s ∷ ss) (a ∷ as) = IsSiteOrNone scene levels paths s a × AreSitesOf scene levels paths ss as
+AreSitesOf scene levels paths (s ∷ ss) (a ∷ ls) = IsSiteOrNone scene levels paths s a × AreSitesOf scene levels paths ss ls
 
 -- The sites of a block's accesses, by their numbers: those of numbers that something makes.
 pub record AreSited (scene : Scene) (around : Around) (makes : ℕ → Bool) (sites : ℕ → Option Site) : Type 0 where
