@@ -1,1 +1,3 @@
 pub mod SitesOfSource
+pub mod SharesOfProgram
+pub mod BlocksByKeys

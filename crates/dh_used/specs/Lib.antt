@@ -1,2 +1,4 @@
 -- sites of accesses, and the accesses of the source
 pub mod SourceSites
+-- how often blocks use them
+pub mod UsedBlocks
