@@ -4,3 +4,4 @@ pub mod CopiesSome
 pub mod LoopsAscend
 pub mod LoopsCounted
 pub mod RoundsTop
+pub mod ReachingPhases

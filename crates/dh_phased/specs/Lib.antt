@@ -1,2 +1,3 @@
 pub mod ProgramLoops
 pub mod TopPaths
+pub mod ToldScenes
