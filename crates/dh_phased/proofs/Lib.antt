@@ -5,3 +5,6 @@ pub mod LoopsAscend
 pub mod LoopsCounted
 pub mod RoundsTop
 pub mod ReachingPhases
+pub mod SlotsTold
+pub mod BlocksMade
+pub mod PhasesDone

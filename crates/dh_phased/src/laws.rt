@@ -1,5 +1,6 @@
 //! Laws on the phases of a program, stated on functions that do nothing.
 
+ghost use Rattle.dh_phased.specs.DonePhases.{PhasesAreDone};
 ghost use Rattle.dh_phased.specs.ProgramLoops.{LoopsAreOwn};
 ghost use Rattle.dh_phased.specs.ToldScenes.{ReadyScenesAreTold};
 ghost use Rattle.dh_phased.specs.TopPaths.{RoundsAreTop};
@@ -17,4 +18,9 @@ pub fn rounds_are_top()
 /// A ready program tells of its scene what its making asks: its stores are into accesses.
 pub fn ready_scenes_are_told()
     ensures { ReadyScenesAreTold }
+{}
+
+/// The nodes that were made of a program do its phases, where the commands and tests of their blocks are sound.
+pub fn phases_are_done()
+    ensures { PhasesAreDone }
 {}
