@@ -1,17 +1,16 @@
 -- Blocks use their accesses by keys: the paths that lead are as many as the keys, and each access of the source that the
 -- block makes has a site.
-use Rattle.std.proofs.Common.{◌≡◌, ◌⊎◌, inl, inr, ◌<◌, ◌≤◌, ◌+◌, ◌^◌, ◌==◌, ◌||◌, ℕ, zero, suc, List, Some, None, ap, sym, ◌∙◌, subst, length, arith, refl, append_assoc}
+use Rattle.std.proofs.Common.{◌≡◌, inl, inr, ◌<◌, ◌+◌, ◌==◌, ◌||◌, ℕ, zero, suc, List, Some, None, ap, sym, ◌∙◌, subst, length, arith, refl, append_assoc}
 use Rattle.std.specs.Prelude.{Bool as Truth, true, false, if◌then◌else◌, [], ◌∷◌, ◌++◌, map, Option, slice_get}
 use Rattle.std.specs.List.{AllByRecursion}
 use Rattle.std.specs.Option.{is_some}
 use Rattle.std.specs.Set.{distinct_count}
 use Rattle.std.proofs.lemmas.List.{append_cancel_left}
-use Rattle.dh_tree.specs.PlainTrees.{Program, Term}
+use Rattle.dh_tree.specs.PlainTrees.{Program}
 use Rattle.dh_tree.specs.Seen.{program_seen}
-use Rattle.dh_meaning.specs.AccessNumbers.{accesses_of, term_accesses}
+use Rattle.dh_meaning.specs.AccessNumbers.{accesses_of}
 use Rattle.dh_meaning.specs.Bindings.{bindings_of}
-use Rattle.dh_meaning.specs.CoreOf.{form_of, test_of}
-use Rattle.dh_meaning.specs.OnePhase.{any_makes, in_one_phase, test_makes}
+use Rattle.dh_meaning.specs.OnePhase.{any_makes, test_makes}
 use Rattle.dh_meaning.specs.Paths.{Path, copies_in, paths_in, same_path}
 use Rattle.dh_meaning.specs.Phases.{Located, idle_phases_of, phases_of}
 use Rattle.dh_meets.specs.Charges as charges
@@ -35,20 +34,17 @@ use Rattle.dh_expressions.specs.declared.scenes.Around.{Around}
 use Rattle.dh_expressions.specs.declared.scenes.Scene.{Scene}
 use Rattle.dh_expressions.specs.Levels.{leader_number, path_at}
 use Rattle.dh_expressions.proofs.ListPlaces.{place_within}
-use Rattle.dh_formed.specs.Counted.{use_led, use_shared}
 use Rattle.dh_formed.specs.Formed.{Site}
 use Rattle.dh_formed.specs.WholeBlocks.{IsCut}
 use Rattle.dh_formed.proofs.PartsCounted.{uses_append}
-use Rattle.dh_commands.specs.declared.buildings.Building.{Building}
 use Rattle.dh_commands.specs.LanesRun.{paths_counted}
-use Rattle.dh_commands.specs.MadeCommands.{MadeTests}
 use Rattle.dh_commands.specs.ShownVariables.{factors_of}
 use Rattle.dh_blocks.specs.PathsOfLevels.{AreSpread}
 use Rattle.dh_blocks.proofs.PathNumbers.{kept, leader_within, leads, number_is, some_copies}
-use Rattle.dh_laid.specs.BlockSites.{MadeEach, block_sites, test_sites}
+use Rattle.dh_laid.specs.BlockSites.{block_sites, test_sites}
 use Rattle.dh_laid.specs.LaidNumbers.{StoresReach}
 use Rattle.dh_laid.specs.LaidProbes.{AddsProbes}
-use Rattle.dh_laid.specs.LaidUses.{AddsUses, AreAlong, AreUntouched, PathsLead, probed_by, used_by, used_to}
+use Rattle.dh_laid.specs.LaidUses.{AddsUses, AreAlong, PathsLead, probed_by, used_by, used_to}
 use Rattle.dh_laid.proofs.BlocksUsed.{blocks_probe, blocks_use, tests_probe, tests_use}
 use Rattle.dh_laid.proofs.CommandsProbe.{append_probes}
 use Rattle.dh_laid.proofs.UsesAdded.{used_nowhere}

@@ -1,3 +1,5 @@
 pub mod SitesOfSource
 pub mod SharesOfProgram
 pub mod BlocksByKeys
+pub mod NumbersOfCore
+pub mod PlansUsed

@@ -2,3 +2,5 @@
 pub mod SourceSites
 -- how often blocks use them
 pub mod UsedBlocks
+-- how often plans use them
+pub mod UsedPlans

@@ -1,7 +1,6 @@
 -- How often a block of a plan reads, writes and probes each access of the program: with each of its keys once and at
 -- each of its paths, where the block makes it; not at all, where it does not.
 use Rattle.std.specs.Prelude.{◌≡◌, ℕ, ◌+◌, ◌<◌, ◌^◌, Bool, true, if◌then◌else◌, List, ◌++◌, length, Some}
-use Rattle.std.specs.List.{AllByRecursion}
 use Rattle.dh_tree.specs.PlainTrees.{Program, Term}
 use Rattle.dh_tree.specs.Seen.{program_seen}
 use Rattle.dh_meaning.specs.AccessNumbers.{term_accesses}

@@ -2,6 +2,7 @@
 
 ghost use Rattle.dh_used.specs.SourceSites.{BlocksAreSited, TestsAreSited};
 ghost use Rattle.dh_used.specs.UsedBlocks.{StraightsUseAsMade, TestsUseAsMade};
+ghost use Rattle.dh_used.specs.UsedPlans.{PlansUse};
 
 /// The sites of a block's accesses are those of accesses of the source, which its commands make; and so are those of a
 /// test.
@@ -15,4 +16,10 @@ pub fn sites_are_of_the_source()
 pub fn blocks_use_as_made()
     ensures straight { StraightsUseAsMade }
     ensures tests { TestsUseAsMade }
+{}
+
+/// A plan whose blocks do so, each that of one node, reads or writes each access that a phase of the program makes with
+/// each of its keys once, and probes it at each of its paths.
+pub fn plans_use_by_keys()
+    ensures { PlansUse }
 {}
