@@ -1,6 +1,7 @@
 //! Laws on the operations of commands, stated on functions that do nothing.
 
 ghost use Rattle.dh_laid.specs.Laid.{AllAssignmentsForm, AllClearingsForm, AllReducesForm, AllStoresForm, ArmGuardsForm, ArmsEnd, ArmsLeave, AssignmentsForm, ChoicesForm, ClearingsForm, JoinsForm, ReducesForm, StoresForm, TestsForm};
+ghost use Rattle.dh_laid.specs.LaidAccesses.{CommandsLay, EachLay, GroupsLay, TermsLay, TestsLay};
 ghost use Rattle.dh_laid.specs.LaidCommands.{CommandsForm, GroupsForm};
 ghost use Rattle.dh_laid.specs.LaidNumbers.{CommandsNumber, GroupsNumber, ReachingNumber};
 ghost use Rattle.dh_laid.specs.LaidProbes.{CommandsProbe, GroupsProbe};
@@ -76,6 +77,15 @@ pub fn products_are_of_the_program()
 pub fn whole_commands_probe()
     ensures commands { CommandsProbe }
     ensures groups { GroupsProbe }
+{}
+
+/// What is put down keeps that accesses with operations are laid and that none is counted, whatever the step.
+pub fn whole_commands_lay()
+    ensures terms { TermsLay }
+    ensures commands { CommandsLay }
+    ensures groups { GroupsLay }
+    ensures tests { TestsLay }
+    ensures each { EachLay }
 {}
 
 /// Each access of a block is read or written at each path that leads, where it shares no earlier read, and probed at each

@@ -1,0 +1,5 @@
+pub mod CountersAscend
+pub mod PhaseLoops
+pub mod CopiesSome
+pub mod LoopsAscend
+pub mod LoopsCounted

@@ -1,0 +1,8 @@
+//! Laws on the phases of a program, stated on functions that do nothing.
+
+ghost use Rattle.dh_phased.specs.ProgramLoops.{LoopsAreOwn};
+
+/// The loops of a program whose names have their entities count with iterators of their own, which have registers.
+pub fn loops_are_own()
+    ensures { LoopsAreOwn }
+{}
