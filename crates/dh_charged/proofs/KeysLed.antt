@@ -372,7 +372,7 @@ module _ (levels : List Level) (s : AreSpread levels) (counts : ℕ → Bool) wh
       none : (n : ℕ) → 0 + n ≡ n
       none n = omega arith
 
-  leader_key : (n m : ℕ) → n < all_copies → m < all_copies → leader_number levels counts n ≡ leader_number levels counts m → picked counts 0 (path_at levels n) ≡ picked counts 0 (path_at levels m)
+  pub leader_key : (n m : ℕ) → n < all_copies → m < all_copies → leader_number levels counts n ≡ leader_number levels counts m → picked counts 0 (path_at levels n) ≡ picked counts 0 (path_at levels m)
   leader_key n m a b e =
       picked_same counts 0 (path_at levels n) (path_at levels m) (long_path n a ∙ sym (long_path m b)) (λ l small on. leaders_agree levels s counts n m a b e l small (ap counts (none l) ∙ on))
     where

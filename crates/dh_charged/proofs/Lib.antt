@@ -6,3 +6,4 @@ pub mod KeysLed
 pub mod MeetsInRange
 pub mod UsesCharge
 pub mod SitesTold
+pub mod BlocksCharged

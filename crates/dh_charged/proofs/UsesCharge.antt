@@ -35,10 +35,11 @@ use Rattle.dh_expressions.specs.Numbers.{narrowed}
 use Rattle.dh_expressions.specs.ReachedBanks.{bank_by, index_first, indices_first, level_with}
 use Rattle.dh_formed.specs.Formed.{Site}
 use Rattle.dh_commands.specs.ShownVariables.{factors_of}
+use Rattle.dh_laid.specs.LaidUses.{AreLedUses, IsLedUse}
 use Rattle.dh_blocks.specs.PathsOfLevels.{AreSpread}
 use Rattle.dh_blocks.proofs.PathNumbers.{copy_in_path}
 use Rattle.dh_charged.specs.LeadersCounted.{LeadersAreKeys}
-use Rattle.dh_charged.specs.ChargedUses.{AreLedUses, AreLevelsOf, AreSitesOf, HasShares, IsLedUse, IsOfMemory, IsSiteOf, LedUsesCharge, OperationsCharge, TellsAccess}
+use Rattle.dh_charged.specs.ChargedUses.{AreLevelsOf, AreSitesOf, HasShares, IsOfMemory, IsSiteOf, LedUsesCharge, OperationsCharge, TellsAccess}
 use Rattle.dh_charged.proofs.KeysLed.{all_leaders_are_keys}
 
 -- Memories.

@@ -1,7 +1,6 @@
 -- What reads and writes of a block charge: no more on a bank than their accesses do in the program. It is told of the
 -- sites of a block, each of which tells of an access of the program.
 use Rattle.std.specs.Prelude.{◌≡◌, ℕ, ◌<◌, ◌≤◌, ◌^◌, List, [], ◌∷◌, length, map, slice_get, Option, Some}
-use Rattle.std.specs.List.{AllByRecursion}
 use Rattle.dh_tree.specs.declared.trees.counters.Counter.{Counter}
 use Rattle.dh_tree.specs.Counters.{counters_of}
 use Rattle.dh_tree.specs.Memories.{Memory, memory_in, memories_of, number_in}
@@ -15,35 +14,16 @@ use Rattle.dh_meets.specs.Sharing.{shared}
 use Rattle.dh_meets.specs.SourceEvents.{SourceAccess, accesses_in, trace}
 use Rattle.dh_events.specs.Accesses.{element_in}
 use Rattle.dh_plan.specs.declared.operations.Operation.{Operation}
-use Rattle.dh_plan.specs.declared.operations.Reach.{Reach}
-use Rattle.dh_plan.specs.SoundPlans.{operations_charge, use_in}
+use Rattle.dh_plan.specs.SoundPlans.{operations_charge}
 use Rattle.dh_expressions.specs.declared.paths.Level.{Level}
 use Rattle.dh_expressions.specs.declared.scenes.Scene.{Scene}
-use Rattle.dh_expressions.specs.Copying.{leaders_at}
 use Rattle.dh_expressions.specs.Levels.{leader_number}
 use Rattle.dh_expressions.specs.Numbers.{narrowed}
 use Rattle.dh_expressions.specs.ReachedBanks.{bank_by}
 use Rattle.dh_formed.specs.Formed.{Site}
 use Rattle.dh_commands.specs.ShownVariables.{factors_of}
+use Rattle.dh_laid.specs.LaidUses.{AreLedUses}
 use Rattle.dh_blocks.specs.PathsOfLevels.{AreSpread}
-
--- Reads and writes.
-
--- A read or a write of an access that has a site in the block: it is done for a path that leads, on the bank of that
--- path behind the leaders before it, and the access shares no earlier one.
-pub record IsLedUse (scene : Scene) (sites : ℕ → Option Site) (r : Reach) : Type 0 where
-  pub site : Site
-  pub there : sites r.access ≡ Some site
-  pub memory_is : r.memory ≡ narrowed site.memory
-  pub path : ℕ
-  pub within : path < length site.standing.guards
-  pub leads : site.standing.leader path ≡ path
-  pub banks_are : r.banks ≡ (site.standing.bank path, narrowed (leaders_at site.standing.leader site.standing.bank (site.standing.bank path) path)) ∷ []
-  pub alone : (earlier : ℕ) → slice_get scene.shares.now r.access ≡ Some (Some earlier) → ⊥
-
--- so is each of these that reads or writes
-abbrev pub AreLedUses : Scene → (sites : ℕ → Option Site) → List Operation → Type 0
-AreLedUses scene sites os = AllByRecursion (λ o. (r : Reach) → use_in o.form ≡ Some r → IsLedUse scene sites r) os
 
 -- Sites.
 

@@ -10,3 +10,5 @@ pub mod MetAccesses
 pub mod ChargedUses
 -- sites of blocks, and the accesses of the program
 pub mod TracedSites
+-- charges of blocks and of plans
+pub mod ChargedBlocks

@@ -1,5 +1,6 @@
 //! Laws on the blocks of a plan, stated on functions that do nothing.
 
+ghost use Rattle.dh_charged.specs.ChargedBlocks.{BlocksCharge, PlansCharge, TestsCharge};
 ghost use Rattle.dh_charged.specs.ChargedUses.{LedUsesCharge};
 ghost use Rattle.dh_charged.specs.LeadersCounted.{AllLeadersAreKeys};
 ghost use Rattle.dh_charged.specs.MetAccesses.{CommandsMeetInRange, PlansMeet};
@@ -34,4 +35,11 @@ pub fn led_uses_charge()
 pub fn sites_are_traced()
     ensures straight { BlocksAreTraced }
     ensures tests { TestSitesAreTraced }
+{}
+
+/// A block charges a bank no more than the program does, and so does a plan of such blocks.
+pub fn blocks_charge_less()
+    ensures straight { BlocksCharge }
+    ensures tests { TestsCharge }
+    ensures plans { PlansCharge }
 {}

@@ -5,5 +5,6 @@
 mod laws;
 
 pub use laws::{
-    leaders_are_keys, led_uses_charge, made_blocks_touch, plans_meet_as_programs, sites_are_traced,
+    blocks_charge_less, leaders_are_keys, led_uses_charge, made_blocks_touch,
+    plans_meet_as_programs, sites_are_traced,
 };

@@ -76,11 +76,11 @@ all_reach (c ∷ cs) h = (named_reaches c.command h.0, all_reach cs h.1)
 
 -- The commands of all phases are named.
 
-abbrev named_facts : Facts
+abbrev pub named_facts : Facts
 named_facts = record { round = Unit {0}; does = λ r a. IsNamedAction a; turns_so = λ r form. Unit {0}; inside = λ r form. tt }
 
 mutual
-  phases_named : (r : source.Around) (n : ℕ) (a : Action) → IsNamedAction a → ListHolds named_facts tt (phases r n a)
+  pub phases_named : (r : source.Around) (n : ℕ) (a : Action) → IsNamedAction a → ListHolds named_facts tt (phases r n a)
   phases_named r n (action id place (lets name declared value)) h = ((h, tt), tt)
   phases_named r n (action id place (assigns target value)) h = ((h, tt), tt)
   phases_named r n (action id place (stores target value)) h = ((h, tt), tt)

@@ -36,6 +36,7 @@ use Rattle.dh_commands.specs.LanesRun.{paths_counted}
 use Rattle.dh_commands.specs.MadeCommands.{Commanding, MadeActions, MadeArm, MadeCommand, MadeGroups, MadeOther}
 use Rattle.dh_laid.specs.BlockSites.{MadeEach, actions_sites, all_there, block_sites, command_sites, groups_sites, none_there, one_site, other_sites, places_from, read_site, site_or, target_sites, term_sites, terms_sites, test_sites, write_site}
 use Rattle.dh_laid.specs.LaidNumbers.{IsAccessForm, StoresReach, StoresReachGroups, StoresReachOther, StoresReachPart}
+use Rattle.dh_laid.specs.LaidUses.{AreAlong}
 use Rattle.dh_laid.proofs.BlocksUsed.{test_places}
 use Rattle.dh_laid.proofs.SitesLaid.{actions_sites_long, command_sites_long, places_low, places_past, store_places_long, test_places_long}
 use Rattle.dh_laid.proofs.ValuesLogged.{arm_long, tests_same}
@@ -492,3 +493,17 @@ tests_are_sited scene around tested t has stand = record {
   made = λ number. test_placed scene around tested t has stand number;
   told = λ number s a e at. test_told scene around tested t has stand number s a e at;
 }
+
+-- What has a site is made.
+
+pub blocks_placed : (scene : Scene) (around : Around) (cs : List Located) (old new : Building) (m : MadeEach scene around cs old new) → AreAlong 0 cs → (number : ℕ) (s : Site) → block_sites scene around cs old new m number ≡ Some s → any_makes number cs ≡ true
+blocks_placed scene around cs old new m h number s at = sym (block_placed scene around number cs old new m (reach 0 cs h)) ∙ ap is_some at
+  where
+    reach : (from : ℕ) (ds : List Located) → AreAlong from ds → AllByRecursion (λ (c : Located). StoresReach c.command) ds
+    reach from [] h = tt
+    reach from (c ∷ ds) h = (h.0.reaches, reach (c.first + accesses_of c.command) ds h.1)
+
+pub test_placed_all : (scene : Scene) (around : Around) (first : ℕ) (t : Term) (number : ℕ) (s : Site) → test_sites scene around first t number ≡ Some s → (first ≤ number) × (number < first + term_accesses t)
+test_placed_all scene around first t number s at =
+    let p = place_of first (all_there (term_sites scene around t)) number s (sym (test_places first (term_sites scene around t) number) ∙ at) in
+    (p.0, subst (λ (n : ℕ). number < first + n) (test_places_long scene around t) p.1.0)

@@ -4,3 +4,5 @@ pub mod SourceSites
 pub mod UsedBlocks
 -- how often plans use them
 pub mod UsedPlans
+-- plans as they are made
+pub mod MadePlans

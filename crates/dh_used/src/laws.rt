@@ -1,5 +1,6 @@
 //! Laws on how often accesses are made, stated on functions that do nothing.
 
+ghost use Rattle.dh_used.specs.MadePlans.{MadeNodesUse, MadePlansUse};
 ghost use Rattle.dh_used.specs.SourceSites.{BlocksAreSited, TestsAreSited};
 ghost use Rattle.dh_used.specs.UsedBlocks.{StraightsUseAsMade, TestsUseAsMade};
 ghost use Rattle.dh_used.specs.UsedPlans.{PlansUse};
@@ -22,4 +23,10 @@ pub fn blocks_use_as_made()
 /// each of its keys once, and probes it at each of its paths.
 pub fn plans_use_by_keys()
     ensures { PlansUse }
+{}
+
+/// So does a plan whose nodes were made of the phases of a program, where each block is that of one node.
+pub fn made_plans_use_by_keys()
+    ensures nodes { MadeNodesUse }
+    ensures plans { MadePlansUse }
 {}
