@@ -1,0 +1,4 @@
+pub mod CoreAppended
+pub mod LevelsOfCommands
+pub mod AssignmentsLogged
+pub mod AssigningPaced
