@@ -1,6 +1,6 @@
 -- Which registers a command gives values to: those of the variables that it assigns to, of each at every path; so that
 -- behind an `if` each of them is chosen.
-use Rattle.std.proofs.Common.{◌≡◌, ◌⊎◌, inl, inr, ℕ, zero, suc, ◌+◌, ◌<◌, ◌≤◌, Some, None, Option, List, [], ◌∷◌, ◌++◌, length, refl, sym, ap, ◌∙◌, subst, arith}
+use Rattle.std.proofs.Common.{◌≡◌, ◌⊎◌, inl, inr, ℕ, zero, suc, ◌+◌, ◌<◌, ◌≤◌, Some, None, Option, List, [], ◌∷◌, ◌++◌, length, drop, append_assoc, refl, sym, ap, ◌∙◌, subst, arith}
 use Rattle.std.specs.Prelude.{Bool as Truth, true, false, ◌==◌, ◌-◌, ◌^◌, ◌||◌, if◌then◌else◌, min, slice_get, slice_index}
 use Rattle.std.specs.List.{AllByRecursion}
 use Rattle.std.proofs.lemmas.Bool.{cases_lt, eq-eqb}
@@ -29,7 +29,8 @@ use Rattle.dh_commands.proofs.ArmsJoined.{choice_set}
 use Rattle.dh_commands.proofs.ArmsLeft.{AreSame, ArmLeft, IsSetAt, arm_ended, lefts_given, nothing_left, same_again, same_ready}
 use Rattle.dh_commands.proofs.ChangesBack.{changes_logs, logs_again, logs_none, logs_one}
 use Rattle.dh_commands.proofs.JoinedArms.{first_more, left_if, left_or}
-use Rattle.dh_laid.proofs.ValuesLogged.{arm_long, tests_same}
+use Rattle.dh_laid.specs.LaidCommands.{AreLogged}
+use Rattle.dh_laid.proofs.ValuesLogged.{arm_back, arm_long, tests_same}
 use Rattle.dh_paced.specs.Standing.{IsUnder}
 use Rattle.dh_paced.specs.Assigned.{IsAssignedIn, IsAssignedInGroups, IsAssignedInOther, IsAssignedInPart}
 
@@ -94,7 +95,7 @@ module _ (scene : Scene) (top : Around) where
   changes_wider May Might more [] h = tt
   changes_wider May Might more (c ∷ cs) h = (change_wider May Might more c h.0, changes_wider May Might more cs h.1)
 
-  logs_wider : (May Might : ℕ → Type 0) → ((e : ℕ) → May e → Might e) → (old new : Values) → Logs (IsChange scene top May) old new → Logs (IsChange scene top Might) old new
+  abbrev logs_wider : (May Might : ℕ → Type 0) → ((e : ℕ) → May e → Might e) → (old new : Values) → Logs (IsChange scene top May) old new → Logs (IsChange scene top Might) old new
   logs_wider May Might more old new l = record { more = l.more; log = l.log; back = l.back; long = l.long; marks = l.marks; each = changes_wider May Might more l.more l.each; room = l.room; given = l.given }
 
   logged_alike : (May Might : ℕ → Type 0) → ((e : ℕ) → May e → Might e) → ((e : ℕ) → Might e → May e) → (old new : Values) → LogsOf May old new → LogsOf Might old new
@@ -106,12 +107,24 @@ module _ (scene : Scene) (top : Around) where
     covers = λ e i m within. absurd (no_one e m);
   }
 
+  -- what is logged is told by the logs
+  more_is : (P : Change → Type 0) (a b : Values) (ms : List Change) (l : Logs P a b) → b.log.items ≡ a.log.items ++ ms → ms ≡ l.more
+  more_is P a b ms l log = append_cancel_left a.log.items ms l.more (sym log ∙ l.log)
+
+  again_log : (P Q R : Change → Type 0) (a b c : Values) (h : Logs P a b) (k : Logs Q b c) → c.log.items ≡ a.log.items ++ (h.more ++ k.more)
+  again_log P Q R a b c h k = k.log ∙ (ap (λ (l : List Change). l ++ k.more) h.log ∙ append_assoc a.log.items h.more k.more)
+
   logged_both : (May Might : ℕ → Type 0) (a b c : Values) → LogsOf May a b → LogsOf Might b c → LogsOf (λ e. May e ⊎ Might e) a c
   logged_both May Might a b c h k = record {
-    logs = logs_again (IsChange scene top (λ e. May e ⊎ Might e)) a b c (logs_wider May (λ e. May e ⊎ Might e) (λ e m. inl m) a b h.logs) (logs_wider Might (λ e. May e ⊎ Might e) (λ e m. inr m) b c k.logs);
-    covers = λ e i m within. by e i m within;
+    logs = all;
+    covers = λ e i m within.
+        subst (λ (cs : List Change). IsSet cs (register_in scene top e i))
+        (more_is (IsChange scene top (λ e. May e ⊎ Might e)) a c (h.logs.more ++ k.logs.more) all (again_log (IsChange scene top May) (IsChange scene top Might) (IsChange scene top May) a b c h.logs k.logs)) (by e i m within);
   }
     where
+      all : Logs (IsChange scene top (λ e. May e ⊎ Might e)) a c
+      all = logs_again (IsChange scene top (λ e. May e ⊎ Might e)) a b c (logs_wider May (λ e. May e ⊎ Might e) (λ e m. inl m) a b h.logs) (logs_wider Might (λ e. May e ⊎ Might e) (λ e m. inr m) b c k.logs)
+
       by : (e i : ℕ) → May e ⊎ Might e → i < paths_counted top → IsSet (h.logs.more ++ k.logs.more) (register_in scene top e i)
       by e i (inl m) within = set_front h.logs.more k.logs.more (register_in scene top e i) (h.covers e i m within)
       by e i (inr m) within = set_behind h.logs.more k.logs.more (register_in scene top e i) (k.covers e i m within)
@@ -151,10 +164,11 @@ module _ (scene : Scene) (top : Around) where
           let l : Logs (IsChange scene top (λ f. f ≡ e)) b.values new.values = logs_one (IsChange scene top (λ f. f ≡ e)) b.values new.values (register_in scene top e n) n one.0 is one.1 in
           let set : IsSet l.more (register_in scene top e n) =
           one_set (IsChange scene top (λ f. f ≡ e)) b.values new.values (register_in scene top e n) n one.0 is one.1 (subst (λ (k : ℕ). register_in scene top e n < k) (sym front.logs.long) (room n (omega (arith, within)))) in
-          record {
-            logs = logs_again (IsChange scene top (λ f. f ≡ e)) old.values b.values new.values front.logs l;
-            covers = λ i less. by i l set (cases_last i n less);
-          }
+          let all : Logs (IsChange scene top (λ f. f ≡ e)) old.values new.values = logs_again (IsChange scene top (λ f. f ≡ e)) old.values b.values new.values front.logs l in
+          let same : front.logs.more ++ l.more ≡ all.more =
+          more_is (IsChange scene top (λ f. f ≡ e)) old.values new.values (front.logs.more ++ l.more) all
+          (again_log (IsChange scene top (λ f. f ≡ e)) (IsChange scene top (λ f. f ≡ e)) (IsChange scene top (λ f. f ≡ e)) old.values b.values new.values front.logs l) in
+          record { logs = all; covers = λ i less. subst (λ (cs : List Change). IsSet cs (register_in scene top e i)) same (by i l set (cases_last i n less)) }
         where
           by : (i : ℕ) (l : Logs (IsChange scene top (λ f. f ≡ e)) b.values new.values) → IsSet l.more (register_in scene top e n) → (i < n) ⊎ (i ≡ n) → IsSet (front.logs.more ++ l.more) (register_in scene top e i)
           by i l set (inl less) = set_front front.logs.more l.more (register_in scene top e i) (front.covers i less)
@@ -169,7 +183,7 @@ module _ (scene : Scene) (top : Around) where
   pub record LeavesOf (May : ℕ → Type 0) (old new : Values) (behind : List (Option ℕ)) (lefts : List Left) : Type 0 where
     pub same : AreSame old new
     pub left : ArmLeft scene top May old.current.items behind lefts
-    pub covers : (e i : ℕ) → May e → i < paths_counted top → IsSet left.more (register_in scene top e i)
+    pub covers : (e i : ℕ) → May e → i < paths_counted top → (l : Left) × (first_left lefts (register_in scene top e i) ≡ Some l)
 
   left_wider : (May Might : ℕ → Type 0) → ((e : ℕ) → May e → Might e) → (base : List (Option ℕ)) (cs : List Change)
       → AllByRecursion (λ (c : Change). IsSetAt scene top May base c.register c.path) cs → AllByRecursion (λ (c : Change). IsSetAt scene top Might base c.register c.path) cs
@@ -184,7 +198,27 @@ module _ (scene : Scene) (top : Around) where
   arm_leaves May begun inside ended lefts h ends =
       let e : AreSame begun ended × ArmLeft scene top May begun.current.items inside.current.items lefts =
       arm_ended scene top top May begun inside ended lefts (λ e j. refl) refl (changes_logs scene top May begun inside h.logs) ends in
-      record { same = e.0; left = e.1; covers = h.covers }
+      let any : AreLogged begun inside = logs_any begun inside h.logs in
+      let is : lefts ≡ lefts_of h.logs.more inside.current.items =
+      ends.lefts_are (arm_back begun inside ended lefts any ends).room ∙ ap (λ (cs : List Change). lefts_of cs inside.current.items) (ap (λ (cs : List Change). drop (length begun.log.items) cs) h.logs.log ∙ drop_front begun.log.items h.logs.more) in
+      record {
+        same = e.0;
+        left = e.1;
+        covers = λ e i may within.
+            let l : (l : Left) × (first_left (lefts_of h.logs.more inside.current.items) (register_in scene top e i) ≡ Some l) = set_left h.logs.more inside.current.items (register_in scene top e i) (h.covers e i may within) in
+            (l.0, ap (λ (ls : List Left). first_left ls (register_in scene top e i)) is ∙ l.1);
+      }
+    where
+      drop_front : (xs ys : List Change) → drop (length xs) (xs ++ ys) ≡ ys
+      drop_front [] ys = refl
+      drop_front (x ∷ xs) ys = drop_front xs ys
+
+      all_any : (cs : List Change) → AllByRecursion (λ (c : Change). Unit {0}) cs
+      all_any [] = tt
+      all_any (c ∷ cs) = (tt, all_any cs)
+
+      logs_any : (a b : Values) → Logs (IsChange scene top May) a b → AreLogged a b
+      logs_any a b l = record { more = l.more; log = l.log; back = l.back; long = l.long; marks = l.marks; each = all_any l.more; room = l.room; given = l.given }
 
   none_leaves : (May : ℕ → Type 0) → ((e : ℕ) → May e → ⊥) → (old new : Building) (first next : ℕ) (lefts : List Left) → MadeNoArm old new first next lefts → LeavesOf May old.values new.values old.values.current.items lefts
   none_leaves May no_one old new first next lefts m = record {
@@ -232,10 +266,10 @@ module _ (scene : Scene) (top : Around) where
                 let one : MadeChoice test c d new v after = subst (λ (o : Option ℕ). MadeChoiceBy o c d new v after) found made in
                 let l : Logs (IsChange scene top May) v after = logs_one (IsChange scene top May) v after c.register c.path one.value is one.sets in
                 let own : IsSet l.more c.register = one_set (IsChange scene top May) v after c.register c.path one.value is one.sets room in
-                record {
-                  logs = logs_again (IsChange scene top May) before v after front.logs l;
-                  covers = λ k b less here. by k b l own here (cases_last k n less);
-                }
+                let all : Logs (IsChange scene top May) before after = logs_again (IsChange scene top May) before v after front.logs l in
+                let same : front.logs.more ++ l.more ≡ all.more =
+                more_is (IsChange scene top May) before after (front.logs.more ++ l.more) all (again_log (IsChange scene top May) (IsChange scene top May) (IsChange scene top May) before v after front.logs l) in
+                record { logs = all; covers = λ k b less here. subst (λ (cs : List Change). IsSet cs b.register) same (by k b l own here (cases_last k n less)) }
               where
                 by : (k : ℕ) (b : Choice) (l : Logs (IsChange scene top May) v after) → IsSet l.more c.register → slice_get choices k ≡ Some b → (k < n) ⊎ (k ≡ n) → IsSet (front.logs.more ++ l.more) b.register
                 by k b l own here (inl less) = set_front front.logs.more l.more b.register (front.covers k b less here)
@@ -246,7 +280,8 @@ module _ (scene : Scene) (top : Around) where
   -- An `if`, from its arms.
   module _ (A B : ℕ → Type 0) (tests : List ℕ) (long : length tests ≡ paths_counted top) (chosen other : List Left) (begun old : Values) (one two : List (Option ℕ)) (ready : AreReady old) (back : AreSame begun old)
       (left_one : ArmLeft scene top A begun.current.items one chosen) (left_two : ArmLeft scene top B begun.current.items two other)
-      (covers_one : (e i : ℕ) → A e → i < paths_counted top → IsSet left_one.more (register_in scene top e i)) (covers_two : (e i : ℕ) → B e → i < paths_counted top → IsSet left_two.more (register_in scene top e i)) where
+      (covers_one : (e i : ℕ) → A e → i < paths_counted top → (l : Left) × (first_left chosen (register_in scene top e i) ≡ Some l))
+      (covers_two : (e i : ℕ) → B e → i < paths_counted top → (l : Left) × (first_left other (register_in scene top e i) ≡ Some l)) where
     abbrev Both : ℕ → Type 0
     Both e = A e ⊎ B e
 
@@ -276,17 +311,15 @@ module _ (scene : Scene) (top : Around) where
 
       -- and each such register is chosen
       pub is_chosen : (e i : ℕ) → Both e → i < paths_counted top → (k : ℕ) × ((c : Choice) × ((slice_get m.choices k ≡ Some c) × (c.register ≡ register_in scene top e i)))
-      is_chosen e i (inl a) within =
-          let l : (l : Left) × (first_left (lefts_of left_one.more one) (register_in scene top e i) ≡ Some l) = set_left left_one.more one (register_in scene top e i) (covers_one e i a within) in
-          are.all (register_in scene top e i) l.0 (inl (ap (λ (ls : List Left). first_left ls (register_in scene top e i)) left_one.lefts_are ∙ l.1))
-      is_chosen e i (inr b) within =
-          let l : (l : Left) × (first_left (lefts_of left_two.more two) (register_in scene top e i) ≡ Some l) = set_left left_two.more two (register_in scene top e i) (covers_two e i b within) in
-          are.all (register_in scene top e i) l.0 (inr (ap (λ (ls : List Left). first_left ls (register_in scene top e i)) left_two.lefts_are ∙ l.1))
+      is_chosen e i (inl a) within = let l : (l : Left) × (first_left chosen (register_in scene top e i) ≡ Some l) = covers_one e i a within in are.all (register_in scene top e i) l.0 (inl l.1)
+      is_chosen e i (inr b) within = let l : (l : Left) × (first_left other (register_in scene top e i) ≡ Some l) = covers_two e i b within in are.all (register_in scene top e i) l.0 (inr l.1)
 
       joined_logged : LogsOf Both old d.values
       joined_logged = record {
-        logs = logs_again (IsChange scene top Both) old m.middle d.values (logs_same old m.middle middle_same) c.logs;
-        covers = λ e i both within. set_behind [] c.logs.more (register_in scene top e i) (by e i (is_chosen e i both within));
+        logs = all;
+        covers = λ e i both within.
+            subst (λ (cs : List Change). IsSet cs (register_in scene top e i))
+            (more_is (IsChange scene top Both) old d.values c.logs.more all (c.logs.log ∙ ap (λ (cs : List Change). cs ++ c.logs.more) middle_same.log)) (by e i (is_chosen e i both within));
       }
         where
           logs_same : (old new : Values) → AreSame old new → Logs (IsChange scene top Both) old new
@@ -296,6 +329,9 @@ module _ (scene : Scene) (top : Around) where
           c =
               choices_logged Both tests m.choices long (length m.choices) a.draft d.draft m.middle d.values
               (λ k c at. subst (λ (os : List (Option ℕ)). IsSetAt scene top Both os c.register c.path) (sym middle_same.current) (choice_is k c at)) m.choose
+
+          all : Logs (IsChange scene top Both) old d.values
+          all = logs_again (IsChange scene top Both) old m.middle d.values (logs_same old m.middle middle_same) c.logs
 
           by : (e i : ℕ) → (k : ℕ) × ((b : Choice) × ((slice_get m.choices k ≡ Some b) × (b.register ≡ register_in scene top e i))) → IsSet c.logs.more (register_in scene top e i)
           by e i (k, (b, (at, same))) = subst (λ (r : ℕ). IsSet c.logs.more r) same (c.covers k b (place_within m.choices k b at) at)
@@ -388,8 +424,11 @@ module _ (scene : Scene) (top : Around) where
         let tested : (m.tested.values ≡ old.values) × (length m.tests ≡ paths_counted around) = tests_same scene around first test (paths_counted around) old m.tested m.own m.tests m.test in
         let long : length m.tests ≡ paths_counted top = tested.1 ∙ u.counted in
         let one : LeavesOf (IsAssignedIn chosen) m.tested.values m.after_chosen.values m.chosen.inside.values.current.items m.chosen_left =
-        chosen_logged chosen around m.tests m.tested m.after_chosen m.own m.behind m.chosen_left m.chosen u long (values_at AreReady old.values m.tested.values tested.0 ready)
-        (values_at (HaveRoom (IsAssignedIn chosen)) old.values m.tested.values tested.0 (λ e i may within. room e i (inl may) within)) in
+        arm_logged (MadeCommand scene chosen) around true m.tests m.tested m.after_chosen m.own m.behind m.chosen_left m.chosen (IsAssignedIn chosen)
+        (command_logged chosen m.chosen.arm m.chosen.begin m.chosen.inside m.own m.behind m.chosen.command
+        (under_arm (MadeCommand scene chosen) around true m.tests m.tested m.after_chosen m.own m.behind m.chosen_left m.chosen u long)
+        (values_at AreReady old.values m.chosen.begin.values (m.chosen.begin_values ∙ tested.0) ready)
+        (values_at (HaveRoom (IsAssignedIn chosen)) old.values m.chosen.begin.values (m.chosen.begin_values ∙ tested.0) (λ e i may within. room e i (inl may) within))) in
         let ready_one : AreReady m.after_chosen.values = same_ready m.tested.values m.after_chosen.values one.same (values_at AreReady old.values m.tested.values tested.0 ready) in
         let behind : List (Option ℕ) = behind_other other around m.tests m.after_chosen m.after_other m.behind next m.other_left m.other in
         let two : LeavesOf (IsAssignedInOther other) m.after_chosen.values m.after_other.values behind m.other_left =
@@ -409,13 +448,6 @@ module _ (scene : Scene) (top : Around) where
     command_logged (action id place (calls function arguments)) around old new first next m u ready room = logged_none (λ e. ⊥) (λ e h. h) old.values new.values (ap (λ (b : Building). b.values) m.still)
     command_logged (action id place (repeats test body)) around old new first next m u ready room = logged_none (λ e. ⊥) (λ e h. h) old.values new.values (ap (λ (b : Building). b.values) m.still)
     command_logged (action id place (counts iterator declared low high factor body combine combine_place)) around old new first next m u ready room = logged_none (λ e. ⊥) (λ e h. h) old.values new.values (ap (λ (b : Building). b.values) m.still)
-
-    pub chosen_logged : (a : Action) (around : Around) (tests : List ℕ) (old new : Building) (first next : ℕ) (lefts : List Left) (m : MadeArm (MadeCommand scene a) around true tests old new first next lefts) → IsUnder top around
-        → length tests ≡ paths_counted top → AreReady old.values → HaveRoom (IsAssignedIn a) old.values → LeavesOf (IsAssignedIn a) old.values new.values m.inside.values.current.items lefts
-    chosen_logged a around tests old new first next lefts m u long ready room =
-        arm_logged (MadeCommand scene a) around true tests old new first next lefts m (IsAssignedIn a)
-        (command_logged a m.arm m.begin m.inside first next m.command (under_arm (MadeCommand scene a) around true tests old new first next lefts m u long) (values_at AreReady old.values m.begin.values m.begin_values ready)
-        (values_at (HaveRoom (IsAssignedIn a)) old.values m.begin.values m.begin_values room))
 
     pub other_logged : (other : MaybeAction) (around : Around) (tests : List ℕ) (old new : Building) (first next : ℕ) (lefts : List Left) (m : MadeOther scene other around tests old new first next lefts) → IsUnder top around
         → length tests ≡ paths_counted top → AreReady old.values → HaveRoom (IsAssignedInOther other) old.values → LeavesOf (IsAssignedInOther other) old.values new.values (behind_other other around tests old new first next lefts m) lefts

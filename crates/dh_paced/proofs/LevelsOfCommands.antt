@@ -226,7 +226,7 @@ module _ (scene : Scene) (shared : ℕ → Option ℕ) where
       (action_levels (known_in scene) shared (max outer (leveled scene shared outer first test l).level) (first + term_accesses test) chosen (leveled scene shared outer first test l).levels)
       (other_levels (known_in scene) shared (max outer (leveled scene shared outer first test l).level) (first + term_accesses test + accesses_of chosen) other (between_arms (known_in scene) shared outer first test chosen l)))
   chosen_go outer first test chosen other l straight straight_other go_chosen go_other =
-      levels_joined _ first (term_accesses test + (accesses_of chosen + other_accesses other)) t.level _ _ l t.levels between c o all
+      levels_joined _ first (term_accesses test + (accesses_of chosen + other_accesses other)) t.level (core_action (known_in scene) (first + term_accesses test) chosen no_commands) (core_other (known_in scene) (first + term_accesses test + accesses_of chosen) other) l t.levels between c o all
       (λ b. up t.level t.levels.most c.most o.most (tg.level_few b) cg.more og.more) (λ b e. let v = tg.bounded b in up (t.levels.variables e) t.levels.most c.most o.most (v.variables e) cg.more og.more)
       (λ b e. let v = cg.bounded (tg.bounded b) in let f = v.variables e in let g = og.more in omega (arith, f, g))
     where
