@@ -1,12 +1,14 @@
 -- Operations of commands put together from those of their parts: forms as the code has them, and parts of a block one
 -- after the other.
-use Rattle.std.proofs.Common.{◌≡◌, ℕ, ◌+◌, ◌<◌, ◌≤◌, List, refl, sym, subst, length, drop, get_or, map}
+use Rattle.std.proofs.Common.{◌≡◌, ℕ, ◌+◌, ◌<◌, ◌≤◌, List, ap, refl, sym, ◌∙◌, subst, length, drop, get_or, map}
 use Rattle.std.specs.Prelude.{Vec}
 use Rattle.std.specs.Global.{Global}
 use Rattle.dh_base.proofs.ListItems.{at_item}
 use Rattle.dh_tree.specs.declared.trees.commands.Command.{Command}
-use Rattle.dh_tree.specs.PlainTrees.{ActionForm, Groups, group_then}
+use Rattle.dh_tree.specs.PlainTrees.{ActionForm, action, Groups, group_then}
 use Rattle.dh_tree.specs.Seen.{action_form_seen, action_seen, actions, all_parts_seen}
+use Rattle.dh_meaning.specs.AccessNumbers.{accesses_of, inner_accesses, own_accesses}
+use Rattle.dh_accesses.specs.Counted.{behind}
 use Rattle.dh_expressions.specs.declared.scenes.Around.{Around}
 use Rattle.dh_expressions.specs.declared.scenes.Scene.{Scene}
 use Rattle.dh_commands.specs.declared.buildings.Building.{Building}
@@ -16,6 +18,10 @@ use Rattle.dh_commands.proofs.PartsDone.{drop_past}
 pub made_seen : (scene : Scene) (around : Around) (c : Command) (form : ActionForm) (first next : ℕ) (old new : Building) → action_form_seen c.form ≡ form → MadeActionForm scene form around old new first next
     → MadeCommand scene (action_seen c) around old new first next
 made_seen scene around c form first next old new is m = subst (λ (f : ActionForm). MadeActionForm scene f around old new first next) (sym is) m
+
+-- the number behind a loop that puts nothing down
+pub idle_next : (c : Command) (form : ActionForm) (first next : ℕ) → action_form_seen c.form ≡ form → next ≡ behind first (accesses_of (action_seen c)) → next ≡ behind first (own_accesses form + inner_accesses form)
+idle_next c form first next is counted = counted ∙ ap (λ (f : ActionForm). behind first (accesses_of (action c.id c.place f))) is
 
 module _ (scene : Scene) (around : Around) (all : Groups) (first : ℕ) (old : Building) where
   pub makes_command : (cs : List Command) (j : ℕ) (c : Command) (gs : Groups) (now n1 : ℕ) (here behind : Building) → j < length cs → c ≡ get_or cs j c

@@ -1,6 +1,6 @@
 -- Which operations are put down for commands, each at all its paths before the next: exactly these, one behind the
 -- other. What holds of the operations of a block is shown of these relations, and needs no step.
-use Rattle.std.specs.Prelude.{◌≡◌, ℕ, zero, suc, Bool as Truth, true, false, List, [], ◌∷◌, ◌++◌, length, slice_get, Option, Some, None}
+use Rattle.std.specs.Prelude.{◌≡◌, ℕ, zero, suc, ◌+◌, Bool as Truth, true, false, List, [], ◌∷◌, ◌++◌, length, slice_get, Option, Some, None}
 use Rattle.dh_value.specs.declared.kinds.Kind.{Kind}
 use Rattle.dh_value.specs.declared.kinds.Kind.TheVariants as kind
 use Rattle.dh_value.specs.declared.operators.Op.{Op}
@@ -11,6 +11,7 @@ use Rattle.dh_tree.specs.Memories.{table_of}
 use Rattle.dh_tree.specs.PlainTrees as plain
 use Rattle.dh_tree.specs.PlainTrees.{Action, action, ActionForm, lets, lets_memory, views, assigns, stores, reduces, calls, blocks, decides, repeats, counts, MaybeAction, no_action, one_action, Actions, no_actions, action_then, Groups, no_groups, group_then}
 use Rattle.dh_tree.specs.Seen.{program_seen}
+use Rattle.dh_meaning.specs.AccessNumbers.{accesses_of, other_accesses, term_accesses}
 use Rattle.dh_meaning.specs.CoreOf.{entity_number, memory_of}
 use Rattle.dh_meaning.specs.Effects.{entry_kind}
 use Rattle.dh_code.specs.Extended.{extension_of}
@@ -18,6 +19,7 @@ use Rattle.dh_code.specs.Made.{same_kind}
 use Rattle.dh_code.specs.declared.places.Held.{Held}
 use Rattle.dh_code.specs.Slots.{held_at}
 use Rattle.dh_plan.specs.declared.operations.OperationForm.TheVariants.{Compute, Constant, Select}
+use Rattle.dh_accesses.specs.Counted.{behind}
 use Rattle.dh_expressions.specs.declared.accesses.Accesses.{Accesses}
 use Rattle.dh_expressions.specs.declared.drafts.Draft.{Draft}
 use Rattle.dh_expressions.specs.declared.elements.Aim.{Aim}
@@ -264,9 +266,10 @@ pub record MadeIf (scene : Scene) (Chosen Other : Around → (tests : List ℕ) 
   pub other : Other around tests after_chosen after_other behind next other_left
   pub joined : MadeJoined tests chosen_left other_left after_other new
 
--- a loop, which has no turn in a straight command, puts nothing down
-pub record MadeIdle (around : Around) (old new : Building) (first next : ℕ) : Type 0 where
+-- a loop, which has no phase in a straight command, puts nothing down; its accesses have their numbers all the same
+pub record MadeIdle (count : ℕ) (around : Around) (old new : Building) (first next : ℕ) : Type 0 where
   pub still : new ≡ old
+  pub next_is : next ≡ behind first count
 
 -- one, and those behind it
 pub record MadeBoth (First Rest : Commanding) (around : Around) (old new : Building) (first next : ℕ) : Type 0 where
@@ -297,8 +300,8 @@ module _ (scene : Scene) where
     MadeActionForm (lets_memory name shape shape_places value) = MadeNothing
     MadeActionForm (views name parent form) = MadeNothing
     MadeActionForm (calls function arguments) = MadeNothing
-    MadeActionForm (repeats test body) = MadeIdle
-    MadeActionForm (counts iterator declared low high factor body combine combine_place) = MadeIdle
+    MadeActionForm (repeats test body) = MadeIdle (term_accesses test + accesses_of body)
+    MadeActionForm (counts iterator declared low high factor body combine combine_place) = MadeIdle (0 + (accesses_of body + other_accesses combine))
 
     pub MadeOther : MaybeAction → Around → (tests : List ℕ) → (old new : Building) → (first next : ℕ) → (lefts : List Left) → Type 0
     MadeOther no_action around tests old new first next lefts = MadeNoArm old new first next lefts

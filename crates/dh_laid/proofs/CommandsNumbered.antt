@@ -9,6 +9,8 @@ use Rattle.dh_tree.specs.PlainTrees as plain
 use Rattle.dh_tree.specs.PlainTrees.{Term, Action, action, ActionForm, lets, lets_memory, views, assigns, stores, reduces, calls, blocks, decides, repeats, counts, MaybeAction, no_action, one_action, Actions, no_actions, action_then, Groups, no_groups, group_then}
 use Rattle.dh_meaning.specs.AccessNumbers.{accesses_of, form_accesses, groups_accesses, other_accesses, part_accesses, term_accesses, terms_accesses}
 use Rattle.dh_meaning.specs.CoreOf.{entity_number}
+use Rattle.dh_accesses.specs.Counted.{behind}
+use Rattle.dh_accesses.proofs.CountedParts.{behind_few}
 use Rattle.dh_expressions.specs.declared.accesses.Accesses.{Accesses}
 use Rattle.dh_expressions.specs.declared.drafts.Draft.{Draft}
 use Rattle.dh_expressions.specs.declared.elements.Aim.{Aim}
@@ -25,7 +27,7 @@ use Rattle.dh_commands.specs.LanesRun.{lane_of, paths_counted}
 use Rattle.dh_commands.specs.MadeCommands.{AssignedTo, ClearedTo, Commanding, MadeActions, MadeAim, MadeArm, MadeAssigned, MadeCleared, MadeCommand, MadeGroups, MadeIf, MadeLanes, MadeOther, MadeReduced, MadeStored, MadeStoring, MadeTests, ReducedTo, StoredTo}
 use Rattle.dh_laid.specs.Laid.{aim_accesses}
 use Rattle.dh_laid.specs.LaidCommands.{AreFew, AreFewActions, AreFewGroups, AreFewIn, AreFewOther}
-use Rattle.dh_laid.specs.LaidNumbers.{AreStraight, AreStraightGroups, CommandsNumber, GroupsNumber, IsAccessForm, IsOutside, IsStraight, IsStraightOther, Numbers}
+use Rattle.dh_laid.specs.LaidNumbers.{AreStraight, AreStraightGroups, CommandsNumber, GroupsNumber, IsAccessForm, IsOutside, IsStraight, IsStraightOther, Numbers, ReachingNumber, StoresReach, StoresReachGroups, StoresReachOther, StoresReachPart}
 use Rattle.dh_laid.proofs.ValuesLogged.{arm_long, tests_same}
 
 -- Numbers.
@@ -185,6 +187,10 @@ if_number scene Chosen Other t around old new first next m c e h k l =
     numbers_then old m.tested m.after_other first m.own next (term_accesses t) (c + e) h (numbers_then m.tested m.after_chosen m.after_other m.own m.behind next c e k l) in
     record { next_is = all.next_is; only = λ number out. accesses_same m.after_other new number m.joined.same ∙ all.only number out }
 
+-- a loop for which nothing is put down
+numbers_idle : (old new : Building) (first count next : ℕ) → new ≡ old → next ≡ behind first count → first + count < 2 ^ 32 → Numbers old new first count next
+numbers_idle old new first count next still is few = record { next_is = is ∙ behind_few first count few; only = λ number out. ap (λ (b : Building). touched_in b.accesses number) still }
+
 -- Commands at all paths.
 
 module _ (scene : Scene) (around : Around) (first : ℕ) (old new : Building) (next : ℕ) (some : 0 < paths_counted around) where
@@ -217,78 +223,122 @@ inner_count old new first c next h = numbers_as old new first c (0 + c) next (om
 
 module _ (scene : Scene) where
   mutual
-    pub command_numbered : (a : Action) (around : Around) (old new : Building) (first next : ℕ) (m : MadeCommand scene a around old new first next) → IsStraight a → 0 < paths_counted around → first + accesses_of a < 2 ^ 32
+    pub command_reached : (a : Action) (around : Around) (old new : Building) (first next : ℕ) (m : MadeCommand scene a around old new first next) → StoresReach a → 0 < paths_counted around → first + accesses_of a < 2 ^ 32
         → AreFew scene a around old new first next m × Numbers old new first (accesses_of a) next
-    command_numbered (action id place (lets name declared (Some value))) around old new first next m is some few =
+    command_reached (action id place (lets name declared (Some value))) around old new first next m is some few =
         let less : AreFewIn first value = omega (arith, few) in
         (less, own_count old new first (term_accesses value) next (assigned_number scene around first old new next some (entity_number name.entity) value m less))
-    command_numbered (action id place (lets name declared None)) around old new first next m is some few =
+    command_reached (action id place (lets name declared None)) around old new first next m is some few =
         (tt, own_count old new first 0 next (cleared_number scene around first old new next some (entity_number name.entity) m))
-    command_numbered (action id place (assigns target value)) around old new first next m is some few =
+    command_reached (action id place (assigns target value)) around old new first next m is some few =
         let less : AreFewIn first value = omega (arith, few) in
         (less, own_count old new first (term_accesses value) next (assigned_number scene around first old new next some (entity_number target.entity) value m less))
-    command_numbered (action id place (stores target value)) around old new first next m is some few =
+    command_reached (action id place (stores target value)) around old new first next m is some few =
         let all : first + (term_accesses value + term_accesses target) < 2 ^ 32 = omega (arith, few) in
         let aims = aims_within target is in
         (omega (arith, all, aims), own_count old new first (term_accesses value + term_accesses target) next (stored_lanes_number scene around first old new next some target value m is all))
-    command_numbered (action id place (reduces target op value)) around old new first next m is some few =
+    command_reached (action id place (reduces target op value)) around old new first next m is some few =
         let less : AreFewIn first value = omega (arith, few) in
         (less, own_count old new first (term_accesses value) next (reduced_number scene around first old new next some (entity_number target.entity) op value m less))
-    command_numbered (action id place (decides test chosen other)) around old new first next m is some few =
+    command_reached (action id place (decides test chosen other)) around old new first next m is some few =
         let less : AreFewIn first test = omega (arith, few) in
         let tests : Numbers old m.tested first (term_accesses test) m.own = tests_number scene around first test less (paths_counted around) old m.tested m.own m.tests some m.test in
         let own = tests.next_is in
         let long : length m.tests ≡ paths_counted around = (tests_same scene around first test (paths_counted around) old m.tested m.own m.tests m.test).1 in
         let some_tests : 0 < length m.tests = subst (λ (n : ℕ). 0 < n) (sym long) some in
         let one : AreFew scene chosen m.chosen.arm m.chosen.begin m.chosen.inside m.own m.behind m.chosen.command × Numbers m.chosen.begin m.chosen.inside m.own (accesses_of chosen) m.behind =
-        command_numbered chosen m.chosen.arm m.chosen.begin m.chosen.inside m.own m.behind m.chosen.command is.0
+        command_reached chosen m.chosen.arm m.chosen.begin m.chosen.inside m.own m.behind m.chosen.command is.0
         (some_arm (MadeCommand scene chosen) around true m.tests m.tested m.after_chosen m.own m.behind m.chosen_left m.chosen some_tests) (omega (arith, few, own)) in
         let behind = one.1.next_is in
         let two : AreFewOther scene other around m.tests m.after_chosen m.after_other m.behind next m.other_left m.other × Numbers m.after_chosen m.after_other m.behind (other_accesses other) next =
-        other_numbered other around m.tests m.after_chosen m.after_other m.behind next m.other_left m.other is.1 some_tests (omega (arith, few, own, behind)) in (
+        other_reached other around m.tests m.after_chosen m.after_other m.behind next m.other_left m.other is.1 some_tests (omega (arith, few, own, behind)) in (
           (less, (one.0, two.0)),
           if_number scene (λ a ts b d n k ls. MadeArm (MadeCommand scene chosen) a true ts b d n k ls) (MadeOther scene other) test around old new first next m (accesses_of chosen) (other_accesses other) tests
               (arm_number (MadeCommand scene chosen) around true m.tests m.tested m.after_chosen m.own m.behind m.chosen_left m.chosen (accesses_of chosen) one.1) two.1,
         )
-    command_numbered (action id place (blocks body)) around old new first next m is some few =
-        let all : AreFewGroups scene body around old new first next m × Numbers old new first (groups_accesses body) next = groups_numbered body around old new first next m is some (omega (arith, few)) in
+    command_reached (action id place (blocks body)) around old new first next m is some few =
+        let all : AreFewGroups scene body around old new first next m × Numbers old new first (groups_accesses body) next = groups_reached body around old new first next m is some (omega (arith, few)) in
         (all.0, inner_count old new first (groups_accesses body) next all.1)
-    command_numbered (action id place (lets_memory name shape shape_places value)) around old new first next m is some few = (tt, numbers_none old new first next (ap (λ (b : Building). b.accesses) m.still) m.next_is)
-    command_numbered (action id place (views name parent form)) around old new first next m is some few = (tt, numbers_none old new first next (ap (λ (b : Building). b.accesses) m.still) m.next_is)
-    command_numbered (action id place (calls function arguments)) around old new first next m is some few = (tt, numbers_none old new first next (ap (λ (b : Building). b.accesses) m.still) m.next_is)
-    command_numbered (action id place (repeats test body)) around old new first next m is some few = absurd is
-    command_numbered (action id place (counts iterator declared low high factor body combine combine_place)) around old new first next m is some few = absurd is
+    command_reached (action id place (lets_memory name shape shape_places value)) around old new first next m is some few = (tt, numbers_none old new first next (ap (λ (b : Building). b.accesses) m.still) m.next_is)
+    command_reached (action id place (views name parent form)) around old new first next m is some few = (tt, numbers_none old new first next (ap (λ (b : Building). b.accesses) m.still) m.next_is)
+    command_reached (action id place (calls function arguments)) around old new first next m is some few = (tt, numbers_none old new first next (ap (λ (b : Building). b.accesses) m.still) m.next_is)
+    command_reached (action id place (repeats test body)) around old new first next m is some few = (tt, numbers_idle old new first (term_accesses test + accesses_of body) next m.still m.next_is few)
+    command_reached (action id place (counts iterator declared low high factor body combine combine_place)) around old new first next m is some few =
+        (tt, numbers_idle old new first (0 + (accesses_of body + other_accesses combine)) next m.still m.next_is few)
 
-    other_numbered : (other : MaybeAction) (around : Around) (tests : List ℕ) (old new : Building) (first next : ℕ) (lefts : List Left) (m : MadeOther scene other around tests old new first next lefts) → IsStraightOther other
+    other_reached : (other : MaybeAction) (around : Around) (tests : List ℕ) (old new : Building) (first next : ℕ) (lefts : List Left) (m : MadeOther scene other around tests old new first next lefts) → StoresReachOther other
         → 0 < length tests → first + other_accesses other < 2 ^ 32 → AreFewOther scene other around tests old new first next lefts m × Numbers old new first (other_accesses other) next
-    other_numbered no_action around tests old new first next lefts m is some few = (tt, numbers_none old new first next (ap (λ (b : Building). b.accesses) m.still) m.next_is)
-    other_numbered (one_action a) around tests old new first next lefts m is some few =
+    other_reached no_action around tests old new first next lefts m is some few = (tt, numbers_none old new first next (ap (λ (b : Building). b.accesses) m.still) m.next_is)
+    other_reached (one_action a) around tests old new first next lefts m is some few =
         let one : AreFew scene a m.arm m.begin m.inside first next m.command × Numbers m.begin m.inside first (accesses_of a) next =
-        command_numbered a m.arm m.begin m.inside first next m.command is (some_arm (MadeCommand scene a) around false tests old new first next lefts m some) few in
+        command_reached a m.arm m.begin m.inside first next m.command is (some_arm (MadeCommand scene a) around false tests old new first next lefts m some) few in
         (one.0, arm_number (MadeCommand scene a) around false tests old new first next lefts m (accesses_of a) one.1)
 
-    pub actions_numbered : (part : Actions) (around : Around) (old new : Building) (first next : ℕ) (m : MadeActions scene part around old new first next) → AreStraight part → 0 < paths_counted around → first + part_accesses part < 2 ^ 32
+    pub actions_reached : (part : Actions) (around : Around) (old new : Building) (first next : ℕ) (m : MadeActions scene part around old new first next) → StoresReachPart part → 0 < paths_counted around → first + part_accesses part < 2 ^ 32
         → AreFewActions scene part around old new first next m × Numbers old new first (part_accesses part) next
-    actions_numbered no_actions around old new first next m is some few = (tt, numbers_none old new first next (ap (λ (b : Building). b.accesses) m.still) m.next_is)
-    actions_numbered (action_then a rest) around old new first next m is some few =
-        let one : AreFew scene a around old m.middle first m.own m.one × Numbers old m.middle first (accesses_of a) m.own = command_numbered a around old m.middle first m.own m.one is.0 some (omega (arith, few)) in
+    actions_reached no_actions around old new first next m is some few = (tt, numbers_none old new first next (ap (λ (b : Building). b.accesses) m.still) m.next_is)
+    actions_reached (action_then a rest) around old new first next m is some few =
+        let one : AreFew scene a around old m.middle first m.own m.one × Numbers old m.middle first (accesses_of a) m.own = command_reached a around old m.middle first m.own m.one is.0 some (omega (arith, few)) in
         let own = one.1.next_is in
         let more : AreFewActions scene rest around m.middle new m.own next m.rest × Numbers m.middle new m.own (part_accesses rest) next =
-        actions_numbered rest around m.middle new m.own next m.rest is.1 some (omega (arith, few, own)) in
+        actions_reached rest around m.middle new m.own next m.rest is.1 some (omega (arith, few, own)) in
         ((one.0, more.0), numbers_then old m.middle new first m.own next (accesses_of a) (part_accesses rest) one.1 more.1)
 
-    pub groups_numbered : (body : Groups) (around : Around) (old new : Building) (first next : ℕ) (m : MadeGroups scene body around old new first next) → AreStraightGroups body → 0 < paths_counted around
+    pub groups_reached : (body : Groups) (around : Around) (old new : Building) (first next : ℕ) (m : MadeGroups scene body around old new first next) → StoresReachGroups body → 0 < paths_counted around
         → first + groups_accesses body < 2 ^ 32 → AreFewGroups scene body around old new first next m × Numbers old new first (groups_accesses body) next
-    groups_numbered no_groups around old new first next m is some few = (tt, numbers_none old new first next (ap (λ (b : Building). b.accesses) m.still) m.next_is)
-    groups_numbered (group_then part rest) around old new first next m is some few =
-        let one : AreFewActions scene part around old m.middle first m.own m.one × Numbers old m.middle first (part_accesses part) m.own = actions_numbered part around old m.middle first m.own m.one is.0 some (omega (arith, few)) in
+    groups_reached no_groups around old new first next m is some few = (tt, numbers_none old new first next (ap (λ (b : Building). b.accesses) m.still) m.next_is)
+    groups_reached (group_then part rest) around old new first next m is some few =
+        let one : AreFewActions scene part around old m.middle first m.own m.one × Numbers old m.middle first (part_accesses part) m.own = actions_reached part around old m.middle first m.own m.one is.0 some (omega (arith, few)) in
         let own = one.1.next_is in
         let more : AreFewGroups scene rest around m.middle new m.own next m.rest × Numbers m.middle new m.own (groups_accesses rest) next =
-        groups_numbered rest around m.middle new m.own next m.rest is.1 some (omega (arith, few, own)) in
+        groups_reached rest around m.middle new m.own next m.rest is.1 some (omega (arith, few, own)) in
         ((one.0, more.0), numbers_then old m.middle new first m.own next (part_accesses part) (groups_accesses rest) one.1 more.1)
+
+  -- Straight commands are so.
+
+  mutual
+    pub straight_reaches : (a : Action) → IsStraight a → StoresReach a
+    straight_reaches (action id place (lets name declared value)) is = tt
+    straight_reaches (action id place (assigns target value)) is = tt
+    straight_reaches (action id place (stores target value)) is = is
+    straight_reaches (action id place (reduces target op value)) is = tt
+    straight_reaches (action id place (decides test chosen other)) is = (straight_reaches chosen is.0, other_reaches other is.1)
+    straight_reaches (action id place (blocks body)) is = groups_reach body is
+    straight_reaches (action id place (lets_memory name shape shape_places value)) is = tt
+    straight_reaches (action id place (views name parent form)) is = tt
+    straight_reaches (action id place (calls function arguments)) is = tt
+    straight_reaches (action id place (repeats test body)) is = tt
+    straight_reaches (action id place (counts iterator declared low high factor body combine combine_place)) is = tt
+
+    other_reaches : (other : MaybeAction) → IsStraightOther other → StoresReachOther other
+    other_reaches no_action is = tt
+    other_reaches (one_action a) is = straight_reaches a is
+
+    part_reaches : (part : Actions) → AreStraight part → StoresReachPart part
+    part_reaches no_actions is = tt
+    part_reaches (action_then a rest) is = (straight_reaches a is.0, part_reaches rest is.1)
+
+    groups_reach : (body : Groups) → AreStraightGroups body → StoresReachGroups body
+    groups_reach no_groups is = tt
+    groups_reach (group_then part rest) is = (part_reaches part is.0, groups_reach rest is.1)
+
+  pub command_numbered : (a : Action) (around : Around) (old new : Building) (first next : ℕ) (m : MadeCommand scene a around old new first next) → IsStraight a → 0 < paths_counted around → first + accesses_of a < 2 ^ 32
+      → AreFew scene a around old new first next m × Numbers old new first (accesses_of a) next
+  command_numbered a around old new first next m is some few = command_reached a around old new first next m (straight_reaches a is) some few
+
+  pub actions_numbered : (part : Actions) (around : Around) (old new : Building) (first next : ℕ) (m : MadeActions scene part around old new first next) → AreStraight part → 0 < paths_counted around → first + part_accesses part < 2 ^ 32
+      → AreFewActions scene part around old new first next m × Numbers old new first (part_accesses part) next
+  actions_numbered part around old new first next m is some few = actions_reached part around old new first next m (part_reaches part is) some few
+
+  pub groups_numbered : (body : Groups) (around : Around) (old new : Building) (first next : ℕ) (m : MadeGroups scene body around old new first next) → AreStraightGroups body → 0 < paths_counted around
+      → first + groups_accesses body < 2 ^ 32 → AreFewGroups scene body around old new first next m × Numbers old new first (groups_accesses body) next
+  groups_numbered body around old new first next m is some few = groups_reached body around old new first next m (groups_reach body is) some few
 
 pub commands_number : CommandsNumber
 commands_number scene a around old new first next m is some few = command_numbered scene a around old new first next m is some few
 
 pub groups_number : GroupsNumber
 groups_number scene body around old new first next m is some few = groups_numbered scene body around old new first next m is some few
+
+pub reaching_number : ReachingNumber
+reaching_number scene a around old new first next m is some few = command_reached scene a around old new first next m is some few

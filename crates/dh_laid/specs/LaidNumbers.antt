@@ -53,6 +53,36 @@ abbrev mutual
   AreStraightGroups no_groups = Unit {0}
   AreStraightGroups (group_then part rest) = AreStraight part × AreStraightGroups rest
 
+abbrev mutual
+  -- the stores of a command are into accesses; of a loop in it nothing is asked, since nothing is put down for it
+  pub StoresReach : Action → Type 0
+  StoresReach (action id place form) = StoresReachForm form
+
+  pub StoresReachForm : ActionForm → Type 0
+  StoresReachForm (lets name declared value) = Unit {0}
+  StoresReachForm (assigns target value) = Unit {0}
+  StoresReachForm (stores target value) = IsAccessForm (form_of target)
+  StoresReachForm (reduces target op value) = Unit {0}
+  StoresReachForm (decides test chosen other) = StoresReach chosen × StoresReachOther other
+  StoresReachForm (blocks body) = StoresReachGroups body
+  StoresReachForm (lets_memory name shape shape_places value) = Unit {0}
+  StoresReachForm (views name parent form) = Unit {0}
+  StoresReachForm (calls function arguments) = Unit {0}
+  StoresReachForm (repeats test body) = Unit {0}
+  StoresReachForm (counts iterator declared low high factor body combine combine_place) = Unit {0}
+
+  pub StoresReachOther : MaybeAction → Type 0
+  StoresReachOther no_action = Unit {0}
+  StoresReachOther (one_action a) = StoresReach a
+
+  pub StoresReachPart : Actions → Type 0
+  StoresReachPart no_actions = Unit {0}
+  StoresReachPart (action_then a rest) = StoresReach a × StoresReachPart rest
+
+  pub StoresReachGroups : Groups → Type 0
+  StoresReachGroups no_groups = Unit {0}
+  StoresReachGroups (group_then part rest) = StoresReachPart part × StoresReachGroups rest
+
 -- a number is none of these
 abbrev pub IsOutside : (first count number : ℕ) → Type 0
 IsOutside first count number = (number < first) ⊎ (first + count ≤ number)
@@ -65,6 +95,12 @@ pub record Numbers (old new : Building) (first count next : ℕ) : Type 0 where
 abbrev pub CommandsNumber : Type 0
 CommandsNumber =
     (scene : Scene) (a : Action) (around : Around) (old new : Building) (first next : ℕ) (m : MadeCommand scene a around old new first next) → IsStraight a → 0 < paths_counted around → first + accesses_of a < 2 ^ 32
+    → AreFew scene a around old new first next m × Numbers old new first (accesses_of a) next
+
+-- so also of a command with loops in it that have no phase: their accesses have numbers, and no operations
+abbrev pub ReachingNumber : Type 0
+ReachingNumber =
+    (scene : Scene) (a : Action) (around : Around) (old new : Building) (first next : ℕ) (m : MadeCommand scene a around old new first next) → StoresReach a → 0 < paths_counted around → first + accesses_of a < 2 ^ 32
     → AreFew scene a around old new first next m × Numbers old new first (accesses_of a) next
 
 abbrev pub GroupsNumber : Type 0

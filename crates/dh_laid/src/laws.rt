@@ -2,7 +2,7 @@
 
 ghost use Rattle.dh_laid.specs.Laid.{AllAssignmentsForm, AllClearingsForm, AllReducesForm, AllStoresForm, ArmGuardsForm, ArmsEnd, ArmsLeave, AssignmentsForm, ChoicesForm, ClearingsForm, JoinsForm, ReducesForm, StoresForm, TestsForm};
 ghost use Rattle.dh_laid.specs.LaidCommands.{CommandsForm, GroupsForm};
-ghost use Rattle.dh_laid.specs.LaidNumbers.{CommandsNumber, GroupsNumber};
+ghost use Rattle.dh_laid.specs.LaidNumbers.{CommandsNumber, GroupsNumber, ReachingNumber};
 ghost use Rattle.dh_laid.specs.LaidProbes.{CommandsProbe, GroupsProbe};
 ghost use Rattle.dh_laid.specs.LaidProducts.{CommandsHaveProducts, CommandsMultiply, GroupsHaveProducts, GroupsMultiply, TermsMultiply};
 ghost use Rattle.dh_laid.specs.LaidQuiet.{CommandsAreQuiet, GroupsAreQuiet, QuietSetsNone, TermsAreQuiet};
@@ -47,6 +47,7 @@ pub fn whole_commands_are_formed()
 pub fn whole_commands_are_numbered()
     ensures commands { CommandsNumber }
     ensures groups { GroupsNumber }
+    ensures reaching { ReachingNumber }
 {}
 
 /// What is put down for expressions and commands checks nothing and sets no register.

@@ -14,7 +14,7 @@ use Rattle.dh_commands.proofs.CommandsDone.{assign_done, block_done, clear_done,
 use Rattle.dh_commands.proofs.PartsDone.{arm_done, as_seen, counted_done, idle_done, leads_all, leads_command, leads_part}
 use Rattle.dh_commands.specs.LanesRun.{paths_counted}
 use Rattle.dh_commands.specs.MadeCommands.{MadeArmGuards, MadeGroups, MakesFrom, MadeJoined, MadeTests}
-use Rattle.dh_commands.proofs.CommandsMade.{at_part, made_seen, makes_all, makes_command, makes_part}
+use Rattle.dh_commands.proofs.CommandsMade.{at_part, idle_next, made_seen, makes_all, makes_command, makes_part}
 use Rattle.dh_commands.proofs.commands.+commands.Goals as goal
 
 pub push_arm-returns-clause-means : goal.push_arm-returns-clause-means
@@ -243,7 +243,11 @@ pub push_command-returns-in-Call-clause-made : goal.push_command-returns-in-Call
 push_command-returns-in-Call-clause-made t c = made_seen c.args.scene.now c.args.around c.args.command.now _ c.args.first _ c.args.building.now c.args.building.now (ap action_form_seen c.in-Call.is ∙ call_is c.in-Call.function c.in-Call.arguments) (record { still = refl; next_is = refl })
 
 pub push_command-returns-in-While-clause-made : goal.push_command-returns-in-While-clause-made
-push_command-returns-in-While-clause-made t c = made_seen c.args.scene.now c.args.around c.args.command.now _ c.args.first _ c.args.building.now c.args.building.now (ap action_form_seen c.in-While.is ∙ while_is c.in-While.test c.in-While.body) (record { still = refl })
+push_command-returns-in-While-clause-made t c =
+    made_seen c.args.scene.now c.args.around c.args.command.now _ c.args.first _ c.args.building.now c.args.building.now (ap action_form_seen c.in-While.is ∙ while_is c.in-While.test c.in-While.body)
+    (record { still = refl; next_is = idle_next c.args.command.now _ c.args.first c.behind_command.result (ap action_form_seen c.in-While.is ∙ while_is c.in-While.test c.in-While.body) c.behind_command.ensures })
 
 pub push_command-returns-in-For-clause-made : goal.push_command-returns-in-For-clause-made
-push_command-returns-in-For-clause-made t c = made_seen c.args.scene.now c.args.around c.args.command.now _ c.args.first _ c.args.building.now c.args.building.now (ap action_form_seen c.in-For.is ∙ for_is c.in-For.iterator c.in-For.declared c.in-For.low c.in-For.low_place c.in-For.high c.in-For.high_place c.in-For.factor c.in-For.factor_place c.in-For.unroll_place c.in-For.body c.in-For.combine c.in-For.combine_place) (record { still = refl })
+push_command-returns-in-For-clause-made t c =
+    let for_seen = ap action_form_seen c.in-For.is ∙ for_is c.in-For.iterator c.in-For.declared c.in-For.low c.in-For.low_place c.in-For.high c.in-For.high_place c.in-For.factor c.in-For.factor_place c.in-For.unroll_place c.in-For.body c.in-For.combine c.in-For.combine_place in
+    made_seen c.args.scene.now c.args.around c.args.command.now _ c.args.first _ c.args.building.now c.args.building.now for_seen (record { still = refl; next_is = idle_next c.args.command.now _ c.args.first c.behind_command-in-For.result for_seen c.behind_command-in-For.ensures })
