@@ -1,10 +1,12 @@
 -- Where the accesses of a block stand, by their numbers: each of its memory, at the paths that stand round it and where
 -- the guards of its arms hold, which only what was put down tells. A block is of commands, put down one after the other,
--- or of a test. All that is stated of the operations of blocks is stated of these sites.
-use Rattle.std.specs.Prelude.{◌≡◌, ℕ, ◌-◌, nat_lt, true, false, if◌then◌else◌, List, [], ◌∷◌, ◌++◌, slice_get, Option, Some, None}
+-- or of a test. All that is stated of the operations of blocks is stated of these sites. A loop in an arm has no turn: its
+-- accesses have their numbers all the same, but they are put down nowhere and have no site.
+use Rattle.std.specs.Prelude.{◌≡◌, ℕ, ◌+◌, ◌-◌, nat_lt, true, false, if◌then◌else◌, List, [], ◌∷◌, ◌++◌, map, replicate, slice_get, Option, Some, None}
 use Rattle.dh_base.specs.declared.places.Place.{Place}
 use Rattle.dh_tree.specs.PlainTrees as plain
 use Rattle.dh_tree.specs.PlainTrees.{Action, action, ActionForm, lets, lets_memory, views, assigns, stores, reduces, calls, blocks, decides, repeats, counts, MaybeAction, no_action, one_action, Actions, no_actions, action_then, Groups, no_groups, group_then}
+use Rattle.dh_meaning.specs.AccessNumbers.{accesses_of, other_accesses, term_accesses}
 use Rattle.dh_meaning.specs.CoreOf.{memory_of}
 use Rattle.dh_meaning.specs.Phases.{Located}
 use Rattle.dh_expressions.specs.declared.scenes.Around.{Around}
@@ -52,37 +54,45 @@ module _ (scene : Scene) (around : Around) where
   target_sites (plain.term place k (plain.applied op left right)) = []
   target_sites (plain.term place k (plain.converted inner to)) = []
 
+-- accesses that have sites, and accesses that have none
+abbrev pub all_there : List Site → List (Option Site)
+all_there ss = map (λ (s : Site). Some s) ss
+
+abbrev pub none_there : (count : ℕ) → List (Option Site)
+none_there count = replicate count None
+
 module _ (scene : Scene) where
   abbrev mutual
-    pub command_sites : (a : Action) → (around : Around) → (old new : Building) → (first next : ℕ) → MadeCommand scene a around old new first next → List Site
+    -- as many as the command has accesses
+    pub command_sites : (a : Action) → (around : Around) → (old new : Building) → (first next : ℕ) → MadeCommand scene a around old new first next → List (Option Site)
     command_sites (action id place form) around old new first next m = action_sites form around old new first next m
 
-    pub action_sites : (form : ActionForm) → (around : Around) → (old new : Building) → (first next : ℕ) → MadeActionForm scene form around old new first next → List Site
-    action_sites (lets name declared (Some value)) around old new first next m = term_sites scene around value
+    pub action_sites : (form : ActionForm) → (around : Around) → (old new : Building) → (first next : ℕ) → MadeActionForm scene form around old new first next → List (Option Site)
+    action_sites (lets name declared (Some value)) around old new first next m = all_there (term_sites scene around value)
     action_sites (lets name declared None) around old new first next m = []
-    action_sites (assigns target value) around old new first next m = term_sites scene around value
-    action_sites (stores target value) around old new first next m = term_sites scene around value ++ target_sites scene around target
-    action_sites (reduces target op value) around old new first next m = term_sites scene around value
+    action_sites (assigns target value) around old new first next m = all_there (term_sites scene around value)
+    action_sites (stores target value) around old new first next m = all_there (term_sites scene around value ++ target_sites scene around target)
+    action_sites (reduces target op value) around old new first next m = all_there (term_sites scene around value)
     action_sites (decides test chosen other) around old new first next m =
-        term_sites scene around test
+        all_there (term_sites scene around test)
         ++ (command_sites chosen m.chosen.arm m.chosen.begin m.chosen.inside m.own m.behind m.chosen.command ++ other_sites other around m.tests m.after_chosen m.after_other m.behind next m.other_left m.other)
     action_sites (blocks body) around old new first next m = groups_sites body around old new first next m
     action_sites (lets_memory name shape shape_places value) around old new first next m = []
     action_sites (views name parent form) around old new first next m = []
     action_sites (calls function arguments) around old new first next m = []
-    -- no loop is straight
-    action_sites (repeats test body) around old new first next m = []
-    action_sites (counts iterator declared low high factor body combine combine_place) around old new first next m = []
+    -- loops without turns
+    action_sites (repeats test body) around old new first next m = none_there (term_accesses test + accesses_of body)
+    action_sites (counts iterator declared low high factor body combine combine_place) around old new first next m = none_there (accesses_of body + other_accesses combine)
 
-    pub other_sites : (other : MaybeAction) → (around : Around) → (tests : List ℕ) → (old new : Building) → (first next : ℕ) → (lefts : List Left) → MadeOther scene other around tests old new first next lefts → List Site
+    pub other_sites : (other : MaybeAction) → (around : Around) → (tests : List ℕ) → (old new : Building) → (first next : ℕ) → (lefts : List Left) → MadeOther scene other around tests old new first next lefts → List (Option Site)
     other_sites no_action around tests old new first next lefts m = []
     other_sites (one_action a) around tests old new first next lefts m = command_sites a m.arm m.begin m.inside first next m.command
 
-    pub actions_sites : (part : Actions) → (around : Around) → (old new : Building) → (first next : ℕ) → MadeActions scene part around old new first next → List Site
+    pub actions_sites : (part : Actions) → (around : Around) → (old new : Building) → (first next : ℕ) → MadeActions scene part around old new first next → List (Option Site)
     actions_sites no_actions around old new first next m = []
     actions_sites (action_then a rest) around old new first next m = command_sites a around old m.middle first m.own m.one ++ actions_sites rest around m.middle new m.own next m.rest
 
-    pub groups_sites : (body : Groups) → (around : Around) → (old new : Building) → (first next : ℕ) → MadeGroups scene body around old new first next → List Site
+    pub groups_sites : (body : Groups) → (around : Around) → (old new : Building) → (first next : ℕ) → MadeGroups scene body around old new first next → List (Option Site)
     groups_sites no_groups around old new first next m = []
     groups_sites (group_then g rest) around old new first next m = actions_sites g around old m.middle first m.own m.one ++ groups_sites rest around m.middle new m.own next m.rest
 
@@ -91,6 +101,14 @@ module _ (scene : Scene) where
 -- of accesses that are numbered from `first` on
 abbrev pub sites_from : (first : ℕ) → List Site → (number : ℕ) → Option Site
 sites_from first ss number = if nat_lt number first then None else slice_get ss (number - first)
+
+-- so of those that have sites
+abbrev pub one_site : Option (Option Site) → Option Site
+one_site None = None
+one_site (Some s) = s
+
+abbrev pub places_from : (first : ℕ) → List (Option Site) → (number : ℕ) → Option Site
+places_from first ss number = if nat_lt number first then None else one_site (slice_get ss (number - first))
 
 abbrev pub site_or : Option Site → Option Site → Option Site
 site_or None s = s
@@ -106,7 +124,7 @@ MadeEach scene around (c ∷ cs) old new =
 abbrev pub block_sites : (scene : Scene) → (around : Around) → (cs : List Located) → (old new : Building) → MadeEach scene around cs old new → (number : ℕ) → Option Site
 block_sites scene around [] old new m number = None
 block_sites scene around (c ∷ cs) old new (mid, (next, (m, rest))) number =
-    site_or (sites_from c.first (command_sites scene c.command around old mid c.first next m) number) (block_sites scene around cs mid new rest number)
+    site_or (places_from c.first (command_sites scene c.command around old mid c.first next m) number) (block_sites scene around cs mid new rest number)
 
 -- and those of a test, whose accesses are numbered from `first` on
 abbrev pub test_sites : Scene → Around → (first : ℕ) → plain.Term → (number : ℕ) → Option Site

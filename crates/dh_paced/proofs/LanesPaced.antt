@@ -74,7 +74,7 @@ module _ (c : Clocks) (scene : Scene) (top : Around) (shared : ℕ → Option �
   given_to a n m same h = subst (λ (k : ℕ). HaveGivenTo c scene top shared Variable Read Own a k) same h
 
   module _ (around : Around) (outer first : ℕ) (l : Levels) (old : Building) (s : StandsFor c scene top shared Variable Read Own around old outer first l) where
-    within_top : (k : ℕ) → k < paths_counted top → k < paths_counted around
+    pub within_top : (k : ℕ) → k < paths_counted top → k < paths_counted around
     within_top k within = subst (λ (n : ℕ). k < n) (sym s.under.counted) within
 
     -- what stands behind the first paths, so many
@@ -101,14 +101,14 @@ module _ (c : Clocks) (scene : Scene) (top : Around) (shared : ℕ → Option �
           current = current;
         })
 
-    lane_started : (most reads count : ℕ) (Current : List (Option ℕ) → Type 0) (k : ℕ) (b : Building) → AtLane most reads count Current k b → c.block.first ≤ length b.draft.operations.items
+    pub lane_started : (most reads count : ℕ) (Current : List (Option ℕ) → Type 0) (k : ℕ) (b : Building) → AtLane most reads count Current k b → c.block.first ≤ length b.draft.operations.items
     lane_started most reads count Current k b h = time_later c old.draft b.draft h.extends s.started
 
-    lane_scope : (most reads count : ℕ) (Current : List (Option ℕ) → Type 0) (k : ℕ) (b : Building) → k < paths_counted top → AtLane most reads count Current k b → IsScope c.block b.draft scene (lane_of around k) b.values.current.items
+    pub lane_scope : (most reads count : ℕ) (Current : List (Option ℕ) → Type 0) (k : ℕ) (b : Building) → k < paths_counted top → AtLane most reads count Current k b → IsScope c.block b.draft scene (lane_of around k) b.values.current.items
     lane_scope most reads count Current k b within h =
         scope_of c.block b.draft scene around k b.values.current.items (round_later c.block old.draft b.draft scene around h.extends s.round) h.held.current (within_top k within)
 
-    lane_here : (most reads count : ℕ) (Current : List (Option ℕ) → Type 0) (k : ℕ) (b : Building) (mid : Draft) → k < paths_counted top → AtLane most reads count Current k b → Agrees c.block mid → AgreeInTime c mid
+    pub lane_here : (most reads count : ℕ) (Current : List (Option ℕ) → Type 0) (k : ℕ) (b : Building) (mid : Draft) → k < paths_counted top → AtLane most reads count Current k b → Agrees c.block mid → AgreeInTime c mid
         → IsHere c scene top shared Variable Read Own g (lane_of around k) outer b.values.current.items b.draft mid b.accesses l
     lane_here most reads count Current k b mid within h agrees agree = record {
       agrees = agrees;
@@ -122,7 +122,7 @@ module _ (c : Clocks) (scene : Scene) (top : Around) (shared : ℕ → Option �
       outer_few = s.outer_few;
     }
 
-    lane_next : (reads count k : ℕ) (a : Accesses) → ((m : ℕ) → IsIn first reads m → Own m) → k < paths_counted top → GivenAt first reads count k a → AreNext scene (lane_of around k) a first reads
+    pub lane_next : (reads count k : ℕ) (a : Accesses) → ((m : ℕ) → IsIn first reads m → Own m) → k < paths_counted top → GivenAt first reads count k a → AreNext scene (lane_of around k) a first reads
     lane_next reads count k a own within h =
         next_of c scene top shared Variable Read Own g (lane_of around k) a first reads own h.own (λ e read less. subst (λ (n : ℕ). k < n) (sym (h.done e read less)) within)
 

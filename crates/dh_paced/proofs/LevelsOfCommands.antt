@@ -17,7 +17,7 @@ use Rattle.dh_expressions.specs.Evaluated.{known_in}
 use Rattle.dh_formed.specs.Timed.{AreBounded, LevelsThen, all_leveled, leveled}
 use Rattle.dh_formed.proofs.LevelsBehind.{all_levels_behind, levels_behind, operation_leveled}
 use Rattle.dh_laid.specs.Laid.{aim_accesses}
-use Rattle.dh_laid.specs.LaidNumbers.{AreStraight, AreStraightGroups, IsAccessForm, IsStraight, IsStraightOther}
+use Rattle.dh_laid.specs.LaidNumbers.{IsAccessForm, StoresReach, StoresReachGroups, StoresReachOther, StoresReachPart}
 use Rattle.dh_paced.specs.Paced.{IsIn, IsReadIn, IsReadGroups, IsReadOther, IsReadPart, action_levels, between_arms, groups_levels, other_levels, part_levels, term_levels}
 use Rattle.dh_paced.proofs.CoreAppended.{action_then_levels, part_then_levels}
 
@@ -33,7 +33,7 @@ aims_fewer (plain.term place k (plain.applied op left right)) is = absurd is
 aims_fewer (plain.term place k (plain.converted inner to)) is = absurd is
 
 mutual
-  pub read_in : (first : ℕ) (a : Action) (m : ℕ) → IsReadIn first a m → IsStraight a → IsIn first (accesses_of a) m
+  pub read_in : (first : ℕ) (a : Action) (m : ℕ) → IsReadIn first a m → StoresReach a → IsIn first (accesses_of a) m
   read_in first (action id place (lets name declared (Some value))) m h s = let l = h.1 in (h.0, omega (arith, l))
   read_in first (action id place (lets name declared None)) m h s = absurd h
   read_in first (action id place (assigns target value)) m h s = let l = h.1 in (h.0, omega (arith, l))
@@ -53,17 +53,17 @@ mutual
   read_in first (action id place (repeats test body)) m h s = absurd h
   read_in first (action id place (counts iterator declared low high factor body combine combine_place)) m h s = absurd h
 
-  pub read_in_other : (first : ℕ) (other : MaybeAction) (m : ℕ) → IsReadOther first other m → IsStraightOther other → IsIn first (other_accesses other) m
+  pub read_in_other : (first : ℕ) (other : MaybeAction) (m : ℕ) → IsReadOther first other m → StoresReachOther other → IsIn first (other_accesses other) m
   read_in_other first no_action m h s = absurd h
   read_in_other first (one_action a) m h s = read_in first a m h s
 
-  pub read_in_part : (first : ℕ) (part : Actions) (m : ℕ) → IsReadPart first part m → AreStraight part → IsIn first (part_accesses part) m
+  pub read_in_part : (first : ℕ) (part : Actions) (m : ℕ) → IsReadPart first part m → StoresReachPart part → IsIn first (part_accesses part) m
   read_in_part first no_actions m h s = absurd h
   read_in_part first (action_then a rest) m (inl h) s = let r : IsIn first (accesses_of a) m = read_in first a m h s.0 in let l = r.1 in (r.0, omega (arith, l))
   read_in_part first (action_then a rest) m (inr h) s =
       let r : IsIn (first + accesses_of a) (part_accesses rest) m = read_in_part (first + accesses_of a) rest m h s.1 in let f = r.0 in let l = r.1 in (omega (arith, f), omega (arith, l))
 
-  pub read_in_groups : (first : ℕ) (body : Groups) (m : ℕ) → IsReadGroups first body m → AreStraightGroups body → IsIn first (groups_accesses body) m
+  pub read_in_groups : (first : ℕ) (body : Groups) (m : ℕ) → IsReadGroups first body m → StoresReachGroups body → IsIn first (groups_accesses body) m
   read_in_groups first no_groups m h s = absurd h
   read_in_groups first (group_then part rest) m (inl h) s = let r : IsIn first (part_accesses part) m = read_in_part first part m h s.0 in let l = r.1 in (r.0, omega (arith, l))
   read_in_groups first (group_then part rest) m (inr h) s =
@@ -91,8 +91,8 @@ levels_as P first c d l made same h = subst (λ (n : ℕ). LevelsGo P first n l 
 levels_made : (P : ℕ → Type 0) (first c : ℕ) (l made other : Levels) → made ≡ other → LevelsGo P first c l made → LevelsGo P first c l other
 levels_made P first c l made other same h = subst (λ (k : Levels). LevelsGo P first c l k) same h
 
-levels_none : (P : ℕ → Type 0) (first : ℕ) (l : Levels) → LevelsGo P first 0 l l
-levels_none P first l = record { before_them = λ m less. refl; behind_them = λ m more. refl; more = self l.most; bounded = λ b. b; least = λ k small reads. small }
+levels_none : (P : ℕ → Type 0) (first count : ℕ) (l : Levels) → LevelsGo P first count l l
+levels_none P first count l = record { before_them = λ m less. refl; behind_them = λ m more. refl; more = self l.most; bounded = λ b. b; least = λ k small reads. small }
   where
     self : (n : ℕ) → n ≤ n
     self n = omega arith
@@ -217,7 +217,7 @@ module _ (scene : Scene) (shared : ℕ → Option ℕ) where
   stored_go outer first (plain.term place k (plain.converted inner to)) value l is = absurd is
 
   -- an `if`, from its arms
-  chosen_go : (outer first : ℕ) (test : Term) (chosen : Action) (other : MaybeAction) (l : Levels) → IsStraight chosen → IsStraightOther other
+  chosen_go : (outer first : ℕ) (test : Term) (chosen : Action) (other : MaybeAction) (l : Levels) → StoresReach chosen → StoresReachOther other
       → ((k : Levels) → Go (IsReadIn (first + term_accesses test) chosen) (first + term_accesses test) (accesses_of chosen) k (action_levels (known_in scene) shared (max outer (leveled scene shared outer first test l).level) (first + term_accesses test) chosen k))
       → ((k : Levels) → Go (IsReadOther (first + term_accesses test + accesses_of chosen) other) (first + term_accesses test + accesses_of chosen) (other_accesses other) k
       (other_levels (known_in scene) shared (max outer (leveled scene shared outer first test l).level) (first + term_accesses test + accesses_of chosen) other k))
@@ -263,9 +263,9 @@ module _ (scene : Scene) (shared : ℕ → Option ℕ) where
       all = levels_both (IsIn first (term_accesses test)) _ first (term_accesses test) (accesses_of chosen + other_accesses other) l t.levels o (λ k p. p) (levels_taken first (term_accesses test) l t tg) arms
 
   mutual
-    pub action_go : (outer first : ℕ) (a : Action) (l : Levels) → IsStraight a → Go (IsReadIn first a) first (accesses_of a) l (action_levels (known_in scene) shared outer first a l)
+    pub action_go : (outer first : ℕ) (a : Action) (l : Levels) → StoresReach a → Go (IsReadIn first a) first (accesses_of a) l (action_levels (known_in scene) shared outer first a l)
     action_go outer first (action id place (lets name declared (Some value))) l s = assigned_go outer first (entity_number name.entity) value l
-    action_go outer first (action id place (lets name declared None)) l s = levels_assigned _ first 0 (entity_number name.entity) 0 l l (λ b. omega arith) (levels_none _ first l)
+    action_go outer first (action id place (lets name declared None)) l s = levels_assigned _ first 0 (entity_number name.entity) 0 l l (λ b. omega arith) (levels_none _ first 0 l)
     action_go outer first (action id place (assigns target value)) l s = assigned_go outer first (entity_number target.entity) value l
     action_go outer first (action id place (stores target value)) l s = stored_go outer first target value l s
     action_go outer first (action id place (reduces target op value)) l s = reduced_go outer first target op value l
@@ -273,25 +273,25 @@ module _ (scene : Scene) (shared : ℕ → Option ℕ) where
         chosen_go outer first test chosen other l s.0 s.1 (λ k. action_go (max outer (leveled scene shared outer first test l).level) (first + term_accesses test) chosen k s.0)
         (λ k. other_go (max outer (leveled scene shared outer first test l).level) (first + term_accesses test + accesses_of chosen) other k s.1)
     action_go outer first (action id place (blocks body)) l s = levels_as _ first (groups_accesses body) (0 + groups_accesses body) l _ (omega arith) (groups_go outer first body l s)
-    action_go outer first (action id place (lets_memory name shape shape_places value)) l s = levels_none _ first l
-    action_go outer first (action id place (views name parent form)) l s = levels_none _ first l
-    action_go outer first (action id place (calls function arguments)) l s = levels_none _ first l
-    action_go outer first (action id place (repeats test body)) l s = absurd s
-    action_go outer first (action id place (counts iterator declared low high factor body combine combine_place)) l s = absurd s
+    action_go outer first (action id place (lets_memory name shape shape_places value)) l s = levels_none _ first 0 l
+    action_go outer first (action id place (views name parent form)) l s = levels_none _ first 0 l
+    action_go outer first (action id place (calls function arguments)) l s = levels_none _ first 0 l
+    action_go outer first (action id place (repeats test body)) l s = levels_none _ first (term_accesses test + accesses_of body) l
+    action_go outer first (action id place (counts iterator declared low high factor body combine combine_place)) l s = levels_none _ first (0 + (accesses_of body + other_accesses combine)) l
 
-    pub other_go : (outer first : ℕ) (other : MaybeAction) (l : Levels) → IsStraightOther other → Go (IsReadOther first other) first (other_accesses other) l (other_levels (known_in scene) shared outer first other l)
-    other_go outer first no_action l s = levels_none _ first l
+    pub other_go : (outer first : ℕ) (other : MaybeAction) (l : Levels) → StoresReachOther other → Go (IsReadOther first other) first (other_accesses other) l (other_levels (known_in scene) shared outer first other l)
+    other_go outer first no_action l s = levels_none _ first 0 l
     other_go outer first (one_action a) l s = action_go outer first a l s
 
-    pub part_go : (outer first : ℕ) (part : Actions) (l : Levels) → AreStraight part → Go (IsReadPart first part) first (part_accesses part) l (part_levels (known_in scene) shared outer first part l)
-    part_go outer first no_actions l s = levels_none _ first l
+    pub part_go : (outer first : ℕ) (part : Actions) (l : Levels) → StoresReachPart part → Go (IsReadPart first part) first (part_accesses part) l (part_levels (known_in scene) shared outer first part l)
+    part_go outer first no_actions l s = levels_none _ first 0 l
     part_go outer first (action_then a rest) l s =
         levels_made _ first (accesses_of a + part_accesses rest) l _ _ (sym (action_then_levels (known_in scene) first a (core_part (known_in scene) (first + accesses_of a) rest no_commands) shared outer l))
         (levels_both (IsReadIn first a) (IsReadPart (first + accesses_of a) rest) first (accesses_of a) (part_accesses rest) l (action_levels (known_in scene) shared outer first a l) _ (λ k p. read_in first a k p s.0)
         (action_go outer first a l s.0) (part_go outer (first + accesses_of a) rest (action_levels (known_in scene) shared outer first a l) s.1))
 
-    pub groups_go : (outer first : ℕ) (body : Groups) (l : Levels) → AreStraightGroups body → Go (IsReadGroups first body) first (groups_accesses body) l (groups_levels (known_in scene) shared outer first body l)
-    groups_go outer first no_groups l s = levels_none _ first l
+    pub groups_go : (outer first : ℕ) (body : Groups) (l : Levels) → StoresReachGroups body → Go (IsReadGroups first body) first (groups_accesses body) l (groups_levels (known_in scene) shared outer first body l)
+    groups_go outer first no_groups l s = levels_none _ first 0 l
     groups_go outer first (group_then part rest) l s =
         levels_made _ first (part_accesses part + groups_accesses rest) l _ _ (sym (part_then_levels (known_in scene) first part (core_groups (known_in scene) (first + part_accesses part) rest no_commands) shared outer l))
         (levels_both (IsReadPart first part) (IsReadGroups (first + part_accesses part) rest) first (part_accesses part) (groups_accesses rest) l (part_levels (known_in scene) shared outer first part l) _ (λ k p. read_in_part first part k p s.0)

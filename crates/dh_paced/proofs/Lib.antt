@@ -4,3 +4,4 @@ pub mod AssignmentsLogged
 pub mod AssigningPaced
 pub mod LeavesPaced
 pub mod LanesPaced
+pub mod StoresPaced

@@ -34,7 +34,7 @@ abbrev mutual
   IsReadOf first (lets_memory name shape shape_places value) number = ⊥
   IsReadOf first (views name parent form) number = ⊥
   IsReadOf first (calls function arguments) number = ⊥
-  -- no loop is straight
+  -- a loop in a straight command has no turn
   IsReadOf first (repeats test body) number = ⊥
   IsReadOf first (counts iterator declared low high factor body combine combine_place) number = ⊥
 

@@ -4,7 +4,7 @@ use Rattle.std.specs.Prelude.{◌≡◌, ◌⊎◌, ℕ, suc, ◌+◌, ◌<◌, 
 use Rattle.dh_tree.specs.Indices.{form_of}
 use Rattle.dh_tree.specs.PlainTrees as plain
 use Rattle.dh_tree.specs.PlainTrees.{Term, Action, action, ActionForm, lets, lets_memory, views, assigns, stores, reduces, calls, blocks, decides, repeats, counts, MaybeAction, no_action, one_action, Actions, no_actions, action_then, Groups, no_groups, group_then}
-use Rattle.dh_meaning.specs.AccessNumbers.{accesses_of, part_accesses, term_accesses, terms_accesses}
+use Rattle.dh_meaning.specs.AccessNumbers.{accesses_of, other_accesses, part_accesses, term_accesses, terms_accesses}
 use Rattle.dh_meaning.specs.CoreOf.{core_term, core_terms, entity_number}
 use Rattle.dh_meaning.specs.Levels.{Levels}
 use Rattle.dh_plan.specs.PlanPhases.{term_mentions, terms_mention}
@@ -98,8 +98,9 @@ module _ (c : Clocks) (scene : Scene) (top : Around) (shared : ℕ → Option �
     OwnsBy outer first (lets_memory name shape shape_places value) l = Unit {0}
     OwnsBy outer first (views name parent form) l = Unit {0}
     OwnsBy outer first (calls function arguments) l = Unit {0}
-    OwnsBy outer first (repeats test body) l = Unit {0}
-    OwnsBy outer first (counts iterator declared low high factor body combine combine_place) l = Unit {0}
+    -- no access of a loop without turns is put down
+    OwnsBy outer first (repeats test body) l = (m : ℕ) → IsIn first (term_accesses test + accesses_of body) m → Read m → ⊥
+    OwnsBy outer first (counts iterator declared low high factor body combine combine_place) l = (m : ℕ) → IsIn first (accesses_of body + other_accesses combine) m → Read m → ⊥
 
     pub OwnsOther : (outer first : ℕ) → MaybeAction → Levels → Type 0
     OwnsOther outer first no_action l = Unit {0}
