@@ -391,3 +391,95 @@ module _ (c : Clocks) (scene : Scene) (top : Around) (shared : ℕ → Option �
         (λ k current. AreCurrent c scene top shared Variable Read Own current l) (λ k b d n one. (stores_form scene (lane_of around k) first target_by t b d n one few).extends)
         (λ k b d n one within at in_time h. by_indices_step k b d n one within at in_time (suits k within) h)
         (own_all c scene top shared Variable Read Own g around outer first l old s target_by t own indices (terms_accesses ts) indices_go reads owns.are.own) s.current (paths_counted top) new next (omega arith) m agrees agree)
+
+  -- by a row of a bank
+  module _ (place at : Place) (kd : Option Kind) (r : Ref) (bank : ℕ) (row : Term) (owns : OwnsTerm c scene top shared Variable Read Own outer aimed_at row) (write : OwnsWrite c scene top shared Variable Read Own outer (aimed_at + term_accesses row))
+      (few : aimed_at + term_accesses row < 2 ^ 32) (reads : ReadsAgree c (leveled scene shared outer aimed_at row valued.levels).levels (aimed_at + term_accesses row)) where
+    abbrev target_of : Term
+    target_of = plain.term place kd (plain.in_bank r bank at row)
+
+    abbrev row_made : Leveled
+    row_made = leveled scene shared outer aimed_at row valued.levels
+
+    row_go : LevelsThen aimed_at (term_accesses row) valued.levels row_made
+    row_go = levels_behind scene shared outer row aimed_at valued.levels
+
+    abbrev Here_of : (k : ℕ) → Building → Type 0
+    Here_of k b = Lane_of c scene top shared Variable Read Own g around outer first l old s target_of t own row_made (term_accesses row) row_go reads owns.are.own k b
+
+    by_row_step : (k : ℕ) (b d : Building) (n : ℕ) → MadeStored scene (lane_of around k) first target_of t b d n → k < paths_counted top → Agrees c.block d.draft → AgreeInTime c d.draft
+        → TermSuits c.block scene (lane_of around k) first t
+        × (AimingSuits c.block scene (lane_of around k) aimed_at (plain.in_bank r bank at row) × StoringSuits c.block scene (lane_of around k) aimed_at target_of t (plain.in_bank r bank at row)) → Here_of k b → Here_of (suc k) d
+    by_row_step k b d n m within agrees agree w h = by m.aimed m.aims m.stores
+      where
+        lane : Lane
+        lane = lane_of around k
+
+        few_value : aimed_at < 2 ^ 32
+        few_value = omega (arith, few)
+
+        own_is : m.own ≡ aimed_at
+        own_is = numbered scene lane b.values.current.items t b.draft m.middle b.accesses m.between first m.own m.value m.term few_value
+
+        there : FormsThere c.block b d
+        there =
+            (stores_form scene lane first target_of t b d n m few).forms c.block agrees
+            (lane_started c scene top shared Variable Read Own g around outer first l old s row_made.levels.most (term_accesses t + term_accesses row) (term_accesses t + (term_accesses row + 1)) _ k b h)
+            (lane_scope c scene top shared Variable Read Own g around outer first l old s row_made.levels.most (term_accesses t + term_accesses row) (term_accesses t + (term_accesses row + 1)) _ k b within h) h.noted h.held w
+
+        by : (o : Option (Aim × ℕ)) → MadeAim scene lane b.values.current.items (plain.in_bank r bank at row) m.middle m.end m.between m.behind m.own o → MadeStoring scene lane target_of t m.value o m.end m.behind d n → Here_of (suc k) d
+        by None a stores = absurd a
+        by (Some (aim, memory)) a stores =
+            stored_more c scene top shared Variable Read Own g around outer first l old s target_of t own row_made (term_accesses row) row_go reads owns.are.own k within b d n m few_value h agrees agree to_middle w.0
+            m.end m.behind memory aim aims write stores access there
+          where
+            moved : MadeTerm scene lane b.values.current.items row m.middle m.end m.between m.behind aimed_at aim.number a.0.value
+            moved = subst (λ (i : ℕ). MadeTerm scene lane b.values.current.items row m.middle m.end m.between m.behind i aim.number a.0.value) own_is a.0.row
+
+            number_is : aim.number ≡ aimed_at + term_accesses row
+            number_is = numbered scene lane b.values.current.items row m.middle m.end m.between m.behind aimed_at aim.number a.0.value moved few
+
+            value : TimesValue m.end stores.0 stores.1.0 (λ x. HasClock x 0 m.value) (λ x. 0)
+            value = held_timed t (entry_kind (slice_get (table_of (program_seen scene.program.now)) memory)) m.value (λ x. 0) m.end stores.0 stores.1.0 stores.1.1.0
+
+            from_end : Extends m.end d.draft
+            from_end = extends_again m.end stores.0 d.draft value.extends (write_extends scene lane target_of memory aim stores.1.0 stores.0 d.draft m.behind d.accesses stores.1.1.1.0)
+
+            to_middle : Extends m.middle d.draft
+            to_middle = extends_again m.middle m.end d.draft (formed scene lane b.values.current.items row m.middle m.end m.between m.behind aimed_at aim.number a.0.value moved few).part.extends from_end
+
+            aims_is : IsHere c scene top shared Variable Read Own g lane outer b.values.current.items m.middle m.end m.between valued.levels
+            aims_is = aims_here c scene top shared Variable Read Own g around outer first l old s target_of t own row_made (term_accesses row) row_go reads owns.are.own k within b d n m few_value h agrees agree to_middle w.0 m.end from_end
+
+            made_here : TermHere c scene top shared Variable Read Own g lane outer b.values.current.items m.middle m.end m.between m.behind aimed_at aim.number valued.levels aims_is row a.0.value
+            made_here =
+                term_here c scene top shared Variable Read Own g lane outer b.values.current.items m.middle m.end m.between m.behind aimed_at aim.number valued.levels aims_is row a.0.value moved few owns
+                (aims_next c scene top shared Variable Read Own g around outer first l old s target_of t own row_made (term_accesses row) row_go reads owns.are.own k within b d n m few_value h agrees agree to_middle w.0) w.1.0.0
+                (λ e v mentioned. aims_vars c scene top shared Variable Read Own g around outer first l old s target_of t own row_made (term_accesses row) row_go reads owns.are.own k within b d n m few_value h agrees agree to_middle w.0 e v) reads
+
+            aims : AimsHere c scene top shared Variable Read Own g around outer first l old s target_of t own k b.values.current.items m.middle m.end m.between m.behind (term_accesses row) row_made memory aim
+            aims = record {
+              extends = made_here.extends;
+              within = made_here.timed_is.within;
+              clock = row_clock c memory row_made.level a.0.value aim a.0.none a.0.row_is made_here.timed_is.at;
+              in_time = made_here.timed_is.noted;
+              given = made_here.given;
+              noted = made_here.noted;
+              number_is = number_is;
+            }
+
+            access : AccessSuits c.block scene lane memory aim.number (place_written target_of) (form_of target_of) true
+            access =
+                subst (λ (i : ℕ). AccessSuits c.block scene lane i aim.number (place_written target_of) (form_of target_of) true) (sym a.1)
+                (subst (λ (i : ℕ). AccessSuits c.block scene lane (memory_of (known_in scene) r) i (place_written target_of) (form_of target_of) true) (sym number_is) w.1.1.access)
+
+    pub by_row_paced : (new : Building) (next : ℕ) → StoredTo scene around first target_of t (paths_counted top) old new next → Agrees c.block new.draft → AgreeInTime c new.draft
+        → ((k : ℕ) → k < paths_counted top → TermSuits c.block scene (lane_of around k) first t
+        × (AimingSuits c.block scene (lane_of around k) aimed_at (plain.in_bank r bank at row) × StoringSuits c.block scene (lane_of around k) aimed_at target_of t (plain.in_bank r bank at row)))
+        → Paces c scene top shared Variable Read Own old new row_made.levels (first + (term_accesses t + (term_accesses row + 1)))
+    by_row_paced new next m agrees agree suits =
+        stored_end target_of row_made (term_accesses row) row_go new write
+        (lanes_paced c scene top shared Variable Read Own g around outer first l old s (λ k b d n. MadeStored scene (lane_of around k) first target_of t b d n) row_made.levels.most (term_accesses t + term_accesses row) (term_accesses t + (term_accesses row + 1))
+        (λ k current. AreCurrent c scene top shared Variable Read Own current l) (λ k b d n one. (stores_form scene (lane_of around k) first target_of t b d n one few).extends)
+        (λ k b d n one within at in_time h. by_row_step k b d n one within at in_time (suits k within) h)
+        (own_all c scene top shared Variable Read Own g around outer first l old s target_of t own row_made (term_accesses row) row_go reads owns.are.own) s.current (paths_counted top) new next (omega arith) m agrees agree)
