@@ -5,3 +5,5 @@ pub mod AssigningPaced
 pub mod LeavesPaced
 pub mod LanesPaced
 pub mod StoresPaced
+pub mod TestsPaced
+pub mod ChoicesPaced
