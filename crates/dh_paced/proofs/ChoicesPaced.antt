@@ -74,29 +74,29 @@ choice_extends test d old new before after m =
 -- One choice.
 
 module _ (scene : Scene) (top : Around) (A B : ℕ → Type 0) (base one two : List (Option ℕ)) (chosen other : List Left) (arm_one : ArmLeft scene top A base one chosen) (arm_two : ArmLeft scene top B base two other) (tests : List ℕ) (choices : List Choice)
-    (c : Clocks) (level : ℕ) (at : TestsAt c level tests) (first second : (register : ℕ) → ℕ)
-    (left_one : (k : ℕ) (d : Choice) → slice_get choices k ≡ Some d → CurrentAt c (slice_get one d.register) (first d.register)) (left_two : (k : ℕ) (d : Choice) → slice_get choices k ≡ Some d → CurrentAt c (slice_get two d.register) (second d.register))
+    (c : Clocks) (level : ℕ) (at : TestsAt c level tests) (first second : (k : ℕ) → ℕ)
+    (left_one : (k : ℕ) (d : Choice) → slice_get choices k ≡ Some d → CurrentAt c (slice_get one d.register) (first k)) (left_two : (k : ℕ) (d : Choice) → slice_get choices k ≡ Some d → CurrentAt c (slice_get two d.register) (second k))
     (chosen_is : (k : ℕ) (d : Choice) → slice_get choices k ≡ Some d → d.chosen ≡ value_left (first_left chosen d.register)) (other_is : (k : ℕ) (d : Choice) → slice_get choices k ≡ Some d → d.other ≡ value_left (first_left other d.register))
     (room : (k : ℕ) (d : Choice) → slice_get choices k ≡ Some d → d.register < length base) (tested : (k : ℕ) (d : Choice) → slice_get choices k ≡ Some d → (test : ℕ) × (slice_get tests d.path ≡ Some test)) (apart : AreApart choices)
-    (most : ℕ) (few : (k : ℕ) (d : Choice) → slice_get choices k ≡ Some d → max level (max (first d.register) (second d.register)) ≤ most) where
-  abbrev joined : (register : ℕ) → ℕ
-  joined register = max level (max (first register) (second register))
+    (most : ℕ) (few : (k : ℕ) (d : Choice) → slice_get choices k ≡ Some d → max level (max (first k) (second k)) ≤ most) where
+  abbrev pub joined : (k : ℕ) → ℕ
+  joined k = max level (max (first k) (second k))
 
   choice_timed : (d : Choice) (k test : ℕ) (old new : Draft) (before after : Values) (m : MadeChoice test d old new before after) → slice_get choices k ≡ Some d → slice_get before.current.items d.register ≡ slice_get base d.register
-      → TimesValue old new m.value (λ x. HasClock x level test × (CurrentAt x (slice_get one d.register) (first d.register) × CurrentAt x (slice_get two d.register) (second d.register))) (λ x. joined d.register)
+      → TimesValue old new m.value (λ x. HasClock x level test × (CurrentAt x (slice_get one d.register) (first k) × CurrentAt x (slice_get two d.register) (second k))) (λ x. joined k)
   choice_timed d k test old new before after m here same =
-      value_then old m.first new m.yes_value m.value Where (λ x. first d.register) (λ x. joined d.register) (λ x w. one_few level (first d.register) (second d.register))
-      (value_where old m.first m.yes_value (λ x. CurrentAt x (slice_get one d.register) (first d.register)) Where (λ x. first d.register) (λ x. first d.register) (λ x w. w.1.0) (λ x w. refl)
-      (behind_timed scene top A base one chosen arm_one d.register (first d.register) before.current.items d.chosen old m.first m.yes_value m.chosen (chosen_is k d here) same))
-      (value_then m.first m.second new m.no_value m.value (λ x. Where x × HasClock x (first d.register) m.yes_value) (λ x. second d.register) (λ x. joined d.register) (λ x w. two_few level (first d.register) (second d.register))
-      (value_where m.first m.second m.no_value (λ x. CurrentAt x (slice_get two d.register) (second d.register)) (λ x. Where x × HasClock x (first d.register) m.yes_value) (λ x. second d.register) (λ x. second d.register) (λ x w. w.0.1.1) (λ x w. refl)
-      (behind_timed scene top B base two other arm_two d.register (second d.register) before.current.items d.other m.first m.second m.no_value m.other (other_is k d here) same))
-      (value_where m.second new m.value (λ x. HasClock x level test × (HasClock x (first d.register) m.yes_value × HasClock x (second d.register) m.no_value))
-      (λ x. (Where x × HasClock x (first d.register) m.yes_value) × HasClock x (second d.register) m.no_value) (λ x. joined d.register) (λ x. joined d.register) (λ x w. (w.0.0.0, (w.0.1, w.1))) (λ x w. refl)
-      (selects_in_time m.second new m.value test m.yes_value m.no_value (λ x. level) (λ x. first d.register) (λ x. second d.register) m.pushes)))
+      value_then old m.first new m.yes_value m.value Where (λ x. first k) (λ x. joined k) (λ x w. one_few level (first k) (second k))
+      (value_where old m.first m.yes_value (λ x. CurrentAt x (slice_get one d.register) (first k)) Where (λ x. first k) (λ x. first k) (λ x w. w.1.0) (λ x w. refl)
+      (behind_timed scene top A base one chosen arm_one d.register (first k) before.current.items d.chosen old m.first m.yes_value m.chosen (chosen_is k d here) same))
+      (value_then m.first m.second new m.no_value m.value (λ x. Where x × HasClock x (first k) m.yes_value) (λ x. second k) (λ x. joined k) (λ x w. two_few level (first k) (second k))
+      (value_where m.first m.second m.no_value (λ x. CurrentAt x (slice_get two d.register) (second k)) (λ x. Where x × HasClock x (first k) m.yes_value) (λ x. second k) (λ x. second k) (λ x w. w.0.1.1) (λ x w. refl)
+      (behind_timed scene top B base two other arm_two d.register (second k) before.current.items d.other m.first m.second m.no_value m.other (other_is k d here) same))
+      (value_where m.second new m.value (λ x. HasClock x level test × (HasClock x (first k) m.yes_value × HasClock x (second k) m.no_value))
+      (λ x. (Where x × HasClock x (first k) m.yes_value) × HasClock x (second k) m.no_value) (λ x. joined k) (λ x. joined k) (λ x w. (w.0.0.0, (w.0.1, w.1))) (λ x w. refl)
+      (selects_in_time m.second new m.value test m.yes_value m.no_value (λ x. level) (λ x. first k) (λ x. second k) m.pushes)))
     where
       Where : Clocks → Type 0
-      Where x = HasClock x level test × (CurrentAt x (slice_get one d.register) (first d.register) × CurrentAt x (slice_get two d.register) (second d.register))
+      Where x = HasClock x level test × (CurrentAt x (slice_get one d.register) (first k) × CurrentAt x (slice_get two d.register) (second k))
 
       one_few : (a b e : ℕ) → b ≤ max a (max b e)
       one_few a b e = omega arith
@@ -107,7 +107,7 @@ module _ (scene : Scene) (top : Around) (A B : ℕ → Type 0) (base one two : L
   -- the first choices, so many
   pub record ChoicesTo (count : ℕ) (old new : Draft) (current : List (Option ℕ)) : Type 0 where
     pub within : Within c old new most
-    pub done : (k : ℕ) (d : Choice) → k < count → slice_get choices k ≡ Some d → CurrentAt c (slice_get current d.register) (joined d.register)
+    pub done : (k : ℕ) (d : Choice) → k < count → slice_get choices k ≡ Some d → CurrentAt c (slice_get current d.register) (joined k)
     pub rest : (r : ℕ) → ((k : ℕ) (d : Choice) → k < count → slice_get choices k ≡ Some d → d.register ≡ r → ⊥) → slice_get current r ≡ slice_get base r
     pub long : length current ≡ length base
 
@@ -141,15 +141,15 @@ module _ (scene : Scene) (top : Around) (A B : ℕ → Type 0) (base one two : L
               end_agree m = front (agree_before c e new ext agree)
 
               put : (slice_get v.current.items d.register ≡ slice_get base d.register
-                  → TimesValue e new m.value (λ x. HasClock x level test × (CurrentAt x (slice_get one d.register) (first d.register) × CurrentAt x (slice_get two d.register) (second d.register))) (λ x. joined d.register))
+                  → TimesValue e new m.value (λ x. HasClock x level test × (CurrentAt x (slice_get one d.register) (first n) × CurrentAt x (slice_get two d.register) (second n))) (λ x. joined n))
                   → ChoicesTo n old e v.current.items → ChoicesTo (suc n) old new after.current.items
               put timed f =
-                  let t : TimesValue e new m.value (λ x. HasClock x level test × (CurrentAt x (slice_get one d.register) (first d.register) × CurrentAt x (slice_get two d.register) (second d.register))) (λ x. joined d.register) =
+                  let t : TimesValue e new m.value (λ x. HasClock x level test × (CurrentAt x (slice_get one d.register) (first n) × CurrentAt x (slice_get two d.register) (second n))) (λ x. joined n) =
                   timed (f.rest d.register untouched) in
-                  let w : HasClock c level test × (CurrentAt c (slice_get one d.register) (first d.register) × CurrentAt c (slice_get two d.register) (second d.register)) = (at d.path test found, (left_one n d here, left_two n d here)) in
+                  let w : HasClock c level test × (CurrentAt c (slice_get one d.register) (first n) × CurrentAt c (slice_get two d.register) (second n)) = (at d.path test found, (left_one n d here, left_two n d here)) in
                   let begun : StartedInTime c e = time_later c old e extends started in
                   record {
-                    within = within_again c old e new most most (self most) f.within (within_more c e new (joined d.register) most (few n d here) (t.within c agree begun w));
+                    within = within_again c old e new most most (self most) f.within (within_more c e new (joined n) most (few n d here) (t.within c agree begun w));
                     done = λ k b less at_k. by_done k b f (t.at c agree begun w) at_k (cases_last k n less);
                     rest = λ r none.
                         ap (λ (os : List (Option ℕ)). slice_get os r) m.sets.current
@@ -160,12 +160,13 @@ module _ (scene : Scene) (top : Around) (A B : ℕ → Type 0) (base one two : L
                   self : (i : ℕ) → i ≤ i
                   self i = omega arith
 
-                  by_done : (k : ℕ) (b : Choice) → ChoicesTo n old e v.current.items → HasClock c (joined d.register) m.value → slice_get choices k ≡ Some b → (k < n) ⊎ (k ≡ n) → CurrentAt c (slice_get after.current.items b.register) (joined b.register)
+                  by_done : (k : ℕ) (b : Choice) → ChoicesTo n old e v.current.items → HasClock c (joined n) m.value → slice_get choices k ≡ Some b → (k < n) ⊎ (k ≡ n) → CurrentAt c (slice_get after.current.items b.register) (joined k)
                   by_done k b f clock at_k (inl less) =
-                      subst (λ (os : List (Option ℕ)). CurrentAt c (slice_get os b.register) (joined b.register)) (sym m.sets.current)
-                      (subst (λ (o : Option (Option ℕ)). CurrentAt c o (joined b.register)) (sym (set_other v.current.items d.register b.register (Some m.value) (λ is. untouched k b less at_k is))) (f.done k b less at_k))
+                      subst (λ (os : List (Option ℕ)). CurrentAt c (slice_get os b.register) (joined k)) (sym m.sets.current)
+                      (subst (λ (o : Option (Option ℕ)). CurrentAt c o (joined k)) (sym (set_other v.current.items d.register b.register (Some m.value) (λ is. untouched k b less at_k is))) (f.done k b less at_k))
                   by_done k b f clock at_k (inr last) =
                       let same : d ≡ b = some_same d b (sym here ∙ (ap (λ (i : ℕ). slice_get choices i) (sym last) ∙ at_k)) in
-                      subst (λ (b : Choice). CurrentAt c (slice_get after.current.items b.register) (joined b.register)) same
-                      (subst (λ (os : List (Option ℕ)). CurrentAt c (slice_get os d.register) (joined d.register)) (sym m.sets.current)
-                      (subst (λ (o : Option (Option ℕ)). CurrentAt c o (joined d.register)) (sym (set_here v.current.items d.register (Some m.value) (subst (λ (i : ℕ). d.register < i) (sym f.long) (room n d here)))) clock))
+                      subst (λ (i : ℕ). CurrentAt c (slice_get after.current.items b.register) (joined i)) (sym last)
+                      (subst (λ (b : Choice). CurrentAt c (slice_get after.current.items b.register) (joined n)) same
+                      (subst (λ (os : List (Option ℕ)). CurrentAt c (slice_get os d.register) (joined n)) (sym m.sets.current)
+                      (subst (λ (o : Option (Option ℕ)). CurrentAt c o (joined n)) (sym (set_here v.current.items d.register (Some m.value) (subst (λ (i : ℕ). d.register < i) (sym f.long) (room n d here)))) clock)))

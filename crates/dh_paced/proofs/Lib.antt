@@ -7,3 +7,4 @@ pub mod LanesPaced
 pub mod StoresPaced
 pub mod TestsPaced
 pub mod ChoicesPaced
+pub mod AssignedCore
