@@ -336,7 +336,7 @@ module _ (scene : Scene) (top : Around) where
           by : (e i : ℕ) → (k : ℕ) × ((b : Choice) × ((slice_get m.choices k ≡ Some b) × (b.register ≡ register_in scene top e i))) → IsSet c.logs.more (register_in scene top e i)
           by e i (k, (b, (at, same))) = subst (λ (r : ℕ). IsSet c.logs.more r) same (c.covers k b (place_within m.choices k b at) at)
 
-  under_arm : (Inner : Commanding) (around : Around) (holds : Truth) (tests : List ℕ) (old new : Building) (first next : ℕ) (lefts : List Left) (m : MadeArm Inner around holds tests old new first next lefts)
+  pub under_arm : (Inner : Commanding) (around : Around) (holds : Truth) (tests : List ℕ) (old new : Building) (first next : ℕ) (lefts : List Left) (m : MadeArm Inner around holds tests old new first next lefts)
       → IsUnder top around → length tests ≡ paths_counted top → IsUnder top m.arm
   under_arm Inner around holds tests old new first next lefts m u long = record {
     levels = m.levels ∙ u.levels;
@@ -379,10 +379,10 @@ module _ (scene : Scene) (top : Around) where
     covers = h.covers;
   }
 
-  values_at : (P : Values → Type 0) (a b : Values) → b ≡ a → P a → P b
+  pub values_at : (P : Values → Type 0) (a b : Values) → b ≡ a → P a → P b
   values_at P a b same h = subst P (sym same) h
 
-  arm_logged : (Inner : Commanding) (around : Around) (holds : Truth) (tests : List ℕ) (old new : Building) (first next : ℕ) (lefts : List Left) (m : MadeArm Inner around holds tests old new first next lefts) (May : ℕ → Type 0)
+  pub arm_logged : (Inner : Commanding) (around : Around) (holds : Truth) (tests : List ℕ) (old new : Building) (first next : ℕ) (lefts : List Left) (m : MadeArm Inner around holds tests old new first next lefts) (May : ℕ → Type 0)
       → LogsOf May m.begin.values m.inside.values → LeavesOf May old.values new.values m.inside.values.current.items lefts
   arm_logged Inner around holds tests old new first next lefts m May h =
       arm_leaves May old.values m.inside.values new.values lefts (subst (λ (v : Values). LogsOf May v m.inside.values) m.begin_values h) m.ends

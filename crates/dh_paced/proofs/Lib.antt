@@ -8,3 +8,5 @@ pub mod StoresPaced
 pub mod TestsPaced
 pub mod ChoicesPaced
 pub mod AssignedCore
+pub mod ArmsPaced
+pub mod CommandsPaced
