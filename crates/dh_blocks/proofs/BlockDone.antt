@@ -42,7 +42,8 @@ use Rattle.dh_commands.specs.Followed.{effect_of}
 use Rattle.dh_commands.specs.Undone.{IsChange, given_at}
 use Rattle.dh_commands.specs.Done.{Stands}
 use Rattle.dh_blocks.specs.FoundAccesses.{Found, block_found, found, found_from, found_or}
-use Rattle.dh_blocks.specs.ChosenReads.{AreBare, AreLaid, chosen_reads}
+use Rattle.dh_laid.specs.LaidAccesses.{AreLaid}
+use Rattle.dh_blocks.specs.ChosenReads.{AreBare, chosen_reads}
 use Rattle.dh_blocks.specs.BlockGround.{AreWithin, IsGround}
 use Rattle.dh_blocks.specs.BlockMade.{AreRising, AreSoundHere, DoEach, EachShares, IsBare, IsMade, IsTop, SharesStand, arms_each, effect_begun, found_in, sets_made, step_of}
 use Rattle.dh_blocks.specs.NamedVariables.{IsNamed, IsNamedHere}

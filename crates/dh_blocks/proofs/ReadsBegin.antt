@@ -21,7 +21,8 @@ use Rattle.dh_expressions.specs.Standings.{IsTouched, Standing}
 use Rattle.dh_expressions.proofs.ListPlaces.{place_within, some_same, there}
 use Rattle.dh_commands.specs.Followed.{view_of}
 use Rattle.dh_blocks.specs.FoundAccesses.{Found}
-use Rattle.dh_blocks.specs.ChosenReads.{AreBare, AreLaid, IsLaid, chosen_reads, copy_in, done_of, place_named, site_of, sites_to, standing_of, standing_or_none}
+use Rattle.dh_laid.specs.LaidAccesses.{AreLaid, IsLaid, copy_in, place_named, standing_of}
+use Rattle.dh_blocks.specs.ChosenReads.{AreBare, chosen_reads, done_of, site_of, sites_to, standing_or_none}
 
 sites_long : (named : List (FaultKind × Place)) (find : ℕ → Option Found) (a : Accesses) (n : ℕ) → length (sites_to named find a n) ≡ n
 sites_long named find a zero = refl

@@ -39,7 +39,8 @@ use Rattle.dh_commands.specs.LanesRun.{is_on_at, lanes_run, path_if, path_in, pa
 use Rattle.dh_commands.specs.Followed.{Along, IsFollowedBy, test_run, value_at}
 use Rattle.dh_commands.specs.Done.{Does, Stands}
 use Rattle.dh_blocks.specs.FoundAccesses.{Found, found_from, term_found, variables_along}
-use Rattle.dh_blocks.specs.ChosenReads.{AreBare, AreLaid, chosen_reads}
+use Rattle.dh_laid.specs.LaidAccesses.{AreLaid}
+use Rattle.dh_blocks.specs.ChosenReads.{AreBare, chosen_reads}
 use Rattle.dh_blocks.specs.BlockGround.{AreFoundAt, AreWithin}
 use Rattle.dh_blocks.specs.BlockMade.{IsTop, effect_begun, step_of}
 use Rattle.dh_blocks.specs.NamedVariables.{IsNamed, IsNamedHere}

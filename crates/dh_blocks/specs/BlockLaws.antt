@@ -13,7 +13,7 @@ use Rattle.dh_expressions.specs.Evaluated.{known_in}
 use Rattle.dh_commands.specs.declared.buildings.Building.{Building}
 use Rattle.dh_blocks.specs.BlockMade.{AreSoundHere, IsMade, IsTop}
 use Rattle.dh_blocks.specs.BlockTraced.{IsTraced}
-use Rattle.dh_blocks.specs.ChosenReads.{AreLaid}
+use Rattle.dh_laid.specs.LaidAccesses.{AreLaid}
 use Rattle.dh_blocks.specs.SlotsOfScene.{HoldsVariables, slots_in}
 
 -- what was made of sound commands, at the paths inside the loops round them, does their phase

@@ -1,21 +1,18 @@
 -- What reads give in a step that does a block, and where accesses stand: chosen from what is found along the block's
 -- run. An access of an earlier block is done nowhere here; it stands as its copies say.
-use Rattle.std.specs.Prelude.{◌≡◌, ℕ, zero, suc, ◌<◌, ◌==◌, ◌&&◌, ◌||◌, Bool, false, List, [], ◌∷◌, ◌++◌, length, map, slice_get, Option, Some, None}
+use Rattle.std.specs.Prelude.{◌≡◌, ℕ, zero, suc, ◌<◌, ◌==◌, ◌&&◌, ◌||◌, Bool, false, List, [], ◌∷◌, ◌++◌, length, slice_get, Option, Some, None}
 use Rattle.dh_base.specs.declared.outcomes.FaultKind.{FaultKind}
-use Rattle.dh_base.specs.declared.outcomes.FaultKind.TheVariants.{OutOfRange}
 use Rattle.dh_base.specs.declared.places.Place.{Place}
 use Rattle.dh_value.specs.declared.words.Word.{Word}
 use Rattle.dh_plan.specs.Blocks.{is_on, no_word}
 use Rattle.dh_expressions.specs.declared.accesses.Accesses.{Accesses}
 use Rattle.dh_expressions.specs.declared.accesses.Touched.{Touched}
-use Rattle.dh_expressions.specs.declared.copies.AccessAt.{AccessAt}
-use Rattle.dh_expressions.specs.Copying.{leaders_at}
 use Rattle.dh_expressions.specs.Drafted.{Step}
 use Rattle.dh_expressions.specs.Evaluated.{Reads}
-use Rattle.dh_expressions.specs.Noted.{copy_or_alone, touched_in}
-use Rattle.dh_expressions.specs.Numbers.{narrowed}
+use Rattle.dh_expressions.specs.Noted.{touched_in}
 use Rattle.dh_expressions.specs.Shown.{guard_of}
 use Rattle.dh_expressions.specs.Standings.{Standing}
+use Rattle.dh_laid.specs.LaidAccesses.{place_named, standing_of}
 use Rattle.dh_blocks.specs.FoundAccesses.{Found}
 
 -- at one of the first paths that a path leads, so many, the guard holds
@@ -34,40 +31,12 @@ word_found (Some f) path = f.word path
 
 -- Accesses of earlier blocks.
 
-abbrev pub copy_in : Touched → (path : ℕ) → AccessAt
-copy_in t path = copy_or_alone path (slice_get t.copies path)
-
-abbrev pub place_named : Option (FaultKind × Place) → Place
-place_named None = record { line = 0; column = 0 }
-place_named (Some f) = f.1
-
--- by the copies that it has; a path is done where that is which leads it
-abbrev pub standing_of : List (FaultKind × Place) → Touched → Standing
-standing_of named t = record {
-  place = place_named (slice_get named t.fault);
-  leader = λ path. (copy_in t path).leader;
-  bank = λ path. (copy_in t path).bank;
-  guards = map (λ (c : AccessAt). (copy_in t c.leader).guard) t.copies;
-}
-
 abbrev pub no_standing : Standing
 no_standing = record { place = place_named None; leader = λ path. path; bank = λ path. 0; guards = [] }
 
 abbrev pub standing_or_none : List (FaultKind × Place) → Option Touched → Standing
 standing_or_none named None = no_standing
 standing_or_none named (Some t) = standing_of named t
-
--- What holds of an access with operations whatever the step: its fault is named, only leaders have guards, and places
--- are counted by leaders.
-pub record IsLaid (named : List (FaultKind × Place)) (t : Touched) : Type 0 where
-  pub place : Place
-  pub fault : slice_get named t.fault ≡ Some (OutOfRange, place)
-  pub alone : (k : ℕ) (c : AccessAt) → slice_get t.copies k ≡ Some c → (c.leader ≡ k → ⊥) → c.guard ≡ None
-  pub places : (k : ℕ) (c : AccessAt) → slice_get t.copies k ≡ Some c
-      → c.place ≡ narrowed (leaders_at (λ path. (copy_in t path).leader) (λ path. (copy_in t path).bank) c.bank k)
-
-abbrev pub AreLaid : List (FaultKind × Place) → Accesses → Type 0
-AreLaid named a = (number : ℕ) (t : Touched) → touched_in a number ≡ Some t → IsLaid named t
 
 -- The choice.
 

@@ -26,7 +26,7 @@ use Rattle.dh_expressions.specs.Shown.{is_read_term, kind_written}
 use Rattle.dh_commands.specs.declared.buildings.Building.{Building}
 use Rattle.dh_blocks.specs.BlockMade.{IsPut, IsTop}
 use Rattle.dh_blocks.specs.BlockTraced.{TellsShares}
-use Rattle.dh_blocks.specs.ChosenReads.{AreLaid}
+use Rattle.dh_laid.specs.LaidAccesses.{AreLaid}
 use Rattle.dh_blocks.specs.NamedVariables.{IsNamedHere}
 use Rattle.dh_commands.specs.Setting.{TestsAll}
 use Rattle.dh_blocks.specs.SlotsOfScene.{HoldsVariables, slots_in}

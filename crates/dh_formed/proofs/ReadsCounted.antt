@@ -79,7 +79,7 @@ touch_gives scene around s old new before after number m t = by (touched_in befo
 
 -- what a read gives is noted behind what it gave
 module _ (before after : Accesses) (number path value : ℕ) (h : Notes before after number path value) where
-  notes_other : (m : ℕ) → (m ≡ number → ⊥) → given_at_paths after m ≡ given_at_paths before m
+  pub notes_other : (m : ℕ) → (m ≡ number → ⊥) → given_at_paths after m ≡ given_at_paths before m
   notes_other m other = by (place_noted before after number path value h m)
     where
       by : (touched_in after m ≡ touched_in before m) ⊎ ((m ≡ number) × (touched_in after m ≡ noted_in (touched_in before m) path value)) → given_at_paths after m ≡ given_at_paths before m
@@ -104,7 +104,7 @@ module _ (before after : Accesses) (number path value : ℕ) (h : Notes before a
       by true e = length-append given _ ∙ ap (λ n. n + 1) all
       by false e = absurd (cc)
 
-  notes_own : (t : Touched) → number < length before.touched.items → touched_in before number ≡ Some t → given_at_paths before number ≡ path → given_at_paths after number ≡ path + 1
+  pub notes_own : (t : Touched) → number < length before.touched.items → touched_in before number ≡ Some t → given_at_paths before number ≡ path → given_at_paths after number ≡ path + 1
   notes_own t within is all = ap length_given (noted_own within ∙ ap (λ o. noted_in o path value) is) ∙ given_more t.given (sym (ap length_given is) ∙ all)
 
 -- The parts of a read or a write.

@@ -129,7 +129,7 @@ module _ (x : Block) (n a m b : ℕ) (from : n ≤ m) (within : m + b ≤ n + a)
 -- What is next in each part.
 
 module _ (scene : Scene) (lane : Lane) where
-  next_first : (before : Accesses) (n a b : ℕ) → AreNext scene lane before n (a + b) → AreNext scene lane before n a
+  pub next_first : (before : Accesses) (n a b : ℕ) → AreNext scene lane before n (a + b) → AreNext scene lane before n a
   next_first before n a b h = record {
     each = λ m from below. h.each m from (omega (arith, below));
     known = λ m from below. h.known m from (omega (arith, below));
@@ -137,7 +137,7 @@ module _ (scene : Scene) (lane : Lane) where
     shares = λ m e from below share less. h.shares m e from (omega (arith, below)) share less;
   }
 
-  next_second : (before between : Accesses) (n a b : ℕ) → AreNext scene lane before n (a + b) → HaveGiven lane before between n a → AreNext scene lane between (n + a) b
+  pub next_second : (before between : Accesses) (n a b : ℕ) → AreNext scene lane before n (a + b) → HaveGiven lane before between n a → AreNext scene lane between (n + a) b
   next_second before between n a b h g = record {
     each = λ m from below. g.behind_them m from ∙ h.each m (omega (arith, from)) (omega (arith, below));
     known = λ m from below. h.known m (omega (arith, from)) (omega (arith, below));
@@ -150,7 +150,7 @@ module _ (scene : Scene) (lane : Lane) where
           subst (λ (i : ℕ). lane.number < i) (sym (g.before_them e before_all)) (h.shares m e (omega (arith, from)) (omega (arith, below)) share before_all)
       by m e from below share less (inr own) = subst (λ (i : ℕ). lane.number < i) (sym (g.own e own less)) (omega arith)
 
-  given_none : (before after : Accesses) (n : ℕ) → after ≡ before → HaveGiven lane before after n 0
+  pub given_none : (before after : Accesses) (n : ℕ) → after ≡ before → HaveGiven lane before after n 0
   given_none before after n same = record {
     own = λ m from below. absurd (never m from below);
     before_them = λ m less. ap (λ (a : Accesses). given_at_paths a m) same;
@@ -160,7 +160,7 @@ module _ (scene : Scene) (lane : Lane) where
       never : (m : ℕ) → n ≤ m → m < n + 0 → ⊥
       never m from below = omega (arith, from, below)
 
-  given_again : (before between after : Accesses) (n a b : ℕ) → HaveGiven lane before between n a → HaveGiven lane between after (n + a) b → HaveGiven lane before after n (a + b)
+  pub given_again : (before between after : Accesses) (n a b : ℕ) → HaveGiven lane before between n a → HaveGiven lane between after (n + a) b → HaveGiven lane before after n (a + b)
   given_again before between after n a b g h = record {
     own = λ m from below. by m from below (cases_lt m (n + a));
     before_them = λ m less. h.before_them m (omega (arith, less)) ∙ g.before_them m less;

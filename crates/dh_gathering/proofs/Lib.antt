@@ -1,4 +1,6 @@
 pub mod KeptLists
+pub mod KeptCommands
+pub mod AccessesOpen
 pub mod SeenNodes
 pub mod PhasesPlaced
 pub mod MadeGrows

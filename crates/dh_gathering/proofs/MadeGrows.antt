@@ -6,10 +6,11 @@ use Rattle.std.proofs.lemmas.List.{length-append}
 use Rattle.std.proofs.Math.ListN.{get_or-append, get_or-eq_default}
 use Rattle.std.proofs.Math.Seq.{get_or-append_seam}
 use Rattle.dh_value.specs.declared.kinds.Kind.{Kind}
+use Rattle.dh_expressions.specs.Copying.{AreNone}
 use Rattle.dh_expressions.specs.Drafted.{Extends}
 use Rattle.dh_expressions.proofs.Pushing.{extends_again, extends_self}
 use Rattle.dh_gathering.specs.declared.blocks.Made.{Made}
-use Rattle.dh_gathering.specs.Growing.{Grows, IsAtRest, IsClear, place_in, registers_given}
+use Rattle.dh_gathering.specs.Growing.{AreAllLaid, Grows, IsAtRest, IsClear, place_in, registers_given}
 use Rattle.dh_gathering.specs.MadeBlocks.{StandsAt}
 
 not_more : (a b c : ℕ) → a ≤ b → b ≤ c → a ≤ c
@@ -35,6 +36,8 @@ pub record AddsBlock (old new : Made) : Type 0 where
   pub longer : length old.registers ≤ length new.registers
   pub variables : registers_given new ≡ registers_given old
   pub clear : IsClear new.building.values
+  pub laid : AreAllLaid new.building
+  pub counts : AreNone new.building.accesses.counts.items
 
 module _ (old new : Made) (h : AddsBlock old new) where
   abbrev here : ℕ
@@ -105,6 +108,8 @@ module _ (old new : Made) (h : AddsBlock old new) where
   pub block_rests : IsAtRest old → IsAtRest new
   block_rests rest = record {
     clear = h.clear;
+    laid = h.laid;
+    counts = h.counts;
     first = places_same 0 (least (length old.starts.items)) ∙ rest.first;
     rising = rising;
     variables = subst (λ (n : ℕ). n ≤ length new.registers) (sym h.variables) (not_more (registers_given old) (length old.registers) (length new.registers) rest.variables h.longer);

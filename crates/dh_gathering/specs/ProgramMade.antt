@@ -16,12 +16,14 @@ use Rattle.dh_gathering.specs.declared.making.Phased.{Phased}
 use Rattle.dh_gathering.specs.Cutting.{AreBlocksOf}
 use Rattle.dh_gathering.specs.Gathered.{HasNodes}
 use Rattle.dh_gathering.specs.Growing.{IsAtRest, registers_given}
-use Rattle.dh_gathering.specs.MadeBlocks.{made_tie}
+use Rattle.dh_gathering.specs.MadeBlocks.{IsTold, made_tie}
+use Rattle.dh_gathering.specs.OpenAccesses.{AreUntouched}
 use Rattle.dh_gathering.specs.Registers.{AreSuccessive, HasKind, first_among}
 
--- nothing is made yet, but for the registers of variables
-pub record Begins (registers : List Kind) (m : Made) : Type 0 where
+-- nothing is made yet, but for the registers of variables; so many accesses have no operations
+pub record Begins (registers : List Kind) (count : ℕ) (m : Made) : Type 0 where
   pub rest : IsAtRest m
+  pub untouched : AreUntouched m.building.accesses 0 count
   pub registers_are : m.registers ≡ registers
   pub given : registers_given m ≡ length registers
 
@@ -38,6 +40,7 @@ pub record IsPhased (scene : Scene) (count : ℕ) (body : Action) (p : Phased) :
   pub kinds : (entity register : ℕ) → entity < length scene.held.now → first_among scene.held.now count entity ≤ register → register < first_among scene.held.now count (suc entity)
       → HasKind (program_seen scene.program.now) scene.held.now p.registers entity register
 
--- of the program's body, with few accesses, where the registers of entities stand one behind the other
+-- of the program's body, with few accesses, each known with what it shares, where the registers of entities stand one behind
+-- the other
 abbrev pub MakesPhased : Scene → (count : ℕ) → Action → Phased → Type 0
-MakesPhased scene count body p = accesses_of body < 2 ^ 32 → body ≡ (program_seen scene.program.now).body → AreSuccessive scene.held.now count → IsPhased scene count body p
+MakesPhased scene count body p = IsTold scene → accesses_of body ≤ length scene.shares.now → accesses_of body < 2 ^ 32 → body ≡ (program_seen scene.program.now).body → AreSuccessive scene.held.now count → IsPhased scene count body p

@@ -3,7 +3,7 @@
 
 ghost use Rattle.std.specs.Prelude.{◌≡◌, ◌≤◌, ◌++◌, ◌∷◌, [], None, IfOk, OnOk, replicate};
 ghost use Rattle.dh_tree.specs.Seen.{term_seen};
-ghost use Rattle.dh_gathering.specs.MadeBlocks.{SetsFlag};
+ghost use Rattle.dh_gathering.specs.MadeBlocks.{PutsFlag};
 ghost use Rattle.dh_gathering.specs.PushedSets.{SetsLogged, SetsRegister};
 ghost use Rattle.dh_gathering.specs.Gathered.{DoesNumbered, EndsBlock, MakesStraightIn, MakesTestIn, SetsFirst, all_numbered};
 
@@ -122,7 +122,7 @@ pub struct Tested {
 
 /// Sets a flag to the value of a test. What memories hold need be no word: the flag is 1 where it is true, else 0.
 fn push_flag(draft: &mut Draft, test: &Expr, value: u64, flag: u64) -> Result<(), NoMemory>
-    ensures { OnOk result (SetsFlag draft.old draft.new (term_seen test.now) value flag) }
+    ensures { OnOk result (PutsFlag draft.old draft.new (term_seen test.now) value flag) }
 {
     let value = if is_read(test) {
         push_compute(draft, Op::Both, value, value)?

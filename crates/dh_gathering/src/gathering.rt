@@ -7,8 +7,9 @@ ghost use Rattle.dh_meaning.specs.AccessNumbers.{accesses_of, groups_accesses, o
 ghost use Rattle.dh_meaning.specs.Phases.{other_phases};
 ghost use Rattle.dh_plan.specs.SeenPlans.{nodes_seen};
 ghost use Rattle.dh_accesses.specs.Counted.{behind};
-ghost use Rattle.dh_gathering.specs.Gathered.{GathersCommand, GathersGroups, GathersOf, MakesBody, all_kept, numbered};
+ghost use Rattle.dh_gathering.specs.Gathered.{GathersCommand, GathersGroups, GathersOf, MakesBody, all_kept};
 ghost use Rattle.dh_gathering.specs.KeptPhases.{done_at_once};
+ghost use Rattle.dh_gathering.specs.OpenAccesses.{numbered};
 
 use crate::blocks::Made;
 use crate::joining::{Loose, end_phase, fold, join, one_command};

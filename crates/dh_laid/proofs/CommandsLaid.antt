@@ -1,5 +1,5 @@
 -- Whole commands are formed: an arm that is taken back, an `if`, and commands one behind the other.
-use Rattle.std.proofs.Common.{◌≡◌, ◌<◌, ◌+◌, ◌^◌, ℕ, zero, suc, List, Some, None, refl, ap, sym, ◌∙◌, subst, length, arith}
+use Rattle.std.proofs.Common.{◌≡◌, ◌<◌, ◌≤◌, ◌+◌, ◌^◌, ℕ, zero, suc, List, Some, None, refl, ap, sym, ◌∙◌, subst, length, arith}
 use Rattle.std.specs.Prelude.{Bool as Truth, true, false, [], ◌∷◌, Option}
 use Rattle.std.specs.List.{AllByRecursion}
 use Rattle.dh_value.specs.declared.operators.Op.{Op}
@@ -144,7 +144,7 @@ tests_extend scene around first t (suc n) old new next tests few m =
         term.part.extends
 
 pub held_moved : (x : Block) (d e : Draft) (v w : Values) → StandsHeld x d v → AreHeld x e w → AreSame v w → StandsHeld x e w
-held_moved x d e v w h held same = record { held = held; ready = same_ready v w same h.ready; long = ap (λ (os : List (Option ℕ)). length os) same.current ∙ h.long }
+held_moved x d e v w h held same = record { held = held; ready = same_ready v w same h.ready; long = subst (λ (os : List (Option ℕ)). length os ≤ length x.plan.registers) (sym same.current) h.long }
 
 module _ (scene : Scene) (Chosen Other : Around → (tests : List ℕ) → (old new : Building) → (first next : ℕ) → (lefts : List Left) → Type 0) (t : Term) (around : Around) (old new : Building) (first next : ℕ) (m : MadeIf scene Chosen Other t around old new first next) (few : AreFewIn first t) (A B : Block → Type 0) (chosen : FormsArm scene around m.tests m.tested m.after_chosen m.chosen_left A) (other : FormsArm scene around m.tests m.after_chosen m.after_other m.other_left B) where
   tested_is : (m.tested.values ≡ old.values) × (length m.tests ≡ paths_counted around)
@@ -186,7 +186,7 @@ module _ (scene : Scene) (Chosen Other : Around → (tests : List ℕ) → (old 
   to_other = extends_again old.draft m.after_chosen.draft m.after_other.draft to_chosen other.extends
 
   held_tested : (x : Block) → StandsHeld x old.draft old.values → AreHeld x m.tested.draft m.tested.values → StandsHeld x m.tested.draft m.tested.values
-  held_tested x h held = record { held = held; ready = ready_tested h.ready; long = ap (λ (v : Values). length v.current.items) tested_is.0 ∙ h.long }
+  held_tested x h held = record { held = held; ready = ready_tested h.ready; long = subst (λ (v : Values). length v.current.items ≤ length x.plan.registers) (sym tested_is.0) h.long }
 
   -- what is joined behind both arms
   joined_there : (x : Block) → Agrees x new.draft → Started x old.draft → StandsHeld x m.after_other.draft m.after_other.values → AreReady old.values → FormsThere x old m.tested → AreTruths x m.tested.draft m.tests
@@ -246,7 +246,7 @@ both_form scene First Rest around old new first next m A B one rest = record {
       let l = one.logs h.ready in
       let g =
       rest.forms x a (started_later x old.draft m.middle.draft one.extends s) (round_later x old.draft m.middle.draft scene around one.extends round) f.notes
-      (record { held = f.held; ready = logged_ready old.values m.middle.values l h.ready; long = l.long ∙ h.long }) w.1 in
+      (record { held = f.held; ready = logged_ready old.values m.middle.values l h.ready; long = subst (λ (n : ℕ). n ≤ length x.plan.registers) (sym l.long) h.long }) w.1 in
       record { forms = forms_again x old.draft m.middle.draft new.draft rest.extends f.forms g.forms; notes = g.notes; held = g.held };
 }
 

@@ -255,7 +255,7 @@ choices_quiet tests choices zero old new before after m = quiet_none old new m.0
 choices_quiet tests choices (suc n) old new before after m =
     quiet_again old m.0 new (choices_quiet tests choices n old m.0 before m.1.0 m.1.1.1.0) (choice_quiet (slice_get tests (m.1.1.0).path) m.1.1.0 m.0 new m.1.0 after m.1.1.1.1.1)
 
-stands_arm : (scene : Scene) (Inner : Commanding) (around : Around) (holds : Truth) (tests : List ℕ) (old new : Building) (first next : ℕ) (lefts : List Left) (m : MadeArm Inner around holds tests old new first next lefts)
+pub stands_arm : (scene : Scene) (Inner : Commanding) (around : Around) (holds : Truth) (tests : List ℕ) (old new : Building) (first next : ℕ) (lefts : List Left) (m : MadeArm Inner around holds tests old new first next lefts)
     → StandsIn scene around → length tests ≡ paths_counted around → StandsIn scene m.arm
 stands_arm scene Inner around holds tests old new first next lefts m s many = record {
   scopes = s.scopes;

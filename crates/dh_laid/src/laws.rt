@@ -1,10 +1,12 @@
 //! Laws on the operations of commands, stated on functions that do nothing.
 
 ghost use Rattle.dh_laid.specs.Laid.{AllAssignmentsForm, AllClearingsForm, AllReducesForm, AllStoresForm, ArmGuardsForm, ArmsEnd, ArmsLeave, AssignmentsForm, ChoicesForm, ClearingsForm, JoinsForm, ReducesForm, StoresForm, TestsForm};
+ghost use Rattle.dh_laid.specs.LaidAccesses.{CommandsLay, EachLay, GroupsLay, TermsLay, TestsLay};
 ghost use Rattle.dh_laid.specs.LaidCommands.{CommandsForm, GroupsForm};
 ghost use Rattle.dh_laid.specs.LaidNumbers.{CommandsNumber, GroupsNumber, ReachingNumber};
 ghost use Rattle.dh_laid.specs.LaidProbes.{CommandsProbe, GroupsProbe};
 ghost use Rattle.dh_laid.specs.LaidProducts.{CommandsHaveProducts, CommandsMultiply, GroupsHaveProducts, GroupsMultiply, TermsMultiply};
+ghost use Rattle.dh_laid.specs.LaidUses.{BlocksProbe, BlocksUse, TestsProbe, TestsUse};
 ghost use Rattle.dh_laid.specs.LaidQuiet.{CommandsAreQuiet, GroupsAreQuiet, QuietSetsNone, TermsAreQuiet};
 
 /// What is put down where a variable is assigned is formed, and it is given a value of the kind of its register.
@@ -75,4 +77,22 @@ pub fn products_are_of_the_program()
 pub fn whole_commands_probe()
     ensures commands { CommandsProbe }
     ensures groups { GroupsProbe }
+{}
+
+/// What is put down keeps that accesses with operations are laid and that none is counted, whatever the step.
+pub fn whole_commands_lay()
+    ensures terms { TermsLay }
+    ensures commands { CommandsLay }
+    ensures groups { GroupsLay }
+    ensures tests { TestsLay }
+    ensures each { EachLay }
+{}
+
+/// Each access of a block is read or written at each path that leads, where it shares no earlier read, and probed at each
+/// path; and so is each access of a test.
+pub fn whole_blocks_use()
+    ensures blocks { BlocksUse }
+    ensures blocks_probed { BlocksProbe }
+    ensures tests { TestsUse }
+    ensures tests_probed { TestsProbe }
 {}

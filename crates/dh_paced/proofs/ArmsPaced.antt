@@ -35,15 +35,15 @@ use Rattle.dh_paced.proofs.ChoicesPaced.{choices_paced}
 use Rattle.dh_paced.proofs.TestsPaced.{GuardsPaced, TestsAt, guards_paced}
 
 -- an arm that is taken back: what stands behind it, and what variables were given as it ended
-pub record PacesArm (c : Clocks) (scene : Scene) (top : Around) (shared : ℕ → Option ℕ) (Variable Read Own : ℕ → Type 0) (old new : Building) (behind : List (Option ℕ)) (l : Levels) (next : ℕ) : Type 0 where
+pub record PacesArm (c : Clocks) (scene : Scene) (top : Around) (spaces : ℕ) (shared : ℕ → Option ℕ) (Variable Read Own : ℕ → Type 0) (old new : Building) (behind : List (Option ℕ)) (l : Levels) (next : ℕ) : Type 0 where
   pub within : Within c old.draft new.draft l.most
   pub in_time : NotedInTime c new.accesses
-  pub given : HaveGivenTo c scene top shared Variable Read Own new.accesses next
-  pub left : AreCurrent c scene top shared Variable Read Own behind l
+  pub given : HaveGivenTo c scene top spaces shared Variable Read Own new.accesses next
+  pub left : AreCurrent c scene top spaces shared Variable Read Own behind l
 
-module _ (c : Clocks) (scene : Scene) (top : Around) (shared : ℕ → Option ℕ) (Variable Read Own : ℕ → Type 0) (g : IsGround c scene top shared Variable Read Own) where
+module _ (c : Clocks) (scene : Scene) (top : Around) (spaces : ℕ) (shared : ℕ → Option ℕ) (Variable Read Own : ℕ → Type 0) (g : IsGround c scene top spaces shared Variable Read Own) where
   module _ (Inner : Commanding) (around : Around) (holds : Truth) (tests : List ℕ) (old new : Building) (first next : ℕ) (lefts : List Left) (m : MadeArm Inner around holds tests old new first next lefts) (Where : Block → Type 0)
-      (inner : FormsCommand scene m.arm m.begin m.inside Where) (n outer level : ℕ) (l : Levels) (s : StandsFor c scene top shared Variable Read Own around old outer n l) (truths : AreTruths c.block old.draft tests) (at : TestsAt c level tests)
+      (inner : FormsCommand scene m.arm m.begin m.inside Where) (n outer level : ℕ) (l : Levels) (s : StandsFor c scene top spaces shared Variable Read Own around old outer n l) (truths : AreTruths c.block old.draft tests) (at : TestsAt c level tests)
       (long : length tests ≡ paths_counted top) (few : level ≤ l.most) where
     begins : m.begin.draft ≡ m.guarded
     begins = m.begin_draft
@@ -60,7 +60,7 @@ module _ (c : Clocks) (scene : Scene) (top : Around) (shared : ℕ → Option �
         few_tests a b e = omega (arith, e)
 
     -- what stands as it begins
-    pub arm_stands : Agrees c.block m.begin.draft → AgreeInTime c m.begin.draft → StandsFor c scene top shared Variable Read Own m.arm m.begin (max outer level) n l
+    pub arm_stands : Agrees c.block m.begin.draft → AgreeInTime c m.begin.draft → StandsFor c scene top spaces shared Variable Read Own m.arm m.begin (max outer level) n l
     arm_stands agrees agree =
         let made = guards_made scene Inner around holds tests old new first next lefts m Where inner in
         record {
@@ -69,23 +69,24 @@ module _ (c : Clocks) (scene : Scene) (top : Around) (shared : ℕ → Option �
           round = round_arm scene Inner around holds tests old new first next lefts m Where inner c.block s.round (made.gives c.block agrees s.started s.round.guards truths) many;
           noted = begun_noted scene Inner around holds tests old new first next lefts m Where inner c.block s.noted;
           held = begun_held scene Inner around holds tests old new first next lefts m Where inner c.block s.held;
+          long = ap (λ (v : Values). length v.current.items) m.begin_values ∙ s.long;
           guards = (guards agree).at;
           bounded = s.bounded;
           outer_few = let o = s.outer_few in let f = few in omega (arith, o, f);
           in_time = subst (λ (a : Accesses). NotedInTime c a) (sym m.begin_accesses) s.in_time;
-          current = subst (λ (v : Values). AreCurrent c scene top shared Variable Read Own v.current.items l) (sym m.begin_values) s.current;
-          given = subst (λ (a : Accesses). HaveGivenTo c scene top shared Variable Read Own a n) (sym m.begin_accesses) s.given;
+          current = subst (λ (v : Values). AreCurrent c scene top spaces shared Variable Read Own v.current.items l) (sym m.begin_values) s.current;
+          given = subst (λ (a : Accesses). HaveGivenTo c scene top spaces shared Variable Read Own a n) (sym m.begin_accesses) s.given;
         }
 
     -- and behind it
-    pub arm_paced : (made : Levels) (behind : ℕ) → AgreeInTime c m.begin.draft → l.most ≤ made.most → Paces c scene top shared Variable Read Own m.begin m.inside made behind
-        → PacesArm c scene top shared Variable Read Own old new m.inside.values.current.items made behind
+    pub arm_paced : (made : Levels) (behind : ℕ) → AgreeInTime c m.begin.draft → l.most ≤ made.most → Paces c scene top spaces shared Variable Read Own m.begin m.inside made behind
+        → PacesArm c scene top spaces shared Variable Read Own old new m.inside.values.current.items made behind
     arm_paced made behind agree more p = record {
       within =
           subst (λ (d : Draft). Within c old.draft d made.most) (sym m.draft)
           (within_again c old.draft m.begin.draft m.inside.draft (max outer level) made.most (let o = s.outer_few in let f = few in omega (arith, o, f, more)) (guards agree).within p.within);
       in_time = subst (λ (a : Accesses). NotedInTime c a) (sym m.accesses) p.in_time;
-      given = subst (λ (a : Accesses). HaveGivenTo c scene top shared Variable Read Own a behind) (sym m.accesses) p.given;
+      given = subst (λ (a : Accesses). HaveGivenTo c scene top spaces shared Variable Read Own a behind) (sym m.accesses) p.given;
       left = p.current;
     }
 
@@ -95,8 +96,8 @@ module _ (c : Clocks) (scene : Scene) (top : Around) (shared : ℕ → Option �
       (covers_one : (e i : ℕ) → A e → i < paths_counted top → (l : Left) × (first_left chosen (register_in scene top e i) ≡ Some l))
       (covers_two : (e i : ℕ) → B e → i < paths_counted top → (l : Left) × (first_left other (register_in scene top e i) ≡ Some l))
       (a d : Building) (values_are : a.values ≡ old) (m : MadeJoined tests chosen other a d)
-      (level : ℕ) (at : TestsAt c level tests) (tl cl ol : Levels) (is_one : AreCurrent c scene top shared Variable Read Own one cl) (is_two : AreCurrent c scene top shared Variable Read Own two ol) (before : AreCurrent c scene top shared Variable Read Own begun.current.items tl)
-      (targets : (e : ℕ) → A e ⊎ B e → IsTarget c scene top shared Variable Read Own e) (level_few : level ≤ ol.most) (one_few : (e : ℕ) → cl.variables e ≤ ol.most) (two_few : (e : ℕ) → ol.variables e ≤ ol.most) where
+      (level : ℕ) (at : TestsAt c level tests) (tl cl ol : Levels) (is_one : AreCurrent c scene top spaces shared Variable Read Own one cl) (is_two : AreCurrent c scene top spaces shared Variable Read Own two ol) (before : AreCurrent c scene top spaces shared Variable Read Own begun.current.items tl)
+      (targets : (e : ℕ) → A e ⊎ B e → IsTarget c scene top spaces shared Variable Read Own e) (level_few : level ≤ ol.most) (one_few : (e : ℕ) → cl.variables e ≤ ol.most) (two_few : (e : ℕ) → ol.variables e ≤ ol.most) where
     abbrev choices : List Choice
     choices = m.choices
 
@@ -126,12 +127,12 @@ module _ (c : Clocks) (scene : Scene) (top : Around) (shared : ℕ → Option �
             subst (λ (y : Choice). IsEntity y (choice_at k x e).entity) (some_same x b same)
             (record { is = (choice_at k x e).may; within = (choice_at k x e).within; register_is = (choice_at k x e).register_is })
 
-    there_at : (os : List (Option ℕ)) (l : Levels) → AreCurrent c scene top shared Variable Read Own os l → (k : ℕ) (b : Choice) → slice_get choices k ≡ Some b → CurrentAt c (slice_get os b.register) (l.variables (entity k))
+    there_at : (os : List (Option ℕ)) (l : Levels) → AreCurrent c scene top spaces shared Variable Read Own os l → (k : ℕ) (b : Choice) → slice_get choices k ≡ Some b → CurrentAt c (slice_get os b.register) (l.variables (entity k))
     there_at os l all k b here =
         let e : IsEntity b (entity k) = entity_is k b here in
-        let t : IsTarget c scene top shared Variable Read Own (entity k) = targets (entity k) e.is in
+        let t : IsTarget c scene top spaces shared Variable Read Own (entity k) = targets (entity k) e.is in
         subst (λ (r : ℕ). CurrentAt c (slice_get os r) (l.variables (entity k))) (sym e.register_is)
-        (current_of c scene top shared Variable Read Own g os (entity k) b.path (l.variables (entity k)) t.no_counter (all (entity k) b.path t.is e.within))
+        (current_of c scene top spaces shared Variable Read Own g os (entity k) b.path (l.variables (entity k)) t.no_counter (all (entity k) b.path t.is e.within))
 
     middle_is : m.middle.current.items ≡ old.current.items
     middle_is = (middle_same scene top A B tests long chosen other begun old one two ready back left_one left_two covers_one covers_two a d values_are m).current
@@ -178,21 +179,21 @@ module _ (c : Clocks) (scene : Scene) (top : Around) (shared : ℕ → Option �
       abbrev Here : (f i : ℕ) → Truth → Type 0
       Here f i b = VariableAt c (counter_of scene f) (held_at scene.held.now f) (lane_of top i) d.values.current.items (if b then max level (max (cl.variables f) (ol.variables f)) else tl.variables f)
 
-      current_joined : Chosen → AreCurrent c scene top shared Variable Read Own d.values.current.items made
+      current_joined : Chosen → AreCurrent c scene top spaces shared Variable Read Own d.values.current.items made
       current_joined h f i v within = by (any_assigns f core_one || any_assigns f core_two) refl
         where
           chosen_here : A f ⊎ B f → Here f i true
           chosen_here is = put (is_chosen scene top A B tests long chosen other begun old one two ready back left_one left_two covers_one covers_two a d values_are m f i is within)
             where
-              t : IsTarget c scene top shared Variable Read Own f
+              t : IsTarget c scene top spaces shared Variable Read Own f
               t = targets f is
 
               put : (k : ℕ) × ((b : Choice) × ((slice_get choices k ≡ Some b) × (b.register ≡ register_in scene top f i))) → Here f i true
               put (k, (b, (here, register))) =
                   let e : IsEntity b (entity k) = entity_is k b here in
-                  let o : IsTarget c scene top shared Variable Read Own (entity k) = targets (entity k) e.is in
+                  let o : IsTarget c scene top spaces shared Variable Read Own (entity k) = targets (entity k) e.is in
                   let same : entity k ≡ f = g.apart (entity k) f b.path i o.is t.is o.no_counter t.no_counter e.within within (sym e.register_is ∙ register) in
-                  variable_of c scene top shared Variable Read Own g d.values.current.items f i (max level (max (cl.variables f) (ol.variables f))) t.no_counter
+                  variable_of c scene top spaces shared Variable Read Own g d.values.current.items f i (max level (max (cl.variables f) (ol.variables f))) t.no_counter
                   (subst (λ (x : ℕ). CurrentAt c (slice_get d.values.current.items (register_in scene top f i)) (max level (max (cl.variables x) (ol.variables x)))) same
                   (subst (λ (r : ℕ). CurrentAt c (slice_get d.values.current.items r) (max level (max (cl.variables (entity k)) (ol.variables (entity k))))) register (h.done k b here)))
 
@@ -203,7 +204,7 @@ module _ (c : Clocks) (scene : Scene) (top : Around) (shared : ℕ → Option �
               other_one : (k : ℕ) (b : Choice) → slice_get choices k ≡ Some b → b.register ≡ register_in scene top f i → counter_of scene f ≡ None → ⊥
               other_one k b here same is =
                   let e : IsEntity b (entity k) = entity_is k b here in
-                  let o : IsTarget c scene top shared Variable Read Own (entity k) = targets (entity k) e.is in
+                  let o : IsTarget c scene top spaces shared Variable Read Own (entity k) = targets (entity k) e.is in
                   let equal : entity k ≡ f = g.apart (entity k) f b.path i o.is v o.no_counter is e.within within (sym e.register_is ∙ same) in
                   none (subst (λ (x : ℕ). A x ⊎ B x) equal e.is)
           spared none (Some counter) is w = w
@@ -212,12 +213,12 @@ module _ (c : Clocks) (scene : Scene) (top : Around) (shared : ℕ → Option �
           by true is = subst (λ (t : Truth). Here f i t) (sym is) (chosen_here (assigned f is))
           by false is = subst (λ (t : Truth). Here f i t) (sym is) (spared (unassigned f is) (counter_of scene f) refl (before f i v within))
 
-      pub joined_paced : (next : ℕ) → AgreeInTime c d.draft → c.block.first ≤ length a.draft.operations.items → NotedInTime c a.accesses → HaveGivenTo c scene top shared Variable Read Own a.accesses next → Paces c scene top shared Variable Read Own a d made next
+      pub joined_paced : (next : ℕ) → AgreeInTime c d.draft → c.block.first ≤ length a.draft.operations.items → NotedInTime c a.accesses → HaveGivenTo c scene top spaces shared Variable Read Own a.accesses next → Paces c scene top spaces shared Variable Read Own a d made next
       joined_paced next agree started in_time given =
           let h : Chosen = chosen_all agree started in
           record {
             within = h.within;
             in_time = subst (λ (x : Accesses). NotedInTime c x) (sym m.same) in_time;
             current = current_joined h;
-            given = subst (λ (x : Accesses). HaveGivenTo c scene top shared Variable Read Own x next) (sym m.same) given;
+            given = subst (λ (x : Accesses). HaveGivenTo c scene top spaces shared Variable Read Own x next) (sym m.same) given;
           }

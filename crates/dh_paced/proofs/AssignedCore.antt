@@ -134,14 +134,14 @@ module _ (known : Known) where
 
 -- Targets.
 
-module _ (c : Clocks) (scene : Scene) (top : Around) (shared : ℕ → Option ℕ) (Variable Read Own : ℕ → Type 0) where
+module _ (c : Clocks) (scene : Scene) (top : Around) (spaces : ℕ) (shared : ℕ → Option ℕ) (Variable Read Own : ℕ → Type 0) where
   mutual
-    pub is_target : (outer n e : ℕ) (a : Action) (l : Levels) → OwnsIn c scene top shared Variable Read Own outer n a l → IsAssignedIn a e → IsTarget c scene top shared Variable Read Own e
-    is_target outer n e (action id place (lets name declared (Some value))) l o h = subst (λ (f : ℕ). IsTarget c scene top shared Variable Read Own f) (sym h) o.1.0
-    is_target outer n e (action id place (lets name declared None)) l o h = subst (λ (f : ℕ). IsTarget c scene top shared Variable Read Own f) (sym h) o
-    is_target outer n e (action id place (assigns target value)) l o h = subst (λ (f : ℕ). IsTarget c scene top shared Variable Read Own f) (sym h) o.1.0
+    pub is_target : (outer n e : ℕ) (a : Action) (l : Levels) → OwnsIn c scene top spaces shared Variable Read Own outer n a l → IsAssignedIn a e → IsTarget c scene top spaces shared Variable Read Own e
+    is_target outer n e (action id place (lets name declared (Some value))) l o h = subst (λ (f : ℕ). IsTarget c scene top spaces shared Variable Read Own f) (sym h) o.1.0
+    is_target outer n e (action id place (lets name declared None)) l o h = subst (λ (f : ℕ). IsTarget c scene top spaces shared Variable Read Own f) (sym h) o
+    is_target outer n e (action id place (assigns target value)) l o h = subst (λ (f : ℕ). IsTarget c scene top spaces shared Variable Read Own f) (sym h) o.1.0
     is_target outer n e (action id place (stores target value)) l o h = absurd h
-    is_target outer n e (action id place (reduces target op value)) l o h = subst (λ (f : ℕ). IsTarget c scene top shared Variable Read Own f) (sym h) o.1.0
+    is_target outer n e (action id place (reduces target op value)) l o h = subst (λ (f : ℕ). IsTarget c scene top spaces shared Variable Read Own f) (sym h) o.1.0
     is_target outer n e (action id place (decides test chosen other)) l o (inl h) = is_target _ (n + term_accesses test) e chosen (leveled scene shared outer n test l).levels o.1.0 h
     is_target outer n e (action id place (decides test chosen other)) l o (inr h) = other_target _ (n + term_accesses test + accesses_of chosen) e other (between_arms (known_in scene) shared outer n test chosen l) o.1.1 h
     is_target outer n e (action id place (blocks body)) l o h = groups_target outer n e body l o h
@@ -151,16 +151,16 @@ module _ (c : Clocks) (scene : Scene) (top : Around) (shared : ℕ → Option �
     is_target outer n e (action id place (repeats test body)) l o h = absurd h
     is_target outer n e (action id place (counts iterator declared low high factor body combine combine_place)) l o h = absurd h
 
-    pub other_target : (outer n e : ℕ) (other : MaybeAction) (l : Levels) → OwnsOther c scene top shared Variable Read Own outer n other l → IsAssignedInOther other e → IsTarget c scene top shared Variable Read Own e
+    pub other_target : (outer n e : ℕ) (other : MaybeAction) (l : Levels) → OwnsOther c scene top spaces shared Variable Read Own outer n other l → IsAssignedInOther other e → IsTarget c scene top spaces shared Variable Read Own e
     other_target outer n e no_action l o h = absurd h
     other_target outer n e (one_action a) l o h = is_target outer n e a l o h
 
-    part_target : (outer n e : ℕ) (part : Actions) (l : Levels) → OwnsPart c scene top shared Variable Read Own outer n part l → IsAssignedInPart part e → IsTarget c scene top shared Variable Read Own e
+    part_target : (outer n e : ℕ) (part : Actions) (l : Levels) → OwnsPart c scene top spaces shared Variable Read Own outer n part l → IsAssignedInPart part e → IsTarget c scene top spaces shared Variable Read Own e
     part_target outer n e no_actions l o h = absurd h
     part_target outer n e (action_then a rest) l o (inl h) = is_target outer n e a l o.0 h
     part_target outer n e (action_then a rest) l o (inr h) = part_target outer (n + accesses_of a) e rest (action_levels (known_in scene) shared outer n a l) o.1 h
 
-    groups_target : (outer n e : ℕ) (body : Groups) (l : Levels) → OwnsGroups c scene top shared Variable Read Own outer n body l → IsAssignedInGroups body e → IsTarget c scene top shared Variable Read Own e
+    groups_target : (outer n e : ℕ) (body : Groups) (l : Levels) → OwnsGroups c scene top spaces shared Variable Read Own outer n body l → IsAssignedInGroups body e → IsTarget c scene top spaces shared Variable Read Own e
     groups_target outer n e no_groups l o h = absurd h
     groups_target outer n e (group_then part rest) l o (inl h) = part_target outer n e part l o.0 h
     groups_target outer n e (group_then part rest) l o (inr h) = groups_target outer (n + part_accesses part) e rest (part_levels (known_in scene) shared outer n part l) o.1 h

@@ -20,7 +20,7 @@ use Rattle.dh_commands.specs.ShownVariables.{register_in}
 use Rattle.dh_paced.specs.Standing.{AreCurrent, IsGround, IsTarget, IsUnder, TakesAlone}
 use Rattle.dh_paced.proofs.AssignmentsLogged.{cases_last, register_under}
 
-module _ (c : Clocks) (scene : Scene) (top : Around) (shared : ℕ → Option ℕ) (Variable Read Own : ℕ → Type 0) (g : IsGround c scene top shared Variable Read Own) where
+module _ (c : Clocks) (scene : Scene) (top : Around) (spaces : ℕ) (shared : ℕ → Option ℕ) (Variable Read Own : ℕ → Type 0) (g : IsGround c scene top spaces shared Variable Read Own) where
   -- what a variable that is no iterator was given
   pub current_of : (current : List (Option ℕ)) (e i level : ℕ) → counter_of scene e ≡ None → VariableAt c (counter_of scene e) (held_at scene.held.now e) (lane_of top i) current level
       → CurrentAt c (slice_get current (register_in scene top e i)) level
@@ -38,7 +38,7 @@ module _ (c : Clocks) (scene : Scene) (top : Around) (shared : ℕ → Option �
       by None k = subst (λ (r : ℕ). CurrentAt c (slice_get current r) (l.variables e)) (sym (register_under scene top around e i u.levels)) k
       by (Some counter) k = k
 
-  module _ (e : ℕ) (target : IsTarget c scene top shared Variable Read Own e) (l : Levels) (hi : ℕ) where
+  module _ (e : ℕ) (target : IsTarget c scene top spaces shared Variable Read Own e) (l : Levels) (hi : ℕ) where
     abbrev reg : (i : ℕ) → ℕ
     reg i = register_in scene top e i
 
@@ -49,7 +49,7 @@ module _ (c : Clocks) (scene : Scene) (top : Around) (shared : ℕ → Option �
       pub rest : (i : ℕ) → k ≤ i → i < paths_counted top
           → CurrentAt c (slice_get current (reg i)) (l.variables e) ⊎ (CurrentAt c (slice_get current (reg i)) hi × ((j : ℕ) × ((j < k) × (reg j ≡ reg i))))
 
-    pub assigning_none : (current : List (Option ℕ)) → AreCurrent c scene top shared Variable Read Own current l → Assigning 0 current
+    pub assigning_none : (current : List (Option ℕ)) → AreCurrent c scene top spaces shared Variable Read Own current l → Assigning 0 current
     assigning_none current h = record {
       others = λ f i v other within. h f i v within;
       done = λ i less. absurd (never i less);
@@ -103,7 +103,7 @@ module _ (c : Clocks) (scene : Scene) (top : Around) (shared : ℕ → Option �
             split (inr (m, (j, (front, is)))) = inr (kept (reg i) hi other m, (j, (omega (arith, front), is)))
 
     -- what an expression mentions is there at its level before
-    pub mentioned_there : (around : Around) (k n : ℕ) (t : Term) (current : List (Option ℕ)) → IsUnder top around → k < paths_counted top → TakesAlone c scene top shared Variable Read Own e n t → Assigning k current
+    pub mentioned_there : (around : Around) (k n : ℕ) (t : Term) (current : List (Option ℕ)) → IsUnder top around → k < paths_counted top → TakesAlone c scene top spaces shared Variable Read Own e n t → Assigning k current
         → (f : ℕ) → Variable f → term_mentions f (core_term (known_in scene) n t) ≡ true → EntityAt c scene (lane_of around k) current l f
     mentioned_there around k n t current u within alone h f v mentioned = entity_under around current l f k u (split (cases_eq f e))
       where
@@ -114,7 +114,7 @@ module _ (c : Clocks) (scene : Scene) (top : Around) (shared : ℕ → Option �
         clash true p q = absurd (cc)
         clash false p q = absurd (cc)
 
-        own : TakesAlone c scene top shared Variable Read Own e n t → term_mentions e (core_term (known_in scene) n t) ≡ true
+        own : TakesAlone c scene top spaces shared Variable Read Own e n t → term_mentions e (core_term (known_in scene) n t) ≡ true
             → CurrentAt c (slice_get current (reg k)) (l.variables e) ⊎ (CurrentAt c (slice_get current (reg k)) hi × ((j : ℕ) × ((j < k) × (reg j ≡ reg k)))) → CurrentAt c (slice_get current (reg k)) (l.variables e)
         own takes m (inl there) = there
         own (inl one) m (inr (there, (j, (less, same)))) = absurd (apart j k less (one j k (omega (arith, less, within)) within same))
@@ -128,7 +128,7 @@ module _ (c : Clocks) (scene : Scene) (top : Around) (shared : ℕ → Option �
 
     -- behind all paths
     pub assigned_all : (current : List (Option ℕ)) (made : Levels) → ((f : ℕ) → made.variables f ≡ l.variables f) → Assigning (paths_counted top) current
-        → AreCurrent c scene top shared Variable Read Own current (with_variables made (with_value made.variables e hi))
+        → AreCurrent c scene top spaces shared Variable Read Own current (with_variables made (with_value made.variables e hi))
     assigned_all current made kept h f i v within = split (cases_eq f e)
       where
         split : (f ≡ e) ⊎ (f ≡ e → ⊥) → EntityAt c scene (lane_of top i) current (with_variables made (with_value made.variables e hi)) f

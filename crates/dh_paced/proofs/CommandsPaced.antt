@@ -54,12 +54,12 @@ use Rattle.dh_paced.proofs.LevelsOfCommands.{LevelsGo, action_go, assigned_level
 use Rattle.dh_paced.proofs.StoresPaced.{by_indices_paced, by_row_paced}
 use Rattle.dh_paced.proofs.TestsPaced.{TestsAt, TestsPaced, tests_paced}
 
-module _ (c : Clocks) (scene : Scene) (top : Around) (shared : ℕ → Option ℕ) (Variable Read Own : ℕ → Type 0) (g : IsGround c scene top shared Variable Read Own) where
+module _ (c : Clocks) (scene : Scene) (top : Around) (spaces : ℕ) (shared : ℕ → Option ℕ) (Variable Read Own : ℕ → Type 0) (g : IsGround c scene top spaces shared Variable Read Own) where
   abbrev pub Pace : (old new : Building) → Levels → (next : ℕ) → Type 0
-  Pace old new l next = Paces c scene top shared Variable Read Own old new l next
+  Pace old new l next = Paces c scene top spaces shared Variable Read Own old new l next
 
   abbrev pub Stand : (around : Around) → (old : Building) → (outer first : ℕ) → Levels → Type 0
-  Stand around old outer first l = StandsFor c scene top shared Variable Read Own around old outer first l
+  Stand around old outer first l = StandsFor c scene top spaces shared Variable Read Own around old outer first l
 
   pub paces_to : (old new : Building) (l : Levels) (j k : ℕ) → j ≡ k → Pace old new l j → Pace old new l k
   paces_to old new l j k same h = subst (λ (n : ℕ). Pace old new l n) same h
@@ -95,7 +95,8 @@ module _ (c : Clocks) (scene : Scene) (top : Around) (shared : ℕ → Option �
         started = time_later c old.draft middle.draft f.extends s.started;
         round = round_later c.block old.draft middle.draft scene around f.extends s.round;
         noted = there.notes;
-        held = record { held = there.held; ready = logged_ready old.values middle.values logs s.held.ready; long = logs.long ∙ s.held.long };
+        held = record { held = there.held; ready = logged_ready old.values middle.values logs s.held.ready; long = subst (λ (i : ℕ). i ≤ length c.block.plan.registers) (sym logs.long) s.held.long };
+        long = logs.long ∙ s.long;
         guards = s.guards;
         bounded = bounded s.bounded;
         outer_few = let o = s.outer_few in omega (arith, o, more);
@@ -125,47 +126,47 @@ module _ (c : Clocks) (scene : Scene) (top : Around) (shared : ℕ → Option �
     within_around k within = subst (λ (i : ℕ). k < i) (sym s.under.counted) within
 
     assigned_here : (e : ℕ) (t : Term) → AssignedTo scene around first e t (paths_counted around) old new next → n + (term_accesses t + 0) < 2 ^ 32 → AssignmentSuits c.block scene around first e t
-        → OwnsTerm c scene top shared Variable Read Own outer n t × (IsTarget c scene top shared Variable Read Own e × TakesAlone c scene top shared Variable Read Own e n t)
+        → OwnsTerm c scene top spaces shared Variable Read Own outer n t × (IsTarget c scene top spaces shared Variable Read Own e × TakesAlone c scene top spaces shared Variable Read Own e n t)
         → ReadsAgree c (leveled scene shared outer n t l).levels (n + (term_accesses t + 0)) → Pace old new (assigned_levels scene shared e (leveled scene shared outer n t l)) (n + (term_accesses t + 0))
     assigned_here e t m few suits own reads =
         paces_to old new _ (n + term_accesses t) (n + (term_accesses t + 0)) (omega arith)
-        (assigned_paced c scene top shared Variable Read Own g around outer n l old s e own.1.0 t (omega (arith, few)) own.0 own.1.1 (reads_less c (leveled scene shared outer n t l).levels (n + term_accesses t) (n + (term_accesses t + 0)) (omega arith) reads) new next
+        (assigned_paced c scene top spaces shared Variable Read Own g around outer n l old s e own.1.0 t (omega (arith, few)) own.0 own.1.1 (reads_less c (leveled scene shared outer n t l).levels (n + term_accesses t) (n + (term_accesses t + 0)) (omega arith) reads) new next
         (subst (λ (i : ℕ). AssignedTo scene around i e t (paths_counted top) old new next) same (subst (λ (i : ℕ). AssignedTo scene around first e t i old new next) s.under.counted m)) agrees agree
         (λ k within. subst (λ (i : ℕ). AssignmentSuits c.block scene around i e t) same suits k (within_around k within)))
 
-    cleared_here : (e : ℕ) → ClearedTo scene around first e (paths_counted around) old new next → ClearingSuits c.block scene around e → IsTarget c scene top shared Variable Read Own e → Pace old new (with_variables l (with_value l.variables e 0)) (n + 0)
+    cleared_here : (e : ℕ) → ClearedTo scene around first e (paths_counted around) old new next → ClearingSuits c.block scene around e → IsTarget c scene top spaces shared Variable Read Own e → Pace old new (with_variables l (with_value l.variables e 0)) (n + 0)
     cleared_here e m suits target =
-        cleared_paced c scene top shared Variable Read Own g around outer n l old s e target new next
+        cleared_paced c scene top spaces shared Variable Read Own g around outer n l old s e target new next
         (subst (λ (i : ℕ). ClearedTo scene around i e (paths_counted top) old new next) same (subst (λ (i : ℕ). ClearedTo scene around first e i old new next) s.under.counted m)) agrees agree
         (λ k within. suits k (within_around k within))
 
     reduced_here : (r : Ref) (op : Op) (t : Term) → ReducedTo scene around first (entity_number r.entity) op t (paths_counted around) old new next → n + (term_accesses t + 0) < 2 ^ 32 → ReducingSuits c.block scene around first (entity_number r.entity) op t
-        → OwnsTerm c scene top shared Variable Read Own outer n t × (IsTarget c scene top shared Variable Read Own (entity_number r.entity) × TakesAlone c scene top shared Variable Read Own (entity_number r.entity) n t)
+        → OwnsTerm c scene top spaces shared Variable Read Own outer n t × (IsTarget c scene top spaces shared Variable Read Own (entity_number r.entity) × TakesAlone c scene top spaces shared Variable Read Own (entity_number r.entity) n t)
         → ReadsAgree c (term_leveled shared outer (reduced_core scene n r op t) l).levels (n + (term_accesses t + 0))
         → Pace old new (assigned_levels scene shared (entity_number r.entity) (term_leveled shared outer (reduced_core scene n r op t) l)) (n + (term_accesses t + 0))
     reduced_here r op t m few suits own reads =
         paces_to old new _ (n + term_accesses t) (n + (term_accesses t + 0)) (omega arith)
         (paces_as old new (assigned_levels scene shared (entity_number r.entity) (greatest (l.variables (entity_number r.entity)) (leveled scene shared outer n t l))) _ (n + term_accesses t)
         (ap (λ (w : Leveled). assigned_levels scene shared (entity_number r.entity) w) (reduced_leveled scene shared outer n r op t l))
-        (reduced_paced c scene top shared Variable Read Own g around outer n l old s (entity_number r.entity) own.1.0 t (omega (arith, few)) own.0 own.1.1
+        (reduced_paced c scene top spaces shared Variable Read Own g around outer n l old s (entity_number r.entity) own.1.0 t (omega (arith, few)) own.0 own.1.1
         (reads_less c (leveled scene shared outer n t l).levels (n + term_accesses t) (n + (term_accesses t + 0)) (omega arith) (subst (λ (w : Leveled). ReadsAgree c w.levels (n + (term_accesses t + 0))) (sym (reduced_leveled scene shared outer n r op t l)) reads)) op new next
         (subst (λ (i : ℕ). ReducedTo scene around i (entity_number r.entity) op t (paths_counted top) old new next) same (subst (λ (i : ℕ). ReducedTo scene around first (entity_number r.entity) op t i old new next) s.under.counted m)) agrees agree
         (λ k within. subst (λ (i : ℕ). ReducingSuits c.block scene around i (entity_number r.entity) op t) same suits k (within_around k within))))
 
     stored_here : (target t : Term) → StoredTo scene around first target t (paths_counted around) old new next → n + ((term_accesses t + term_accesses target) + 0) < 2 ^ 32 → StoreSuits c.block scene around first target t
-        → OwnsTerm c scene top shared Variable Read Own outer n t × OwnsTarget c scene top shared Variable Read Own outer (n + term_accesses t) (form_of target)
+        → OwnsTerm c scene top spaces shared Variable Read Own outer n t × OwnsTarget c scene top spaces shared Variable Read Own outer (n + term_accesses t) (form_of target)
         → ReadsAgree c (action_levels (known_in scene) shared outer n (action 0 (record { line = 0; column = 0 }) (stores target t)) l) (n + ((term_accesses t + term_accesses target) + 0))
         → Pace old new (action_levels (known_in scene) shared outer n (action 0 (record { line = 0; column = 0 }) (stores target t)) l) (n + ((term_accesses t + term_accesses target) + 0))
     stored_here (plain.term place k (plain.accessed r ts)) t m few suits own reads =
         paces_to old new _ (n + (term_accesses t + (terms_accesses ts + 1))) (n + ((term_accesses t + suc (terms_accesses ts)) + 0)) (omega arith)
-        (by_indices_paced c scene top shared Variable Read Own g around outer n l old s t own.0 place k r ts own.1.0 own.1.1 (omega (arith, few))
+        (by_indices_paced c scene top spaces shared Variable Read Own g around outer n l old s t own.0 place k r ts own.1.0 own.1.1 (omega (arith, few))
         (reads_less c (all_leveled scene shared outer (n + term_accesses t) ts (leveled scene shared outer n t l).levels).levels (n + term_accesses t + terms_accesses ts) (n + ((term_accesses t + suc (terms_accesses ts)) + 0)) (omega arith) reads) new next
         (subst (λ (i : ℕ). StoredTo scene around i (plain.term place k (plain.accessed r ts)) t (paths_counted top) old new next) same
         (subst (λ (i : ℕ). StoredTo scene around first (plain.term place k (plain.accessed r ts)) t i old new next) s.under.counted m)) agrees agree
         (λ i within. subst (λ (j : ℕ). StoreSuits c.block scene around j (plain.term place k (plain.accessed r ts)) t) same suits i (within_around i within)))
     stored_here (plain.term place k (plain.in_bank r bank at row)) t m few suits own reads =
         paces_to old new _ (n + (term_accesses t + (term_accesses row + 1))) (n + ((term_accesses t + suc (term_accesses row)) + 0)) (omega arith)
-        (by_row_paced c scene top shared Variable Read Own g around outer n l old s t own.0 place at k r bank row own.1.0 own.1.1 (omega (arith, few))
+        (by_row_paced c scene top spaces shared Variable Read Own g around outer n l old s t own.0 place at k r bank row own.1.0 own.1.1 (omega (arith, few))
         (reads_less c (leveled scene shared outer (n + term_accesses t) row (leveled scene shared outer n t l).levels).levels (n + term_accesses t + term_accesses row) (n + ((term_accesses t + suc (term_accesses row)) + 0)) (omega arith) reads) new next
         (subst (λ (i : ℕ). StoredTo scene around i (plain.term place k (plain.in_bank r bank at row)) t (paths_counted top) old new next) same
         (subst (λ (i : ℕ). StoredTo scene around first (plain.term place k (plain.in_bank r bank at row)) t i old new next) s.under.counted m)) agrees agree
@@ -312,13 +313,13 @@ module _ (c : Clocks) (scene : Scene) (top : Around) (shared : ℕ → Option �
     ready_tested : AreReady m.tested.values
     ready_tested = values_at scene top AreReady old.values m.tested.values tested_values s.held.ready
 
-    long_tested : length m.tested.values.current.items ≡ length c.block.plan.registers
-    long_tested = ap (λ (v : Values). length v.current.items) tested_values ∙ s.held.long
+    long_tested : length m.tested.values.current.items ≡ spaces
+    long_tested = ap (λ (v : Values). length v.current.items) tested_values ∙ s.long
 
     inner_few : inner ≤ tested.levels.most
     inner_few = let o = s.outer_few in let f = tested_go.more in let h = tested_go.level_few s.bounded in omega (arith, o, f, h)
 
-    module _ (own : OwnsTerm c scene top shared Variable Read Own outer n test × (OwnsIn c scene top shared Variable Read Own inner n1 chosen tested.levels × OwnsOther c scene top shared Variable Read Own inner n2 other between))
+    module _ (own : OwnsTerm c scene top spaces shared Variable Read Own outer n test × (OwnsIn c scene top spaces shared Variable Read Own inner n1 chosen tested.levels × OwnsOther c scene top spaces shared Variable Read Own inner n2 other between))
         (reads : ReadsAgree c made (n + (term_accesses test + (accesses_of chosen + other_accesses other)))) where
       reads_other : ReadsAgree c behind_other_arm (n2 + other_accesses other)
       reads_other = reads_less c behind_other_arm (n2 + other_accesses other) (n + (term_accesses test + (accesses_of chosen + other_accesses other))) (omega arith) reads
@@ -329,9 +330,9 @@ module _ (c : Clocks) (scene : Scene) (top : Around) (shared : ℕ → Option �
       reads_tested : ReadsAgree c tested.levels n1
       reads_tested = λ i site at less. sym (chosen_go.before_them i less) ∙ reads_chosen i site at (omega (arith, less))
 
-      tests_are : TestsPaced c scene top shared Variable Read Own g around outer n l old s test (omega (arith, few)) own.0 reads_tested m.tested m.tests
+      tests_are : TestsPaced c scene top spaces shared Variable Read Own g around outer n l old s test (omega (arith, few)) own.0 reads_tested m.tested m.tests
       tests_are =
-          tests_paced c scene top shared Variable Read Own g around outer n l old s test (omega (arith, few)) own.0 reads_tested m.tested m.own m.tests
+          tests_paced c scene top spaces shared Variable Read Own g around outer n l old s test (omega (arith, few)) own.0 reads_tested m.tested m.own m.tests
           (subst (λ (i : ℕ). MadeTests scene around i test (paths_counted top) old m.tested m.own m.tests) same (subst (λ (i : ℕ). MadeTests scene around first test i old m.tested m.own m.tests) s.under.counted m.test)) agrees_tested agree_tested
           (λ k within. subst (λ (i : ℕ). TermSuits c.block scene (lane_of around k) i test) same (suits.0.1 k (subst (λ (i : ℕ). k < i) (sym s.under.counted) within)))
 
@@ -341,7 +342,12 @@ module _ (c : Clocks) (scene : Scene) (top : Around) (shared : ℕ → Option �
         started = time_later c old.draft m.tested.draft front s.started;
         round = round_later c.block old.draft m.tested.draft scene around front s.round;
         noted = tests_there.there.notes;
-        held = record { held = tests_there.there.held; ready = ready_tested; long = long_tested };
+        held = record {
+          held = tests_there.there.held;
+          ready = ready_tested;
+          long = subst (λ (v : Values). length v.current.items ≤ length c.block.plan.registers) (sym tested_values) s.held.long;
+        };
+        long = long_tested;
         guards = s.guards;
         bounded = tested_go.bounded s.bounded;
         outer_few = let o = s.outer_few in let f = tested_go.more in omega (arith, o, f);
@@ -354,14 +360,14 @@ module _ (c : Clocks) (scene : Scene) (top : Around) (shared : ℕ → Option �
       chosen_ended = chosen_arm.forms c.block agrees_chosen tested_stands.started tested_stands.round tests_there.truths tested_stands.noted tested_stands.held (tests_long ∙ sym s.under.counted) suits.1.0
 
       -- what the arms leave
-      room_of : (May : ℕ → Type 0) → ((e : ℕ) → May e → IsTarget c scene top shared Variable Read Own e) → (v : Values) → length v.current.items ≡ length c.block.plan.registers → HaveRoom scene top May v
+      room_of : (May : ℕ → Type 0) → ((e : ℕ) → May e → IsTarget c scene top spaces shared Variable Read Own e) → (v : Values) → length v.current.items ≡ spaces → HaveRoom scene top May v
       room_of May targets v long = λ e i may within. let t = targets e may in subst (λ (k : ℕ). register_in scene top e i < k) (sym long) (g.room e i t.is t.no_counter within)
 
-      chosen_targets : (e : ℕ) → IsAssignedIn chosen e → IsTarget c scene top shared Variable Read Own e
-      chosen_targets e is = is_target c scene top shared Variable Read Own inner n1 e chosen tested.levels own.1.0 is
+      chosen_targets : (e : ℕ) → IsAssignedIn chosen e → IsTarget c scene top spaces shared Variable Read Own e
+      chosen_targets e is = is_target c scene top spaces shared Variable Read Own inner n1 e chosen tested.levels own.1.0 is
 
-      other_targets : (e : ℕ) → IsAssignedInOther other e → IsTarget c scene top shared Variable Read Own e
-      other_targets e is = other_target c scene top shared Variable Read Own inner n2 e other between own.1.1 is
+      other_targets : (e : ℕ) → IsAssignedInOther other e → IsTarget c scene top spaces shared Variable Read Own e
+      other_targets e is = other_target c scene top spaces shared Variable Read Own inner n2 e other between own.1.1 is
 
       chosen_leaves : LeavesOf scene top (IsAssignedIn chosen) m.tested.values m.after_chosen.values m.chosen.inside.values.current.items m.chosen_left
       chosen_leaves =
@@ -374,7 +380,7 @@ module _ (c : Clocks) (scene : Scene) (top : Around) (shared : ℕ → Option �
       ready_chosen : AreReady m.after_chosen.values
       ready_chosen = same_ready m.tested.values m.after_chosen.values chosen_leaves.same ready_tested
 
-      long_chosen : length m.after_chosen.values.current.items ≡ length c.block.plan.registers
+      long_chosen : length m.after_chosen.values.current.items ≡ spaces
       long_chosen = ap (λ (os : List (Option ℕ)). length os) chosen_leaves.same.current ∙ long_tested
 
       abbrev behind_two : List (Option ℕ)
@@ -386,7 +392,7 @@ module _ (c : Clocks) (scene : Scene) (top : Around) (shared : ℕ → Option �
       -- the first arm
       chosen_stands : Agrees c.block m.chosen.begin.draft → AgreeInTime c m.chosen.begin.draft → Stand m.chosen.arm m.chosen.begin inner n1 tested.levels
       chosen_stands at_begin in_time =
-          arm_stands c scene top shared Variable Read Own g (MadeCommand scene chosen) around true m.tests m.tested m.after_chosen m.own m.behind m.chosen_left m.chosen Chosen chosen_formed n1 outer tested.level tested.levels tested_stands
+          arm_stands c scene top spaces shared Variable Read Own g (MadeCommand scene chosen) around true m.tests m.tested m.after_chosen m.own m.behind m.chosen_left m.chosen Chosen chosen_formed n1 outer tested.level tested.levels tested_stands
           tests_there.truths tests_are.at tests_long (tested_go.level_few s.bounded) at_begin in_time
 
       agrees_inside : Agrees c.block m.chosen.inside.draft
@@ -401,9 +407,9 @@ module _ (c : Clocks) (scene : Scene) (top : Around) (shared : ℕ → Option �
       agree_begin : AgreeInTime c m.chosen.begin.draft
       agree_begin = agree_before c m.chosen.begin.draft m.chosen.inside.draft chosen_formed.extends agree_inside
 
-      chosen_arm_paced : Pace m.chosen.begin m.chosen.inside behind_chosen n2 → PacesArm c scene top shared Variable Read Own m.tested m.after_chosen m.chosen.inside.values.current.items behind_chosen n2
+      chosen_arm_paced : Pace m.chosen.begin m.chosen.inside behind_chosen n2 → PacesArm c scene top spaces shared Variable Read Own m.tested m.after_chosen m.chosen.inside.values.current.items behind_chosen n2
       chosen_arm_paced p =
-          arm_paced c scene top shared Variable Read Own g (MadeCommand scene chosen) around true m.tests m.tested m.after_chosen m.own m.behind m.chosen_left m.chosen Chosen chosen_formed n1 outer tested.level tested.levels tested_stands
+          arm_paced c scene top spaces shared Variable Read Own g (MadeCommand scene chosen) around true m.tests m.tested m.after_chosen m.own m.behind m.chosen_left m.chosen Chosen chosen_formed n1 outer tested.level tested.levels tested_stands
           tests_there.truths tests_are.at tests_long (tested_go.level_few s.bounded) behind_chosen n2 agree_begin chosen_go.more p
 
       -- where the second begins
@@ -413,18 +419,19 @@ module _ (c : Clocks) (scene : Scene) (top : Around) (shared : ℕ → Option �
           let t = tested_go.bounded s.bounded in
           record { variables = λ e. let v = t.variables e in let f = chosen_go.more in omega (arith, v, f); reads = b.reads }
 
-      other_stands : PacesArm c scene top shared Variable Read Own m.tested m.after_chosen m.chosen.inside.values.current.items behind_chosen n2 → Stand around m.after_chosen outer n2 between
+      other_stands : PacesArm c scene top spaces shared Variable Read Own m.tested m.after_chosen m.chosen.inside.values.current.items behind_chosen n2 → Stand around m.after_chosen outer n2 between
       other_stands p = record {
         under = s.under;
         started = time_later c m.tested.draft m.after_chosen.draft chosen_arm.extends tested_stands.started;
         round = round_later c.block m.tested.draft m.after_chosen.draft scene around chosen_arm.extends tested_stands.round;
         noted = chosen_ended.there.notes;
         held = held_moved c.block m.tested.draft m.after_chosen.draft m.tested.values m.after_chosen.values tested_stands.held chosen_ended.there.held (chosen_arm.same ready_tested);
+        long = long_chosen;
         guards = s.guards;
         bounded = bounded_between;
         outer_few = let o = tested_stands.outer_few in let f = chosen_go.more in omega (arith, o, f);
         in_time = p.in_time;
-        current = subst (λ (os : List (Option ℕ)). AreCurrent c scene top shared Variable Read Own os between) (sym chosen_leaves.same.current) tested_stands.current;
+        current = subst (λ (os : List (Option ℕ)). AreCurrent c scene top spaces shared Variable Read Own os between) (sym chosen_leaves.same.current) tested_stands.current;
         given = p.given;
       }
 
@@ -433,14 +440,14 @@ module _ (c : Clocks) (scene : Scene) (top : Around) (shared : ℕ → Option �
 
       pub if_paced : (Stand m.chosen.arm m.chosen.begin inner n1 tested.levels → Agrees c.block m.chosen.inside.draft → AgreeInTime c m.chosen.inside.draft → ReadsAgree c behind_chosen n2 → Pace m.chosen.begin m.chosen.inside behind_chosen n2)
           → (Stand around m.after_chosen outer n2 between → AreTruths c.block m.after_chosen.draft m.tests → TestsAt c tested.level m.tests → length m.tests ≡ paths_counted top → tested.level ≤ between.most → Agrees c.block m.after_other.draft → AgreeInTime c m.after_other.draft
-          → ReadsAgree c behind_other_arm (n2 + other_accesses other) → PacesArm c scene top shared Variable Read Own m.after_chosen m.after_other behind_two behind_other_arm (n2 + other_accesses other))
+          → ReadsAgree c behind_other_arm (n2 + other_accesses other) → PacesArm c scene top spaces shared Variable Read Own m.after_chosen m.after_other behind_two behind_other_arm (n2 + other_accesses other))
           → Pace old new made (n + (term_accesses test + (accesses_of chosen + other_accesses other)))
       if_paced first_arm second_arm =
           let one = chosen_arm_paced (first_arm (chosen_stands agrees_begin agree_begin) agrees_inside agree_inside reads_chosen) in
           let level_few : tested.level ≤ between.most = let f = tested_go.level_few s.bounded in let h = chosen_go.more in omega (arith, f, h) in
           let two = second_arm (other_stands one) other_truths tests_are.at tests_long level_few agrees_other agree_other reads_other in
           let last =
-          joined_paced c scene top shared Variable Read Own g (IsAssignedIn chosen) (IsAssignedInOther other) m.tests tests_long m.chosen_left m.other_left m.tested.values m.after_other.values m.chosen.inside.values.current.items behind_two
+          joined_paced c scene top spaces shared Variable Read Own g (IsAssignedIn chosen) (IsAssignedInOther other) m.tests tests_long m.chosen_left m.other_left m.tested.values m.after_other.values m.chosen.inside.values.current.items behind_two
           (same_ready m.after_chosen.values m.after_other.values other_leaves.same ready_chosen) (same_again m.tested.values m.after_chosen.values m.after_other.values chosen_leaves.same other_leaves.same) chosen_leaves.left
           (based scene top (IsAssignedInOther other) m.tested.values.current.items m.after_chosen.values.current.items behind_two m.other_left chosen_leaves.same.current other_leaves.left) chosen_leaves.covers other_leaves.covers
           m.after_other new refl m.joined tested.level tests_are.at tested.levels behind_chosen behind_other_arm one.left two.left tested_stands.current (λ e is. by e is) (let h = rest_go.more in omega (arith, level_few, h))
@@ -458,7 +465,7 @@ module _ (c : Clocks) (scene : Scene) (top : Around) (shared : ℕ → Option �
             given = last.given;
           })
         where
-          by : (e : ℕ) → IsAssignedIn chosen e ⊎ IsAssignedInOther other e → IsTarget c scene top shared Variable Read Own e
+          by : (e : ℕ) → IsAssignedIn chosen e ⊎ IsAssignedInOther other e → IsTarget c scene top spaces shared Variable Read Own e
           by e (inl is) = chosen_targets e is
           by e (inr is) = other_targets e is
 
@@ -485,11 +492,11 @@ module _ (c : Clocks) (scene : Scene) (top : Around) (shared : ℕ → Option �
       → Agrees c.block new.draft → AgreeInTime c new.draft
       → (Stand m.arm m.begin (max outer level) n l → Agrees c.block m.inside.draft → AgreeInTime c m.inside.draft
       → Pace m.begin m.inside (action_levels (known_in scene) shared (max outer level) n a l) (n + accesses_of a))
-      → PacesArm c scene top shared Variable Read Own old new m.inside.values.current.items (action_levels (known_in scene) shared (max outer level) n a l) (n + accesses_of a)
+      → PacesArm c scene top spaces shared Variable Read Own old new m.inside.values.current.items (action_levels (known_in scene) shared (max outer level) n a l) (n + accesses_of a)
   arm_with a holds around tests old new first next lefts m n same reaches few outer level l s truths at long level_few agrees agree inner =
-      arm_paced c scene top shared Variable Read Own g (MadeCommand scene a) around holds tests old new first next lefts m _ formed n outer level l s truths at long level_few (action_levels (known_in scene) shared (max outer level) n a l) (n + accesses_of a) agree_begin
+      arm_paced c scene top spaces shared Variable Read Own g (MadeCommand scene a) around holds tests old new first next lefts m _ formed n outer level l s truths at long level_few (action_levels (known_in scene) shared (max outer level) n a l) (n + accesses_of a) agree_begin
       (action_go scene shared (max outer level) n a l reaches).more
-      (inner (arm_stands c scene top shared Variable Read Own g (MadeCommand scene a) around holds tests old new first next lefts m _ formed n outer level l s truths at long level_few (agrees_before c.block m.begin.draft m.inside.draft formed.extends agrees_inside) agree_begin)
+      (inner (arm_stands c scene top spaces shared Variable Read Own g (MadeCommand scene a) around holds tests old new first next lefts m _ formed n outer level l s truths at long level_few (agrees_before c.block m.begin.draft m.inside.draft formed.extends agrees_inside) agree_begin)
       agrees_inside agree_inside)
     where
       some_paths : 0 < paths_counted m.arm
@@ -509,7 +516,7 @@ module _ (c : Clocks) (scene : Scene) (top : Around) (shared : ℕ → Option �
 
   mutual
     pub command_paced : (a : Action) (around : Around) (old new : Building) (first next : ℕ) (m : MadeCommand scene a around old new first next) (n : ℕ) → first ≡ n → StoresReach a → n + accesses_of a < 2 ^ 32
-        → CommandSuits c.block scene a around old new first next m → (outer : ℕ) (l : Levels) → Stand around old outer n l → OwnsIn c scene top shared Variable Read Own outer n a l
+        → CommandSuits c.block scene a around old new first next m → (outer : ℕ) (l : Levels) → Stand around old outer n l → OwnsIn c scene top spaces shared Variable Read Own outer n a l
         → ReadsAgree c (action_levels (known_in scene) shared outer n a l) (n + accesses_of a) → Agrees c.block new.draft → AgreeInTime c new.draft
         → Pace old new (action_levels (known_in scene) shared outer n a l) (n + accesses_of a)
     command_paced (action id place (lets name declared (Some value))) around old new first next m n same reaches few suits outer l s own reads agrees agree =
@@ -545,9 +552,9 @@ module _ (c : Clocks) (scene : Scene) (top : Around) (shared : ℕ → Option �
 
     other_paced : (other : MaybeAction) (around : Around) (tests : List ℕ) (old new : Building) (first next : ℕ) (lefts : List Left) (m : MadeOther scene other around tests old new first next lefts) (n : ℕ) → first ≡ n → StoresReachOther other
         → n + other_accesses other < 2 ^ 32 → OtherSuits c.block scene other around tests old new first next lefts m → (outer level : ℕ) (l : Levels) → Stand around old outer n l → AreTruths c.block old.draft tests → TestsAt c level tests
-        → length tests ≡ paths_counted top → level ≤ l.most → OwnsOther c scene top shared Variable Read Own (max outer level) n other l → ReadsAgree c (other_levels (known_in scene) shared (max outer level) n other l) (n + other_accesses other)
+        → length tests ≡ paths_counted top → level ≤ l.most → OwnsOther c scene top spaces shared Variable Read Own (max outer level) n other l → ReadsAgree c (other_levels (known_in scene) shared (max outer level) n other l) (n + other_accesses other)
         → Agrees c.block new.draft → AgreeInTime c new.draft
-        → PacesArm c scene top shared Variable Read Own old new (behind_other scene top other around tests old new first next lefts m) (other_levels (known_in scene) shared (max outer level) n other l) (n + other_accesses other)
+        → PacesArm c scene top spaces shared Variable Read Own old new (behind_other scene top other around tests old new first next lefts m) (other_levels (known_in scene) shared (max outer level) n other l) (n + other_accesses other)
     other_paced no_action around tests old new first next lefts m n same reaches few suits outer level l s truths at long level_few own reads agrees agree =
         let p : Pace old new l (n + 0) = still_paced around old new outer n 0 l m.still (λ i h read. none_in n i h read) s in
         record { within = p.within; in_time = p.in_time; given = p.given; left = s.current }
@@ -556,7 +563,7 @@ module _ (c : Clocks) (scene : Scene) (top : Around) (shared : ℕ → Option �
         (λ stands here in_time. command_paced a m.arm m.begin m.inside first next m.command n same reaches few suits (max outer level) l stands own reads here in_time)
 
     pub part_paced : (part : Actions) (around : Around) (old new : Building) (first next : ℕ) (m : MadeActions scene part around old new first next) (n : ℕ) → first ≡ n → StoresReachPart part → n + part_accesses part < 2 ^ 32
-        → ActionsSuit c.block scene part around old new first next m → (outer : ℕ) (l : Levels) → Stand around old outer n l → OwnsPart c scene top shared Variable Read Own outer n part l
+        → ActionsSuit c.block scene part around old new first next m → (outer : ℕ) (l : Levels) → Stand around old outer n l → OwnsPart c scene top spaces shared Variable Read Own outer n part l
         → ReadsAgree c (part_levels (known_in scene) shared outer n part l) (n + part_accesses part) → Agrees c.block new.draft → AgreeInTime c new.draft
         → Pace old new (part_levels (known_in scene) shared outer n part l) (n + part_accesses part)
     part_paced no_actions around old new first next m n same reaches few suits outer l s own reads agrees agree = still_paced around old new outer n 0 l m.still (λ i h read. none_in n i h read) s
@@ -584,7 +591,7 @@ module _ (c : Clocks) (scene : Scene) (top : Around) (shared : ℕ → Option �
         (paces_to old new lr (k + part_accesses rest) (n + (accesses_of a + part_accesses rest)) (omega arith) (both_paced old m.middle new la lr k (k + part_accesses rest) rest_go.more p q))
 
     pub groups_paced : (body : Groups) (around : Around) (old new : Building) (first next : ℕ) (m : MadeGroups scene body around old new first next) (n : ℕ) → first ≡ n → StoresReachGroups body → n + groups_accesses body < 2 ^ 32
-        → GroupsSuit c.block scene body around old new first next m → (outer : ℕ) (l : Levels) → Stand around old outer n l → OwnsGroups c scene top shared Variable Read Own outer n body l
+        → GroupsSuit c.block scene body around old new first next m → (outer : ℕ) (l : Levels) → Stand around old outer n l → OwnsGroups c scene top spaces shared Variable Read Own outer n body l
         → ReadsAgree c (groups_levels (known_in scene) shared outer n body l) (n + groups_accesses body) → Agrees c.block new.draft → AgreeInTime c new.draft
         → Pace old new (groups_levels (known_in scene) shared outer n body l) (n + groups_accesses body)
     groups_paced no_groups around old new first next m n same reaches few suits outer l s own reads agrees agree = still_paced around old new outer n 0 l m.still (λ i h read. none_in n i h read) s

@@ -116,7 +116,7 @@ folded_timed lane current held op t value j k old new v f =
 
 -- Expressions at a path.
 
-module _ (c : Clocks) (scene : Scene) (top : Around) (shared : ℕ → Option ℕ) (Variable Read Own : ℕ → Type 0) (g : IsGround c scene top shared Variable Read Own) (lane : Lane) where
+module _ (c : Clocks) (scene : Scene) (top : Around) (spaces : ℕ) (shared : ℕ → Option ℕ) (Variable Read Own : ℕ → Type 0) (g : IsGround c scene top spaces shared Variable Read Own) (lane : Lane) where
   -- accesses that are next at this path
   pub next_of : (a : Accesses) (n count : ℕ) → ((m : ℕ) → IsIn n count m → Own m) → ((m : ℕ) → IsIn n count m → given_at_paths a m ≡ lane.number) → ((e : ℕ) → Read e → e < n → lane.number < given_at_paths a e) → AreNext scene lane a n count
   next_of a n count own each done = record {
@@ -142,7 +142,7 @@ module _ (c : Clocks) (scene : Scene) (top : Around) (shared : ℕ → Option �
     pub outer_few : outer ≤ l.most
 
   module _ (outer : ℕ) (current : List (Option ℕ)) (old mid : Draft) (before after : Accesses) (n next : ℕ) (l : Levels) (h : IsHere outer current old mid before l) where
-    stands_here : (count : ℕ) → AreOwn c scene top shared Variable Read Own outer n count → AreNext scene lane before n count → StandsInTime c old mid scene lane current before shared outer n count l
+    stands_here : (count : ℕ) → AreOwn c scene top spaces shared Variable Read Own outer n count → AreNext scene lane before n count → StandsInTime c old mid scene lane current before shared outer n count l
     stands_here count own is_next = record {
       stands = record { agrees = h.agrees; started = h.started; scope = h.scope; noted = h.noted; next = is_next };
       agree = h.agree;
@@ -160,7 +160,7 @@ module _ (c : Clocks) (scene : Scene) (top : Around) (shared : ℕ → Option �
       pub given : HaveGiven lane before after n (term_accesses t)
       pub noted : IsNoted c.block mid after
 
-    pub term_here : (t : Term) (v : ℕ) → MadeTerm scene lane current t old mid before after n next v → n + term_accesses t < 2 ^ 32 → OwnsTerm c scene top shared Variable Read Own outer n t → AreNext scene lane before n (term_accesses t) → TermSuits c.block scene lane n t
+    pub term_here : (t : Term) (v : ℕ) → MadeTerm scene lane current t old mid before after n next v → n + term_accesses t < 2 ^ 32 → OwnsTerm c scene top spaces shared Variable Read Own outer n t → AreNext scene lane before n (term_accesses t) → TermSuits c.block scene lane n t
         → ((e : ℕ) → Variable e → term_mentions e (core_term (known_in scene) n t) ≡ true → EntityAt c scene lane current l e) → ReadsAgree c (leveled scene shared outer n t l).levels (n + term_accesses t) → TermHere t v
     term_here t v m few own is_next suits vars reads = record {
       extends = part.extends;
@@ -178,7 +178,7 @@ module _ (c : Clocks) (scene : Scene) (top : Around) (shared : ℕ → Option �
       pub given : HaveGiven lane before after n (terms_accesses ts)
       pub noted : IsNoted c.block mid after
 
-    pub terms_here : (ts : plain.Terms) (vs : List ℕ) → MadeTerms scene lane current ts old mid before after n next vs → n + terms_accesses ts < 2 ^ 32 → OwnsTerms c scene top shared Variable Read Own outer n ts → AreNext scene lane before n (terms_accesses ts)
+    pub terms_here : (ts : plain.Terms) (vs : List ℕ) → MadeTerms scene lane current ts old mid before after n next vs → n + terms_accesses ts < 2 ^ 32 → OwnsTerms c scene top spaces shared Variable Read Own outer n ts → AreNext scene lane before n (terms_accesses ts)
         → TermsSuit c.block scene lane n ts × AreNumbers ts → ((e : ℕ) → Variable e → terms_mention e (core_terms (known_in scene) n ts) ≡ true → EntityAt c scene lane current l e)
         → ReadsAgree c (all_leveled scene shared outer n ts l).levels (n + terms_accesses ts) → TermsHere ts vs
     terms_here ts vs m few own is_next suits vars reads = record {

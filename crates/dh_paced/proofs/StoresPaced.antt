@@ -92,9 +92,9 @@ same_given lane x y z n a g same = record {
   behind_them = λ m more. same m ∙ g.behind_them m more;
 }
 
-module _ (c : Clocks) (scene : Scene) (top : Around) (shared : ℕ → Option ℕ) (Variable Read Own : ℕ → Type 0) (g : IsGround c scene top shared Variable Read Own)
-    (around : Around) (outer first : ℕ) (l : Levels) (old : Building) (s : StandsFor c scene top shared Variable Read Own around old outer first l)
-    (target t : Term) (own : OwnsTerm c scene top shared Variable Read Own outer first t) where
+module _ (c : Clocks) (scene : Scene) (top : Around) (spaces : ℕ) (shared : ℕ → Option ℕ) (Variable Read Own : ℕ → Type 0) (g : IsGround c scene top spaces shared Variable Read Own)
+    (around : Around) (outer first : ℕ) (l : Levels) (old : Building) (s : StandsFor c scene top spaces shared Variable Read Own around old outer first l)
+    (target t : Term) (own : OwnsTerm c scene top spaces shared Variable Read Own outer first t) where
   self : (n : ℕ) → n ≤ n
   self n = omega arith
 
@@ -119,7 +119,7 @@ module _ (c : Clocks) (scene : Scene) (top : Around) (shared : ℕ → Option �
 
   module _ (aims : Leveled) (reads : ℕ) (aims_go : LevelsThen n2 reads made.levels aims) (agree_reads : ReadsAgree c aims.levels (n2 + reads)) (aims_own : (m : ℕ) → IsIn n2 reads m → Own m) where
     abbrev pub Lane_of : (k : ℕ) → Building → Type 0
-    Lane_of k b = AtLane c scene top shared Variable Read Own g around outer first l old s aims.levels.most (term_accesses t + reads) (term_accesses t + (reads + 1)) (λ current. AreCurrent c scene top shared Variable Read Own current l) k b
+    Lane_of k b = AtLane c scene top spaces shared Variable Read Own g around outer first l old s aims.levels.most (term_accesses t + reads) (term_accesses t + (reads + 1)) (λ current. AreCurrent c scene top spaces shared Variable Read Own current l) k b
 
     pub own_all : (m : ℕ) → IsIn first (term_accesses t + reads) m → Own m
     own_all m h = by (cases_lt m n2)
@@ -140,29 +140,29 @@ module _ (c : Clocks) (scene : Scene) (top : Around) (shared : ℕ → Option �
       agree_middle = agree_before c m.middle d.draft to_middle agree
 
       started : c.block.first ≤ length b.draft.operations.items
-      started = lane_started c scene top shared Variable Read Own g around outer first l old s aims.levels.most (term_accesses t + reads) (term_accesses t + (reads + 1)) _ k b h
+      started = lane_started c scene top spaces shared Variable Read Own g around outer first l old s aims.levels.most (term_accesses t + reads) (term_accesses t + (reads + 1)) _ k b h
 
       scope : IsScope c.block b.draft scene (lane_of around k) b.values.current.items
-      scope = lane_scope c scene top shared Variable Read Own g around outer first l old s aims.levels.most (term_accesses t + reads) (term_accesses t + (reads + 1)) _ k b within h
+      scope = lane_scope c scene top spaces shared Variable Read Own g around outer first l old s aims.levels.most (term_accesses t + reads) (term_accesses t + (reads + 1)) _ k b within h
 
-      pub here : IsHere c scene top shared Variable Read Own g (lane_of around k) outer b.values.current.items b.draft m.middle b.accesses l
-      here = lane_here c scene top shared Variable Read Own g around outer first l old s aims.levels.most (term_accesses t + reads) (term_accesses t + (reads + 1)) _ k b m.middle within h agrees_middle agree_middle
+      pub here : IsHere c scene top spaces shared Variable Read Own g (lane_of around k) outer b.values.current.items b.draft m.middle b.accesses l
+      here = lane_here c scene top spaces shared Variable Read Own g around outer first l old s aims.levels.most (term_accesses t + reads) (term_accesses t + (reads + 1)) _ k b m.middle within h agrees_middle agree_middle
 
       value_next : AreNext scene (lane_of around k) b.accesses first (term_accesses t)
       value_next =
-          next_of c scene top shared Variable Read Own g (lane_of around k) b.accesses first (term_accesses t) own.are.own (λ i among. h.given.own i (among.0, let e = among.1 in omega (arith, e)))
+          next_of c scene top spaces shared Variable Read Own g (lane_of around k) b.accesses first (term_accesses t) own.are.own (λ i among. h.given.own i (among.0, let e = among.1 in omega (arith, e)))
           (λ e read less. subst (λ (i : ℕ). k < i) (sym (h.given.done e read less)) within)
 
-      pub value_here : TermHere c scene top shared Variable Read Own g (lane_of around k) outer b.values.current.items b.draft m.middle b.accesses m.between first m.own l here t m.value
+      pub value_here : TermHere c scene top spaces shared Variable Read Own g (lane_of around k) outer b.values.current.items b.draft m.middle b.accesses m.between first m.own l here t m.value
       value_here =
-          term_here c scene top shared Variable Read Own g (lane_of around k) outer b.values.current.items b.draft m.middle b.accesses m.between first m.own l here t m.value m.term few own value_next suits
-          (λ e v mentioned. entity_under c scene top shared Variable Read Own g around b.values.current.items l e k s.under (h.current e k v within)) value_reads
+          term_here c scene top spaces shared Variable Read Own g (lane_of around k) outer b.values.current.items b.draft m.middle b.accesses m.between first m.own l here t m.value m.term few own value_next suits
+          (λ e v mentioned. entity_under c scene top spaces shared Variable Read Own g around b.values.current.items l e k s.under (h.current e k v within)) value_reads
 
       begun : c.block.first ≤ length m.middle.operations.items
       begun = time_later c b.draft m.middle value_here.extends started
 
       -- where the values begin that name the element
-      pub aims_here : (end : Draft) → Extends end d.draft → IsHere c scene top shared Variable Read Own g (lane_of around k) outer b.values.current.items m.middle end m.between made.levels
+      pub aims_here : (end : Draft) → Extends end d.draft → IsHere c scene top spaces shared Variable Read Own g (lane_of around k) outer b.values.current.items m.middle end m.between made.levels
       aims_here end more = record {
         agrees = agrees_before c.block end d.draft more agrees;
         agree = agree_before c end d.draft more agree;
@@ -177,7 +177,7 @@ module _ (c : Clocks) (scene : Scene) (top : Around) (shared : ℕ → Option �
 
       pub aims_next : AreNext scene (lane_of around k) m.between n2 reads
       aims_next =
-          next_of c scene top shared Variable Read Own g (lane_of around k) m.between n2 reads aims_own
+          next_of c scene top spaces shared Variable Read Own g (lane_of around k) m.between n2 reads aims_own
           (λ i among. value_here.given.behind_them i among.0 ∙ h.given.own i (let f = among.0 in omega (arith, f), let e = among.1 in omega (arith, e))) (λ e read less. by e read less (cases_lt e first))
         where
           by : (e : ℕ) → Read e → e < n2 → (e < first) ⊎ (first ≤ e) → k < given_at_paths m.between e
@@ -187,10 +187,10 @@ module _ (c : Clocks) (scene : Scene) (top : Around) (shared : ℕ → Option �
       pub aims_vars : (e : ℕ) → Variable e → EntityAt c scene (lane_of around k) b.values.current.items made.levels e
       aims_vars e v =
           subst (λ (i : ℕ). VariableAt c (counter_of scene e) (held_at scene.held.now e) (lane_of around k) b.values.current.items i) (sym (behind_value.variables e))
-          (entity_under c scene top shared Variable Read Own g around b.values.current.items l e k s.under (h.current e k v within))
+          (entity_under c scene top spaces shared Variable Read Own g around b.values.current.items l e k s.under (h.current e k v within))
 
       -- and behind its write
-      module _ (end : Draft) (behind : Accesses) (memory : ℕ) (aim : Aim) (a : AimsHere k b.values.current.items m.middle end m.between behind reads aims memory aim) (write_own : OwnsWrite c scene top shared Variable Read Own outer (n2 + reads))
+      module _ (end : Draft) (behind : Accesses) (memory : ℕ) (aim : Aim) (a : AimsHere k b.values.current.items m.middle end m.between behind reads aims memory aim) (write_own : OwnsWrite c scene top spaces shared Variable Read Own outer (n2 + reads))
           (stores : MadeStoring scene (lane_of around k) target t m.value (Some (aim, memory)) end behind d n)
           (access : AccessSuits c.block scene (lane_of around k) memory aim.number (place_written target) (form_of target) true) (there : FormsThere c.block b d) where
         value : TimesValue end stores.0 stores.1.0 (λ x. HasClock x made.level m.value) (λ x. made.level)
@@ -266,13 +266,13 @@ module _ (c : Clocks) (scene : Scene) (top : Around) (shared : ℕ → Option �
               (within_again c m.middle end d.draft aims.levels.most aims.levels.most (self aims.levels.most) a.within
               (within_again c end stores.0 d.draft made.level aims.levels.most level_few (value.within c agree_held begun_end at_end) write_within)));
           in_time = write_in_time;
-          given = given_more c scene top shared Variable Read Own g around first (term_accesses t + reads) (term_accesses t + (reads + 1)) k b.accesses d.accesses (omega arith) gives h.given;
-          current = subst (λ (v : Values). AreCurrent c scene top shared Variable Read Own v.current.items l) (sym m.same) h.current;
+          given = given_more c scene top spaces shared Variable Read Own g around first (term_accesses t + reads) (term_accesses t + (reads + 1)) k b.accesses d.accesses (omega arith) gives h.given;
+          current = subst (λ (v : Values). AreCurrent c scene top spaces shared Variable Read Own v.current.items l) (sym m.same) h.current;
         }
 
-module _ (c : Clocks) (scene : Scene) (top : Around) (shared : ℕ → Option ℕ) (Variable Read Own : ℕ → Type 0) (g : IsGround c scene top shared Variable Read Own)
-    (around : Around) (outer first : ℕ) (l : Levels) (old : Building) (s : StandsFor c scene top shared Variable Read Own around old outer first l)
-    (t : Term) (own : OwnsTerm c scene top shared Variable Read Own outer first t) where
+module _ (c : Clocks) (scene : Scene) (top : Around) (spaces : ℕ) (shared : ℕ → Option ℕ) (Variable Read Own : ℕ → Type 0) (g : IsGround c scene top spaces shared Variable Read Own)
+    (around : Around) (outer first : ℕ) (l : Levels) (old : Building) (s : StandsFor c scene top spaces shared Variable Read Own around old outer first l)
+    (t : Term) (own : OwnsTerm c scene top spaces shared Variable Read Own outer first t) where
   abbrev valued : Leveled
   valued = leveled scene shared outer first t l
 
@@ -281,19 +281,19 @@ module _ (c : Clocks) (scene : Scene) (top : Around) (shared : ℕ → Option �
 
   -- behind all paths
   module _ (target : Term) (aims : Leveled) (reads : ℕ) (aims_go : LevelsThen aimed_at reads valued.levels aims) where
-    all_current : (current : List (Option ℕ)) → AreCurrent c scene top shared Variable Read Own current l → AreCurrent c scene top shared Variable Read Own current aims.levels
+    all_current : (current : List (Option ℕ)) → AreCurrent c scene top spaces shared Variable Read Own current l → AreCurrent c scene top spaces shared Variable Read Own current aims.levels
     all_current current h e i v within =
         subst (λ (n : ℕ). VariableAt c (counter_of scene e) (held_at scene.held.now e) (lane_of top i) current n)
         (sym (aims_go.variables e ∙ (levels_behind scene shared outer t first l).variables e)) (h e i v within)
 
-    stored_end : (new : Building) → OwnsWrite c scene top shared Variable Read Own outer (aimed_at + reads)
-        → AtLane c scene top shared Variable Read Own g around outer first l old s aims.levels.most (term_accesses t + reads) (term_accesses t + (reads + 1)) (λ current. AreCurrent c scene top shared Variable Read Own current l) (paths_counted top) new
-        → Paces c scene top shared Variable Read Own old new aims.levels (first + (term_accesses t + (reads + 1)))
+    stored_end : (new : Building) → OwnsWrite c scene top spaces shared Variable Read Own outer (aimed_at + reads)
+        → AtLane c scene top spaces shared Variable Read Own g around outer first l old s aims.levels.most (term_accesses t + reads) (term_accesses t + (reads + 1)) (λ current. AreCurrent c scene top spaces shared Variable Read Own current l) (paths_counted top) new
+        → Paces c scene top spaces shared Variable Read Own old new aims.levels (first + (term_accesses t + (reads + 1)))
     stored_end new write h = record {
       within = h.within;
       in_time = h.in_time;
       current = all_current new.values.current.items h.current;
-      given = given_end c scene top shared Variable Read Own g first (term_accesses t + reads) (term_accesses t + (reads + 1)) new.accesses (λ e read among. by e read among (cases_lt e (aimed_at + reads))) h.given;
+      given = given_end c scene top spaces shared Variable Read Own g first (term_accesses t + reads) (term_accesses t + (reads + 1)) new.accesses (λ e read among. by e read among (cases_lt e (aimed_at + reads))) h.given;
     }
       where
         by : (e : ℕ) → Read e → IsIn first (term_accesses t + (reads + 1)) e → (e < aimed_at + reads) ⊎ (aimed_at + reads ≤ e) → IsIn first (term_accesses t + reads) e
@@ -301,7 +301,7 @@ module _ (c : Clocks) (scene : Scene) (top : Around) (shared : ℕ → Option �
         by e read among (inr from) = absurd (write.unread (subst (λ (n : ℕ). Read n) (let b = among.1 in omega (arith, from, b)) read))
 
   -- by indices
-  module _ (place : Place) (kd : Option Kind) (r : Ref) (ts : plain.Terms) (owns : OwnsTerms c scene top shared Variable Read Own outer aimed_at ts) (write : OwnsWrite c scene top shared Variable Read Own outer (aimed_at + terms_accesses ts))
+  module _ (place : Place) (kd : Option Kind) (r : Ref) (ts : plain.Terms) (owns : OwnsTerms c scene top spaces shared Variable Read Own outer aimed_at ts) (write : OwnsWrite c scene top spaces shared Variable Read Own outer (aimed_at + terms_accesses ts))
       (few : aimed_at + terms_accesses ts < 2 ^ 32) (reads : ReadsAgree c (all_leveled scene shared outer aimed_at ts valued.levels).levels (aimed_at + terms_accesses ts)) where
     abbrev target_by : Term
     target_by = plain.term place kd (plain.accessed r ts)
@@ -313,7 +313,7 @@ module _ (c : Clocks) (scene : Scene) (top : Around) (shared : ℕ → Option �
     indices_go = all_levels_behind scene shared outer ts aimed_at valued.levels
 
     abbrev Here_by : (k : ℕ) → Building → Type 0
-    Here_by k b = Lane_of c scene top shared Variable Read Own g around outer first l old s target_by t own indices (terms_accesses ts) indices_go reads owns.are.own k b
+    Here_by k b = Lane_of c scene top spaces shared Variable Read Own g around outer first l old s target_by t own indices (terms_accesses ts) indices_go reads owns.are.own k b
 
     by_indices_step : (k : ℕ) (b d : Building) (n : ℕ) → MadeStored scene (lane_of around k) first target_by t b d n → k < paths_counted top → Agrees c.block d.draft → AgreeInTime c d.draft
         → TermSuits c.block scene (lane_of around k) first t
@@ -332,13 +332,13 @@ module _ (c : Clocks) (scene : Scene) (top : Around) (shared : ℕ → Option �
         there : FormsThere c.block b d
         there =
             (stores_form scene lane first target_by t b d n m few).forms c.block agrees
-            (lane_started c scene top shared Variable Read Own g around outer first l old s indices.levels.most (term_accesses t + terms_accesses ts) (term_accesses t + (terms_accesses ts + 1)) _ k b h)
-            (lane_scope c scene top shared Variable Read Own g around outer first l old s indices.levels.most (term_accesses t + terms_accesses ts) (term_accesses t + (terms_accesses ts + 1)) _ k b within h) h.noted h.held w
+            (lane_started c scene top spaces shared Variable Read Own g around outer first l old s indices.levels.most (term_accesses t + terms_accesses ts) (term_accesses t + (terms_accesses ts + 1)) _ k b h)
+            (lane_scope c scene top spaces shared Variable Read Own g around outer first l old s indices.levels.most (term_accesses t + terms_accesses ts) (term_accesses t + (terms_accesses ts + 1)) _ k b within h) h.noted h.held w
 
         by : (o : Option (Aim × ℕ)) → MadeAim scene lane b.values.current.items (plain.accessed r ts) m.middle m.end m.between m.behind m.own o → MadeStoring scene lane target_by t m.value o m.end m.behind d n → Here_by (suc k) d
         by None a stores = absurd a
         by (Some (aim, memory)) a stores =
-            stored_more c scene top shared Variable Read Own g around outer first l old s target_by t own indices (terms_accesses ts) indices_go reads owns.are.own k within b d n m few_value h agrees agree to_middle w.0
+            stored_more c scene top spaces shared Variable Read Own g around outer first l old s target_by t own indices (terms_accesses ts) indices_go reads owns.are.own k within b d n m few_value h agrees agree to_middle w.0
             m.end m.behind memory aim aims write stores access there
           where
             moved : MadeTerms scene lane b.values.current.items ts m.middle m.end m.between m.behind aimed_at aim.number aim.indices
@@ -356,16 +356,16 @@ module _ (c : Clocks) (scene : Scene) (top : Around) (shared : ℕ → Option �
             to_middle : Extends m.middle d.draft
             to_middle = extends_again m.middle m.end d.draft (all_formed scene lane b.values.current.items ts m.middle m.end m.between m.behind aimed_at aim.number aim.indices moved few).part.extends from_end
 
-            aims_is : IsHere c scene top shared Variable Read Own g lane outer b.values.current.items m.middle m.end m.between valued.levels
-            aims_is = aims_here c scene top shared Variable Read Own g around outer first l old s target_by t own indices (terms_accesses ts) indices_go reads owns.are.own k within b d n m few_value h agrees agree to_middle w.0 m.end from_end
+            aims_is : IsHere c scene top spaces shared Variable Read Own g lane outer b.values.current.items m.middle m.end m.between valued.levels
+            aims_is = aims_here c scene top spaces shared Variable Read Own g around outer first l old s target_by t own indices (terms_accesses ts) indices_go reads owns.are.own k within b d n m few_value h agrees agree to_middle w.0 m.end from_end
 
-            made_here : TermsHere c scene top shared Variable Read Own g lane outer b.values.current.items m.middle m.end m.between m.behind aimed_at aim.number valued.levels aims_is ts aim.indices
+            made_here : TermsHere c scene top spaces shared Variable Read Own g lane outer b.values.current.items m.middle m.end m.between m.behind aimed_at aim.number valued.levels aims_is ts aim.indices
             made_here =
-                terms_here c scene top shared Variable Read Own g lane outer b.values.current.items m.middle m.end m.between m.behind aimed_at aim.number valued.levels aims_is ts aim.indices moved few owns
-                (aims_next c scene top shared Variable Read Own g around outer first l old s target_by t own indices (terms_accesses ts) indices_go reads owns.are.own k within b d n m few_value h agrees agree to_middle w.0) w.1.0.0
-                (λ e v mentioned. aims_vars c scene top shared Variable Read Own g around outer first l old s target_by t own indices (terms_accesses ts) indices_go reads owns.are.own k within b d n m few_value h agrees agree to_middle w.0 e v) reads
+                terms_here c scene top spaces shared Variable Read Own g lane outer b.values.current.items m.middle m.end m.between m.behind aimed_at aim.number valued.levels aims_is ts aim.indices moved few owns
+                (aims_next c scene top spaces shared Variable Read Own g around outer first l old s target_by t own indices (terms_accesses ts) indices_go reads owns.are.own k within b d n m few_value h agrees agree to_middle w.0) w.1.0.0
+                (λ e v mentioned. aims_vars c scene top spaces shared Variable Read Own g around outer first l old s target_by t own indices (terms_accesses ts) indices_go reads owns.are.own k within b d n m few_value h agrees agree to_middle w.0 e v) reads
 
-            aims : AimsHere c scene top shared Variable Read Own g around outer first l old s target_by t own k b.values.current.items m.middle m.end m.between m.behind (terms_accesses ts) indices memory aim
+            aims : AimsHere c scene top spaces shared Variable Read Own g around outer first l old s target_by t own k b.values.current.items m.middle m.end m.between m.behind (terms_accesses ts) indices memory aim
             aims = record {
               extends = made_here.extends;
               within = made_here.timed_is.within;
@@ -384,16 +384,16 @@ module _ (c : Clocks) (scene : Scene) (top : Around) (shared : ℕ → Option �
     pub by_indices_paced : (new : Building) (next : ℕ) → StoredTo scene around first target_by t (paths_counted top) old new next → Agrees c.block new.draft → AgreeInTime c new.draft
         → ((k : ℕ) → k < paths_counted top → TermSuits c.block scene (lane_of around k) first t
         × (AimingSuits c.block scene (lane_of around k) aimed_at (plain.accessed r ts) × StoringSuits c.block scene (lane_of around k) aimed_at target_by t (plain.accessed r ts)))
-        → Paces c scene top shared Variable Read Own old new indices.levels (first + (term_accesses t + (terms_accesses ts + 1)))
+        → Paces c scene top spaces shared Variable Read Own old new indices.levels (first + (term_accesses t + (terms_accesses ts + 1)))
     by_indices_paced new next m agrees agree suits =
         stored_end target_by indices (terms_accesses ts) indices_go new write
-        (lanes_paced c scene top shared Variable Read Own g around outer first l old s (λ k b d n. MadeStored scene (lane_of around k) first target_by t b d n) indices.levels.most (term_accesses t + terms_accesses ts) (term_accesses t + (terms_accesses ts + 1))
-        (λ k current. AreCurrent c scene top shared Variable Read Own current l) (λ k b d n one. (stores_form scene (lane_of around k) first target_by t b d n one few).extends)
+        (lanes_paced c scene top spaces shared Variable Read Own g around outer first l old s (λ k b d n. MadeStored scene (lane_of around k) first target_by t b d n) indices.levels.most (term_accesses t + terms_accesses ts) (term_accesses t + (terms_accesses ts + 1))
+        (λ k current. AreCurrent c scene top spaces shared Variable Read Own current l) (λ k b d n one. (stores_form scene (lane_of around k) first target_by t b d n one few).extends)
         (λ k b d n one within at in_time h. by_indices_step k b d n one within at in_time (suits k within) h)
-        (own_all c scene top shared Variable Read Own g around outer first l old s target_by t own indices (terms_accesses ts) indices_go reads owns.are.own) s.current (paths_counted top) new next (omega arith) m agrees agree)
+        (own_all c scene top spaces shared Variable Read Own g around outer first l old s target_by t own indices (terms_accesses ts) indices_go reads owns.are.own) s.current (paths_counted top) new next (omega arith) m agrees agree)
 
   -- by a row of a bank
-  module _ (place at : Place) (kd : Option Kind) (r : Ref) (bank : ℕ) (row : Term) (owns : OwnsTerm c scene top shared Variable Read Own outer aimed_at row) (write : OwnsWrite c scene top shared Variable Read Own outer (aimed_at + term_accesses row))
+  module _ (place at : Place) (kd : Option Kind) (r : Ref) (bank : ℕ) (row : Term) (owns : OwnsTerm c scene top spaces shared Variable Read Own outer aimed_at row) (write : OwnsWrite c scene top spaces shared Variable Read Own outer (aimed_at + term_accesses row))
       (few : aimed_at + term_accesses row < 2 ^ 32) (reads : ReadsAgree c (leveled scene shared outer aimed_at row valued.levels).levels (aimed_at + term_accesses row)) where
     abbrev target_of : Term
     target_of = plain.term place kd (plain.in_bank r bank at row)
@@ -405,7 +405,7 @@ module _ (c : Clocks) (scene : Scene) (top : Around) (shared : ℕ → Option �
     row_go = levels_behind scene shared outer row aimed_at valued.levels
 
     abbrev Here_of : (k : ℕ) → Building → Type 0
-    Here_of k b = Lane_of c scene top shared Variable Read Own g around outer first l old s target_of t own row_made (term_accesses row) row_go reads owns.are.own k b
+    Here_of k b = Lane_of c scene top spaces shared Variable Read Own g around outer first l old s target_of t own row_made (term_accesses row) row_go reads owns.are.own k b
 
     by_row_step : (k : ℕ) (b d : Building) (n : ℕ) → MadeStored scene (lane_of around k) first target_of t b d n → k < paths_counted top → Agrees c.block d.draft → AgreeInTime c d.draft
         → TermSuits c.block scene (lane_of around k) first t
@@ -424,13 +424,13 @@ module _ (c : Clocks) (scene : Scene) (top : Around) (shared : ℕ → Option �
         there : FormsThere c.block b d
         there =
             (stores_form scene lane first target_of t b d n m few).forms c.block agrees
-            (lane_started c scene top shared Variable Read Own g around outer first l old s row_made.levels.most (term_accesses t + term_accesses row) (term_accesses t + (term_accesses row + 1)) _ k b h)
-            (lane_scope c scene top shared Variable Read Own g around outer first l old s row_made.levels.most (term_accesses t + term_accesses row) (term_accesses t + (term_accesses row + 1)) _ k b within h) h.noted h.held w
+            (lane_started c scene top spaces shared Variable Read Own g around outer first l old s row_made.levels.most (term_accesses t + term_accesses row) (term_accesses t + (term_accesses row + 1)) _ k b h)
+            (lane_scope c scene top spaces shared Variable Read Own g around outer first l old s row_made.levels.most (term_accesses t + term_accesses row) (term_accesses t + (term_accesses row + 1)) _ k b within h) h.noted h.held w
 
         by : (o : Option (Aim × ℕ)) → MadeAim scene lane b.values.current.items (plain.in_bank r bank at row) m.middle m.end m.between m.behind m.own o → MadeStoring scene lane target_of t m.value o m.end m.behind d n → Here_of (suc k) d
         by None a stores = absurd a
         by (Some (aim, memory)) a stores =
-            stored_more c scene top shared Variable Read Own g around outer first l old s target_of t own row_made (term_accesses row) row_go reads owns.are.own k within b d n m few_value h agrees agree to_middle w.0
+            stored_more c scene top spaces shared Variable Read Own g around outer first l old s target_of t own row_made (term_accesses row) row_go reads owns.are.own k within b d n m few_value h agrees agree to_middle w.0
             m.end m.behind memory aim aims write stores access there
           where
             moved : MadeTerm scene lane b.values.current.items row m.middle m.end m.between m.behind aimed_at aim.number a.0.value
@@ -448,16 +448,16 @@ module _ (c : Clocks) (scene : Scene) (top : Around) (shared : ℕ → Option �
             to_middle : Extends m.middle d.draft
             to_middle = extends_again m.middle m.end d.draft (formed scene lane b.values.current.items row m.middle m.end m.between m.behind aimed_at aim.number a.0.value moved few).part.extends from_end
 
-            aims_is : IsHere c scene top shared Variable Read Own g lane outer b.values.current.items m.middle m.end m.between valued.levels
-            aims_is = aims_here c scene top shared Variable Read Own g around outer first l old s target_of t own row_made (term_accesses row) row_go reads owns.are.own k within b d n m few_value h agrees agree to_middle w.0 m.end from_end
+            aims_is : IsHere c scene top spaces shared Variable Read Own g lane outer b.values.current.items m.middle m.end m.between valued.levels
+            aims_is = aims_here c scene top spaces shared Variable Read Own g around outer first l old s target_of t own row_made (term_accesses row) row_go reads owns.are.own k within b d n m few_value h agrees agree to_middle w.0 m.end from_end
 
-            made_here : TermHere c scene top shared Variable Read Own g lane outer b.values.current.items m.middle m.end m.between m.behind aimed_at aim.number valued.levels aims_is row a.0.value
+            made_here : TermHere c scene top spaces shared Variable Read Own g lane outer b.values.current.items m.middle m.end m.between m.behind aimed_at aim.number valued.levels aims_is row a.0.value
             made_here =
-                term_here c scene top shared Variable Read Own g lane outer b.values.current.items m.middle m.end m.between m.behind aimed_at aim.number valued.levels aims_is row a.0.value moved few owns
-                (aims_next c scene top shared Variable Read Own g around outer first l old s target_of t own row_made (term_accesses row) row_go reads owns.are.own k within b d n m few_value h agrees agree to_middle w.0) w.1.0.0
-                (λ e v mentioned. aims_vars c scene top shared Variable Read Own g around outer first l old s target_of t own row_made (term_accesses row) row_go reads owns.are.own k within b d n m few_value h agrees agree to_middle w.0 e v) reads
+                term_here c scene top spaces shared Variable Read Own g lane outer b.values.current.items m.middle m.end m.between m.behind aimed_at aim.number valued.levels aims_is row a.0.value moved few owns
+                (aims_next c scene top spaces shared Variable Read Own g around outer first l old s target_of t own row_made (term_accesses row) row_go reads owns.are.own k within b d n m few_value h agrees agree to_middle w.0) w.1.0.0
+                (λ e v mentioned. aims_vars c scene top spaces shared Variable Read Own g around outer first l old s target_of t own row_made (term_accesses row) row_go reads owns.are.own k within b d n m few_value h agrees agree to_middle w.0 e v) reads
 
-            aims : AimsHere c scene top shared Variable Read Own g around outer first l old s target_of t own k b.values.current.items m.middle m.end m.between m.behind (term_accesses row) row_made memory aim
+            aims : AimsHere c scene top spaces shared Variable Read Own g around outer first l old s target_of t own k b.values.current.items m.middle m.end m.between m.behind (term_accesses row) row_made memory aim
             aims = record {
               extends = made_here.extends;
               within = made_here.timed_is.within;
@@ -476,10 +476,10 @@ module _ (c : Clocks) (scene : Scene) (top : Around) (shared : ℕ → Option �
     pub by_row_paced : (new : Building) (next : ℕ) → StoredTo scene around first target_of t (paths_counted top) old new next → Agrees c.block new.draft → AgreeInTime c new.draft
         → ((k : ℕ) → k < paths_counted top → TermSuits c.block scene (lane_of around k) first t
         × (AimingSuits c.block scene (lane_of around k) aimed_at (plain.in_bank r bank at row) × StoringSuits c.block scene (lane_of around k) aimed_at target_of t (plain.in_bank r bank at row)))
-        → Paces c scene top shared Variable Read Own old new row_made.levels (first + (term_accesses t + (term_accesses row + 1)))
+        → Paces c scene top spaces shared Variable Read Own old new row_made.levels (first + (term_accesses t + (term_accesses row + 1)))
     by_row_paced new next m agrees agree suits =
         stored_end target_of row_made (term_accesses row) row_go new write
-        (lanes_paced c scene top shared Variable Read Own g around outer first l old s (λ k b d n. MadeStored scene (lane_of around k) first target_of t b d n) row_made.levels.most (term_accesses t + term_accesses row) (term_accesses t + (term_accesses row + 1))
-        (λ k current. AreCurrent c scene top shared Variable Read Own current l) (λ k b d n one. (stores_form scene (lane_of around k) first target_of t b d n one few).extends)
+        (lanes_paced c scene top spaces shared Variable Read Own g around outer first l old s (λ k b d n. MadeStored scene (lane_of around k) first target_of t b d n) row_made.levels.most (term_accesses t + term_accesses row) (term_accesses t + (term_accesses row + 1))
+        (λ k current. AreCurrent c scene top spaces shared Variable Read Own current l) (λ k b d n one. (stores_form scene (lane_of around k) first target_of t b d n one few).extends)
         (λ k b d n one within at in_time h. by_row_step k b d n one within at in_time (suits k within) h)
-        (own_all c scene top shared Variable Read Own g around outer first l old s target_of t own row_made (term_accesses row) row_go reads owns.are.own) s.current (paths_counted top) new next (omega arith) m agrees agree)
+        (own_all c scene top spaces shared Variable Read Own g around outer first l old s target_of t own row_made (term_accesses row) row_go reads owns.are.own) s.current (paths_counted top) new next (omega arith) m agrees agree)

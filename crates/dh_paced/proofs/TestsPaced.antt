@@ -117,9 +117,9 @@ module _ (c : Clocks) (outer level : ℕ) where
 
 -- Tests.
 
-module _ (c : Clocks) (scene : Scene) (top : Around) (shared : ℕ → Option ℕ) (Variable Read Own : ℕ → Type 0) (g : IsGround c scene top shared Variable Read Own)
-    (around : Around) (outer first : ℕ) (l : Levels) (old : Building) (s : StandsFor c scene top shared Variable Read Own around old outer first l)
-    (t : Term) (few : first + term_accesses t < 2 ^ 32) (own : OwnsTerm c scene top shared Variable Read Own outer first t) (reads : ReadsAgree c (leveled scene shared outer first t l).levels (first + term_accesses t)) where
+module _ (c : Clocks) (scene : Scene) (top : Around) (spaces : ℕ) (shared : ℕ → Option ℕ) (Variable Read Own : ℕ → Type 0) (g : IsGround c scene top spaces shared Variable Read Own)
+    (around : Around) (outer first : ℕ) (l : Levels) (old : Building) (s : StandsFor c scene top spaces shared Variable Read Own around old outer first l)
+    (t : Term) (few : first + term_accesses t < 2 ^ 32) (own : OwnsTerm c scene top spaces shared Variable Read Own outer first t) (reads : ReadsAgree c (leveled scene shared outer first t l).levels (first + term_accesses t)) where
   abbrev tested : Leveled
   tested = leveled scene shared outer first t l
 
@@ -127,7 +127,7 @@ module _ (c : Clocks) (scene : Scene) (top : Around) (shared : ℕ → Option �
   behind = levels_behind scene shared outer t first l
 
   abbrev Here : (k : ℕ) → Building → Type 0
-  Here k b = AtLane c scene top shared Variable Read Own g around outer first l old s tested.levels.most (term_accesses t) (term_accesses t) (λ current. AreCurrent c scene top shared Variable Read Own current l) k b
+  Here k b = AtLane c scene top spaces shared Variable Read Own g around outer first l old s tested.levels.most (term_accesses t) (term_accesses t) (λ current. AreCurrent c scene top spaces shared Variable Read Own current l) k b
 
   record TestsHere (k : ℕ) (b : Building) (tests : List ℕ) : Type 0 where
     here : Here k b
@@ -136,7 +136,7 @@ module _ (c : Clocks) (scene : Scene) (top : Around) (shared : ℕ → Option �
   tests_here : (count : ℕ) (new : Building) (next : ℕ) (tests : List ℕ) → count ≤ paths_counted top → MadeTests scene around first t count old new next tests → Agrees c.block new.draft → AgreeInTime c new.draft
       → ((k : ℕ) → k < paths_counted top → TermSuits c.block scene (lane_of around k) first t) → TestsHere count new tests
   tests_here zero new next tests within m agrees agree suits = record {
-    here = lane_begin c scene top shared Variable Read Own g around outer first l old s tested.levels.most (term_accesses t) (term_accesses t) (λ current. AreCurrent c scene top shared Variable Read Own current l) own.are.own s.current new m.0;
+    here = lane_begin c scene top spaces shared Variable Read Own g around outer first l old s tested.levels.most (term_accesses t) (term_accesses t) (λ current. AreCurrent c scene top spaces shared Variable Read Own current l) own.are.own s.current new m.0;
     at = λ path test here. absurd (nothing_at path test (subst (λ (ts : List ℕ). slice_get ts path ≡ Some test) m.1.1 here));
   }
   tests_here (suc n) new next tests within m agrees agree suits = further m.0 m.1.1.0 m.1.1.1.0 m.1.1.1.1.1.0 m.1.1.1.1.1.1 (tests_here n m.0 m.1.0 m.1.1.0 (omega (arith, within)) m.1.1.1.1.0)
@@ -150,12 +150,12 @@ module _ (c : Clocks) (scene : Scene) (top : Around) (shared : ℕ → Option �
           let part : FormsTerm scene (lane_of around n) b.values.current.items b.draft new.draft b.accesses new.accesses v (λ x. TermSuits x scene (lane_of around n) first t) (kind_written t) =
           formed scene (lane_of around n) b.values.current.items t b.draft new.draft b.accesses new.accesses first next v one.term few in
           let f : TestsHere n b before = front (agrees_before c.block b.draft new.draft part.part.extends agrees) (agree_before c b.draft new.draft part.part.extends agree) suits in
-          let h : IsHere c scene top shared Variable Read Own g (lane_of around n) outer b.values.current.items b.draft new.draft b.accesses l =
-          lane_here c scene top shared Variable Read Own g around outer first l old s tested.levels.most (term_accesses t) (term_accesses t) (λ current. AreCurrent c scene top shared Variable Read Own current l) n b new.draft less f.here agrees agree in
-          let made : TermHere c scene top shared Variable Read Own g (lane_of around n) outer b.values.current.items b.draft new.draft b.accesses new.accesses first next l h t v =
-          term_here c scene top shared Variable Read Own g (lane_of around n) outer b.values.current.items b.draft new.draft b.accesses new.accesses first next l h t v one.term few own
-          (lane_next c scene top shared Variable Read Own g around outer first l old s (term_accesses t) (term_accesses t) n b.accesses own.are.own less f.here.given) (suits n less)
-          (λ e is_variable mentioned. entity_under c scene top shared Variable Read Own g around b.values.current.items l e n s.under (f.here.current e n is_variable less)) reads in
+          let h : IsHere c scene top spaces shared Variable Read Own g (lane_of around n) outer b.values.current.items b.draft new.draft b.accesses l =
+          lane_here c scene top spaces shared Variable Read Own g around outer first l old s tested.levels.most (term_accesses t) (term_accesses t) (λ current. AreCurrent c scene top spaces shared Variable Read Own current l) n b new.draft less f.here agrees agree in
+          let made : TermHere c scene top spaces shared Variable Read Own g (lane_of around n) outer b.values.current.items b.draft new.draft b.accesses new.accesses first next l h t v =
+          term_here c scene top spaces shared Variable Read Own g (lane_of around n) outer b.values.current.items b.draft new.draft b.accesses new.accesses first next l h t v one.term few own
+          (lane_next c scene top spaces shared Variable Read Own g around outer first l old s (term_accesses t) (term_accesses t) n b.accesses own.are.own less f.here.given) (suits n less)
+          (λ e is_variable mentioned. entity_under c scene top spaces shared Variable Read Own g around b.values.current.items l e n s.under (f.here.current e n is_variable less)) reads in
           record {
             here = record {
               extends = extends_again old.draft b.draft new.draft f.here.extends part.part.extends;
@@ -164,8 +164,8 @@ module _ (c : Clocks) (scene : Scene) (top : Around) (shared : ℕ → Option �
               long = ap (λ (w : Values). length w.current.items) one.same ∙ f.here.long;
               within = within_again c old.draft b.draft new.draft tested.levels.most tested.levels.most (self tested.levels.most) f.here.within made.timed_is.within;
               in_time = made.timed_is.noted;
-              given = given_more c scene top shared Variable Read Own g around first (term_accesses t) (term_accesses t) n b.accesses new.accesses (self (term_accesses t)) made.given f.here.given;
-              current = subst (λ (w : Values). AreCurrent c scene top shared Variable Read Own w.current.items l) (sym one.same) f.here.current;
+              given = given_more c scene top spaces shared Variable Read Own g around first (term_accesses t) (term_accesses t) n b.accesses new.accesses (self (term_accesses t)) made.given f.here.given;
+              current = subst (λ (w : Values). AreCurrent c scene top spaces shared Variable Read Own w.current.items l) (sym one.same) f.here.current;
             };
             at = λ path test here. by path test f.at made.timed_is.at (place_of_more before v test path (subst (λ (ts : List ℕ). slice_get ts path ≡ Some test) is here));
           }
@@ -179,7 +179,7 @@ module _ (c : Clocks) (scene : Scene) (top : Around) (shared : ℕ → Option �
 
   -- at all paths
   pub record TestsPaced (new : Building) (tests : List ℕ) : Type 0 where
-    pub paces : Paces c scene top shared Variable Read Own old new tested.levels (first + term_accesses t)
+    pub paces : Paces c scene top spaces shared Variable Read Own old new tested.levels (first + term_accesses t)
     pub at : TestsAt c tested.level tests
 
   pub tests_paced : (new : Building) (next : ℕ) (tests : List ℕ) → MadeTests scene around first t (paths_counted top) old new next tests → Agrees c.block new.draft → AgreeInTime c new.draft
@@ -191,7 +191,7 @@ module _ (c : Clocks) (scene : Scene) (top : Around) (shared : ℕ → Option �
           within = h.here.within;
           in_time = h.here.in_time;
           current = λ e i is within. subst (λ (n : ℕ). VariableAt c (counter_of scene e) (held_at scene.held.now e) (lane_of top i) new.values.current.items n) (sym (behind.variables e)) (h.here.current e i is within);
-          given = given_end c scene top shared Variable Read Own g first (term_accesses t) (term_accesses t) new.accesses (λ e read among. among) h.here.given;
+          given = given_end c scene top spaces shared Variable Read Own g first (term_accesses t) (term_accesses t) new.accesses (λ e read among. among) h.here.given;
         };
         at = h.at;
       }

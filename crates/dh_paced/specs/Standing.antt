@@ -29,13 +29,13 @@ pub record IsUnder (top around : Around) : Type 0 where
   pub counted : paths_counted around ≡ paths_counted top
 
 -- the variables of a block, the reads that are made in it, and all of its accesses, by their numbers; `top` stands round
--- the block
-module _ (c : Clocks) (scene : Scene) (top : Around) (shared : ℕ → Option ℕ) (Variable Read Own : ℕ → Type 0) where
+-- the block, and so many registers are of variables
+module _ (c : Clocks) (scene : Scene) (top : Around) (spaces : ℕ) (shared : ℕ → Option ℕ) (Variable Read Own : ℕ → Type 0) where
   pub record IsGround : Type 0 where
     pub some : 0 < paths_counted top
     -- registers of variables that are no iterators are there, and those of two are others
     pub apart : (e f i j : ℕ) → Variable e → Variable f → counter_of scene e ≡ None → counter_of scene f ≡ None → i < paths_counted top → j < paths_counted top → register_in scene top e i ≡ register_in scene top f j → e ≡ f
-    pub room : (e i : ℕ) → Variable e → counter_of scene e ≡ None → i < paths_counted top → register_in scene top e i < length c.block.plan.registers
+    pub room : (e i : ℕ) → Variable e → counter_of scene e ≡ None → i < paths_counted top → register_in scene top e i < spaces
     -- each access of the block shares an earlier read of it, if any
     pub shares : (m : ℕ) → Own m → slice_get scene.shares.now m ≡ Some (shared m)
     pub earlier : (m e : ℕ) → Own m → shared m ≡ Some e → (e < m) × Read e
@@ -131,6 +131,7 @@ module _ (c : Clocks) (scene : Scene) (top : Around) (shared : ℕ → Option �
     pub round : StandsRound c.block old.draft scene around
     pub noted : IsNoted c.block old.draft old.accesses
     pub held : StandsHeld c.block old.draft old.values
+    pub long : length old.values.current.items ≡ spaces
     pub guards : (path : ℕ) (guard : Option ℕ) → slice_get around.guards.now path ≡ Some guard → GuardAt c outer guard
     pub bounded : AreBounded l
     pub outer_few : outer ≤ l.most

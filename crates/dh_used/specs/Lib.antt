@@ -1,0 +1,2 @@
+-- sites of accesses, and the accesses of the source
+pub mod SourceSites
