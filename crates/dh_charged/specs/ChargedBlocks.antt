@@ -22,9 +22,9 @@ use Rattle.dh_commands.specs.MadeCommands.{MadeTests}
 use Rattle.dh_commands.specs.ShownVariables.{factors_of}
 use Rattle.dh_laid.specs.BlockSites.{MadeEach, block_sites, test_sites}
 use Rattle.dh_laid.specs.LaidQuiet.{StandsIn}
-use Rattle.dh_laid.specs.LaidUses.{AreAlong, AreUntouched, SharesInside, WritesAlone}
+use Rattle.dh_laid.specs.LaidUses.{AreAlong, HaveNoOperations, SharesInside, WritesAlone}
 use Rattle.dh_blocks.specs.PathsOfLevels.{AreSpread}
-use Rattle.dh_charged.specs.ChargedUses.{AreSitesOf, HasShares, OperationsCharge}
+use Rattle.dh_charged.specs.ChargedUses.{AreSitesAt, HasShares, OperationsCharge}
 
 -- the paths round a block are those of its loops, of which there is at least one
 pub record StandsAtPaths (scene : Scene) (around : Around) : Type 0 where
@@ -42,8 +42,8 @@ pub record EndsUnused (d e : Draft) : Type 0 where
 abbrev pub BlocksCharge : Type 0
 BlocksCharge =
     (scene : Scene) (plan : PlainPlan) (block : ℕ) (around : Around) (cs : List Located) (old new : Building) (end : Draft) (m : MadeEach scene around cs old new)
-    → StandsAtPaths scene around → AreAlong 0 cs → WritesAlone scene cs → SharesInside scene (block_sites scene around cs old new m) → AreUntouched (block_sites scene around cs old new m) old.accesses
-    → HasShares scene → AreSitesOf scene around.levels.now (block_sites scene around cs old new m) → IsCut plan block old.draft end → EndsUnused new.draft end
+    → StandsAtPaths scene around → AreAlong 0 cs → WritesAlone scene cs → SharesInside scene (block_sites scene around cs old new m) → HaveNoOperations (block_sites scene around cs old new m) old.accesses
+    → HasShares scene → AreSitesAt scene around.levels.now (block_sites scene around cs old new m) → IsCut plan block old.draft end → EndsUnused new.draft end
     → OperationsCharge (program_seen scene.program.now) (operations_in plan block)
 
 -- a block of a test
@@ -51,8 +51,8 @@ abbrev pub TestsCharge : Type 0
 TestsCharge =
     (scene : Scene) (plan : PlainPlan) (block : ℕ) (around : Around) (first : ℕ) (t : Term) (old new : Building) (end : Draft) (next : ℕ) (tests : List ℕ)
     → MadeTests scene around first t (paths_counted around) old new next tests → StandsAtPaths scene around → first + term_accesses t < 2 ^ 32
-    → SharesInside scene (test_sites scene around first t) → AreUntouched (test_sites scene around first t) old.accesses
-    → HasShares scene → AreSitesOf scene around.levels.now (test_sites scene around first t) → IsCut plan block old.draft end → EndsUnused new.draft end
+    → SharesInside scene (test_sites scene around first t) → HaveNoOperations (test_sites scene around first t) old.accesses
+    → HasShares scene → AreSitesAt scene around.levels.now (test_sites scene around first t) → IsCut plan block old.draft end → EndsUnused new.draft end
     → OperationsCharge (program_seen scene.program.now) (operations_in plan block)
 
 -- Plans.

@@ -15,7 +15,7 @@ use Rattle.dh_commands.specs.declared.buildings.Building.{Building}
 use Rattle.dh_commands.specs.LanesRun.{paths_counted}
 use Rattle.dh_commands.specs.ShownVariables.{factors_of}
 use Rattle.dh_laid.specs.BlockSites.{MadeEach, block_sites, test_sites}
-use Rattle.dh_charged.specs.ChargedUses.{AreLevelsOf, AreSitesOf, IsOfMemory}
+use Rattle.dh_charged.specs.ChargedUses.{AreLevelsOf, AreSitesAt, IsOfMemory}
 
 -- each access of a program is of a memory
 abbrev pub HaveMemories : Program → Type 0
@@ -31,11 +31,11 @@ abbrev pub BlocksAreTraced : Type 0
 BlocksAreTraced =
     (scene : Scene) (around : Around) (round : sites.Around) (done folds : List Located) (old new : Building) (m : MadeEach scene around (done ++ folds) old new)
     → StandsInLoops around round → HaveMemories (program_seen scene.program.now) → Follows round [] (trace (program_seen scene.program.now)) done → AreFolds folds
-    → AreSitesOf scene around.levels.now (block_sites scene around (done ++ folds) old new m)
+    → AreSitesAt scene around.levels.now (block_sites scene around (done ++ folds) old new m)
 
 -- of a test
 abbrev pub TestSitesAreTraced : Type 0
 TestSitesAreTraced =
     (scene : Scene) (around : Around) (tested : Located) (t : Term) → StandsInLoops around tested.around → HaveMemories (program_seen scene.program.now)
     → Follows tested.around [] (trace (program_seen scene.program.now)) (tested ∷ []) → test_of (form_of tested.command) ≡ Some t
-    → AreSitesOf scene around.levels.now (test_sites scene around tested.first t)
+    → AreSitesAt scene around.levels.now (test_sites scene around tested.first t)

@@ -1,6 +1,6 @@
 -- Of a program's plan, and of what its net is made of, to the program.
 use Rattle.std.proofs.Common.{◌≡◌, ℕ, ◌<◌, ◌≤◌, List, sym, ap, subst, ◌∙◌, arith}
-use Rattle.std.specs.Prelude.{[], min}
+use Rattle.std.specs.Prelude.{[], min, Result, Ok, Err, IfOk}
 use Rattle.std.specs.List.{AllByRecursion}
 use Rattle.dh_tree.specs.declared.tables.MemEntry.{MemEntry}
 use Rattle.dh_tree.specs.Memories.{table_of}
@@ -32,6 +32,11 @@ use Rattle.dh_backend.proofs.PartsPlay.{parts_play_programs}
 use Rattle.dh_build.specs.BuiltPlans.{CanBuild}
 use Rattle.dh_unroll.specs.Unrolled.{IsUnrolled}
 use Rattle.dh_whole.specs.Compiled.{PlaysProgram}
+
+-- what holds of the value where two things do
+pub ok_both : {X Y : Type 0} (r : Result X Y) (P Q R : X → Type 0) → ((x : X) → P x → Q x → R x) → IfOk r P → IfOk r Q → IfOk r R
+ok_both (Ok x) P Q R so p q = so x p q
+ok_both (Err y) P Q R so p q = tt
 
 -- a net may be built of the parts
 pub parts_may_be_built : (plan : PlainPlan) (parts : NetParts) → ArePartsOf plan parts → CanBuild (plan_seen parts.plan) parts.passed.graph (times_seen parts.passed.times) (uses_seen parts.passed.binding)
