@@ -75,6 +75,8 @@ pub record IsRoundBlock (rounds : List Round) (around : Around) : Type 0 where
   pub paths : ℕ
   pub levels : ArePathsOf rounds around.levels.now paths
   pub guards : around.guards.now ≡ replicate paths None
+  -- their number was not cut
+  pub small : paths < 2 ^ 63
 
 -- Blocks.
 

@@ -3,3 +3,4 @@ pub mod PhaseLoops
 pub mod CopiesSome
 pub mod LoopsAscend
 pub mod LoopsCounted
+pub mod RoundsTop

@@ -25,6 +25,8 @@ pub record IsLoopOf (all : List Counter) (l : Turning) : Type 0 where
   pub among : IsAmong all counter
   pub entity : counter.entity ≡ Some l.iterator
   pub turns : l.count ≡ turn_count counter.low counter.high counter.factor
+  pub low : l.low ≡ counter.low
+  pub factor : l.factor ≡ counter.factor
 
 -- loops are so, with iterators of these numbers, each behind those before it
 abbrev pub LoopsFrom : List Counter → (low high : ℕ) → List Turning → Type 0
@@ -161,7 +163,7 @@ module _ (all : List Counter) where
           turn_ascend (size s) (size (other_at_end (at_end d body) combine)) (located r n (action id place (counts iterator declared low high factor body combine combine_place))) count
           (folded (phases inside n body) (other_phases inside (n + accesses_of body) combine))
           (subst (λ (m : ℕ). size s ≤ m) number (same_size s))
-          (record { counter = record { entity = iterator.entity; low = low.value; high = high.value; factor = factor.value }; among = among.0; entity = sym named ∙ ap Some number; turns = refl })
+          (record { counter = record { entity = iterator.entity; low = low.value; high = high.value; factor = factor.value }; among = among.0; entity = sym named ∙ ap Some number; turns = refl; low = refl; factor = refl })
           (subst (λ (m : ℕ). LoopsFrom all m (size (other_at_end (at_end d body) combine)) (loops_in_list known (folded (phases inside n body) (other_phases inside (n + accesses_of body) combine))))
           (declare_more s iterator Iterator ∙ ap suc number)
           (subst (λ (l : List Turning). LoopsFrom all (size d) (size (other_at_end (at_end d body) combine)) l) (sym (loops_folded known (phases inside n body) (other_phases inside (n + accesses_of body) combine))) both))

@@ -42,6 +42,8 @@ module _ (scene : Scene) (low high : ℕ) (counted : CountersFrom low high (coun
     counter = is.counter;
     counted = counter_found low high all l.iterator is.counter counted is.among is.entity;
     turns = is.turns;
+    low = is.low;
+    factor = is.factor;
     copies = placing_copies (program_seen scene.program.now) l.iterator;
   }
     where

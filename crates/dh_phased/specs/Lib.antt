@@ -1,1 +1,2 @@
 pub mod ProgramLoops
+pub mod TopPaths

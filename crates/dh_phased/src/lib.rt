@@ -4,4 +4,4 @@
 
 mod laws;
 
-pub use laws::loops_are_own;
+pub use laws::{loops_are_own, rounds_are_top};

@@ -1,0 +1,13 @@
+-- What `unroll` makes of a program that is to be compiled.
+use Rattle.std.specs.Prelude.{◌≡◌, []}
+use Rattle.std.specs.List.{AllByRecursion}
+use Rattle.dh_value.specs.Words.{IsKind}
+use Rattle.dh_tree.specs.PlainTrees.{Program}
+use Rattle.dh_plan.specs.DoneProgram.{IsPlanOf}
+use Rattle.dh_plan.specs.PlainPlans.{PlainPlan}
+
+-- its plan; no access of it goes through a view, and each register has from 1 to 64 bits
+pub record IsUnrolled (p : Program) (plan : PlainPlan) : Type 0 where
+  pub is_plan : IsPlanOf p plan
+  pub views : plan.views ≡ []
+  pub registers : AllByRecursion IsKind plan.registers
