@@ -10,3 +10,4 @@ pub mod ChoicesPaced
 pub mod AssignedCore
 pub mod ArmsPaced
 pub mod CommandsPaced
+pub mod OwnsCommands
