@@ -11,3 +11,5 @@ pub mod AssignedCore
 pub mod ArmsPaced
 pub mod CommandsPaced
 pub mod OwnsCommands
+pub mod ReadsHaveSites
+pub mod EachPaced
