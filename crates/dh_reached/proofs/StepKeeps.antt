@@ -147,7 +147,7 @@ module _ (plan : PlainPlan) (block : ℕ) (registers : List ℕ) (memories : Lis
   -- of two uses of one access the earlier has the smaller place
   rises_in : (i j : ℕ) (r t : Reach) (y z : Spot) (f : Found i r y) (g : Found j t z) → i < j → r.access ≡ t.access → (bank m n : ℕ) → IsListed bank m r.banks → IsListed bank n t.banks → m < n
   rises_in i j r t y z f g less same bank m n first second =
-      rising x f.is.site f.put g.put r t bank m n (u.few r.access f.is.site f.is.there) f.facts (uses_site x sites g.put t f.is.site g.is (ap sites (sym same) ∙ f.is.there))
+      rising x f.is.site f.put g.put r t bank m n f.is.few f.facts (uses_site x sites g.put t f.is.site g.is (ap sites (sym same) ∙ f.is.there))
       ((goes_at u.puts i j f.put g.put u.order f.at g.at less r t f.uses g.uses).rises same) first second
 
   placed : (b i c j place : ℕ) (r t : Reach) (y z : Spot) → Reaches plan begun (block ∷ []) b i r y → Reaches plan begun (block ∷ []) c j t z → r.access ≡ t.access → InOneBank y z
