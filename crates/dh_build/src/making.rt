@@ -1,0 +1,28 @@
+//! The net of a plan: the last of the compiler's passes.
+
+use crate::joining::build_thread;
+use crate::sizing::size_up;
+use dh_base::NoMemory;
+use dh_net::Net;
+use dh_plan::{Binding, Graph, Plan};
+use std::alloc::Global;
+
+/// Makes the net of a plan of one thread by what the passes before make of it: its graph, the ports of its operations,
+/// and its schedule, a clock for each operation and a length for each block.
+///
+/// # Errors
+///
+/// `NoMemory` where an allocation was refused.
+pub fn build(
+    alloc: Global,
+    plan: &Plan,
+    graph: &Graph,
+    binding: &Binding,
+    clocks: &[u64],
+    lengths: &[u64],
+) -> Result<Net, NoMemory> {
+    let states = graph.states.as_slice();
+    let first = &graph.groups.as_slice()[0].first;
+    let sizes = size_up(alloc, plan, states.len() as u64, clocks, lengths)?;
+    build_thread(alloc, plan, binding, states, first, &sizes)
+}
