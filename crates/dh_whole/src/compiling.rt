@@ -1,15 +1,14 @@
 //! The compiler's public call.
 
-ghost use Rattle.std.specs.Prelude.{◌≤◌, IfOk};
+ghost use Rattle.std.specs.Prelude.{◌≡◌, ◌≤◌, IfOk};
+ghost use Rattle.dh_tree.specs.Seen.{program_seen};
+ghost use Rattle.dh_plan.specs.Passes.{IsToCompile};
+ghost use Rattle.dh_plan.specs.PlanSizes.{size_reported};
 ghost use Rattle.dh_meets.specs.Ports.{KeepsPortRules};
 ghost use Rattle.dh_tree.specs.Ready.{IsReady};
-ghost use Rattle.dh_tree.specs.Seen.{program_seen};
-ghost use Rattle.dh_net.specs.Valid.{HasReadsZero};
-ghost use Rattle.dh_plan.specs.Passes.{IsToCompile};
-ghost use Rattle.dh_plan.specs.PlayedPlans.{PlaysItsProgram};
-ghost use Rattle.dh_whole.specs.Compiled.{Compiles};
+ghost use Rattle.dh_whole.specs.Compiled.{AreMadeOf, Compiles, IsMadeOf, IsNetOfProgram, MayBeMade};
 
-use dh_backend::parts_of;
+use dh_backend::{NetParts, parts_of, parts_play_programs};
 use dh_base::NoMemory;
 use dh_build::build;
 use dh_check::Accepted;
@@ -34,19 +33,58 @@ pub enum CompileFault {
 /// The greatest size of a plan that is compiled.
 const MOST_PLAN: u64 = 200_000;
 
-/// The net of a program that is to be compiled.
-fn net_of(alloc: Global, program: &Typed) -> Result<Net, NoMemory> {
+/// What the net of a program is made of.
+fn parts_for(alloc: Global, program: &Typed) -> Result<NetParts, NoMemory>
+    requires { IsToCompile (program_seen program.now) }
+    ensures { IfOk result (λ parts. AreMadeOf (program_seen program.now) parts) }
+{
     let plan = unroll(alloc, program)?;
-    let parts = parts_of(alloc, &plan)?;
-    let times = &parts.passed.times;
-    build(
-        alloc,
-        &parts.plan,
-        &parts.passed.graph,
-        &parts.passed.binding,
-        times.clocks.as_slice(),
-        times.lengths.as_slice(),
-    )
+    match parts_of(alloc, &plan) {
+        Ok(parts) => Ok(parts),
+        Err(fault) => Err(fault),
+    }
+}
+
+/// The net of these parts.
+fn join_parts(alloc: Global, parts: &NetParts) -> Result<Net, NoMemory>
+    requires { MayBeMade parts.now }
+    ensures { IfOk result (λ net. IsMadeOf parts.now net) }
+{
+    let passed = &parts.passed;
+    let (clocks, lengths) = (passed.times.clocks.as_slice(), passed.times.lengths.as_slice());
+    match build(alloc, &parts.plan, &passed.graph, &passed.binding, clocks, lengths) {
+        Ok(net) => Ok(net),
+        Err(fault) => Err(fault),
+    }
+}
+
+/// The net of a program that is to be compiled.
+fn net_of(alloc: Global, program: &Typed) -> Result<Net, NoMemory>
+    requires { IsToCompile (program_seen program.now) }
+    ensures { IfOk result (λ net. IsNetOfProgram (program_seen program.now) net) }
+{
+    parts_play_programs();
+    let parts = parts_for(alloc, program)?;
+    match join_parts(alloc, &parts) {
+        Ok(net) => Ok(net),
+        Err(fault) => Err(fault),
+    }
+}
+
+/// The net of a program whose plan has this size.
+fn net_within(alloc: Global, program: &Typed, size: u64) -> Result<Net, CompileFault>
+    requires ready { IsReady (program_seen program.now) }
+    requires kept { KeepsPortRules (program_seen program.now) }
+    requires size { size ≡ size_reported (program_seen program.now) }
+    ensures { Compiles (program_seen program.now) result }
+{
+    if size > MOST_PLAN {
+        return Err(CompileFault::TooLarge { size });
+    }
+    match net_of(alloc, program) {
+        Ok(net) => Ok(net),
+        Err(NoMemory) => Err(CompileFault::NoMemory),
+    }
 }
 
 /// Compiles an accepted program. The net is valid, its table is the program's, and from all fitting memories it plays
@@ -57,16 +95,12 @@ fn net_of(alloc: Global, program: &Typed) -> Result<Net, NoMemory> {
 ///
 /// `TooLarge` exactly where the size of the program's plan is above 200,000; `NoMemory` where an allocation was
 /// refused.
-pub fn compile(alloc: Global, accepted: &Accepted) -> Result<Net, CompileFault> {
+pub fn compile(alloc: Global, accepted: &Accepted) -> Result<Net, CompileFault>
+    ensures { Compiles (program_seen accepted.now) result }
+{
     let program = accepted.typed();
-    let Ok(size) = plan_size(alloc, program) else {
-        return Err(CompileFault::NoMemory);
-    };
-    if size > MOST_PLAN {
-        return Err(CompileFault::TooLarge { size });
-    }
-    match net_of(alloc, program) {
-        Ok(net) => Ok(net),
+    match plan_size(alloc, program) {
+        Ok(size) => net_within(alloc, program, size),
         Err(NoMemory) => Err(CompileFault::NoMemory),
     }
 }
