@@ -1,8 +1,7 @@
 -- A net that was built is valid.
-use Rattle.std.proofs.Common.{◌≡◌, ℕ, zero, suc, ◌+◌, ◌^◌, ◌<◌, ◌≤◌, true, false, inl, inr, Some, List, [], ◌∷◌, ◌++◌, length, map, refl, sym, ap, subst, ◌∙◌, arith}
+use Rattle.std.proofs.Common.{◌≡◌, ℕ, zero, suc, ◌^◌, ◌<◌, ◌≤◌, true, inl, inr, Some, List, [], ◌∷◌, ◌++◌, length, refl, sym, ap, subst, ◌∙◌, arith}
 use Rattle.std.specs.Prelude.{slice_get, slice_index}
 use Rattle.std.specs.List.{AllByRecursion}
-use Rattle.std.proofs.Math.Pow.{pow_mono}
 use Rattle.std.proofs.lemmas.List.{get_or-map, length-map}
 use Rattle.std.proofs.lemmas.Nat.{pow_pos}
 use Rattle.std.proofs.lemmas.Option.{slice_get_within}
@@ -53,7 +52,7 @@ use Rattle.dh_build.specs.declared.building.Parts.{Parts}
 use Rattle.dh_build.specs.declared.building.Sizes.{Sizes}
 use Rattle.dh_build.specs.BuiltNets.{IsBuilt, nexts_of, values_from}
 use Rattle.dh_build.specs.BuiltParts.{AreSizes, CanMake, net_widths}
-use Rattle.dh_build.specs.DrivenUsers.{DrivesUser, DriveUsers, plan_times}
+use Rattle.dh_build.specs.DrivenUsers.{DrivesUser, plan_times}
 use Rattle.dh_build.proofs.PortsDriven.{DriveEach, picked_both, user_of_port}
 use Rattle.dh_build.proofs.WaysFit.{way_fits, way_within}
 

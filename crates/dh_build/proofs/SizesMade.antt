@@ -1,16 +1,16 @@
 -- The sizes of a net by a legal schedule: each length is at most the greatest, and each clock lies in its block.
-use Rattle.std.proofs.Common.{◌≡◌, ℕ, zero, suc, ◌+◌, ◌-◌, ◌^◌, ◌<◌, ◌≤◌, inl, inr, List, [], ◌∷◌, length, map, take, drop, get_or, refl, sym, ap, subst, ◌∙◌, arith}
+use Rattle.std.proofs.Common.{◌≡◌, ℕ, suc, ◌+◌, ◌-◌, ◌^◌, ◌<◌, ◌≤◌, inl, inr, List, [], ◌∷◌, length, map, drop, get_or, sym, ap, subst, ◌∙◌, arith}
 use Rattle.std.specs.Prelude.{slice_get, slice_index}
 use Rattle.std.specs.List.{AllByRecursion}
 use Rattle.std.proofs.lemmas.List.{get_or-take, get_or-drop}
-use Rattle.std.proofs.lemmas.Nat.{cases_lt}
+use Rattle.std.proofs.lemmas.Bool.{cases_lt}
 use Rattle.std.proofs.lemmas.Option.{slice_get_cases}
 use Rattle.dh_value.specs.Words.{width_of}
 use Rattle.dh_net.specs.RowWidths.{IsRowWidth}
 use Rattle.dh_plan.specs.declared.operations.PlanBlock.{PlanBlock}
 use Rattle.dh_plan.specs.declared.schedules.Limits.{Limits}
 use Rattle.dh_plan.specs.LegalSchedules.{Timing, IsLegal, clocks_in}
-use Rattle.dh_plan.specs.PlainPlans.{PlainPlan, first_in, operations_before, operations_in, operation_count, block_operations}
+use Rattle.dh_plan.specs.PlainPlans.{PlainPlan, first_in, operations_before, operations_in, block_operations}
 use Rattle.dh_lower.proofs.StepsDoBlocks.{all_clocks_long, clock_at_most}
 use Rattle.dh_datapath.proofs.PartsByBlock.{no_operations}
 use Rattle.dh_control.proofs.ListFacts.{at_index}

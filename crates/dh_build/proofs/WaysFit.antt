@@ -1,7 +1,7 @@
 -- Where a way of one thread leads: registers keep to their kinds, and the number of the state is at most that behind all
 -- states.
-use Rattle.std.proofs.Common.{◌≡◌, ℕ, ◌+◌, ◌<◌, ◌≤◌, Bool, true, false, if◌then◌else◌, List, length, arith}
-use Rattle.std.specs.Prelude.{◌==◌, replicate, slice_index, slice_set}
+use Rattle.std.proofs.Common.{ℕ, ◌+◌, ◌≤◌, Bool, true, false, if◌then◌else◌, List, arith}
+use Rattle.std.specs.Prelude.{◌==◌, slice_index, slice_set}
 use Rattle.std.proofs.Math.Nat.{mod-lt}
 use Rattle.std.proofs.lemmas.Nat.{pow_pos}
 use Rattle.dh_value.specs.declared.kinds.Kind.{Kind}

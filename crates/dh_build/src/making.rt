@@ -1,9 +1,11 @@
 //! The net of a plan: the last of the compiler's passes.
 
 ghost use Rattle.std.specs.Prelude.{IfOk};
+ghost use Rattle.dh_net.specs.Valid.{HasReadsZero};
 ghost use Rattle.dh_plan.specs.Passes.{uses_seen};
+ghost use Rattle.dh_plan.specs.PlayedPlans.{PlaysPlan};
 ghost use Rattle.dh_plan.specs.SeenPlans.{plan_seen};
-ghost use Rattle.dh_build.specs.BuiltPlans.{CanBuild, IsNetBuilt, timing_of};
+ghost use Rattle.dh_build.specs.BuiltPlans.{CanBuild, timing_of};
 
 use crate::joining::build_thread;
 use crate::sizing::size_up;
@@ -28,7 +30,8 @@ pub fn build(
 ) -> Result<Net, NoMemory>
     requires { CanBuild (plan_seen plan.now) graph.now (timing_of clocks.now lengths.now)
         (uses_seen binding.now) }
-    ensures { IfOk result (IsNetBuilt (plan_seen plan.now) lengths.now) }
+    ensures plays { IfOk result (λ net. PlaysPlan (plan_seen plan.now) lengths.now net) }
+    ensures zero_reads { IfOk result (λ net. HasReadsZero net) }
 {
     let states = graph.states.as_slice();
     let first = &graph.groups.as_slice()[0].first;
