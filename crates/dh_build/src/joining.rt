@@ -6,10 +6,12 @@ ghost use Rattle.dh_value.specs.Words.{IsKind, width_of};
 ghost use Rattle.dh_tree.specs.Shapes.{IsProgramTable};
 ghost use Rattle.dh_net.specs.BankPorts.{ports_of};
 ghost use Rattle.dh_plan.specs.SeenPlans.{plan_seen};
+ghost use Rattle.dh_plan.specs.Passes.{uses_seen};
 ghost use Rattle.dh_control.specs.WayMoves.{way_of_decision};
-ghost use Rattle.dh_build.specs.BuiltNets.{nexts_of, values_from};
-ghost use Rattle.dh_build.specs.BuiltParts.{AreRegisters, IsOver, net_widths};
+ghost use Rattle.dh_build.specs.BuiltNets.{IsBuilt, nexts_of, values_from};
+ghost use Rattle.dh_build.specs.BuiltParts.{AreRegisters, AreSizes, CanMake, IsOver, net_widths};
 ghost use Rattle.dh_build.specs.DrivenUsers.{AreListed};
+ghost use Rattle.dh_build.specs.NetJoints.{AreJoints, IsJoined, JointsAdded};
 
 use crate::assembling::{list_nexts, list_registers};
 use crate::beginning::list_initials;
@@ -99,7 +101,15 @@ fn list_joints(
     first: &Decision,
     sizes: &Sizes,
     parts: &Parts,
-) -> Result<Joints, NoMemory> {
+) -> Result<Joints, NoMemory>
+    requires table { IsProgramTable plan.now.table }
+    requires kinds { AllByRecursion IsKind plan.now.registers }
+    requires widths { sizes.now.widths ≡ map width_of plan.now.registers }
+    requires state { length parts.now.control.results.state ≡ 1 }
+    requires news { length parts.now.control.results.news ≡ length sizes.now.widths }
+    ensures { IfOk result
+        (λ joints. AreJoints (plan_seen plan.now) over first.now sizes.now parts.now joints) }
+{
     let registers = net_registers(alloc, plan, over, first, sizes, &parts.control)?;
     let drivers = net_drivers(alloc, plan, parts.drivers.as_slice())?;
     let faults = Vec::from_slice(alloc, plan.faults.as_slice())?;
@@ -122,13 +132,21 @@ fn push_joints(
     states: &[State],
     first: &Decision,
     sizes: &Sizes,
-) -> Result<Joints, NoMemory> {
+) -> Result<Joints, NoMemory>
+    requires over { IsOver circuit.old (plan_seen plan.now) sizes.now }
+    requires sizes { AreSizes (plan_seen plan.now) (length states.now) sizes.now }
+    requires can { CanMake (plan_seen plan.now) (uses_seen binding.now) states.now }
+    ensures { IfOk result (λ joints. JointsAdded circuit.old circuit.new (plan_seen plan.now)
+        (uses_seen binding.now) states.now first.now sizes.now joints) }
+{
     let parts = push_parts(alloc, circuit, plan, binding, states, sizes)?;
     list_joints(alloc, plan, states.len() as u64, first, sizes, &parts)
 }
 
 /// The net of a circuit and of what it has beside.
-fn join_net(circuit: Circuit, joints: Joints) -> Net {
+fn join_net(circuit: Circuit, joints: Joints) -> Net
+    ensures { IsJoined circuit joints result }
+{
     let (table, cells) = circuit.into_parts();
     Net {
         table,
@@ -150,7 +168,12 @@ pub fn build_thread(
     states: &[State],
     first: &Decision,
     sizes: &Sizes,
-) -> Result<Net, NoMemory> {
+) -> Result<Net, NoMemory>
+    requires sizes { AreSizes (plan_seen plan.now) (length states.now) sizes.now }
+    requires can { CanMake (plan_seen plan.now) (uses_seen binding.now) states.now }
+    ensures { IfOk result (λ net. IsBuilt (plan_seen plan.now) (uses_seen binding.now) states.now
+        first.now sizes.now net) }
+{
     let mut circuit = start_circuit(alloc, plan, sizes)?;
     match push_joints(alloc, &mut circuit, plan, binding, states, first, sizes) {
         Ok(joints) => Ok(join_net(circuit, joints)),

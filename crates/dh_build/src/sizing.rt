@@ -3,7 +3,9 @@
 ghost use Rattle.std.specs.Prelude.{◌≡◌, ◌<◌, ◌≤◌, ◌∷◌, ◌++◌, ◌^◌, [], map, IfOk};
 ghost use Rattle.std.specs.List.{AllByRecursion};
 ghost use Rattle.dh_plan.specs.LegalSchedules.{greatest_of};
+ghost use Rattle.dh_plan.specs.SeenPlans.{plan_seen};
 ghost use Rattle.dh_value.specs.Words.{width_of};
+ghost use Rattle.dh_build.specs.BuiltPlans.{AreSizesOf, IsScheduled, timing_of};
 
 use crate::building::Sizes;
 use dh_base::{Items, NoMemory};
@@ -65,7 +67,12 @@ pub fn size_up(
     states: u64,
     clocks: &[u64],
     lengths: &[u64],
-) -> Result<Sizes, NoMemory> {
+) -> Result<Sizes, NoMemory>
+    requires few { states < 2 ^ 63 }
+    requires times { IsScheduled (plan_seen plan.now) (timing_of clocks.now lengths.now) }
+    ensures { IfOk result (λ sizes. AreSizesOf (plan_seen plan.now) states
+        (timing_of clocks.now lengths.now) sizes) }
+{
     let longest = greatest(lengths);
     let clocks = copied(alloc, clocks)?;
     let lengths = copied(alloc, lengths)?;
