@@ -12,7 +12,7 @@ use Rattle.dh_tree.specs.declared.tables.MemEntry.{MemEntry}
 use Rattle.dh_check.specs.Verdicts.{Asked}
 use Rattle.dh_data.specs.Reports.{report_text}
 use Rattle.dh_net.specs.declared.nets.Net.{Net}
-use Rattle.dh_whole.specs.Compiled.{IsNetOfProgram}
+use Rattle.dh_compile.specs.Compiled.{IsNetOfProgram}
 use Rattle.dh_app.specs.Asking.{checked, interpreted, word_at}
 use Rattle.dh_app.specs.CheckJob.{IsOk}
 use Rattle.dh_app.specs.Engines.{EngineSeen}

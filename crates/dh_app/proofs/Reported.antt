@@ -9,7 +9,7 @@ use Rattle.dh_data.specs.Reports.{report_text}
 use Rattle.dh_data.specs.declared.reports.Ending.{Ending}
 use Rattle.dh_net.specs.declared.nets.Net.{Net}
 use Rattle.dh_net.proofs.Reporting.{reports_by}
-use Rattle.dh_whole.specs.Compiled.{IsNetOfProgram}
+use Rattle.dh_compile.specs.Compiled.{IsNetOfProgram}
 use Rattle.dh_app.specs.Engines.{EngineSeen, Asks, AnswersTo, AreRuns}
 use Rattle.dh_app.specs.InterpretJob.{stands_after, ending_at, IsStandingReport}
 use Rattle.dh_app.specs.Parts.{IsFirstReport}

@@ -6,7 +6,7 @@ use Rattle.dh_base.specs.declared.statuses.Status.TheVariants as status
 use Rattle.dh_tree.specs.PlainTrees.{Program}
 use Rattle.dh_net.specs.declared.nets.Net.{Net}
 use Rattle.dh_plan.specs.Passes.{IsTooLarge}
-use Rattle.dh_whole.specs.Compiled.{IsNetOfProgram}
+use Rattle.dh_compile.specs.Compiled.{IsNetOfProgram}
 use Rattle.dh_app.specs.Inputs.{InputsSeen, OnlyReads}
 use Rattle.dh_app.specs.Lines.{too_large_line}
 use Rattle.dh_app.specs.Replies.{ReplySeen, replied, unread, no_memory, reply_seen}

@@ -18,7 +18,7 @@ use Rattle.dh_check.specs.Verdicts.{Asked, asked_of, Verdict, accepts, IsVerdict
 use Rattle.dh_check.specs.declared.checking.CheckFault.{CheckFault}
 use Rattle.dh_check.specs.declared.checking.CheckFault.TheVariants as check_fault
 use Rattle.dh_check.specs.declared.checking.Forms.{Forms}
-use Rattle.dh_whole.specs.Compiled.{IsNetOfProgram}
+use Rattle.dh_compile.specs.Compiled.{IsNetOfProgram}
 use Rattle.dh_data.specs.DataFiles.{Holds, Means}
 use Rattle.dh_data.specs.declared.data_files.DataFault.{DataFault}
 use Rattle.dh_data.specs.declared.data_files.DataFault.TheVariants as fault

@@ -8,7 +8,7 @@ use crate::replies::{Reply, reply_with};
 use dh_base::{Excess, Limit, Status};
 use dh_check::Accepted;
 use dh_net::Net;
-use dh_whole::{CompileFault, compile};
+use dh_compile::{CompileFault, compile};
 use std::alloc::Global;
 
 /// Compiles an accepted program; or the line that it is too large.

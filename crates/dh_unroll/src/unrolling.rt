@@ -1,12 +1,10 @@
 //! The pass as a whole.
 
-ghost use Rattle.std.specs.Prelude.{◌≡◌, [], IfOk};
-ghost use Rattle.std.specs.List.{AllByRecursion};
-ghost use Rattle.dh_value.specs.Words.{IsKind};
+ghost use Rattle.std.specs.Prelude.{IfOk};
 ghost use Rattle.dh_tree.specs.Seen.{program_seen};
-ghost use Rattle.dh_plan.specs.DoneProgram.{IsPlanOf};
 ghost use Rattle.dh_plan.specs.Passes.{IsToCompile};
 ghost use Rattle.dh_plan.specs.SeenPlans.{plan_seen};
+ghost use Rattle.dh_unroll.specs.Unrolled.{IsUnrolled};
 
 use crate::sharing::narrow_shares;
 use dh_accesses::meets_of;
@@ -47,9 +45,7 @@ fn phases_of(alloc: Global, program: &Typed) -> Result<Phased, NoMemory>
 /// `NoMemory` where an allocation was refused.
 pub fn unroll(alloc: Global, program: &Typed) -> Result<Plan, NoMemory>
     requires { IsToCompile (program_seen program.now) }
-    ensures plan { IfOk result (λ plan. IsPlanOf (program_seen program.now) (plan_seen plan)) }
-    ensures views { IfOk result (λ plan. plan.views ≡ []) }
-    ensures registers { IfOk result (λ plan. AllByRecursion IsKind plan.registers) }
+    ensures { IfOk result (λ plan. IsUnrolled (program_seen program.now) (plan_seen plan)) }
 {
     let Phased {
         nodes,
