@@ -1,18 +1,24 @@
 //! The compiler's public call.
 
-ghost use Rattle.std.specs.Prelude.{◌≡◌, ◌≤◌, IfOk};
+ghost use Rattle.std.specs.Prelude.{IfOk};
+ghost use Rattle.dh_tree.specs.PlainTrees.{Program};
 ghost use Rattle.dh_tree.specs.Seen.{program_seen};
-ghost use Rattle.dh_plan.specs.Passes.{IsToCompile};
-ghost use Rattle.dh_plan.specs.PlanSizes.{size_reported};
-ghost use Rattle.dh_meets.specs.Ports.{KeepsPortRules};
-ghost use Rattle.dh_tree.specs.Ready.{IsReady};
-ghost use Rattle.dh_compile.specs.Compiled.{AreMadeOf, Compiles, IsMadeOf, IsNetOfProgram, MayBeMade};
+ghost use Rattle.dh_net.specs.Valid.{HasReadsZero};
+ghost use Rattle.dh_plan.specs.DoneProgram.{IsPlanOf};
+ghost use Rattle.dh_plan.specs.Passes.{IsToCompile, uses_seen};
+ghost use Rattle.dh_plan.specs.PlayedPlans.{PlaysPlan};
+ghost use Rattle.dh_plan.specs.SeenPlans.{plan_seen};
+ghost use Rattle.dh_backend.specs.NetParts.{times_seen};
+ghost use Rattle.dh_backend.specs.SuitedPlans.{IsCompiled};
+ghost use Rattle.dh_build.specs.BuiltPlans.{CanBuild};
+ghost use Rattle.dh_compile.specs.Compiled.{Compiles, IsNetOfProgram};
 
-use dh_backend::{NetParts, parts_of, parts_play_programs};
-use dh_base::NoMemory;
+use dh_backend::{NetParts, parts_of};
+use dh_base::{Limit, NoMemory};
 use dh_build::build;
-use dh_check::Accepted;
 use dh_net::Net;
+use dh_plan::Plan;
+use dh_ports::Accepted;
 use dh_size::plan_size;
 use dh_tree::Typed;
 use dh_unroll::unroll;
@@ -30,66 +36,49 @@ pub enum CompileFault {
     NoMemory,
 }
 
-/// The greatest size of a plan that is compiled.
-const MOST_PLAN: u64 = 200_000;
-
-/// What the net of a program is made of.
-fn parts_for(alloc: Global, program: &Typed) -> Result<NetParts, NoMemory>
-    requires { IsToCompile (program_seen program.now) }
-    ensures { IfOk result (λ parts. AreMadeOf (program_seen program.now) parts) }
-{
-    let plan = unroll(alloc, program)?;
-    match parts_of(alloc, &plan) {
-        Ok(parts) => Ok(parts),
-        Err(fault) => Err(fault),
-    }
-}
-
-/// The net of these parts.
-fn join_parts(alloc: Global, parts: &NetParts) -> Result<Net, NoMemory>
-    requires { MayBeMade parts.now }
-    ensures { IfOk result (λ net. IsMadeOf parts.now net) }
+/// The net of what it is made of.
+fn net_of_parts(alloc: Global, parts: &NetParts) -> Result<Net, NoMemory>
+    requires { CanBuild (plan_seen parts.now.plan) parts.now.passed.graph
+        (times_seen parts.now.passed.times) (uses_seen parts.now.passed.binding) }
+    ensures plays { IfOk result (λ net. PlaysPlan (plan_seen parts.now.plan)
+        parts.now.passed.times.lengths net) }
+    ensures zero_reads { IfOk result (λ net. HasReadsZero net) }
 {
     let passed = &parts.passed;
-    let (clocks, lengths) = (passed.times.clocks.as_slice(), passed.times.lengths.as_slice());
-    match build(alloc, &parts.plan, &passed.graph, &passed.binding, clocks, lengths) {
-        Ok(net) => Ok(net),
-        Err(fault) => Err(fault),
-    }
+    let (clocks, lengths) = (&passed.times.clocks, &passed.times.lengths);
+    build(
+        alloc,
+        &parts.plan,
+        &passed.graph,
+        &passed.binding,
+        clocks.as_slice(),
+        lengths.as_slice(),
+    )
+}
+
+/// The net of a program's plan.
+fn net_of_plan(alloc: Global, plan: &Plan) -> Result<Net, NoMemory>
+    requires { IsCompiled (plan_seen plan.now) }
+    ensures { (p : Program) → IsToCompile p → IsPlanOf p (plan_seen plan.now)
+        → IfOk result (IsNetOfProgram p) }
+{
+    let parts = parts_of(alloc, plan)?;
+    net_of_parts(alloc, &parts)
 }
 
 /// The net of a program that is to be compiled.
 fn net_of(alloc: Global, program: &Typed) -> Result<Net, NoMemory>
     requires { IsToCompile (program_seen program.now) }
-    ensures { IfOk result (λ net. IsNetOfProgram (program_seen program.now) net) }
+    ensures { IfOk result (IsNetOfProgram (program_seen program.now)) }
 {
-    parts_play_programs();
-    let parts = parts_for(alloc, program)?;
-    match join_parts(alloc, &parts) {
-        Ok(net) => Ok(net),
-        Err(fault) => Err(fault),
-    }
-}
-
-/// The net of a program whose plan has this size.
-fn net_within(alloc: Global, program: &Typed, size: u64) -> Result<Net, CompileFault>
-    requires ready { IsReady (program_seen program.now) }
-    requires kept { KeepsPortRules (program_seen program.now) }
-    requires size { size ≡ size_reported (program_seen program.now) }
-    ensures { Compiles (program_seen program.now) result }
-{
-    if size > MOST_PLAN {
-        return Err(CompileFault::TooLarge { size });
-    }
-    match net_of(alloc, program) {
-        Ok(net) => Ok(net),
-        Err(NoMemory) => Err(CompileFault::NoMemory),
-    }
+    let plan = unroll(alloc, program)?;
+    net_of_plan(alloc, &plan)
 }
 
 /// Compiles an accepted program. The net is valid, its table is the program's, and from all fitting memories it plays
 /// the checked run of the program: no clock drives a bank beyond its ports, at its nth tick it holds the memories
-/// after n steps, and it shows done, or a fault with its place, exactly once the run has ended so.
+/// after n steps, and it shows done, or a fault with its place, exactly once the run has ended so. A driver that
+/// writes is active only in the last clock of a step without fault.
 ///
 /// # Errors
 ///
@@ -99,8 +88,14 @@ pub fn compile(alloc: Global, accepted: &Accepted) -> Result<Net, CompileFault>
     ensures { Compiles (program_seen accepted.now) result }
 {
     let program = accepted.typed();
-    match plan_size(alloc, program) {
-        Ok(size) => net_within(alloc, program, size),
+    let Ok(size) = plan_size(alloc, program) else {
+        return Err(CompileFault::NoMemory);
+    };
+    if size > Limit::Plan.greatest() {
+        return Err(CompileFault::TooLarge { size });
+    }
+    match net_of(alloc, program) {
+        Ok(net) => Ok(net),
         Err(NoMemory) => Err(CompileFault::NoMemory),
     }
 }
