@@ -10,3 +10,6 @@ pub mod ChoicesPaced
 pub mod AssignedCore
 pub mod ArmsPaced
 pub mod CommandsPaced
+pub mod OwnsCommands
+pub mod ReadsHaveSites
+pub mod EachPaced

@@ -8,4 +8,5 @@ pub mod StoresPut
 pub mod PlacesOf
 pub mod CommandsPut
 pub mod CommandsDown
+pub mod BlocksPut
 pub mod StepKeeps
