@@ -14,7 +14,7 @@ use Rattle.dh_meaning.specs.Paths.{Path}
 use Rattle.dh_code.specs.declared.places.Held.{Held}
 use Rattle.dh_code.specs.Declarations.{Declaration, all_held, declaration_in, declarations, factors_of, placing_of, slots_counted, slots_of}
 use Rattle.dh_code.specs.Placed.{AreFew}
-use Rattle.dh_code.specs.Ranks.{IsPath, copies_in}
+use Rattle.dh_code.specs.Ranks.{IsPath, copies_in, rank_of}
 use Rattle.dh_code.specs.Slots.{IsPlacing, held_at, slot_of}
 use Rattle.dh_code.proofs.KindsHeld.{length_held}
 use Rattle.dh_sem.specs.Runnable.{IsRunnable}
@@ -118,7 +118,7 @@ counted_small p r =
 
 -- Kinds.
 
-kind_there : (kinds : List Kind) (r : ℕ) (k : Kind) → slice_get kinds r ≡ Some k → kind_at kinds r ≡ k
+pub kind_there : (kinds : List Kind) (r : ℕ) (k : Kind) → slice_get kinds r ≡ Some k → kind_at kinds r ≡ k
 kind_there [] r k e = absurd cc
 kind_there (x ∷ kinds) zero k e = cc
 kind_there (x ∷ kinds) (suc r) k e = kind_there kinds r k e
@@ -153,23 +153,23 @@ module _ (scene : Scene) (count : ℕ) (order : AreInOrder scene count) where
 
   -- a register is one of its entity's
   slot_low : (e : ℕ) (path : Path) (r : ℕ) → e < length scene.held.now → r ≡ slot_of (placing_in scene) e path → first_among scene.held.now count e ≤ r
-  slot_low e path r there is = low (first_at scene.held.now count e there) is
+  slot_low e path r there is = low (held_at scene.held.now e).first (first_among scene.held.now count e) r (rank_of ((placing_in scene).factors e) path) (first_at scene.held.now count e there) is
     where
-      low : {a b c d : ℕ} → a ≡ b → c ≡ a + d → b ≤ c
-      low e f = omega (arith, e, f)
+      low : (a b c d : ℕ) → a ≡ b → c ≡ a + d → b ≤ c
+      low a b c d e f = omega (arith, e, f)
 
   slot_high : (e : ℕ) (path : Path) (r : ℕ) → e < length scene.held.now → IsPath ((placing_in scene).factors e) path → r ≡ slot_of (placing_in scene) e path → r < first_among scene.held.now count (suc e)
   slot_high e path r there is_path is =
       subst (λ (n : ℕ). r < n) (sym (first_is (suc e) ∙ next_begins ds 0 0 many e (subst (λ (n : ℕ). e < n) long there)))
       (subst (λ (held : List Held). r < (held_at held e).first + copies_in (factors_of (declaration_in ds (0 + e)))) order.held
       (subst (λ (k : ℕ). r < (held_at scene.held.now e).first + copies_in (factors_of (declaration_in ds k))) (front e)
-      (high is (rank_small ((placing_in scene).factors e) path is_path))))
+      (high (held_at scene.held.now e).first (rank_of ((placing_in scene).factors e) path) r (copies_in ((placing_in scene).factors e)) is (rank_small ((placing_in scene).factors e) path is_path))))
     where
       front : (k : ℕ) → k ≡ 0 + k
       front k = omega arith
 
-      high : {a b c d : ℕ} → c ≡ a + b → b < d → c < a + d
-      high e f = omega (arith, e, f)
+      high : (a b c d : ℕ) → c ≡ a + b → b < d → c < a + d
+      high a b c d e f = omega (arith, e, f)
 
   kind_is : (registers : List Kind) → HaveTheirKinds scene count registers → (e : ℕ) (path : Path) (r : ℕ) → slots_in scene e path ≡ Some r → kind_at registers r ≡ (held_at scene.held.now e).kind
   kind_is registers kinds e path r at =
