@@ -1,6 +1,6 @@
 -- Blocks are as long as their phases: no operation is there later than the greatest level, and where that is a read's, its
 -- value is there then.
-use Rattle.std.proofs.Common.{◌≡◌, ◌⊎◌, inl, inr, ℕ, zero, suc, ◌+◌, ◌^◌, ◌<◌, ◌≤◌, true, false, Some, None, Option, List, [], ◌∷◌, length, map, refl, sym, ap, ◌∙◌, subst, arith}
+use Rattle.std.proofs.Common.{◌≡◌, ◌⊎◌, inl, inr, ℕ, zero, suc, ◌+◌, ◌<◌, ◌≤◌, true, false, Some, None, Option, List, [], ◌∷◌, length, map, refl, sym, ap, ◌∙◌, subst, arith}
 use Rattle.std.specs.Prelude.{Bool as Truth, ◌-◌, ◌++◌, if◌then◌else◌, max, slice_get}
 use Rattle.std.specs.List.{AllByRecursion}
 use Rattle.std.proofs.lemmas.Bool.{cases_lt}
@@ -8,13 +8,13 @@ use Rattle.dh_tree.specs.declared.trees.counters.Counter.{Counter}
 use Rattle.dh_tree.specs.PlainTrees.{Term}
 use Rattle.dh_meaning.specs.AccessNumbers.{term_accesses}
 use Rattle.dh_meaning.specs.CoreOf.{core_commands, core_term}
-use Rattle.dh_meaning.specs.Effects.{commands, tests}
-use Rattle.dh_meaning.specs.Levels.{Leveled, Levels, block_length, commands_leveled, level_ground}
+use Rattle.dh_meaning.specs.Effects.{commands}
+use Rattle.dh_meaning.specs.Levels.{Leveled, Levels, block_length, level_ground}
 use Rattle.dh_meaning.specs.Phases.{Located}
 use Rattle.dh_code.specs.Slots.{held_at}
 use Rattle.dh_plan.specs.declared.operations.Operation.{Operation}
 use Rattle.dh_plan.specs.LegalSchedules.{block_clocks, greatest_of, is_read, last_clock, least_clocks, there_at}
-use Rattle.dh_plan.specs.Ordered.{IsBetween, IsOrdered, TakesEarlier, operation_takes}
+use Rattle.dh_plan.specs.Ordered.{IsBetween, TakesEarlier, operation_takes}
 use Rattle.dh_plan.specs.PlainPlans.{PlainPlan, first_in, operations_in}
 use Rattle.dh_plan.specs.PlanPhases.{commands_mention, term_mentions}
 use Rattle.dh_expressions.specs.declared.accesses.Accesses.{Accesses}
@@ -26,9 +26,9 @@ use Rattle.dh_expressions.specs.Evaluated.{counter_of, known_in}
 use Rattle.dh_expressions.specs.Noted.{given_in, given_to, touched_in}
 use Rattle.dh_expressions.proofs.ListPlaces.{there}
 use Rattle.dh_formed.specs.Counted.{given_at_paths, length_given}
-use Rattle.dh_formed.specs.Formed.{Agrees, Block, IsNoted, Site}
-use Rattle.dh_formed.specs.Timed.{AgreeInTime, AreBounded, Clocks, CurrentAt, GuardAt, HasClock, LevelsThen, NotedInTime, ReadsAgree, VariableAt, Within, clock_of, leveled}
-use Rattle.dh_formed.specs.WholeBlocks.{IsCut, block_of, clocks_of}
+use Rattle.dh_formed.specs.Formed.{Agrees, IsNoted, Site}
+use Rattle.dh_formed.specs.Timed.{AgreeInTime, Clocks, CurrentAt, GuardAt, HasClock, VariableAt, Within, clock_of, leveled}
+use Rattle.dh_formed.specs.WholeBlocks.{IsCut, clocks_of}
 use Rattle.dh_formed.proofs.BlocksWhole.{blocks_agree, blocks_agree_in_time, lengths_least, lengths_most}
 use Rattle.dh_formed.proofs.LevelsBehind.{levels_behind}
 use Rattle.dh_formed.proofs.ReadsCounted.{given_here}
@@ -38,14 +38,12 @@ use Rattle.dh_commands.specs.declared.buildings.Building.{Building}
 use Rattle.dh_commands.specs.LanesRun.{lane_of, paths_counted}
 use Rattle.dh_commands.specs.ShownVariables.{register_in}
 use Rattle.dh_laid.specs.BlockSites.{MadeEach, block_sites, test_sites}
-use Rattle.dh_laid.specs.Laid.{FormsTested}
 use Rattle.dh_laid.proofs.PathsLaid.{tests_form}
 use Rattle.dh_paced.specs.BlockLengths.{BlockBegins, HaveRegisters, IsStraightPaced, IsTestPaced, IsWholeBut, ShareWithin, StraightsAreLong, TestsAreLong}
 use Rattle.dh_paced.specs.Paced.{IsIn, IsOfEach, IsReadOfEach, each_levels, outer_each}
-use Rattle.dh_paced.specs.Standing.{AreCurrent, HaveGivenTo, IsGround, OwnsTerm, Paces, StandsFor}
-use Rattle.dh_paced.proofs.AssigningPaced.{variable_of}
+use Rattle.dh_paced.specs.Standing.{IsGround, OwnsTerm, Paces, StandsFor}
 use Rattle.dh_paced.proofs.CoreAppended.{each_leveled}
-use Rattle.dh_paced.proofs.EachPaced.{EachGo, EachPaced, each_below, each_go, each_paced, end_of, read_of_each}
+use Rattle.dh_paced.proofs.EachPaced.{EachPaced, each_below, each_go, each_paced, end_of, read_of_each}
 use Rattle.dh_paced.proofs.ReadsHaveSites.{HasSite, each_read_site, test_read_site}
 use Rattle.dh_paced.proofs.TestsPaced.{TestsPaced, tests_paced}
 
