@@ -65,6 +65,14 @@ more_operations old new more operations faults = record {
 pub some_counted : (around : Around) (paths : ℕ) → around.guards.now ≡ replicate paths None → 0 < paths → 0 < paths_counted around
 some_counted around paths guards some = subst (λ (n : ℕ). 0 < n) (sym (ap (λ (l : List (Option ℕ)). length l) guards ∙ length-replicate paths None)) some
 
+-- few paths
+pub few_counted : (around : Around) (paths : ℕ) → around.guards.now ≡ replicate paths None → paths < 2 ^ 63 → paths_counted around < 2 ^ 64
+few_counted around paths guards few = subst (λ (n : ℕ). n < 2 ^ 64) (sym (ap (λ (l : List (Option ℕ)). length l) guards ∙ length-replicate paths None)) (omega (arith, few))
+
+-- as many paths as guards that are there
+pub paths_few : (guards : List (Option ℕ)) (paths : ℕ) → guards ≡ replicate paths None → length guards < 2 ^ 63 → paths < 2 ^ 63
+paths_few guards paths are few = subst (λ (n : ℕ). n < 2 ^ 63) (ap (λ (l : List (Option ℕ)). length l) are ∙ length-replicate paths None) few
+
 module _ (scene : Scene) (around : Around) where
   all_any : (May : ℕ → Type 0) (cs : List Change) → AllByRecursion (IsChange scene around May) cs → AllByRecursion (IsChange scene around AnyVariable) cs
   all_any May [] a = tt
@@ -233,7 +241,7 @@ pub not_longer : (n m : ℕ) → m ≡ n → n ≤ m
 not_longer n m e = omega (arith, e)
 
 module _ (scene : Scene) (paths : Paths) (old new : Made) (between after : Building) (items : List Numbered) (block start : ℕ) (around : Around)
-    (levels : around.levels.now ≡ paths.levels.items) (guards : around.guards.now ≡ replicate paths.count None) (low : length around.levels.now < 2 ^ 63) (many : length around.guards.now < 2 ^ 64)
+    (levels : around.levels.now ≡ paths.levels.items) (guards : around.guards.now ≡ replicate paths.count None) (low : length around.levels.now < 2 ^ 63) (many : paths.count < 2 ^ 63)
     (does : DoesNumbered scene around items old.building between) (sets : SetsLogged between after)
     (building : new.building ≡ after) (starts : new.starts.items ≡ old.starts.items ++ start ∷ []) (registers : new.registers ≡ old.registers)
     (number_is : block ≡ length old.starts.items) (start_is : start ≡ length old.building.draft.operations.items) where
@@ -246,7 +254,7 @@ module _ (scene : Scene) (paths : Paths) (old new : Made) (between after : Build
     leaves = leaves_all scene around items old.building between some few does
 
     stands_in : StandsIn scene around
-    stands_in = record { scopes = inside.told.scopes; low = low; few = many }
+    stands_in = record { scopes = inside.told.scopes; low = low; few = few_counted around paths.count guards many }
 
     changes : Changes scene around AnyVariable old.building.values between.values
     changes = leaves.changes rest.clear.ready
@@ -310,7 +318,7 @@ module _ (scene : Scene) (paths : Paths) (old new : Made) (between after : Build
       touches = subst (λ (b : Building). TouchesWithin old.building.accesses b.accesses first last) (sym building) touches;
       made = λ ls beside final more. record {
         around = around;
-        round = record { paths = paths.count; levels = subst (λ ls. ArePathsOf rounds ls paths.count) (sym levels) inside.inside; guards = guards };
+        round = record { paths = paths.count; levels = subst (λ ls. ArePathsOf rounds ls paths.count) (sym levels) inside.inside; guards = guards; small = many };
         before = old.building;
         between = between;
         after = after;

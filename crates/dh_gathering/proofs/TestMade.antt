@@ -35,7 +35,7 @@ use Rattle.dh_gathering.specs.MadeBlocks.{AddsFlag, AreInside, ArePathsOf, IsFla
 use Rattle.dh_gathering.specs.OpenAccesses.{AreUntouched, TouchesWithin}
 use Rattle.dh_gathering.specs.Gathered.{MakesTest, MakesTestIn, SetsFirst}
 use Rattle.dh_gathering.proofs.MadeGrows.{AddsBlock, block_grows, block_rests, block_stands}
-use Rattle.dh_gathering.proofs.StraightMade.{bare_from, laid_later, some_counted}
+use Rattle.dh_gathering.proofs.StraightMade.{bare_from, few_counted, laid_later, some_counted}
 
 module _ (scene : Scene) (around : Around) where
   none_changed : (cs : List Change) → AllByRecursion (IsChange scene around NoVariable) cs → cs ≡ []
@@ -66,7 +66,7 @@ one_more : (n m : ℕ) → m ≡ n + 1 → n ≤ m
 one_more n m e = omega (arith, e)
 
 module _ (scene : Scene) (paths : Paths) (old new : Made) (between : Building) (draft : Draft) (n next : ℕ) (t : tree.Term) (tests : List ℕ) (flag block start : ℕ) (around : Around)
-    (levels : around.levels.now ≡ paths.levels.items) (guards : around.guards.now ≡ replicate paths.count None) (low : length around.levels.now < 2 ^ 63) (many : length around.guards.now < 2 ^ 64)
+    (levels : around.levels.now ≡ paths.levels.items) (guards : around.guards.now ≡ replicate paths.count None) (low : length around.levels.now < 2 ^ 63) (many : paths.count < 2 ^ 63)
     (does : TestsAll scene around old.building between n next t tests) (made : MadeTests scene around n t (paths_counted around) old.building between next tests) where
   -- there is a value
   pub never_none : (rounds : List Round) → AreInside scene rounds paths → slice_get tests 0 ≡ None → ⊥
@@ -85,7 +85,7 @@ module _ (scene : Scene) (paths : Paths) (old new : Made) (between : Building) (
       (flag_is : flag ≡ length old.registers) (number_is : block ≡ length old.starts.items) (start_is : start ≡ length old.building.draft.operations.items) where
     module _ (rounds : List Round) (inside : AreInside scene rounds paths) (rest : IsAtRest old) (few : n + term_accesses t < 2 ^ 32) (bare : AreUntouched old.building.accesses n (n + term_accesses t)) where
       stands_in : StandsIn scene around
-      stands_in = record { scopes = inside.told.scopes; low = low; few = many }
+      stands_in = record { scopes = inside.told.scopes; low = low; few = few_counted around paths.count guards many }
 
       -- accesses are laid behind the test, and its flag touches none
       lays : Lays old.building.draft new.building.draft old.building.accesses new.building.accesses
@@ -132,7 +132,7 @@ module _ (scene : Scene) (paths : Paths) (old new : Made) (between : Building) (
         touches = touches;
         made = λ final more. record {
           around = around;
-          round = record { paths = paths.count; levels = subst (λ ls. ArePathsOf rounds ls paths.count) (sym levels) inside.inside; guards = guards };
+          round = record { paths = paths.count; levels = subst (λ ls. ArePathsOf rounds ls paths.count) (sym levels) inside.inside; guards = guards; small = many };
           before = old.building;
           between = between;
           after = new.building;

@@ -9,6 +9,7 @@ use Rattle.dh_meaning.specs.AccessNumbers.{accesses_of, term_accesses}
 use Rattle.dh_meaning.specs.Phases.{Located}
 use Rattle.dh_expressions.specs.declared.accesses.Accesses.{Accesses}
 use Rattle.dh_expressions.specs.declared.accesses.Touched.{Touched}
+use Rattle.dh_expressions.specs.declared.drafts.Draft.{Draft}
 use Rattle.dh_expressions.specs.declared.scenes.Around.{Around}
 use Rattle.dh_expressions.specs.declared.scenes.Scene.{Scene}
 use Rattle.dh_expressions.proofs.ListPlaces.{place_within, there}
@@ -21,7 +22,7 @@ use Rattle.dh_laid.specs.BlockSites.{MadeEach, all_there, block_sites, command_s
 use Rattle.dh_laid.specs.LaidNumbers.{IsOutside, Numbers}
 use Rattle.dh_laid.specs.LaidProbes.{AddsProbes}
 use Rattle.dh_laid.specs.LaidQuiet.{StandsIn}
-use Rattle.dh_laid.specs.LaidUses.{AddsUses, AreAlong, AreUntouched, BlocksProbe, BlocksUse, PathsLead, SharesInside, TestsProbe, TestsUse, WritesAlone, probed_by, used_by, used_to}
+use Rattle.dh_laid.specs.LaidUses.{AddsLedUses, AddsUses, AreAlong, HaveNoOperations, BlocksLead, BlocksProbe, BlocksUse, PathsLead, SharesInside, TestsLead, TestsProbe, TestsUse, WritesAlone, probed_by, used_by, used_to}
 use Rattle.dh_laid.proofs.CommandsNumbered.{command_reached}
 use Rattle.dh_laid.proofs.CommandsProbe as probe
 use Rattle.dh_laid.proofs.CommandsProbe.{often, probes_again, tests_probed}
@@ -154,13 +155,13 @@ module _ (scene : Scene) (around : Around) (stands : StandsIn scene around) (lea
   uses_nothing access = used_nowhere (slice_get scene.shares.now access) (paths_counted around)
 
   each_used : (cs : List Located) (from : ℕ) (old new : Building) (m : MadeEach scene around cs old new) → AreAlong from cs → WritesAlone scene cs → ((number : ℕ) → from ≤ number → sites number ≡ block_sites scene around cs old new m number)
-      → BeginsAt old.accesses from → AddsUses old.draft new.draft (λ access. uses_by (block_sites scene around cs old new m access) access)
-  each_used [] from old new m along writes agree begins = uses_same old.draft new.draft _ _ (λ access. sym (uses_nothing access)) (none_none old.draft new.draft (ap (λ (b : Building). b.draft) m))
+      → BeginsAt old.accesses from → AddsLedUses scene sites old.draft new.draft (λ access. uses_by (block_sites scene around cs old new m access) access)
+  each_used [] from old new m along writes agree begins = uses_same scene sites old.draft new.draft _ _ (λ access. sym (uses_nothing access)) (none_none scene sites old.draft new.draft (ap (λ (b : Building). b.draft) m))
   each_used (c ∷ cs) from old new (mid, (next, (m, rest))) along writes agree begins =
-      uses_again old.draft mid.draft new.draft (λ access. uses_by (places_from c.first own access) access) (λ access. uses_by (block_sites scene around cs mid new rest access) access) _
+      uses_again scene sites old.draft mid.draft new.draft (λ access. uses_by (places_from c.first own access) access) (λ access. uses_by (block_sites scene around cs mid new rest access) access) _
       (λ access. sites_sum uses_by uses_nothing c.first own (accesses_of c.command) long access (block_sites scene around cs mid new rest access)
       (λ below. later_none scene around sites c cs from old mid new next m rest along agree access below))
-      (uses_same old.draft mid.draft (ranged c.first (accesses_of c.command) (used_to scene sites (paths_counted around))) _
+      (uses_same scene sites old.draft mid.draft (ranged c.first (accesses_of c.command) (used_to scene sites (paths_counted around))) _
       (λ access. same_within c.first (accesses_of c.command) (used_to scene sites (paths_counted around)) (λ i. uses_by (places_from c.first own i) i)
       (λ i far below. ap (λ (o : Option Site). uses_by o i) (within_own scene around sites c cs from old mid new next m rest along agree i far below)) access
       ∙ range_is uses_by uses_nothing c.first own (accesses_of c.command) long access)
@@ -202,26 +203,35 @@ module _ (scene : Scene) (around : Around) (stands : StandsIn scene around) (lea
               omega (arith, k, g)
           by e reader t at low share (inr far) = one.given e reader t at far low share
 
-untouched_led : (sites : ℕ → Option Site) (a : Accesses) → AreUntouched sites a → AreLed sites a
-untouched_led sites a h = record { led = λ number t s at is. absurd (lost t (sym (h.bare number s at) ∙ is)); there = h.there }
+untouched_led : (sites : ℕ → Option Site) (a : Accesses) → HaveNoOperations sites a → AreLed sites a
+untouched_led sites a h = record { led = λ number t s at is. absurd (lost t (sym (h.bare number s at) ∙ is)); there = h.there; none = h.none }
   where
     lost : (t : Touched) → None ≡ Some t → ⊥
     lost t e = cc
 
-none_given : (sites : ℕ → Option Site) (a : Accesses) → AreUntouched sites a → (m : ℕ) (s : Site) → sites m ≡ Some s → given_at_paths a m ≡ 0
+none_given : (sites : ℕ → Option Site) (a : Accesses) → HaveNoOperations sites a → (m : ℕ) (s : Site) → sites m ≡ Some s → given_at_paths a m ≡ 0
 none_given sites a h m s at = ap length_given (h.bare m s at)
 
 never_less : (e : ℕ) → e < 0 → ⊥
 never_less e h = omega (arith, h)
 
-pub blocks_use : BlocksUse
-blocks_use scene around cs old new m stands leads some along writes inside bare =
+pub blocks_lead : BlocksLead
+blocks_lead scene around cs old new m stands leads some along writes inside bare =
     each_used scene around stands leads some (block_sites scene around cs old new m) inside cs 0 old new m along writes (λ number far. refl)
     (record {
       led = untouched_led (block_sites scene around cs old new m) old.accesses bare;
       fresh = λ i s at far. none_given (block_sites scene around cs old new m) old.accesses bare i s at;
       before = λ e reader t at low share. absurd (never_less e low);
     })
+
+-- the same without what each is
+counted_alone : (scene : Scene) (sites : ℕ → Option Site) (old new : Draft) (uses : ℕ → ℕ) → AddsLedUses scene sites old new uses → AddsUses old new uses
+counted_alone scene sites old new uses h = record { more = h.more; adds = h.adds; uses_are = h.uses_are }
+
+pub blocks_use : BlocksUse
+blocks_use scene around cs old new m stands leads some along writes inside bare =
+    counted_alone scene (block_sites scene around cs old new m) old.draft new.draft (used_to scene (block_sites scene around cs old new m) (paths_counted around))
+    (blocks_lead scene around cs old new m stands leads some along writes inside bare)
 
 -- The sites of a test are places of which none lacks.
 pub test_places : (first : ℕ) (ss : List Site) (number : ℕ) → sites_from first ss number ≡ places_from first (all_there ss) number
@@ -241,9 +251,9 @@ test_range f nothing first ss count long access =
     same_within first count (λ i. f (sites_from first ss i) i) (λ i. f (places_from first (all_there ss) i) i) (λ i far below. ap (λ o. f o i) (test_places first ss i)) access
     ∙ (range_is f nothing first (all_there ss) count (length-map ss (λ (s : Site). Some s) ∙ long) access ∙ sym (ap (λ o. f o access) (test_places first ss access)))
 
-pub tests_use : TestsUse
-tests_use scene around first t old new next tests m stands few inside bare =
-    uses_same old.draft new.draft (ranged first (term_accesses t) (used_to scene sites (paths_counted around))) (used_to scene sites (paths_counted around))
+pub tests_lead : TestsLead
+tests_lead scene around first t old new next tests m stands few inside bare =
+    uses_same scene sites old.draft new.draft (ranged first (term_accesses t) (used_to scene sites (paths_counted around))) (used_to scene sites (paths_counted around))
     (λ access. test_range (λ o i. used_by (slice_get scene.shares.now i) o (paths_counted around)) (λ i. used_nowhere (slice_get scene.shares.now i) (paths_counted around)) first (term_sites scene around t) (term_accesses t) (term_sites_long scene around t) access)
     (tests_used scene sites inside around old new first next stands t tests few (λ i s e. sites_own first (term_sites scene around t) i s e)
     (record {
@@ -258,6 +268,11 @@ tests_use scene around first t old new next tests m stands few inside bare =
 
     lost : (s : Site) → None ≡ Some s → ⊥
     lost s e = cc
+
+pub tests_use : TestsUse
+tests_use scene around first t old new next tests m stands few inside bare =
+    counted_alone scene (test_sites scene around first t) old.draft new.draft (used_to scene (test_sites scene around first t) (paths_counted around))
+    (tests_lead scene around first t old new next tests m stands few inside bare)
 
 -- Probes.
 

@@ -56,7 +56,7 @@ use Rattle.dh_laid.specs.LaidQuiet.{StandsIn}
 use Rattle.dh_laid.proofs.CommandsNumbered.{actions_numbered, command_numbered, some_arm, tests_number}
 use Rattle.dh_laid.proofs.ValuesLogged.{arm_long, tests_same}
 
-append_probes : (access : ℕ) (xs ys : List Operation) → probes_among access (xs ++ ys) ≡ probes_among access xs + probes_among access ys
+pub append_probes : (access : ℕ) (xs ys : List Operation) → probes_among access (xs ++ ys) ≡ probes_among access xs + probes_among access ys
 append_probes access [] ys = omega arith
 append_probes access (o ∷ xs) ys = sum (counts_probe access o.form) (probes_among access (xs ++ ys)) (probes_among access xs) (probes_among access ys) (append_probes access xs ys)
   where

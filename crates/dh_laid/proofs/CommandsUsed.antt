@@ -25,7 +25,7 @@ use Rattle.dh_laid.specs.Laid.{aim_accesses}
 use Rattle.dh_laid.specs.LaidCommands.{AreFewIn}
 use Rattle.dh_laid.specs.LaidNumbers.{IsAccessForm, IsOutside, Numbers, StoresReach, StoresReachGroups, StoresReachOther, StoresReachPart}
 use Rattle.dh_laid.specs.LaidQuiet.{StandsIn}
-use Rattle.dh_laid.specs.LaidUses.{AddsUses, used_by, EachWrite, EachWriteActions, EachWriteGroups, EachWriteOther, IsUnshared, PathsLead, SharesInside, used_to}
+use Rattle.dh_laid.specs.LaidUses.{AddsLedUses, used_by, EachWrite, EachWriteActions, EachWriteGroups, EachWriteOther, IsUnshared, PathsLead, SharesInside, used_to}
 use Rattle.dh_laid.proofs.CommandsNumbered.{actions_reached, aims_within, arm_number, command_reached, groups_reached, numbers_then, other_reached, some_arm, tests_number}
 use Rattle.dh_laid.proofs.CommandsProbe.{stands_arm}
 use Rattle.dh_laid.proofs.ReadsUsed.{AreLed, UsesPart, led_same}
@@ -44,13 +44,13 @@ pub record Begins (scene : Scene) (sites : ℕ → Option Site) (paths : ℕ) (a
 
 -- Behind it so have its own.
 pub record Used (scene : Scene) (sites : ℕ → Option Site) (paths : ℕ) (old new : Building) (first count : ℕ) : Type 0 where
-  pub uses : AddsUses old.draft new.draft (ranged first count (used_to scene sites paths))
+  pub uses : AddsLedUses scene sites old.draft new.draft (ranged first count (used_to scene sites paths))
   pub led : AreLed sites new.accesses
   pub given : (m reader : ℕ) (t : Site) → sites m ≡ Some t → first ≤ m → m < first + count → slice_get scene.shares.now reader ≡ Some (Some m) → paths ≤ given_at_paths new.accesses m
 
 -- Of a command at its first paths: its reads gave at these, all others what they gave.
 pub record UsedTo (scene : Scene) (sites : ℕ → Option Site) (old new : Building) (paths first count all : ℕ) : Type 0 where
-  pub uses : AddsUses old.draft new.draft (ranged first all (used_to scene sites paths))
+  pub uses : AddsLedUses scene sites old.draft new.draft (ranged first all (used_to scene sites paths))
   pub own : (m : ℕ) → first ≤ m → m < first + count → given_at_paths new.accesses m ≡ paths
   pub others : (m : ℕ) → IsOutside first count m → given_at_paths new.accesses m ≡ given_at_paths old.accesses m
   pub led : AreLed sites new.accesses
@@ -87,7 +87,7 @@ module _ (scene : Scene) (sites : ℕ → Option Site) (inside : SharesInside sc
 
     used_none : count ≤ all → (new : Building) → new ≡ old → UsedTo scene sites old new 0 first count all
     used_none few new same = record {
-      uses = ranged_nothing old.draft new.draft first all (used_to scene sites 0) (λ access. refl) (none_none old.draft new.draft (ap (λ (b : Building). b.draft) same));
+      uses = ranged_nothing scene sites old.draft new.draft first all (used_to scene sites 0) (λ access. refl) (none_none scene sites old.draft new.draft (ap (λ (b : Building). b.draft) same));
       own = λ m from below. ap (λ (b : Building). given_at_paths b.accesses m) same ∙ (let s = are m from below in begins.fresh m s.0 s.1 from (omega (arith, below, few)));
       others = λ m out. ap (λ (b : Building). given_at_paths b.accesses m) same;
       led = led_same sites old.accesses new.accesses (ap (λ (b : Building). b.accesses) same) begins.led;
@@ -95,7 +95,7 @@ module _ (scene : Scene) (sites : ℕ → Option Site) (inside : SharesInside sc
 
     used_more : (n : ℕ) (b new : Building) → UsedTo scene sites old b n first count all → UsesLane scene sites (lane_of around n) b.draft new.draft b.accesses new.accesses first count all → UsedTo scene sites old new (suc n) first count all
     used_more n b new u h = record {
-      uses = ranged_more old.draft b.draft new.draft first all (used_to scene sites n) _ (used_to scene sites (suc n)) (λ access. refl) u.uses h.uses;
+      uses = ranged_more scene sites old.draft b.draft new.draft first all (used_to scene sites n) _ (used_to scene sites (suc n)) (λ access. refl) u.uses h.uses;
       own = λ m from below. h.given.own m from below ∙ one n;
       others = λ m out. kept m out ∙ u.others m out;
       led = h.led;
@@ -178,7 +178,7 @@ module _ (scene : Scene) (sites : ℕ → Option Site) (inside : SharesInside sc
 
   used_then : (paths : ℕ) (a b d : Building) (first own next p q : ℕ) → Numbers a b first p own → Numbers b d own q next → Used scene sites paths a b first p → Used scene sites paths b d own q → Used scene sites paths a d first (p + q)
   used_then paths a b d first own next p q h k u w = record {
-    uses = ranged_then a.draft b.draft d.draft first own p q (used_to scene sites paths) h.next_is u.uses w.uses;
+    uses = ranged_then scene sites a.draft b.draft d.draft first own p q (used_to scene sites paths) h.next_is u.uses w.uses;
     led = w.led;
     given = λ m reader t at from below share. by m reader t at from below share (cases_lt m own);
   }
@@ -198,7 +198,7 @@ module _ (scene : Scene) (sites : ℕ → Option Site) (inside : SharesInside sc
 
   still_used : (paths : ℕ) (old new : Building) (first : ℕ) → new ≡ old → Begins scene sites paths old.accesses first 0 → Used scene sites paths old new first 0
   still_used paths old new first still b = record {
-    uses = no_accesses old.draft new.draft first (used_to scene sites paths) (none_none old.draft new.draft (ap (λ (b : Building). b.draft) still));
+    uses = no_accesses scene sites old.draft new.draft first (used_to scene sites paths) (none_none scene sites old.draft new.draft (ap (λ (b : Building). b.draft) still));
     led = led_same sites old.accesses new.accesses (ap (λ (b : Building). b.accesses) still) b.led;
     given = λ m reader t at from below share. absurd (never m from below);
   }
@@ -210,8 +210,8 @@ module _ (scene : Scene) (sites : ℕ → Option Site) (inside : SharesInside sc
   idle_used : (paths : ℕ) (old new : Building) (first count : ℕ) → new ≡ old → ((m : ℕ) → first ≤ m → m < first + count → sites m ≡ None) → Begins scene sites paths old.accesses first count → Used scene sites paths old new first count
   idle_used paths old new first count still none b = record {
     uses =
-        ranged_without old.draft new.draft first count (used_to scene sites paths) (λ m from below. ap (λ (s : Option Site). used_by (slice_get scene.shares.now m) s paths) (none m from below) ∙ used_nowhere (slice_get scene.shares.now m) paths)
-        (none_none old.draft new.draft (ap (λ (b : Building). b.draft) still));
+        ranged_without scene sites old.draft new.draft first count (used_to scene sites paths) (λ m from below. ap (λ (s : Option Site). used_by (slice_get scene.shares.now m) s paths) (none m from below) ∙ used_nowhere (slice_get scene.shares.now m) paths)
+        (none_none scene sites old.draft new.draft (ap (λ (b : Building). b.draft) still));
     led = led_same sites old.accesses new.accesses (ap (λ (b : Building). b.accesses) still) b.led;
     given = λ m reader t at from below share. absurd (lost t (sym (none m from below) ∙ at));
   }
@@ -235,10 +235,10 @@ module _ (scene : Scene) (sites : ℕ → Option Site) (inside : SharesInside sc
       outside : Used scene sites (paths_counted around) m.begin m.inside first count → Used scene sites (paths_counted around) old new first count
       outside w = record {
         uses =
-            subst (λ (d : Draft). AddsUses old.draft d (ranged first count (used_to scene sites (paths_counted around)))) (sym m.draft)
-            (none_then_uses old.draft m.guarded m.inside.draft (ranged first count (used_to scene sites (paths_counted around)))
-            (guards_used holds around.guards.now tests (length tests) old.draft m.guarded m.arm.guards.now m.guards)
-            (subst (λ (d : Draft). AddsUses d m.inside.draft (ranged first count (used_to scene sites (paths_counted around)))) m.begin_draft w.uses));
+            subst (λ (d : Draft). AddsLedUses scene sites old.draft d (ranged first count (used_to scene sites (paths_counted around)))) (sym m.draft)
+            (none_then_uses scene sites old.draft m.guarded m.inside.draft (ranged first count (used_to scene sites (paths_counted around)))
+            (guards_used scene sites holds around.guards.now tests (length tests) old.draft m.guarded m.arm.guards.now m.guards)
+            (subst (λ (d : Draft). AddsLedUses scene sites d m.inside.draft (ranged first count (used_to scene sites (paths_counted around)))) m.begin_draft w.uses));
         led = led_same sites m.inside.accesses new.accesses m.accesses w.led;
         given = λ i reader t at from below share. subst (λ (a : Accesses). paths_counted around ≤ given_at_paths a i) (sym m.accesses) (w.given i reader t at from below share);
       }
@@ -249,9 +249,9 @@ module _ (scene : Scene) (sites : ℕ → Option Site) (inside : SharesInside sc
       ap (λ (ls : List Level). leader_number ls (λ level. true) path) m.levels
       ∙ leads path (subst (λ (n : ℕ). path < n) (arm_long holds around.guards.now tests (length tests) old.draft m.guarded m.arm.guards.now m.guards ∙ many) within)
 
-  joined_used : (paths : ℕ) (a b d : Building) (first count : ℕ) → AddsNone b.draft d.draft → d.accesses ≡ b.accesses → Used scene sites paths a b first count → Used scene sites paths a d first count
+  joined_used : (paths : ℕ) (a b d : Building) (first count : ℕ) → AddsNone scene sites b.draft d.draft → d.accesses ≡ b.accesses → Used scene sites paths a b first count → Used scene sites paths a d first count
   joined_used paths a b d first count none same u = record {
-    uses = uses_then_none a.draft b.draft d.draft (ranged first count (used_to scene sites paths)) u.uses none;
+    uses = uses_then_none scene sites a.draft b.draft d.draft (ranged first count (used_to scene sites paths)) u.uses none;
     led = led_same sites b.accesses d.accesses same u.led;
     given = λ m reader t at from below share. subst (λ (k : Accesses). paths ≤ given_at_paths k m) (sym same) (u.given m reader t at from below share);
   }
@@ -380,7 +380,7 @@ module _ (scene : Scene) (sites : ℕ → Option Site) (inside : SharesInside sc
         (subst (λ (i : ℕ). EachWriteOther (λ number. IsUnshared scene number) i other) (sym (behind ∙ ap (λ i. i + accesses_of chosen) own)) writes.1) has_other
         (begins_then (paths_counted around) m.tested m.after_chosen m.own m.behind (accesses_of chosen) (other_accesses other) arms two in_chosen) in
         joined_used (paths_counted around) old m.after_other new first (term_accesses test + (accesses_of chosen + other_accesses other))
-        (choices_used m.tests m.joined.choices (length m.joined.choices) m.after_other.draft new.draft m.joined.middle new.values m.joined.choose) m.joined.same
+        (choices_used scene sites m.tests m.joined.choices (length m.joined.choices) m.after_other.draft new.draft m.joined.middle new.values m.joined.choose) m.joined.same
         (used_then (paths_counted around) old m.tested m.after_other first m.own next (term_accesses test) (accesses_of chosen + other_accesses other) tested
         (numbers_then m.tested m.after_chosen m.after_other m.own m.behind next (accesses_of chosen) (other_accesses other) in_chosen in_other) one
         (used_then (paths_counted around) m.tested m.after_chosen m.after_other m.own m.behind next (accesses_of chosen) (other_accesses other) in_chosen in_other two three))

@@ -33,14 +33,14 @@ use Rattle.dh_laid.specs.BlockSites.{read_site, target_sites, term_sites, terms_
 use Rattle.dh_laid.specs.Laid.{aim_accesses}
 use Rattle.dh_laid.specs.LaidNumbers.{IsAccessForm}
 use Rattle.dh_laid.specs.LaidQuiet.{StandsIn}
-use Rattle.dh_laid.specs.LaidUses.{AddsUses, IsUnshared, PathsLead}
+use Rattle.dh_laid.specs.LaidUses.{AddsLedUses, IsUnshared, PathsLead}
 use Rattle.dh_laid.proofs.ReadsUsed.{AreLed, UsesPart, led_same, read_used, write_gives, write_led, write_used}
 use Rattle.dh_laid.proofs.SitesLaid.{HasSites, sites_behind, sites_front, sites_last, term_sites_long, terms_sites_long}
-use Rattle.dh_laid.proofs.UsesAdded.{AddsNone, any_reach, any_register, converted_used, folded_used, held_used, no_accesses, none_none, none_pushed, none_then_uses, ranged_behind, ranged_then, uses_counted, uses_then_none}
+use Rattle.dh_laid.proofs.UsesAdded.{AddsNone, any_reach, any_register, no_reach, converted_used, folded_used, held_used, no_accesses, none_none, none_pushed, none_then_uses, ranged_behind, ranged_then, uses_counted, uses_then_none}
 
 -- what is put down at a path, which reads so many accesses and uses so many, from a first one on
 pub record UsesLane (scene : Scene) (sites : ℕ → Option Site) (lane : Lane) (old new : Draft) (before after : Accesses) (n count all : ℕ) : Type 0 where
-  pub uses : AddsUses old new (ranged n all (λ access. use_shared (slice_get scene.shares.now access) (sites access) lane.number))
+  pub uses : AddsLedUses scene sites old new (ranged n all (λ access. use_shared (slice_get scene.shares.now access) (sites access) lane.number))
   pub given : HaveGiven lane before after n count
   pub led : AreLed sites after
 
@@ -51,12 +51,12 @@ module _ (scene : Scene) (sites : ℕ → Option Site) (lane : Lane) where
   abbrev uses_here : ℕ → ℕ
   uses_here access = use_shared (slice_get scene.shares.now access) (sites access) lane.number
 
-  part_none : (old new : Draft) (before after : Accesses) (n : ℕ) → AddsNone old new → after ≡ before → AreLed sites before → Part old new before after n 0
-  part_none old new before after n none same led = record { uses = no_accesses old new n uses_here none; given = given_none scene lane before after n same; led = led_same sites before after same led }
+  part_none : (old new : Draft) (before after : Accesses) (n : ℕ) → AddsNone scene sites old new → after ≡ before → AreLed sites before → Part old new before after n 0
+  part_none old new before after n none same led = record { uses = no_accesses scene sites old new n uses_here none; given = given_none scene lane before after n same; led = led_same sites before after same led }
 
   part_then : (a b c : Draft) (x y z : Accesses) (n own p q : ℕ) → own ≡ n + p → Part a b x y n p → Part b c y z own q → Part a c x z n (p + q)
   part_then a b c x y z n own p q is h k = record {
-    uses = ranged_then a b c n own p q uses_here is h.uses k.uses;
+    uses = ranged_then scene sites a b c n own p q uses_here is h.uses k.uses;
     given = given_again scene lane x y z n p q h.given (subst (λ (i : ℕ). HaveGiven lane y z i q) is k.given);
     led = k.led;
   }
@@ -64,8 +64,8 @@ module _ (scene : Scene) (sites : ℕ → Option Site) (lane : Lane) where
   part_behind : (a b c : Draft) (x y z : Accesses) (n own p : ℕ) → own ≡ n + p → Part a b x y n p → Part b c y z own 1 → Part a c x z n (suc p)
   part_behind a b c x y z n own p is h k = subst (λ (i : ℕ). Part a c x z n i) (add-one p) (part_then a b c x y z n own p 1 is h k)
 
-  part_still : (a b c : Draft) (x y : Accesses) (n p : ℕ) → Part a b x y n p → AddsNone b c → Part a c x y n p
-  part_still a b c x y n p h none = record { uses = uses_then_none a b c (ranged n p uses_here) h.uses none; given = h.given; led = h.led }
+  part_still : (a b c : Draft) (x y : Accesses) (n p : ℕ) → Part a b x y n p → AddsNone scene sites b c → Part a c x y n p
+  part_still a b c x y n p h none = record { uses = uses_then_none scene sites a b c (ranged n p uses_here) h.uses none; given = h.given; led = h.led }
 
   -- what is next behind a part
   next_behind : (a b : Draft) (x y : Accesses) (n own p q : ℕ) → own ≡ n + p → AreNext scene lane x n (p + q) → Part a b x y n p → AreNext scene lane y own q
@@ -91,13 +91,13 @@ module _ (scene : Scene) (sites : ℕ → Option Site) (lane : Lane) (stands : S
     pub term_used : (t : Term) (old new : Draft) (before after : Accesses) (n next v : ℕ) → MadeTerm scene lane current t old new before after n next v → n + term_accesses t < 2 ^ 32 → HasSites sites n (term_sites scene lane.around t)
         → AreLed sites before → AreNext scene lane before n (term_accesses t) → UsesPart scene sites lane old new before after n (term_accesses t)
     term_used (plain.term place k (plain.number negative z)) old new before after n next v m few has led nx =
-        part_none scene sites lane old new before after n (uses_counted old new 0 _ _ (number_counts any_register any_reach any_reach any_reach (kind_or_first k) negative z old new v m.part)) m.same led
+        part_none scene sites lane old new before after n (uses_counted scene sites old new 0 _ _ (number_counts any_register any_reach no_reach no_reach (kind_or_first k) negative z old new v m.part)) m.same led
     term_used (plain.term place k (plain.truth_value b)) old new before after n next v m few has led nx =
-        part_none scene sites lane old new before after n (none_pushed old new v None (Constant (truth b)) m.part (λ access. refl)) m.same led
+        part_none scene sites lane old new before after n (none_pushed scene sites old new v None (Constant (truth b)) m.part (λ access. refl)) m.same led
     term_used (plain.term place k (plain.named r)) old new before after n next v m few has led nx =
         part_none scene sites lane old new before after n
-        (uses_counted old new 0 _ _
-        (variable_counts any_register any_reach any_reach any_reach (counter_of scene (entity_number r.entity)) (held_at scene.held.now (entity_number r.entity)) lane current (kind_or_first k) tt old new v m.part))
+        (uses_counted scene sites old new 0 _ _
+        (variable_counts any_register any_reach no_reach no_reach (counter_of scene (entity_number r.entity)) (held_at scene.held.now (entity_number r.entity)) lane current (kind_or_first k) tt old new v m.part))
         m.same led
     term_used (plain.term place k (plain.accessed r ts)) old new before after n next v m few has led nx =
         let less : n + terms_accesses ts < 2 ^ 32 = omega (arith, few) in
@@ -124,13 +124,13 @@ module _ (scene : Scene) (sites : ℕ → Option Site) (lane : Lane) (stands : S
         (term_used right m.middle m.end m.between after m.own next m.b m.second (omega (arith, few, own))
         (sites_behind sites n m.own (term_sites scene lane.around left) (term_sites scene lane.around right) (long_is n m.own (term_sites scene lane.around left) (term_accesses left) (term_sites_long scene lane.around left) own) has) one.led
         (next_behind scene sites lane old m.middle before m.between n m.own (term_accesses left) (term_accesses right) own nx one)))
-        (uses_counted m.end new (product_of op) _ _ (operation_counts any_register any_reach any_reach any_reach op left right m.a m.b m.end new v m.operation))
+        (uses_counted scene sites m.end new (product_of op) _ _ (operation_counts any_register any_reach no_reach no_reach op left right m.a m.b m.end new v m.operation))
     term_used (plain.term place k (plain.converted inner to)) old new before after n next v m few has led nx =
-        part_still scene sites lane old m.middle new before after n (term_accesses inner) (term_used inner old m.middle before after n next m.a m.operand few has led nx) (converted_used (is_kept inner to) to m.a m.middle new v m.converts)
+        part_still scene sites lane old m.middle new before after n (term_accesses inner) (term_used inner old m.middle before after n next m.a m.operand few has led nx) (converted_used scene sites (is_kept inner to) to m.a m.middle new v m.converts)
 
     pub terms_used : (ts : plain.Terms) (old new : Draft) (before after : Accesses) (n next : ℕ) (vs : List ℕ) → MadeTerms scene lane current ts old new before after n next vs → n + terms_accesses ts < 2 ^ 32
         → HasSites sites n (terms_sites scene lane.around ts) → AreLed sites before → AreNext scene lane before n (terms_accesses ts) → UsesPart scene sites lane old new before after n (terms_accesses ts)
-    terms_used plain.no_terms old new before after n next vs m few has led nx = part_none scene sites lane old new before after n (none_none old new m.still) m.same led
+    terms_used plain.no_terms old new before after n next vs m few has led nx = part_none scene sites lane old new before after n (none_none scene sites old new m.still) m.same led
     terms_used (plain.term_then t ts) old new before after n next vs m few has led nx =
         let less : n + term_accesses t < 2 ^ 32 = omega (arith, few) in
         let own = numbered scene lane current t old m.middle before m.between n m.own m.a m.first less in
@@ -155,8 +155,8 @@ module _ (scene : Scene) (sites : ℕ → Option Site) (lane : Lane) (stands : S
       λ i. write_gives scene sites lane stands within (plain.term place k form) memory aim d new.draft y new.accesses held write at h.led leads own i in
       record {
         uses =
-            ranged_behind a b new.draft n aim.number p _ is h.uses
-            (none_then_uses b d new.draft _ (held_used t _ value b d held holds)
+            ranged_behind scene sites a b new.draft n aim.number p _ is h.uses
+            (none_then_uses scene sites b d new.draft _ (held_used scene sites t _ value b d held holds)
             (write_used scene sites lane stands within (plain.term place k form) memory aim d new.draft y new.accesses held write at h.led leads own));
         given = record {
           own = λ i from below. still i ∙ h.given.own i from below;
@@ -199,12 +199,12 @@ module _ (scene : Scene) (sites : ℕ → Option Site) (lane : Lane) (stands : S
   assigned_used entity t few has nx m =
       let h : UsesPart scene sites lane old.draft m.middle old.accesses new.accesses first (term_accesses t) =
       term_used scene sites lane stands within old.values.current.items t old.draft m.middle old.accesses new.accesses first next m.value m.term few has led nx in
-      record { uses = uses_then_none old.draft m.middle new.draft _ h.uses (held_used t (held_at scene.held.now entity).kind m.value m.middle new.draft m.held m.holds); given = h.given; led = h.led }
+      record { uses = uses_then_none scene sites old.draft m.middle new.draft _ h.uses (held_used scene sites t (held_at scene.held.now entity).kind m.value m.middle new.draft m.held m.holds); given = h.given; led = h.led }
 
   pub cleared_used : (entity : ℕ) → MadeCleared scene lane entity old new → UsesHere 0 0
   cleared_used entity m = record {
     uses =
-        no_accesses old.draft new.draft first _ (uses_counted old.draft new.draft 0 _ _ (number_counts any_register any_reach any_reach any_reach (held_at scene.held.now entity).kind false 0 old.draft new.draft m.value m.number));
+        no_accesses scene sites old.draft new.draft first _ (uses_counted scene sites old.draft new.draft 0 _ _ (number_counts any_register any_reach no_reach no_reach (held_at scene.held.now entity).kind false 0 old.draft new.draft m.value m.number));
     given = given_none scene lane old.accesses new.accesses first m.same;
     led = led_same sites old.accesses new.accesses m.same led;
   }
@@ -215,7 +215,7 @@ module _ (scene : Scene) (sites : ℕ → Option Site) (lane : Lane) (stands : S
       let h : UsesPart scene sites lane old.draft m.middle old.accesses new.accesses first (term_accesses t) =
       term_used scene sites lane stands within old.values.current.items t old.draft m.middle old.accesses new.accesses first next m.value m.term few has led nx in
       record {
-        uses = uses_then_none old.draft m.middle new.draft _ h.uses (folded_used lane old.values.current.items (held_at scene.held.now entity) op t m.value m.middle new.draft m.folded m.folds);
+        uses = uses_then_none scene sites old.draft m.middle new.draft _ h.uses (folded_used scene sites lane old.values.current.items (held_at scene.held.now entity) op t m.value m.middle new.draft m.folded m.folds);
         given = h.given;
         led = h.led;
       }
@@ -237,7 +237,7 @@ module _ (scene : Scene) (sites : ℕ → Option Site) (lane : Lane) (stands : S
       (next_behind scene sites lane old.draft m.middle old.accesses m.between first m.own (term_accesses t) (aim_accesses form) own nx one)
       leads (subst (λ (i : ℕ). IsUnshared scene (i + aim_accesses form)) (sym own) alone) in
       record {
-        uses = ranged_then old.draft m.middle new.draft first m.own (term_accesses t) (form_accesses form) _ own one.uses two.uses;
+        uses = ranged_then scene sites old.draft m.middle new.draft first m.own (term_accesses t) (form_accesses form) _ own one.uses two.uses;
         given = given_again scene lane old.accesses m.between new.accesses first (term_accesses t) (aim_accesses form) one.given (subst (λ (i : ℕ). HaveGiven lane m.between new.accesses i (aim_accesses form)) own two.given);
         led = two.led;
       }

@@ -2,18 +2,23 @@
 -- where the access shares an earlier read. An access goes by its site in the block, so that nothing need be known of the
 -- kinds of values.
 use Rattle.std.specs.Prelude.{◌≡◌, ℕ, zero, suc, ◌+◌, ◌<◌, ◌≤◌, ◌^◌, true, List, [], ◌∷◌, ◌++◌, length, slice_get, Option, Some, None}
+use Rattle.std.specs.List.{AllByRecursion}
 use Rattle.dh_tree.specs.Indices.{form_of}
 use Rattle.dh_tree.specs.PlainTrees.{Term, Action, action, ActionForm, lets, lets_memory, views, assigns, stores, reduces, calls, blocks, decides, repeats, counts, MaybeAction, no_action, one_action, Actions, no_actions, action_then, Groups, no_groups, group_then}
 use Rattle.dh_meaning.specs.AccessNumbers.{accesses_of, part_accesses, term_accesses}
 use Rattle.dh_meaning.specs.Phases.{Located}
 use Rattle.dh_plan.specs.declared.operations.Operation.{Operation}
+use Rattle.dh_plan.specs.declared.operations.Reach.{Reach}
 use Rattle.dh_plan.specs.DoneProgram.{operations_using}
+use Rattle.dh_plan.specs.SoundPlans.{use_in}
 use Rattle.dh_expressions.specs.declared.accesses.Accesses.{Accesses}
 use Rattle.dh_expressions.specs.declared.drafts.Draft.{Draft}
 use Rattle.dh_expressions.specs.declared.scenes.Around.{Around}
 use Rattle.dh_expressions.specs.declared.scenes.Scene.{Scene}
+use Rattle.dh_expressions.specs.Copying.{AreNone, leaders_at}
 use Rattle.dh_expressions.specs.Levels.{leader_number}
 use Rattle.dh_expressions.specs.Noted.{touched_in}
+use Rattle.dh_expressions.specs.Numbers.{narrowed}
 use Rattle.dh_formed.specs.Counted.{use_shared}
 use Rattle.dh_formed.specs.Formed.{Site}
 use Rattle.dh_commands.specs.declared.buildings.Building.{Building}
@@ -32,6 +37,29 @@ pub record AddsUses (old new : Draft) (uses : (access : ℕ) → ℕ) : Type 0 w
   pub more : List Operation
   pub adds : new.operations.items ≡ old.operations.items ++ more
   pub uses_are : (access : ℕ) → operations_using access more ≡ uses access
+
+-- A read or a write of an access that has a site in the block: it is done for a path that leads, on the bank of that
+-- path behind the leaders before it, and the access shares no earlier one.
+pub record IsLeadersUse (scene : Scene) (sites : ℕ → Option Site) (r : Reach) : Type 0 where
+  pub site : Site
+  pub there : sites r.access ≡ Some site
+  pub memory_is : r.memory ≡ narrowed site.memory
+  pub path : ℕ
+  pub within : path < length site.standing.guards
+  pub leads : site.standing.leader path ≡ path
+  pub banks_are : r.banks ≡ (site.standing.bank path, narrowed (leaders_at site.standing.leader site.standing.bank (site.standing.bank path) path)) ∷ []
+  pub alone : (earlier : ℕ) → slice_get scene.shares.now r.access ≡ Some (Some earlier) → ⊥
+
+-- so is each of these that reads or writes
+abbrev pub AreLedUses : Scene → (sites : ℕ → Option Site) → List Operation → Type 0
+AreLedUses scene sites os = AllByRecursion (λ o. (r : Reach) → use_in o.form ≡ Some r → IsLeadersUse scene sites r) os
+
+-- so many were added, and each is so
+pub record AddsLedUses (scene : Scene) (sites : ℕ → Option Site) (old new : Draft) (uses : (access : ℕ) → ℕ) : Type 0 where
+  pub more : List Operation
+  pub adds : new.operations.items ≡ old.operations.items ++ more
+  pub uses_are : (access : ℕ) → operations_using access more ≡ uses access
+  pub each : AreLedUses scene sites more
 
 -- at the first paths, so many
 abbrev pub used_by : (share : Option (Option ℕ)) → Option Site → (paths : ℕ) → ℕ
@@ -64,8 +92,9 @@ pub record IsUnshared (scene : Scene) (number : ℕ) : Type 0 where
   pub own : (shared : ℕ) → slice_get scene.shares.now number ≡ Some (Some shared) → ⊥
   pub other : (reader : ℕ) → slice_get scene.shares.now reader ≡ Some (Some number) → ⊥
 
--- none of the accesses of a block has operations as it begins
-pub record AreUntouched (sites : ℕ → Option Site) (a : Accesses) : Type 0 where
+-- none of the accesses of a block has operations as it begins, and no bank is counted
+pub record HaveNoOperations (sites : ℕ → Option Site) (a : Accesses) : Type 0 where
+  pub none : AreNone a.counts.items
   pub there : (number : ℕ) (s : Site) → sites number ≡ Some s → number < length a.touched.items
   pub bare : (number : ℕ) (s : Site) → sites number ≡ Some s → touched_in a number ≡ None
 
@@ -121,8 +150,15 @@ WritesAlone scene (c ∷ cs) = EachWrite (λ number. IsUnshared scene number) c.
 abbrev pub BlocksUse : Type 0
 BlocksUse =
     (scene : Scene) (around : Around) (cs : List Located) (old new : Building) (m : MadeEach scene around cs old new) → StandsIn scene around → PathsLead around → 0 < paths_counted around
-    → AreAlong 0 cs → WritesAlone scene cs → SharesInside scene (block_sites scene around cs old new m) → AreUntouched (block_sites scene around cs old new m) old.accesses
+    → AreAlong 0 cs → WritesAlone scene cs → SharesInside scene (block_sites scene around cs old new m) → HaveNoOperations (block_sites scene around cs old new m) old.accesses
     → AddsUses old.draft new.draft (used_to scene (block_sites scene around cs old new m) (paths_counted around))
+
+-- and each read or write is for a path that leads
+abbrev pub BlocksLead : Type 0
+BlocksLead =
+    (scene : Scene) (around : Around) (cs : List Located) (old new : Building) (m : MadeEach scene around cs old new) → StandsIn scene around → PathsLead around → 0 < paths_counted around
+    → AreAlong 0 cs → WritesAlone scene cs → SharesInside scene (block_sites scene around cs old new m) → HaveNoOperations (block_sites scene around cs old new m) old.accesses
+    → AddsLedUses scene (block_sites scene around cs old new m) old.draft new.draft (used_to scene (block_sites scene around cs old new m) (paths_counted around))
 
 -- and probed at all of them
 abbrev pub BlocksProbe : Type 0
@@ -134,8 +170,14 @@ BlocksProbe =
 abbrev pub TestsUse : Type 0
 TestsUse =
     (scene : Scene) (around : Around) (first : ℕ) (t : Term) (old new : Building) (next : ℕ) (tests : List ℕ) → MadeTests scene around first t (paths_counted around) old new next tests
-    → StandsIn scene around → first + term_accesses t < 2 ^ 32 → SharesInside scene (test_sites scene around first t) → AreUntouched (test_sites scene around first t) old.accesses
+    → StandsIn scene around → first + term_accesses t < 2 ^ 32 → SharesInside scene (test_sites scene around first t) → HaveNoOperations (test_sites scene around first t) old.accesses
     → AddsUses old.draft new.draft (used_to scene (test_sites scene around first t) (paths_counted around))
+
+abbrev pub TestsLead : Type 0
+TestsLead =
+    (scene : Scene) (around : Around) (first : ℕ) (t : Term) (old new : Building) (next : ℕ) (tests : List ℕ) → MadeTests scene around first t (paths_counted around) old new next tests
+    → StandsIn scene around → first + term_accesses t < 2 ^ 32 → SharesInside scene (test_sites scene around first t) → HaveNoOperations (test_sites scene around first t) old.accesses
+    → AddsLedUses scene (test_sites scene around first t) old.draft new.draft (used_to scene (test_sites scene around first t) (paths_counted around))
 
 abbrev pub TestsProbe : Type 0
 TestsProbe =
