@@ -27,7 +27,7 @@ use Rattle.dh_commands.specs.ShownVariables.{factors_of}
 use Rattle.dh_blocks.specs.PathsOfLevels.{AreSpread}
 use Rattle.dh_laid.specs.BlockSites.{MadeEach, block_sites, test_sites}
 use Rattle.dh_laid.specs.LaidQuiet.{StandsIn}
-use Rattle.dh_laid.specs.LaidUses.{AreAlong, AreUntouched}
+use Rattle.dh_laid.specs.LaidUses.{AreAlong, HaveNoOperations}
 
 -- a block makes the accesses of these numbers, each as often as is wanted
 pub record UsesAsMade (p : Program) (plan : PlainPlan) (block : ℕ) (makes : ℕ → Bool) : Type 0 where
@@ -57,7 +57,7 @@ abbrev pub StraightsUseAsMade : Type 0
 StraightsUseAsMade =
     (scene : Scene) (plan : PlainPlan) (block : ℕ) (around : Around) (cs : List Located) (old new : Building) (end : Draft) (m : MadeEach scene around cs old new)
     → IsInLoops scene around (λ number. any_makes number cs) → AreAlong 0 cs → HasStraight (phases_of (program_seen scene.program.now)) cs → TellsShares (program_seen scene.program.now) scene.shares.now
-    → AreUntouched (block_sites scene around cs old new m) old.accesses → IsOwn plan block old.draft end → EndsQuietly new.draft end
+    → HaveNoOperations (block_sites scene around cs old new m) old.accesses → IsOwn plan block old.draft end → EndsQuietly new.draft end
     → UsesAsMade (program_seen scene.program.now) plan block (λ number. any_makes number cs)
 
 -- the block of the test of a command
@@ -66,5 +66,5 @@ TestsUseAsMade =
     (scene : Scene) (plan : PlainPlan) (block : ℕ) (around : Around) (tested : Located) (t : Term) (old new : Building) (end : Draft) (next : ℕ) (tests : List ℕ)
     → MadeTests scene around tested.first t (paths_counted around) old new next tests → test_of (form_of tested.command) ≡ Some t
     → IsInLoops scene around (λ number. test_makes number tested) → tested.first + term_accesses t < 2 ^ 32 → HasTest (phases_of (program_seen scene.program.now)) tested → TellsShares (program_seen scene.program.now) scene.shares.now
-    → AreUntouched (test_sites scene around tested.first t) old.accesses → IsOwn plan block old.draft end → EndsQuietly new.draft end
+    → HaveNoOperations (test_sites scene around tested.first t) old.accesses → IsOwn plan block old.draft end → EndsQuietly new.draft end
     → UsesAsMade (program_seen scene.program.now) plan block (λ number. test_makes number tested)

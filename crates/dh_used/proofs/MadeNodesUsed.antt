@@ -12,7 +12,10 @@ use Rattle.dh_meaning.specs.Phases.{Located, Phase, straight, turns, repeated, d
 use Rattle.dh_meaning.specs.Sites.{nothing_around}
 use Rattle.dh_meets.specs.Charges as charges
 use Rattle.dh_meets.specs.SourceEvents.{SourceAccess, site_of}
+use Rattle.dh_value.specs.declared.operators.Op.TheVariants.{Both}
 use Rattle.dh_plan.specs.declared.operations.Operation.{Operation}
+use Rattle.dh_plan.specs.declared.operations.OperationForm.{OperationForm}
+use Rattle.dh_plan.specs.declared.operations.OperationForm.TheVariants.{Compute, Set}
 use Rattle.dh_plan.specs.Correspondence.{Round}
 use Rattle.dh_plan.specs.DoneProgram.{operations_using, probes_among}
 use Rattle.dh_plan.specs.PlainPlans.{Node, block_node, turns_node, loop_node, choice_node, threads_node, Nodes, no_nodes, node_then, PlainPlan, operations_in}
@@ -43,7 +46,7 @@ use Rattle.dh_laid.specs.BareCommands.{AreRising, IsBare, IsBareFrom}
 use Rattle.dh_laid.specs.BlockSites.{block_sites, test_sites}
 use Rattle.dh_laid.specs.LaidNumbers.{StoresReach}
 use Rattle.dh_laid.specs.LaidQuiet.{StandsIn}
-use Rattle.dh_laid.specs.LaidUses.{AreAlong, AreUntouched}
+use Rattle.dh_laid.specs.LaidUses.{AreAlong, HaveNoOperations}
 use Rattle.dh_blocks.specs.BlockMade.{IsTop}
 use Rattle.dh_gathering.specs.declared.blocks.Made.{Made}
 use Rattle.dh_gathering.specs.Cutting.{AreBlocksOf}
@@ -124,6 +127,9 @@ module _ (known : Known) where
   straight_inside round (q ∷ qs) loops cs i (inl h) = straight_inside_in round q loops cs i.0 h
   straight_inside round (q ∷ qs) loops cs i (inr h) = straight_inside round qs loops cs i.1 h
 
+  test_matches : (round loops : List Turning) (d c : Located) → EachMatches known (unrolled round) d.around.loops → (loops ≡ round) × (d ≡ c) → EachMatches known (unrolled loops) c.around.loops
+  test_matches round loops d c i h = subst (λ (ls : List Turning). EachMatches known (unrolled ls) c.around.loops) (sym h.0) (subst (λ (x : Located). EachMatches known (unrolled round) x.around.loops) h.1 i)
+
   mutual
     test_inside_in : (round : List Turning) (q : Phase) (loops : List Turning) (c : Located) → IsInside known (unrolled round) q → TestInLoops known round q loops c → EachMatches known (unrolled loops) c.around.loops
     test_inside_in round (straight ds) loops c i h = absurd h
@@ -133,9 +139,6 @@ module _ (known : Known) where
     test_inside_in round (decided choice chosen other) loops c i (inl h) = test_matches round loops choice c i.0 h
     test_inside_in round (decided choice chosen other) loops c i (inr (inl h)) = tests_inside round chosen loops c i.1.0 h
     test_inside_in round (decided choice chosen other) loops c i (inr (inr h)) = tests_inside round other loops c i.1.1 h
-
-    test_matches : (round loops : List Turning) (d c : Located) → EachMatches known (unrolled round) d.around.loops → (loops ≡ round) × (d ≡ c) → EachMatches known (unrolled loops) c.around.loops
-    test_matches round loops d c i h = subst (λ (ls : List Turning). EachMatches known (unrolled ls) c.around.loops) (sym h.0) (subst (λ (x : Located). EachMatches known (unrolled round) x.around.loops) h.1 i)
 
     tests_inside : (round : List Turning) (qs : Phases) (loops : List Turning) (c : Located) → AreInside known (unrolled round) qs → TestsInLoops known round qs loops c → EachMatches known (unrolled loops) c.around.loops
     tests_inside round no_phases loops c i h = absurd h
@@ -215,14 +218,19 @@ sets_probe_none : (number : ℕ) (ss : List (ℕ × ℕ)) → probes_among numbe
 sets_probe_none number [] = refl
 sets_probe_none number (s ∷ ss) = let e = sets_probe_none number ss in omega (arith, e)
 
+abbrev put_down : OperationForm → Operation
+put_down form = record { guard = None; form = form }
+
 flag_quiet : (read : Truth) (old new : Draft) (value flag : ℕ) → AddsFlag read old new value flag → EndsQuietly old new
 flag_quiet true old new value flag (mid, (made, (number, (both, set)))) = record {
-  more = _ ∷ (_ ∷ []);
-  adds = set.operations ∙ (ap (λ (os : List Operation). os ++ _ ∷ []) both.operations ∙ append_assoc old.operations.items (_ ∷ []) (_ ∷ []));
+  more = put_down (Compute Both value value) ∷ (put_down (Set flag made) ∷ []);
+  adds = set.operations
+      ∙ (ap (λ (os : List Operation). os ++ put_down (Set flag made) ∷ []) both.operations
+      ∙ append_assoc old.operations.items (put_down (Compute Both value value) ∷ []) (put_down (Set flag made) ∷ []));
   no_use = λ k. refl;
   no_probe = λ k. refl;
 }
-flag_quiet false old new value flag (number, set) = record { more = _ ∷ []; adds = set.operations; no_use = λ k. refl; no_probe = λ k. refl }
+flag_quiet false old new value flag (number, set) = record { more = put_down (Set flag value) ∷ []; adds = set.operations; no_use = λ k. refl; no_probe = λ k. refl }
 
 -- Blocks.
 
@@ -277,8 +285,9 @@ module _ (scene : Scene) (final : Made) (plan : PlainPlan) (is : IsMadeOf scene 
           (sym (straight_loops number a (program_seen scene.program.now) at b.located c.0 (straight_either (phases_of (program_seen scene.program.now)) (idle_phases_of (program_seen scene.program.now)) b.located (inl has)) c.1.0 c.1.1))
           (inside_of (known_in scene) (unrolled (loops_round rounds)) b.located c.0 matched c.1.0)
 
-      untouched : AreUntouched (block_sites scene b.made.around b.located b.made.before b.made.between b.made.made) b.made.before.accesses
+      untouched : HaveNoOperations (block_sites scene b.made.around b.located b.made.before b.made.between b.made.made) b.made.before.accesses
       untouched = record {
+        none = b.made.counts;
         there = λ number s at. (bare_made b.made.before.accesses b.located number b.made.bare (blocks_placed scene b.made.around b.located b.made.before b.made.between b.made.made (along 0 b.located b.made.rising named) number s at)).0;
         bare = λ number s at. (bare_made b.made.before.accesses b.located number b.made.bare (blocks_placed scene b.made.around b.located b.made.before b.made.between b.made.made (along 0 b.located b.made.rising named) number s at)).1;
       }
@@ -304,8 +313,9 @@ module _ (scene : Scene) (final : Made) (plan : PlainPlan) (is : IsMadeOf scene 
           (sym (ap (λ (s : _). s.loops) (test_stands_there number a (program_seen scene.program.now) at b.tested (test_either (phases_of (program_seen scene.program.now)) (idle_phases_of (program_seen scene.program.now)) b.tested (inl has)) made)))
           (test_inside (known_in scene) [] (phases_of (program_seen scene.program.now)) (loops_round rounds) b.tested body_inside b.placed)
 
-      untouched : AreUntouched (test_sites scene b.made.around b.tested.first b.term) b.made.before.accesses
+      untouched : HaveNoOperations (test_sites scene b.made.around b.tested.first b.term) b.made.before.accesses
       untouched = record {
+        none = b.made.counts;
         there = λ number s at. let w = test_placed_all scene b.made.around b.tested.first b.term number s at in (bare_at b.made.before.accesses b.tested.first (term_accesses b.term) number b.made.bare w.0 w.1).0;
         bare = λ number s at. let w = test_placed_all scene b.made.around b.tested.first b.term number s at in (bare_at b.made.before.accesses b.tested.first (term_accesses b.term) number b.made.bare w.0 w.1).1;
       }
