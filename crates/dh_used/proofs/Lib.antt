@@ -3,4 +3,4 @@ pub mod SharesOfProgram
 pub mod BlocksByKeys
 pub mod NumbersOfCore
 pub mod PlansUsed
-pub mod MadeNodesUsed
+pub mod NodesMade

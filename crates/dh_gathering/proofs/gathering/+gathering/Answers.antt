@@ -70,7 +70,7 @@ gather_parts-loop-command-init t c = (
   left_begin c.args.parts.now c.loop-part.part-index c.loop-part.next c.args.first (groups_accesses (all_parts_seen c.args.parts.now)) c.part-item.result c.deref-command-items.result.now c.loop-part-test.true c.part-item.is c.deref-command-items.ensures.value c.loop-part.invariant.1.0,
   (
     commands_begin c.args.scene.now c.args.paths.now c.args.parts.now c.args.first c.args.made.now c.loop-part.made (all_kept c.loop-part.done.items) (all_numbered c.loop-part.current.items) c.loop-part.part-index c.loop-part.next c.part-item.result c.deref-command-items.result.now
-      c.loop-part-test.true c.part-item.is c.deref-command-items.ensures.value (ap all_numbered c.loop-part.invariant.0) c.loop-part.invariant.1.1.0,
+        c.loop-part-test.true c.part-item.is c.deref-command-items.ensures.value (ap all_numbered c.loop-part.invariant.0) c.loop-part.invariant.1.1.0,
     c.loop-part.invariant.1.1.1,
   ),
 )
@@ -81,8 +81,8 @@ gather_parts-loop-command-preserved t c = (
       c.loop-command-test.true c.command-item.is c.in_ok-forms.ensures.next c.loop-command.invariant.0,
   (
     command_turn c.args.scene.now c.args.paths.now c.args.parts.now c.args.first c.args.made.now c.loop-command.made c.gather.new.made (all_kept c.loop-command.done.items) (all_kept c.join.new.done.items) (all_numbered c.loop-command.current.items) (all_numbered c.join.new.current.items) (all_kept c.in_ok-forms.forms.items)
-      c.loop-part.part-index c.deref-command-items.result.now c.loop-command.command-index c.loop-command.next c.in_ok-forms.behind c.command-item.result
-      c.loop-command-test.true c.command-item.is c.in_ok-forms.ensures.next c.in_ok-forms.ensures.gathers c.in_ok-join.ensures c.loop-command.invariant.1.0,
+        c.loop-part.part-index c.deref-command-items.result.now c.loop-command.command-index c.loop-command.next c.in_ok-forms.behind c.command-item.result
+        c.loop-command-test.true c.command-item.is c.in_ok-forms.ensures.next c.in_ok-forms.ensures.gathers c.in_ok-join.ensures c.loop-command.invariant.1.0,
     once_joined c.args.made.now c.loop-command.made c.gather.new.made (all_kept c.loop-command.done.items) (all_kept c.join.new.done.items) (all_numbered c.loop-command.current.items) (all_numbered c.join.new.current.items) (all_kept c.in_ok-forms.forms.items)
         c.in_ok-join.ensures c.in_ok-forms.ensures.once c.loop-command.invariant.1.1,
   ),
@@ -96,7 +96,7 @@ gather_parts-loop-part-preserved t c = (
         (drop_all c.loop-command.command-index c.deref-command-items.result.now c.loop-command-test.false) c.loop-command.invariant.0,
     (
       part_end c.args.scene.now c.args.paths.now c.args.parts.now c.args.first c.args.made.now c.loop-command.made (all_kept c.loop-command.done.items) (all_kept c.end_phase.new.done.items) (all_numbered c.loop-command.current.items) c.loop-part.part-index c.deref-command-items.result.now c.loop-command.command-index c.loop-command.next
-        (drop_all c.loop-command.command-index c.deref-command-items.result.now c.loop-command-test.false) c.in_ok-end_phase.ensures.0 c.loop-command.invariant.1.0,
+          (drop_all c.loop-command.command-index c.deref-command-items.result.now c.loop-command-test.false) c.in_ok-end_phase.ensures.0 c.loop-command.invariant.1.0,
       once_part c.args.made.now c.loop-command.made (all_kept c.loop-command.done.items) (all_kept c.end_phase.new.done.items) (all_numbered c.loop-command.current.items) c.in_ok-end_phase.ensures.0 c.loop-command.invariant.1.1,
     ),
   ),

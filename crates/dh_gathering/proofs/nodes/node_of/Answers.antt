@@ -1,6 +1,6 @@
 use Rattle.std.proofs.Common.{ap, subst}
 use Rattle.dh_gathering.specs.Gathered.{MakesStraightIn, all_numbered, kept_of}
-use Rattle.dh_gathering.proofs.EachNamedOnce.{once_other, once_straight}
+use Rattle.dh_gathering.proofs.EachNamedOnce.{once_straight}
 use Rattle.dh_gathering.proofs.NodesMade.{straight_as, straight_node}
 use Rattle.dh_gathering.proofs.SeenNodes.{step_is}
 use Rattle.dh_gathering.proofs.nodes.node_of.Goals as goal

@@ -1,4 +1,4 @@
-use Rattle.dh_used.proofs.MadeNodesUsed.{made_nodes_use, made_plans_use}
+use Rattle.dh_used.proofs.NodesMade.{made_nodes_use, made_plans_use}
 use Rattle.dh_used.proofs.laws.made_plans_use_by_keys.Goals as goal
 
 pub returns-clause-nodes : goal.returns-clause-nodes
