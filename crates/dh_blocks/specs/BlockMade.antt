@@ -5,7 +5,6 @@ use Rattle.std.specs.List.{AllByRecursion}
 use Rattle.dh_base.specs.declared.outcomes.FaultKind.{FaultKind}
 use Rattle.dh_base.specs.declared.places.Place.{Place}
 use Rattle.dh_value.specs.declared.words.Word.{Word}
-use Rattle.dh_meaning.specs.AccessNumbers.{accesses_of}
 use Rattle.dh_meaning.specs.CoreOf.{core_commands}
 use Rattle.dh_meaning.specs.Effects.{Effect, Variables}
 use Rattle.dh_meaning.specs.Levels.{any_assigns}
@@ -19,13 +18,11 @@ use Rattle.dh_plan.specs.Ordered.{IsOrdered}
 use Rattle.dh_plan.specs.PlainPlans.{PlainPlan, first_in, operations_in}
 use Rattle.dh_plan.specs.PlanRuns.{block_values, start_at}
 use Rattle.dh_sound.specs.Blocks.{factors}
-use Rattle.dh_expressions.specs.declared.accesses.Accesses.{Accesses}
 use Rattle.dh_expressions.specs.declared.scenes.Around.{Around}
 use Rattle.dh_expressions.specs.declared.scenes.Scene.{Scene}
 use Rattle.dh_expressions.specs.Copying.{AreNone}
 use Rattle.dh_expressions.specs.Drafted.{Step}
 use Rattle.dh_expressions.specs.Evaluated.{known_in}
-use Rattle.dh_expressions.specs.Noted.{touched_in}
 use Rattle.dh_expressions.specs.Shown.{guard_of}
 use Rattle.dh_commands.specs.declared.assignments.Change.{Change}
 use Rattle.dh_commands.specs.declared.buildings.Building.{Building}
@@ -34,6 +31,7 @@ use Rattle.dh_commands.specs.ShownVariables.{IsSeen, factors_of}
 use Rattle.dh_commands.specs.Followed.{Arms, effect_of}
 use Rattle.dh_commands.specs.Undone.{NoneGiven, given_at}
 use Rattle.dh_commands.specs.Done.{DoesCommand}
+pub use Rattle.dh_laid.specs.BareCommands.{AreRising, IsBare}
 use Rattle.dh_blocks.specs.PathsOfLevels.{AreSpread}
 use Rattle.dh_blocks.specs.BlockGround.{SharesIn}
 use Rattle.dh_laid.specs.LaidAccesses.{AreLaid}
@@ -64,15 +62,6 @@ sets_made (c ∷ cs) current = set_made c.register (given_at current c.register)
 -- an operation sets no register
 abbrev pub SetsNone : Operation → Type 0
 SetsNone o = (first : ℕ) (ws : List Word) → form_sets first ws o.form ≡ []
-
--- the accesses of each command have numbers above those of the commands before it, which are few
-abbrev pub AreRising : (from : ℕ) → List Located → Type 0
-AreRising from [] = Unit {0}
-AreRising from (c ∷ cs) = (from ≤ c.first) × ((c.first + accesses_of c.command < 2 ^ 32) × AreRising (c.first + accesses_of c.command) cs)
-
--- and none of them has operations yet
-abbrev pub IsBare : Accesses → Located → Type 0
-IsBare a c = (i : ℕ) → i < accesses_of c.command → (c.first + i < length a.touched.items) × (touched_in a (c.first + i) ≡ None)
 
 -- The paths of a block: those inside the loops round it, without guards.
 pub record IsTop (rounds : List Round) (around : Around) : Type 0 where

@@ -11,3 +11,8 @@ pub mod CountsUp
 pub mod OneGroup
 pub mod ThreadsBuilt
 pub mod JoinedParts
+pub mod WaysFit
+pub mod NetValid
+pub mod SizesMade
+pub mod PlansBuilt
+pub mod DriversListed

@@ -5,6 +5,8 @@ use Rattle.std.proofs.lemmas.Bool.{cases_eq}
 use Rattle.std.proofs.lemmas.Bool.Decides.{nat_tests}
 use Rattle.dh_value.specs.declared.kinds.Kind.{Kind}
 use Rattle.dh_value.specs.declared.words.Word.{Word}
+use Rattle.dh_value.specs.Words.{width_of}
+use Rattle.dh_meaning.specs.Effects.{kind_in}
 use Rattle.dh_net.specs.BankPorts.{ports_of}
 use Rattle.dh_net.specs.declared.nets.Driver.{Driver}
 use Rattle.dh_net.specs.declared.ports.Port.{Port}
@@ -97,6 +99,28 @@ module _ (d : PlainCircuit) (plan : PlainPlan) (kinds : List Kind) (wires : List
             (subst (λ (l : List Driver). DriveEach (picked port vs) l) (sym (picked_past port e es other)) (picked_both port vs es h.1))
       ]
 
+-- a port that an operation uses is of the memory that it reaches
+pub record IsOfPort (plan : PlainPlan) (p : Port) (bank : ℕ) (r : Reach) : Type 0 where
+  pub place : ℕ
+  pub listed : IsListed bank place r.banks
+  pub row_width : row_bits_of plan.table r.memory ≡ p.row_width
+  pub width : p.width ≡ width_of (kind_in plan.table r.memory)
+
+module _ (plan : PlainPlan) (u : Uses) (formed : IsFormed plan) (ports : ArePorts plan u) (q : ℕ) (p : Port) (port_is : slice_get (ports_of plan.table) q ≡ Some p) where
+  pub user_of_port : (user : User) (o : Operation) (r : Reach) → slice_get (operations_in plan user.block) user.place ≡ Some o → use_in o.form ≡ Some r → HasUser user (users_of plan u q) → IsOfPort plan p user.bank r
+  user_of_port user o r there uses among =
+      let own = own_listed plan u q user among in
+      let o_is : own.1.0.operation ≡ o = (let both : Some own.1.0.operation ≡ Some o = sym own.1.0.there ∙ there in cc) in
+      let reach_is : own.0 ≡ r = (let both : Some own.0 ≡ Some r = sym own.1.0.uses ∙ (ap (λ (y : Operation). use_in y.form) o_is ∙ uses) in cc) in
+      let bound = bound_port plan u formed ports user.block user.place user.bank own.1.1.0 own.0 own.1.0 own.1.1.1.0 in
+      let p_is : bound.0 ≡ p = (let both : Some bound.0 ≡ Some p = sym bound.1.there ∙ (ap (λ (n : ℕ). slice_get (ports_of plan.table) n) own.1.1.1.1 ∙ port_is) in cc) in
+      record {
+        place = own.1.1.0;
+        listed = subst (λ (y : Reach). IsListed user.bank own.1.1.0 y.banks) reach_is own.1.1.1.0;
+        row_width = ap (λ (y : Reach). row_bits_of plan.table y.memory) (sym reach_is) ∙ (sym bound.1.row_width ∙ ap (λ (y : Port). y.row_width) p_is);
+        width = ap (λ (y : Port). y.width) (sym p_is) ∙ (bound.1.width ∙ ap (λ (y : Reach). width_of (kind_in plan.table y.memory)) reach_is);
+      }
+
 -- what wires show of the times of a user's operation at a moment
 pub record TimesShown (plan : PlainPlan) (t : Timing) (times : ℕ → ℕ → Times) (x : Signals) (m : Moment) (user : User) : Type 0 where
   pub active_is : is_one x (times user.block user.place).active ≡ is_among user.block m.active
@@ -120,20 +144,12 @@ module _ (d : PlainCircuit) (plan : PlainPlan) (u : Uses) (t : Timing) (w : Plan
   user_driven : (user : User) (driver : Driver) → HasUser user (users_of plan u q) → TimesShown plan t times x m user → DrivesUser d plan w.kinds w.values times user driver
       → DrivesFor plan t shown_words m p x.wires driver user
   user_driven user driver among shown h =
-      let own = own_listed plan u q user among in
-      let r = own.0 in
-      let listed = own.1.1.1.0 in
-      let place = own.1.1.0 in
-      let o_is : own.1.0.operation ≡ h.operation = (let both : Some own.1.0.operation ≡ Some h.operation = sym own.1.0.there ∙ h.there in cc) in
-      let reach_is : h.reach ≡ r = (let both : Some h.reach ≡ Some r = sym h.uses ∙ (ap (λ (o : Operation). use_in o.form) (sym o_is) ∙ own.1.0.uses) in cc) in
-      let bound = bound_port plan u formed ports user.block user.place user.bank place r own.1.0 listed in
-      let p_is : bound.0 ≡ p = (let both : Some bound.0 ≡ Some p = sym bound.1.there ∙ (ap (λ (n : ℕ). slice_get (ports_of plan.table) n) own.1.1.1.1 ∙ port_is) in cc) in
-      let width : row_bits_of plan.table h.reach.memory ≡ p.row_width = ap (λ (y : Reach). row_bits_of plan.table y.memory) reach_is ∙ (sym bound.1.row_width ∙ ap (λ (y : Port). y.row_width) p_is) in
+      let own = user_of_port plan u formed ports q p port_is user h.operation h.reach h.there h.uses among in
       let suits = (formed.blocks user.block).suits user.place h.operation h.there in
       drives_meant d plan t shown_words m p x w.kinds w.values (times user.block user.place) h.operation driver user h.there
-      (subst (λ (n : ℕ). DrivesUse d w.kinds w.values (times user.block user.place) h.operation n user.bank driver) width h.drive) settled (words_taken user.block user.place h.operation h.there)
-      (picks_alone plan (first_in plan user.block) (kinds_of plan user.block) user.bank place h.operation.form r (h.uses ∙ ap (λ (y : Reach). Some y) reach_is) suits.form
-      (addressed.forms user.block user.place h.operation h.there) listed) shown.active_is shown.own_is shown.commit_is
+      (subst (λ (n : ℕ). DrivesUse d w.kinds w.values (times user.block user.place) h.operation n user.bank driver) own.row_width h.drive) settled (words_taken user.block user.place h.operation h.there)
+      (picks_alone plan (first_in plan user.block) (kinds_of plan user.block) user.bank own.place h.operation.form h.reach h.uses suits.form
+      (addressed.forms user.block user.place h.operation h.there) own.listed) shown.active_is shown.own_is shown.commit_is
 
   all_driven : (users : List User) (ds : List Driver) → ((user : User) → HasUser user users → HasUser user (users_of plan u q)) → ((user : User) → HasUser user (users_of plan u q) → TimesShown plan t times x m user)
       → DriveEach d plan w.kinds w.values times users ds → DriveFor plan t shown_words m p x.wires ds users

@@ -5,3 +5,5 @@ pub mod BuiltParts
 pub mod BuiltNets
 pub mod GraphFlows
 pub mod BuiltThreads
+pub mod NetJoints
+pub mod BuiltPlans

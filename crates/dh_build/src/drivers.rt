@@ -84,10 +84,8 @@ pub fn list_drivers(
     ensures { IfOk result (λ lists. AreListed count entries.now lists) }
 {
     let gathered = gather(alloc, count, entries)?;
-    let gathered = gathered.as_slice();
     let mut lists = Items::new(alloc);
-    for i in 0..count {
-        let list = Vec::from_slice(alloc, gathered[i].as_slice())?;
+    for list in gathered {
         lists.push(Items::from_vec(list))?;
     }
     Ok(lists)

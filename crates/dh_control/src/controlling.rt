@@ -8,7 +8,8 @@ ghost use Rattle.dh_control.specs.ControlsMade.{ActivityMade, AfterMade, Outcome
 ghost use Rattle.dh_control.specs.ControlsWhole.{ControlMade, OwnWires};
 ghost use Rattle.dh_control.specs.SizedWires.{AreSized};
 ghost use Rattle.dh_control.specs.StateWires.{AreStands};
-ghost use Rattle.dh_control.specs.WayMoves.{FitsThread, HoldsStates};
+ghost use Rattle.dh_plan.specs.SeenGraphs.{FitsThread};
+ghost use Rattle.dh_control.specs.WayMoves.{HoldsStates};
 
 use crate::ending::{push_all_checks, push_all_sets, push_ways};
 use crate::gathering::Keyed;

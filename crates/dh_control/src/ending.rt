@@ -6,7 +6,8 @@ ghost use Rattle.dh_cells.specs.Settled.{AreWires, IsWire};
 ghost use Rattle.dh_control.specs.AllBlocks.{AllChecksAdded, AllSetsAdded, ChecksSuit, SetsSuit, WaysAdded, ways_of};
 ghost use Rattle.dh_control.specs.SizedWires.{AreSized};
 ghost use Rattle.dh_control.specs.StateWires.{AreStands};
-ghost use Rattle.dh_control.specs.WayMoves.{FitsThread, HoldsStates};
+ghost use Rattle.dh_plan.specs.SeenGraphs.{FitsThread};
+ghost use Rattle.dh_control.specs.WayMoves.{HoldsStates};
 
 use crate::checking::push_checks;
 use crate::gathering::Keyed;

@@ -47,8 +47,9 @@ pub fn gather<T: Copy>(
     count: usize,
     entries: &[Keyed<T>],
 ) -> Result<Vec<Vec<T>>, NoMemory>
-    ensures { IfOk result (λ lists. (key : ℕ) → key < count
+    ensures each { IfOk result (λ lists. (key : ℕ) → key < count
         → slice_get (items_of lists.items) key ≡ Some (picked key entries.now)) }
+    ensures long { IfOk result (λ lists. length (items_of lists.items) ≡ count) }
 {
     let mut lists = empty_lists(alloc, count)?;
     for entry in entries {

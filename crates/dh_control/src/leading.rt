@@ -3,7 +3,8 @@
 ghost use Rattle.std.specs.Prelude.{◌≡◌, ◌<◌, ◌++◌, length, slice_index, slice_set, IfOk, OnOk};
 ghost use Rattle.dh_cells.specs.Settled.{IsWire};
 ghost use Rattle.dh_control.specs.SizedWires.{AreSized};
-ghost use Rattle.dh_control.specs.WayMoves.{BranchMade, CountedMade, FitsThread, HoldsStates, LeadAdded, WayAdded, counts, way_of_decision};
+ghost use Rattle.dh_plan.specs.SeenGraphs.{FitsThread};
+ghost use Rattle.dh_control.specs.WayMoves.{BranchMade, CountedMade, HoldsStates, LeadAdded, WayAdded, counts, way_of_decision};
 
 use crate::gathering::Keyed;
 use crate::testing::push_number_test;

@@ -33,7 +33,7 @@ probes_append m (o ∷ xs) ys = sum (counts_probe m o.form) (probes_among m (xs 
     sum : (c whole a b : ℕ) → whole ≡ a + b → c + whole ≡ c + a + b
     sum c whole a b e = omega (arith, e)
 
-uses_append : (m : ℕ) (xs ys : List Operation) → operations_using m (xs ++ ys) ≡ operations_using m xs + operations_using m ys
+pub uses_append : (m : ℕ) (xs ys : List Operation) → operations_using m (xs ++ ys) ≡ operations_using m xs + operations_using m ys
 uses_append m [] ys = none_more (operations_using m ys)
 uses_append m (o ∷ xs) ys = sum (counts_use m (use_in o.form)) (operations_using m (xs ++ ys)) (operations_using m xs) (operations_using m ys) (uses_append m xs ys)
   where

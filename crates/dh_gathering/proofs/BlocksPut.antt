@@ -5,7 +5,7 @@ use Rattle.dh_value.specs.declared.operators.Op.TheVariants.{Both}
 use Rattle.dh_value.specs.Operations.{binary_of}
 use Rattle.dh_tree.specs.PlainTrees as tree
 use Rattle.dh_tree.specs.Seen.{action_seen}
-use Rattle.dh_plan.specs.declared.operations.OperationForm.TheVariants.{Set}
+use Rattle.dh_plan.specs.declared.operations.OperationForm.TheVariants.{Compute, Set}
 use Rattle.dh_expressions.specs.declared.drafts.Draft.{Draft}
 use Rattle.dh_expressions.specs.declared.scenes.Around.{Around}
 use Rattle.dh_expressions.specs.declared.scenes.Scene.{Scene}
@@ -14,8 +14,9 @@ use Rattle.dh_expressions.specs.Shown.{is_read_term}
 use Rattle.dh_expressions.proofs.Pushing.{extends_self}
 use Rattle.dh_commands.specs.declared.buildings.Building.{Building}
 use Rattle.dh_commands.specs.Done.{DoesCommand}
+use Rattle.dh_commands.specs.MadeCommands.{MadeCommand}
 use Rattle.dh_gathering.specs.declared.joining.Located.{Located}
-use Rattle.dh_gathering.specs.MadeBlocks.{SetsFlag}
+use Rattle.dh_gathering.specs.MadeBlocks.{AddsFlag, PutsFlag, SetsFlag}
 use Rattle.dh_gathering.specs.Gathered.{DoesNumbered, all_numbered}
 
 module _ (scene : Scene) (around : Around) where
@@ -23,8 +24,8 @@ module _ (scene : Scene) (around : Around) where
   abbrev pub CommandsLead : (all left : List Located) → (old here : Building) → Type 0
   CommandsLead all left old here = (new : Building) → DoesNumbered scene around (all_numbered left) here new → DoesNumbered scene around (all_numbered all) old new
 
-  pub commands_turn : (all : List Located) (i next : ℕ) (old here mid : Building) (l : Located) → i < length all → l ≡ get_or all i l → DoesCommand scene around (action_seen l.command.now) l.first next here mid
-      → CommandsLead all (drop i all) old here → CommandsLead all (drop (i + 1) all) old mid
+  pub commands_turn : (all : List Located) (i next : ℕ) (old here mid : Building) (l : Located) → i < length all → l ≡ get_or all i l
+      → DoesCommand scene around (action_seen l.command.now) l.first next here mid × MadeCommand scene (action_seen l.command.now) around here mid l.first next → CommandsLead all (drop i all) old here → CommandsLead all (drop (i + 1) all) old mid
   commands_turn all i next old here mid l within is does h new rest =
       h new (subst (λ (ls : List Located). DoesNumbered scene around (all_numbered ls) here new) (sym (at_item all i l within is)) (mid, (next, (does, rest))))
 
@@ -59,11 +60,13 @@ flag_of_value old new t value number flag no_read p = record {
 }
 
 -- as the code comes to it
-pub flag_at_read : (old mid here new : Draft) (t : tree.Term) (value made given number flag : ℕ) → is_read_term t ≡ true → here ≡ mid → given ≡ made → Computes old mid made (λ x. binary_of Both (shown x value) (shown x value)) → Pushes here new number None (Set flag given)
-    → SetsFlag old new t value flag
-flag_at_read old mid here new t value made given number flag reads draft value_is h p =
-    flag_of_read old mid new t value made number flag reads h (subst (λ (d : Draft). Pushes d new number None (Set flag made)) draft (subst (λ (n : ℕ). Pushes here new number None (Set flag n)) value_is p))
+pub flag_at_read : (old mid here new : Draft) (t : tree.Term) (value made given number flag : ℕ) → is_read_term t ≡ true → here ≡ mid → given ≡ made → Computes old mid made (λ x. binary_of Both (shown x value) (shown x value)) → Pushes old mid made None (Compute Both value value)
+    → Pushes here new number None (Set flag given) → PutsFlag old new t value flag
+flag_at_read old mid here new t value made given number flag reads draft value_is h pushed p =
+    let set : Pushes mid new number None (Set flag made) = subst (λ (d : Draft). Pushes d new number None (Set flag made)) draft (subst (λ (n : ℕ). Pushes here new number None (Set flag n)) value_is p) in
+    (flag_of_read old mid new t value made number flag reads h set, subst (λ (b : Bool). AddsFlag b old new value flag) (sym reads) (mid, (made, (number, (pushed, set)))))
 
-pub flag_at_value : (old here new : Draft) (t : tree.Term) (value given number flag : ℕ) → is_read_term t ≡ false → here ≡ old → given ≡ value → Pushes here new number None (Set flag given) → SetsFlag old new t value flag
+pub flag_at_value : (old here new : Draft) (t : tree.Term) (value given number flag : ℕ) → is_read_term t ≡ false → here ≡ old → given ≡ value → Pushes here new number None (Set flag given) → PutsFlag old new t value flag
 flag_at_value old here new t value given number flag no_read draft value_is p =
-    flag_of_value old new t value number flag no_read (subst (λ (d : Draft). Pushes d new number None (Set flag value)) draft (subst (λ (n : ℕ). Pushes here new number None (Set flag n)) value_is p))
+    let set : Pushes old new number None (Set flag value) = subst (λ (d : Draft). Pushes d new number None (Set flag value)) draft (subst (λ (n : ℕ). Pushes here new number None (Set flag n)) value_is p) in
+    (flag_of_value old new t value number flag no_read set, subst (λ (b : Bool). AddsFlag b old new value flag) (sym no_read) (number, set))

@@ -11,7 +11,8 @@ use Rattle.dh_gathering.specs.declared.joining.Located.{Located}
 use Rattle.dh_gathering.specs.declared.joining.Loose.{Loose}
 use Rattle.dh_gathering.specs.declared.joining.Loose.TheVariants as loose
 use Rattle.dh_gathering.specs.KeptPhases.{Kept, at_once, ended_all, ended_at, folded_with, joined_at, joined_with}
-use Rattle.dh_gathering.specs.Gathered.{Numbered, all_kept, all_numbered, kept_of}
+use Rattle.dh_gathering.specs.Gathered.{all_kept, all_numbered, kept_of}
+use Rattle.dh_gathering.specs.OpenAccesses.{Numbered}
 use Rattle.dh_gathering.proofs.KeptLists.{folded_another, folded_straight}
 
 pub folds_another : (body fold popped pushed new : List Loose) (last : Loose) (form : Node) → body ≡ popped ++ last ∷ [] → last ≡ loose.Other form → pushed ≡ popped ++ loose.Other form ∷ [] → new ≡ pushed ++ fold → all_kept new ≡ folded_with (all_kept body) (all_kept fold)

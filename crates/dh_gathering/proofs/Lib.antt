@@ -1,4 +1,6 @@
 pub mod KeptLists
+pub mod KeptCommands
+pub mod AccessesOpen
 pub mod SeenNodes
 pub mod PhasesPlaced
 pub mod MadeGrows
@@ -9,6 +11,7 @@ pub mod NodesMade
 pub mod PhasesGathered
 pub mod PartsGathered
 pub mod FormsFolded
+pub mod EachNamedOnce
 pub mod BlocksPut
 pub mod BlocksCut
 pub mod NodesFormed

@@ -1,5 +1,5 @@
 -- Nodes of phases that were kept, in order: each straight one has its block as its node is made.
-use Rattle.std.proofs.Common.{inl, ◌≡◌, ℕ, List, [], ◌∷◌, ◌++◌, reverse, refl, ap, sym, ◌∙◌, subst, append_assoc, append-nil}
+use Rattle.std.proofs.Common.{inl, inr, ◌≡◌, ℕ, ◌≤◌, arith, List, [], ◌∷◌, ◌++◌, reverse, refl, ap, sym, ◌∙◌, subst, append_assoc, append-nil}
 use Rattle.std.proofs.lemmas.List.{reverse-append, reverse-reverse}
 use Rattle.dh_tree.specs.Seen.{program_seen}
 use Rattle.dh_meaning.specs.CoreOf.{core_phase, core_phases}
@@ -16,16 +16,19 @@ use Rattle.dh_expressions.specs.Evaluated.{known_in}
 use Rattle.dh_gathering.specs.declared.blocks.Made.{Made}
 use Rattle.dh_gathering.specs.declared.joining.Loose.{Loose}
 use Rattle.dh_gathering.specs.declared.joining.Loose.TheVariants as loose
-use Rattle.dh_gathering.specs.KeptPhases.{Kept, another, done_at_once}
+use Rattle.dh_gathering.specs.KeptPhases.{Kept, another, commands_kept, done_at_once}
 use Rattle.dh_gathering.specs.Growing.{Grows, IsAtRest}
-use Rattle.dh_gathering.specs.PlacedPhases.{ArePlaced}
-use Rattle.dh_gathering.specs.MadeBlocks.{ArePathsOf, made_tie}
-use Rattle.dh_gathering.specs.Gathered.{AreKept, AreMadeAs, IsLocated, IsMadeAs, MakesNodeIn, MakesNodes, MakesNodesIn, MakesStraightIn, Numbered, all_kept, kept_of}
+use Rattle.dh_gathering.specs.OpenAccesses.{AreOpen, Numbered, TouchesWithin}
+use Rattle.dh_gathering.specs.PlacedPhases.{ArePlaced, loops_round}
+use Rattle.dh_gathering.specs.MadeBlocks.{AreInside, made_tie}
+use Rattle.dh_gathering.specs.Gathered.{AreKept, AreMadeAs, IsLocated, IsMadeAs, MakesNodeIn, MakesNodes, MakesNodesIn, MakesStraightIn, all_kept, kept_of}
+use Rattle.dh_gathering.proofs.AccessesOpen.{OpenParts, open_later, open_split, open_within, within_more, within_none, within_then}
+use Rattle.dh_gathering.proofs.KeptCommands.{commands_append}
 use Rattle.dh_gathering.proofs.PhasesPlaced.{placed_behind, placed_first}
 use Rattle.dh_gathering.proofs.KeptLists.{are_weaker}
 use Rattle.dh_gathering.proofs.MadeGrows.{grows_none, grows_then}
 use Rattle.dh_gathering.proofs.SeenNodes.{step_is}
-use Rattle.dh_gathering.proofs.StraightMade.{few_numbered}
+use Rattle.dh_gathering.proofs.StraightMade.{few_numbered, reach_numbered}
 
 -- what is kept stays what it is while more is made
 pub kept_later : (scene : Scene) (rounds : List Round) (a b : Made) (ks : List (Kept Numbered Node)) (qs : List source.Phase) → Grows a b → AreKept scene a rounds ks qs → AreKept scene b rounds ks qs
@@ -33,19 +36,21 @@ kept_later scene rounds a b ks qs h are = are_weaker IsLocated (IsMadeAs scene a
 
 -- a straight phase
 pub straight_node : (scene : Scene) (paths : Paths) (old new : Made) (items : List Numbered) (block : ℕ) → MakesStraightIn scene paths old new items block → MakesNodeIn scene paths old new (done_at_once items) (block_node block)
-straight_node scene paths old new items block h rounds (turns loop count body) inside placed rest are = absurd are.0
-straight_node scene paths old new items block h rounds (repeated loop body) inside placed rest are = absurd are.0
-straight_node scene paths old new items block h rounds (decided choice chosen other) inside placed rest are = absurd are.0
-straight_node scene paths old new items block h rounds (straight ls) inside placed rest are =
-    let made = h rounds inside rest (few_numbered items ls are.0) in
-    record { grows = made.grows; rest = made.rest; made = λ final more. record { located = ls; are = refl; placed = placed.straights ls (inl refl); made = made.made ls are.0 final more } }
+straight_node scene paths old new items block h rounds (turns loop count body) first last inside placed rest are bare = absurd are.0
+straight_node scene paths old new items block h rounds (repeated loop body) first last inside placed rest are bare = absurd are.0
+straight_node scene paths old new items block h rounds (decided choice chosen other) first last inside placed rest are bare = absurd are.0
+straight_node scene paths old new items block h rounds (straight ls) first last inside placed rest are bare =
+    let stands = placed.straights (loops_round rounds) ls (inl (refl, refl)) in
+    let made = h rounds first last inside rest (few_numbered items ls are.0) (reach_numbered items ls are.0 (inside.told.stores (loops_round rounds) ls stands))
+    (subst (λ (cs : List Numbered). AreOpen old.building.accesses first last cs) (append-nil items) bare) in
+    record { grows = made.grows; rest = made.rest; touches = made.touches; made = λ final more. record { located = ls; are = refl; placed = stands; made = made.made ls are.0 final more } }
 
 -- another phase has its node
 pub other_node : (scene : Scene) (paths : Paths) (m : Made) (node : Node) → MakesNodeIn scene paths m m (another node) node
-other_node scene paths m node rounds (straight ls) inside placed rest are = absurd are.0
-other_node scene paths m node rounds (turns loop count body) inside placed rest are = record { grows = grows_none m; rest = rest; made = are.0 }
-other_node scene paths m node rounds (repeated loop body) inside placed rest are = record { grows = grows_none m; rest = rest; made = are.0 }
-other_node scene paths m node rounds (decided choice chosen other) inside placed rest are = record { grows = grows_none m; rest = rest; made = are.0 }
+other_node scene paths m node rounds (straight ls) first last inside placed rest are bare = absurd are.0
+other_node scene paths m node rounds (turns loop count body) first last inside placed rest are bare = record { grows = grows_none m; rest = rest; touches = within_none m.building.accesses first last; made = are.0 }
+other_node scene paths m node rounds (repeated loop body) first last inside placed rest are bare = record { grows = grows_none m; rest = rest; touches = within_none m.building.accesses first last; made = are.0 }
+other_node scene paths m node rounds (decided choice chosen other) first last inside placed rest are bare = record { grows = grows_none m; rest = rest; touches = within_none m.building.accesses first last; made = are.0 }
 
 -- as the code has them
 pub straight_as : (scene : Scene) (paths : Paths) (old new : Made) (form : Loose) (commands : _) (block : ℕ) → form ≡ loose.Straight commands
@@ -67,7 +72,7 @@ nodes_more scene tie rounds (p ∷ front) [] q n h k = absurd h
 nodes_more scene tie rounds (p ∷ front) (m ∷ ns) q n h k = (h.0, nodes_more scene tie rounds front ns q n h.1 k)
 
 -- nodes so far, and what is left
-pub record NodesRest (scene : Scene) (rounds : List Round) (old now : Made) (left : List (Kept Numbered Node)) (nodes : List declared.Node) (qs : List source.Phase) : Type 0 where
+pub record NodesRest (scene : Scene) (rounds : List Round) (old now : Made) (first last : ℕ) (left : List (Kept Numbered Node)) (nodes : List declared.Node) (qs : List source.Phase) : Type 0 where
   pub front : List source.Phase
   pub back : List source.Phase
   pub is : qs ≡ front ++ back
@@ -75,26 +80,61 @@ pub record NodesRest (scene : Scene) (rounds : List Round) (old now : Made) (lef
   pub rest : IsAtRest now
   pub made : AreMadeAs scene now rounds (nodes_seen nodes) front
   pub are : AreKept scene now rounds left back
+  -- accesses of commands that are left have no operations
+  pub middle : ℕ
+  pub low : first ≤ middle
+  pub touches : TouchesWithin old.building.accesses now.building.accesses first middle
+  pub bare : AreOpen now.building.accesses middle last (commands_kept left)
 
 module _ (scene : Scene) (paths : Paths) where
   abbrev pub NodesSoFar : (old now : Made) → (all left : List (Kept Numbered Node)) → (nodes : List declared.Node) → Type 0
   NodesSoFar old now all left nodes =
-      (rounds : List Round) (qs : List source.Phase) → ArePathsOf rounds paths.levels.items paths.count → ArePlaced (program_seen scene.program.now) qs → IsAtRest old → AreKept scene old rounds all qs → NodesRest scene rounds old now left nodes qs
+      (rounds : List Round) (qs : List source.Phase) (first last : ℕ) → AreInside scene rounds paths → ArePlaced (known_in scene) (program_seen scene.program.now) (loops_round rounds) qs → IsAtRest old → AreKept scene old rounds all qs
+      → AreOpen old.building.accesses first last (commands_kept all) → NodesRest scene rounds old now first last left nodes qs
 
   pub nodes_begin : (m : Made) (all : List (Kept Numbered Node)) → NodesSoFar m m all all []
-  nodes_begin m all rounds qs inside placed rest are = record { front = []; back = qs; is = refl; grows = grows_none m; rest = rest; made = λ final more. tt; are = are }
+  nodes_begin m all rounds qs first last inside placed rest are bare = record {
+    front = [];
+    back = qs;
+    is = refl;
+    grows = grows_none m;
+    rest = rest;
+    made = λ final more. tt;
+    are = are;
+    middle = first;
+    low = same first;
+    touches = within_none m.building.accesses first first;
+    bare = bare;
+  }
+    where
+      same : (n : ℕ) → n ≤ n
+      same n = omega arith
 
   pub nodes_turn : (old now new : Made) (all left : List (Kept Numbered Node)) (kept : Kept Numbered Node) (nodes : List declared.Node) (node : declared.Node) → MakesNodeIn scene paths now new kept (node_seen node)
       → NodesSoFar old now all (kept ∷ left) nodes → NodesSoFar old new all left (nodes ++ node ∷ [])
-  nodes_turn old now new all left kept nodes node makes h rounds qs inside placed rest are = by r.back r.is r.are
+  nodes_turn old now new all left kept nodes node makes h rounds qs first last inside placed rest are bare = by r.back r.is r.are
     where
-      r : NodesRest scene rounds old now (kept ∷ left) nodes qs
-      r = h rounds qs inside placed rest are
+      r : NodesRest scene rounds old now first last (kept ∷ left) nodes qs
+      r = h rounds qs first last inside placed rest are bare
 
-      by : (back : List source.Phase) → qs ≡ r.front ++ back → AreKept scene now rounds (kept ∷ left) back → NodesRest scene rounds old new left (nodes ++ node ∷ []) qs
+      parts : OpenParts now.building.accesses r.middle last (commands_kept (kept ∷ [])) (commands_kept left)
+      parts = open_split now.building.accesses r.middle last (commands_kept (kept ∷ [])) (commands_kept left)
+          (subst (λ (cs : List Numbered). AreOpen now.building.accesses r.middle last cs) (commands_append (kept ∷ []) left) r.bare)
+
+      within : r.middle ≤ parts.middle
+      within = open_within now.building.accesses r.middle parts.middle (commands_kept (kept ∷ [])) parts.front
+
+      least : (n m k : ℕ) → n ≤ m → m ≤ k → n ≤ k
+      least n m k e f = omega (arith, e, f)
+
+      same : (n : ℕ) → n ≤ n
+      same n = omega arith
+
+      by : (back : List source.Phase) → qs ≡ r.front ++ back → AreKept scene now rounds (kept ∷ left) back → NodesRest scene rounds old new first last left (nodes ++ node ∷ []) qs
       by [] is k = absurd k
       by (q ∷ back) is k =
-          let made = makes rounds q inside (placed_first (program_seen scene.program.now) q back (placed_behind (program_seen scene.program.now) r.front (q ∷ back) (subst (λ (l : List source.Phase). ArePlaced (program_seen scene.program.now) l) is placed))) r.rest (k.0, tt) in
+          let made = makes rounds q r.middle parts.middle inside (placed_first (known_in scene) (program_seen scene.program.now) (loops_round rounds) q back
+          (placed_behind (known_in scene) (program_seen scene.program.now) (loops_round rounds) r.front (q ∷ back) (subst (λ (l : List source.Phase). ArePlaced (known_in scene) (program_seen scene.program.now) (loops_round rounds) l) is placed))) r.rest (k.0, tt) parts.front in
           record {
             front = r.front ++ q ∷ [];
             back = back;
@@ -103,17 +143,28 @@ module _ (scene : Scene) (paths : Paths) where
             rest = made.rest;
             made = λ final more. nodes_more scene (made_tie scene final) rounds r.front nodes q node (r.made final (grows_then now new final made.grows more)) (made.made final more);
             are = kept_later scene rounds now new left back made.grows k.1;
+            middle = parts.middle;
+            low = least first r.middle parts.middle r.low within;
+            touches = within_then old.building.accesses now.building.accesses new.building.accesses first parts.middle
+                (within_more old.building.accesses now.building.accesses first r.middle first parts.middle r.touches (same first) within)
+                (within_more now.building.accesses new.building.accesses r.middle parts.middle first parts.middle made.touches r.low (same parts.middle));
+            bare = open_later now.building.accesses new.building.accesses parts.middle last r.middle parts.middle (commands_kept left) parts.back made.touches (inr (same parts.middle));
           }
 
   pub nodes_end : (old new : Made) (all : List (Kept Numbered Node)) (nodes : List declared.Node) → NodesSoFar old new all [] nodes → MakesNodesIn scene paths old new all (nodes_seen nodes)
-  nodes_end old new all nodes h rounds qs inside placed rest are = by r.back r.is r.are
+  nodes_end old new all nodes h rounds qs first last inside placed rest are bare = by r.back r.is r.are
     where
-      r : NodesRest scene rounds old new [] nodes qs
-      r = h rounds qs inside placed rest are
+      r : NodesRest scene rounds old new first last [] nodes qs
+      r = h rounds qs first last inside placed rest are bare
 
-      by : (back : List source.Phase) → qs ≡ r.front ++ back → AreKept scene new rounds [] back → MakesNodes scene rounds old new (nodes_seen nodes) qs
+      same : (n : ℕ) → n ≤ n
+      same n = omega arith
+
+      by : (back : List source.Phase) → qs ≡ r.front ++ back → AreKept scene new rounds [] back → MakesNodes scene rounds old new first last (nodes_seen nodes) qs
       by (q ∷ back) is k = absurd k
-      by [] is k = subst (λ (ps : List source.Phase). MakesNodes scene rounds old new (nodes_seen nodes) ps) (sym (is ∙ append-nil r.front)) (record { grows = r.grows; rest = r.rest; made = r.made })
+      by [] is k =
+          subst (λ (ps : List source.Phase). MakesNodes scene rounds old new first last (nodes_seen nodes) ps) (sym (is ∙ append-nil r.front))
+          (record { grows = r.grows; rest = r.rest; touches = within_more old.building.accesses new.building.accesses first r.middle first last r.touches (same first) r.bare; made = r.made })
 
   -- Forms are taken from the end of their reversed list.
 

@@ -1,5 +1,5 @@
 -- The block of a test, and its flag: a register that was not there before.
-use Rattle.std.proofs.Common.{◌≡◌, ℕ, ◌+◌, ◌<◌, ◌≤◌, ◌^◌, List, [], ◌∷◌, ◌++◌, length, Some, None, replicate, refl, ap, sym, ◌∙◌, subst, arith}
+use Rattle.std.proofs.Common.{◌≡◌, ◌⊎◌, inl, inr, zero, suc, None, ℕ, ◌+◌, ◌<◌, ◌≤◌, ◌^◌, List, [], ◌∷◌, ◌++◌, length, Some, None, replicate, refl, ap, sym, ◌∙◌, subst, arith}
 use Rattle.std.specs.Prelude.{Option, slice_get, slice_index}
 use Rattle.std.specs.List.{AllByRecursion}
 use Rattle.std.proofs.lemmas.List.{append-nil, length-append}
@@ -9,24 +9,33 @@ use Rattle.dh_tree.specs.PlainTrees as tree
 use Rattle.dh_meaning.specs.AccessNumbers.{term_accesses}
 use Rattle.dh_plan.specs.Correspondence.{Round}
 use Rattle.dh_plan.specs.declared.operations.OperationForm.TheVariants.{Set}
+use Rattle.dh_expressions.specs.declared.accesses.Accesses.{Accesses}
 use Rattle.dh_expressions.specs.declared.drafts.Draft.{Draft}
 use Rattle.dh_expressions.specs.declared.paths.Paths.{Paths}
 use Rattle.dh_expressions.specs.declared.scenes.Around.{Around}
 use Rattle.dh_expressions.specs.declared.scenes.Scene.{Scene}
 use Rattle.dh_expressions.specs.Drafted.{Extends}
+use Rattle.dh_expressions.specs.Noted.{touched_in}
+use Rattle.dh_expressions.specs.Shown.{is_read_term}
 use Rattle.dh_expressions.proofs.Pushing.{at_seam, extends_again, in_front, pushed_extends}
 use Rattle.dh_commands.specs.declared.assignments.Change.{Change}
 use Rattle.dh_commands.specs.declared.assignments.Values.{Values}
 use Rattle.dh_commands.specs.declared.buildings.Building.{Building}
 use Rattle.dh_commands.specs.LanesRun.{paths_counted}
+use Rattle.dh_commands.specs.MadeCommands.{MadeTests}
 use Rattle.dh_commands.specs.Setting.{NoVariable, TestsAll}
 use Rattle.dh_commands.specs.Undone.{Changes, IsChange, given_at, undone}
+use Rattle.dh_laid.specs.LaidAccesses.{Lays}
+use Rattle.dh_laid.specs.LaidQuiet.{StandsIn}
+use Rattle.dh_laid.proofs.AccessesLaid.{lays_again, lays_quiet, tests_lay}
+use Rattle.dh_laid.proofs.CommandsNumbered.{tests_number}
 use Rattle.dh_gathering.specs.declared.blocks.Made.{Made}
 use Rattle.dh_gathering.specs.Growing.{Grows, IsAtRest, IsClear, registers_given}
-use Rattle.dh_gathering.specs.MadeBlocks.{ArePathsOf, IsFlagOf, SetsFlag, StandsAt}
+use Rattle.dh_gathering.specs.MadeBlocks.{AddsFlag, AreInside, ArePathsOf, IsFlagOf, PutsFlag, SetsFlag, StandsAt}
+use Rattle.dh_gathering.specs.OpenAccesses.{AreUntouched, TouchesWithin}
 use Rattle.dh_gathering.specs.Gathered.{MakesTest, MakesTestIn, SetsFirst}
 use Rattle.dh_gathering.proofs.MadeGrows.{AddsBlock, block_grows, block_rests, block_stands}
-use Rattle.dh_gathering.proofs.StraightMade.{some_counted}
+use Rattle.dh_gathering.proofs.StraightMade.{bare_from, few_counted, laid_later, some_counted}
 
 module _ (scene : Scene) (around : Around) where
   none_changed : (cs : List Change) → AllByRecursion (IsChange scene around NoVariable) cs → cs ≡ []
@@ -53,15 +62,29 @@ module _ (scene : Scene) (around : Around) where
 pub flag_extends : (old new : Draft) (t : tree.Term) (value flag : ℕ) → SetsFlag old new t value flag → Extends old new
 flag_extends old new t value flag h = extends_again old h.mid new h.gives.extends (pushed_extends h.mid new h.number None (Set flag h.made) h.set)
 
+-- a flag behind these registers
+one_flag : (old : List Kind) (register : ℕ) (k : Kind) → slice_get (old ++ kind.Bool ∷ []) register ≡ Some k → (slice_get old register ≡ Some k) ⊎ (k ≡ kind.Bool)
+one_flag [] zero k at = inr (sym (ap kind_or at))
+  where
+    kind_or : Option Kind → Kind
+    kind_or None = kind.Bool
+    kind_or (Some x) = x
+one_flag [] (suc register) k at = absurd (never at)
+  where
+    never : None ≡ Some k → ⊥
+    never e = cc
+one_flag (x ∷ old) zero k at = inl at
+one_flag (x ∷ old) (suc register) k at = one_flag old register k at
+
 one_more : (n m : ℕ) → m ≡ n + 1 → n ≤ m
 one_more n m e = omega (arith, e)
 
 module _ (scene : Scene) (paths : Paths) (old new : Made) (between : Building) (draft : Draft) (n next : ℕ) (t : tree.Term) (tests : List ℕ) (flag block start : ℕ) (around : Around)
-    (levels : around.levels.now ≡ paths.levels.items) (guards : around.guards.now ≡ replicate paths.count None)
-    (does : TestsAll scene around old.building between n next t tests) where
+    (levels : around.levels.now ≡ paths.levels.items) (guards : around.guards.now ≡ replicate paths.count None) (low : length around.levels.now < 2 ^ 63) (many : paths.count < 2 ^ 63)
+    (does : TestsAll scene around old.building between n next t tests) (made : MadeTests scene around n t (paths_counted around) old.building between next tests) where
   -- there is a value
-  pub never_none : (rounds : List Round) → ArePathsOf rounds paths.levels.items paths.count → slice_get tests 0 ≡ None → ⊥
-  never_none rounds inside none = by tests does.long (some_counted around paths.count guards inside.some) none
+  pub never_none : (rounds : List Round) → AreInside scene rounds paths → slice_get tests 0 ≡ None → ⊥
+  never_none rounds inside none = by tests does.long (some_counted around paths.count guards inside.inside.some) none
     where
       zero_none : (n : ℕ) → 0 ≡ n → 0 < n → ⊥
       zero_none n e l = omega (arith, e, l)
@@ -70,11 +93,28 @@ module _ (scene : Scene) (paths : Paths) (old new : Made) (between : Building) (
       by [] long some e = zero_none (paths_counted around) long some
       by (x ∷ ts) long some e = absurd cc
 
-  module _ (value : ℕ) (first : slice_get tests 0 ≡ Some value) (sets : SetsFlag between.draft draft t value flag)
+  module _ (value : ℕ) (first : slice_get tests 0 ≡ Some value) (puts : PutsFlag between.draft draft t value flag)
       (draft_is : new.building.draft ≡ draft) (accesses_are : new.building.accesses ≡ between.accesses) (values_are : new.building.values ≡ between.values)
       (starts : new.starts.items ≡ old.starts.items ++ start ∷ []) (registers : new.registers ≡ old.registers ++ kind.Bool ∷ [])
       (flag_is : flag ≡ length old.registers) (number_is : block ≡ length old.starts.items) (start_is : start ≡ length old.building.draft.operations.items) where
-    module _ (rounds : List Round) (inside : ArePathsOf rounds paths.levels.items paths.count) (rest : IsAtRest old) (few : n + term_accesses t < 2 ^ 32) where
+    module _ (rounds : List Round) (inside : AreInside scene rounds paths) (rest : IsAtRest old) (few : n + term_accesses t < 2 ^ 32) (bare : AreUntouched old.building.accesses n (n + term_accesses t)) where
+      stands_in : StandsIn scene around
+      stands_in = record { scopes = inside.told.scopes; low = low; few = few_counted around paths.count guards many }
+
+      -- accesses are laid behind the test, and its flag touches none
+      lays : Lays old.building.draft new.building.draft old.building.accesses new.building.accesses
+      lays =
+          lays_again old.building.draft between.draft new.building.draft old.building.accesses between.accesses new.building.accesses
+          (tests_lay scene around n t (paths_counted around) old.building between next tests stands_in made)
+          (lays_quiet between.draft new.building.draft between.accesses new.building.accesses (subst (λ (d : Draft). Extends between.draft d) (sym draft_is) (flag_extends between.draft draft t value flag puts.0)) accesses_are)
+
+      touches : TouchesWithin old.building.accesses new.building.accesses n (n + term_accesses t)
+      touches = record {
+        long = lays.long;
+        only = λ number out. ap (λ (a : Accesses). touched_in a number) accesses_are
+            ∙ (tests_number scene around n t few (paths_counted around) old.building between next tests (some_counted around paths.count guards inside.inside.some) made).only number out;
+      }
+
       changes : Changes scene around NoVariable old.building.values between.values
       changes = (does.does.so few).changes rest.clear.ready
 
@@ -83,12 +123,15 @@ module _ (scene : Scene) (paths : Paths) (old new : Made) (between : Building) (
 
       adds : AddsBlock old new
       adds = record {
-        draft = subst (λ (d : Draft). Extends old.building.draft d) (sym draft_is) (extends_again old.building.draft between.draft draft (does.does.so few).extends (flag_extends between.draft draft t value flag sets));
+        draft = subst (λ (d : Draft). Extends old.building.draft d) (sym draft_is) (extends_again old.building.draft between.draft draft (does.does.so few).extends (flag_extends between.draft draft t value flag puts.0));
         starts = starts ∙ ap (λ (n : ℕ). old.starts.items ++ n ∷ []) start_is;
         registers = λ register k at. ap (λ (l : List Kind). slice_get l register) registers ∙ in_front old.registers (kind.Bool ∷ []) register k at;
+        flags = λ register k at. one_flag old.registers register k (ap (λ (l : List Kind). slice_get l register) (sym registers) ∙ at);
         longer = one_more (length old.registers) (length new.registers) (ap (λ (l : List Kind). length l) registers ∙ length-append old.registers (kind.Bool ∷ []));
         variables = variables;
         clear = subst (λ (v : Values). IsClear v) (sym values_are) (clear_still scene around old.building.values between.values changes rest.clear);
+        laid = laid_later old.building new.building lays rest.laid rest.counts;
+        counts = lays.none rest.counts;
       }
 
       is_flag : (final : Made) → Grows new final → IsFlagOf final flag
@@ -101,9 +144,10 @@ module _ (scene : Scene) (paths : Paths) (old new : Made) (between : Building) (
       test_made = record {
         grows = block_grows old new adds;
         rest = block_rests old new adds rest;
+        touches = touches;
         made = λ final more. record {
           around = around;
-          round = record { paths = paths.count; levels = subst (λ ls. ArePathsOf rounds ls paths.count) (sym levels) inside; guards = guards };
+          round = record { paths = paths.count; levels = subst (λ ls. ArePathsOf rounds ls paths.count) (sym levels) inside.inside; guards = guards; small = many };
           before = old.building;
           between = between;
           after = new.building;
@@ -113,14 +157,22 @@ module _ (scene : Scene) (paths : Paths) (old new : Made) (between : Building) (
           tests = tests;
           value = value;
           does = does;
+          stands_in = stands_in;
+          made = made;
+          laid = λ short. rest.laid final.building.draft.faults (λ i f at. more.draft.faults i f (adds.draft.faults i f at)) short;
+          counts = rest.counts;
+          bare = bare_from old.building.accesses n (term_accesses t) bare;
+          accesses = accesses_are;
+          values = values_are;
           first = first;
-          sets = subst (λ (d : Draft). SetsFlag between.draft d t value flag) (sym draft_is) sets;
+          sets = subst (λ (d : Draft). SetsFlag between.draft d t value flag) (sym draft_is) puts.0;
+          adds = subst (λ (d : Draft). AddsFlag (is_read_term t) between.draft d value flag) (sym draft_is) puts.1;
           is_flag = is_flag final more;
         };
       }
 
     pub test_makes : MakesTestIn scene paths old new n t flag block
-    test_makes rounds inside rest few = test_made rounds inside rest few
+    test_makes rounds inside rest few bare = test_made rounds inside rest few bare
 
   -- by the list of the values
   pub tests_make : (draft_is : SetsFirst between.draft draft t tests flag) → new.building.draft ≡ draft → new.building.accesses ≡ between.accesses → new.building.values ≡ between.values
@@ -129,5 +181,5 @@ module _ (scene : Scene) (paths : Paths) (old new : Made) (between : Building) (
   tests_make sets draft_is accesses_are values_are starts registers flag_is number_is start_is = by tests refl sets
     where
       by : (ts : List ℕ) → tests ≡ ts → SetsFirst between.draft draft t ts flag → MakesTestIn scene paths old new n t flag block
-      by [] e s = λ rounds inside rest few. absurd (never_none rounds inside (ap (λ (l : List ℕ). slice_get l 0) e))
+      by [] e s = λ rounds inside rest few bare. absurd (never_none rounds inside (ap (λ (l : List ℕ). slice_get l 0) e))
       by (value ∷ ts) e s = test_makes value (ap (λ (l : List ℕ). slice_get l 0) e) s draft_is accesses_are values_are starts registers flag_is number_is start_is

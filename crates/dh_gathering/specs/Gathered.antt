@@ -24,25 +24,20 @@ use Rattle.dh_expressions.specs.declared.scenes.Around as scenes
 use Rattle.dh_expressions.specs.declared.scenes.Scene.{Scene}
 use Rattle.dh_commands.specs.declared.buildings.Building.{Building}
 use Rattle.dh_commands.specs.Done.{DoesCommand}
+use Rattle.dh_commands.specs.MadeCommands.{MadeCommand}
+use Rattle.dh_laid.specs.LaidNumbers.{StoresReach}
 use Rattle.dh_expressions.specs.Evaluated.{known_in}
 use Rattle.dh_gathering.specs.declared.blocks.Made.{Made}
 use Rattle.dh_gathering.specs.declared.joining.Located.{Located}
 use Rattle.dh_gathering.specs.declared.joining.Loose.{Loose}
 use Rattle.dh_gathering.specs.declared.joining.Loose.TheVariants as loose
-use Rattle.dh_gathering.specs.KeptPhases.{AreBeside, AreOf, Kept, another, at_once, done_at_once}
+use Rattle.dh_gathering.specs.KeptPhases.{AreBeside, AreOf, KeepNoOther, Kept, another, at_once, commands_kept, done_at_once}
 use Rattle.dh_gathering.specs.Growing.{Grows, IsAtRest}
-use Rattle.dh_gathering.specs.PlacedPhases.{AreInner, ArePlaced}
-use Rattle.dh_gathering.specs.MadeBlocks.{ArePathsOf, IsFlagOf, MadeStraight, MadeTest, SetsFlag, made_tie}
+use Rattle.dh_gathering.specs.OpenAccesses.{AreOpen, AreUntouched, Numbered, TouchesWithin, numbered}
+use Rattle.dh_gathering.specs.PlacedPhases.{AreInner, ArePlaced, loops_round}
+use Rattle.dh_gathering.specs.MadeBlocks.{AreInside, IsFlagOf, IsTold, MadeStraight, MadeTest, PutsFlag, made_tie}
 
 -- Lists of phases.
-
--- a command, and the number of its first access
-pub record Numbered : Type 0 where
-  pub command : Action
-  pub first : ℕ
-
-abbrev pub numbered : Action → (first : ℕ) → Numbered
-numbered a first = record { command = a; first = first }
 
 abbrev pub all_numbered : List Located → List Numbered
 all_numbered cs = map (λ c. numbered (action_seen c.command.now) c.first) cs
@@ -78,13 +73,22 @@ pub record Gathers (scene : Scene) (rounds : List Round) (old new : Made) (forms
   pub rest : IsAtRest new
   pub means : AreKept scene new rounds forms qs
 
--- inside loops that have these paths, between two blocks
-abbrev pub GathersIn : Scene → Paths → (old new : Made) → (forms : List (Kept Numbered Node)) → List source.Phase → Type 0
-GathersIn scene paths old new forms qs = (rounds : List Round) → ArePathsOf rounds paths.levels.items paths.count → AreInner (program_seen scene.program.now) qs → IsAtRest old → Gathers scene rounds old new forms qs
+-- What it made of accesses of these numbers: no other access has got operations, and commands that are kept have none;
+-- nothing was made where no other phase is kept.
+pub record Opens (old new : Made) (first last : ℕ) (forms : List (Kept Numbered Node)) (commands : List Numbered) : Type 0 where
+  pub touches : TouchesWithin old.building.accesses new.building.accesses first last
+  pub bare : AreOpen new.building.accesses first last commands
+  pub still : KeepNoOther forms → new ≡ old
+
+-- inside loops that have these paths, between two blocks, where accesses of these numbers have no operations
+abbrev pub GathersIn : Scene → Paths → (old new : Made) → (forms : List (Kept Numbered Node)) → (first last : ℕ) → List source.Phase → Type 0
+GathersIn scene paths old new forms first last qs =
+    (rounds : List Round) → AreInside scene rounds paths → AreInner (known_in scene) (program_seen scene.program.now) (loops_round rounds) qs → IsAtRest old → AreUntouched old.building.accesses first last
+    → Gathers scene rounds old new forms qs × Opens old new first last forms (commands_kept forms)
 
 -- the phases of what makes so many accesses, from a first one on, wherever it stands
 abbrev pub GathersOf : Scene → Paths → (old new : Made) → (forms : List (Kept Numbered Node)) → (first count : ℕ) → ((r : Around) → (n : ℕ) → List source.Phase) → Type 0
-GathersOf scene paths old new forms first count qs = (r : Around) → first + count < 2 ^ 32 → GathersIn scene paths old new forms (qs r first)
+GathersOf scene paths old new forms first count qs = (r : Around) → first + count < 2 ^ 32 → GathersIn scene paths old new forms first (first + count) (qs r first)
 
 abbrev pub GathersCommand : Scene → Paths → (old new : Made) → (forms : List (Kept Numbered Node)) → (first : ℕ) → Action → Type 0
 GathersCommand scene paths old new forms first a = GathersOf scene paths old new forms first (accesses_of a) (λ r n. phases r n a)
@@ -95,20 +99,22 @@ GathersGroups scene paths old new forms first parts = GathersOf scene paths old 
 -- Blocks and nodes from it.
 
 -- commands beside each other have a block
-pub record MakesStraight (scene : Scene) (rounds : List Round) (old new : Made) (items : List Numbered) (block : ℕ) : Type 0 where
+pub record MakesStraight (scene : Scene) (rounds : List Round) (old new : Made) (first last : ℕ) (items : List Numbered) (block : ℕ) : Type 0 where
   pub grows : Grows old new
   pub rest : IsAtRest new
+  pub touches : TouchesWithin old.building.accesses new.building.accesses first last
   pub made : (ls : List source.Located) → AreBeside IsLocated items ls → (final : Made) → Grows new final → MadeStraight scene final rounds ls block
 
 abbrev pub MakesStraightIn : Scene → Paths → (old new : Made) → List Numbered → (block : ℕ) → Type 0
 MakesStraightIn scene paths old new items block =
-    (rounds : List Round) → ArePathsOf rounds paths.levels.items paths.count → IsAtRest old → AllByRecursion (λ c. c.first + accesses_of c.command < 2 ^ 32) items → MakesStraight scene rounds old new items block
+    (rounds : List Round) (first last : ℕ) → AreInside scene rounds paths → IsAtRest old → AllByRecursion (λ c. c.first + accesses_of c.command < 2 ^ 32) items → AllByRecursion (λ c. StoresReach c.command) items
+    → AreOpen old.building.accesses first last items → MakesStraight scene rounds old new first last items block
 
 -- commands with their numbers, at all paths
 abbrev pub DoesNumbered : Scene → scenes.Around → List Numbered → (old new : Building) → Type 0
 DoesNumbered scene around [] old new = new ≡ old
 DoesNumbered scene around (c ∷ cs) old new =
-    (mid : Building) × ((next : ℕ) × (DoesCommand scene around c.command c.first next old mid × DoesNumbered scene around cs mid new))
+    (mid : Building) × ((next : ℕ) × ((DoesCommand scene around c.command c.first next old mid × MadeCommand scene c.command around old mid c.first next) × DoesNumbered scene around cs mid new))
 
 -- a block that began there ends
 pub record EndsBlock (old new : Made) (start block : ℕ) : Type 0 where
@@ -120,37 +126,42 @@ pub record EndsBlock (old new : Made) (start block : ℕ) : Type 0 where
 -- a flag is set to the first of these values, where there is one
 abbrev pub SetsFirst : (old new : Draft) → tree.Term → (tests : List ℕ) → (flag : ℕ) → Type 0
 SetsFirst old new t [] flag = new ≡ old
-SetsFirst old new t (value ∷ tests) flag = SetsFlag old new t value flag
+SetsFirst old new t (value ∷ tests) flag = PutsFlag old new t value flag
 
 -- so has a test, with its flag
 pub record MakesTest (scene : Scene) (rounds : List Round) (old new : Made) (n : ℕ) (t : tree.Term) (flag block : ℕ) : Type 0 where
   pub grows : Grows old new
   pub rest : IsAtRest new
+  pub touches : TouchesWithin old.building.accesses new.building.accesses n (n + term_accesses t)
   pub made : (final : Made) → Grows new final → MadeTest scene final rounds n t flag block
 
 abbrev pub MakesTestIn : Scene → Paths → (old new : Made) → (n : ℕ) → tree.Term → (flag block : ℕ) → Type 0
 MakesTestIn scene paths old new n t flag block =
-    (rounds : List Round) → ArePathsOf rounds paths.levels.items paths.count → IsAtRest old → n + term_accesses t < 2 ^ 32 → MakesTest scene rounds old new n t flag block
+    (rounds : List Round) → AreInside scene rounds paths → IsAtRest old → n + term_accesses t < 2 ^ 32 → AreUntouched old.building.accesses n (n + term_accesses t) → MakesTest scene rounds old new n t flag block
 
 -- one phase that was kept is a node
-pub record MakesNode (scene : Scene) (rounds : List Round) (old new : Made) (node : Node) (q : source.Phase) : Type 0 where
+pub record MakesNode (scene : Scene) (rounds : List Round) (old new : Made) (first last : ℕ) (node : Node) (q : source.Phase) : Type 0 where
   pub grows : Grows old new
   pub rest : IsAtRest new
+  pub touches : TouchesWithin old.building.accesses new.building.accesses first last
   pub made : IsMadeAs scene new rounds node q
 
 abbrev pub MakesNodeIn : Scene → Paths → (old new : Made) → Kept Numbered Node → (node : Node) → Type 0
 MakesNodeIn scene paths old new kept node =
-    (rounds : List Round) (q : source.Phase) → ArePathsOf rounds paths.levels.items paths.count → ArePlaced (program_seen scene.program.now) (q ∷ []) → IsAtRest old → AreKept scene old rounds (kept ∷ []) (q ∷ []) → MakesNode scene rounds old new node q
+    (rounds : List Round) (q : source.Phase) (first last : ℕ) → AreInside scene rounds paths → ArePlaced (known_in scene) (program_seen scene.program.now) (loops_round rounds) (q ∷ []) → IsAtRest old
+    → AreKept scene old rounds (kept ∷ []) (q ∷ []) → AreOpen old.building.accesses first last (commands_kept (kept ∷ [])) → MakesNode scene rounds old new first last node q
 
 -- and so are all, in order
-pub record MakesNodes (scene : Scene) (rounds : List Round) (old new : Made) (nodes : Nodes) (qs : List source.Phase) : Type 0 where
+pub record MakesNodes (scene : Scene) (rounds : List Round) (old new : Made) (first last : ℕ) (nodes : Nodes) (qs : List source.Phase) : Type 0 where
   pub grows : Grows old new
   pub rest : IsAtRest new
+  pub touches : TouchesWithin old.building.accesses new.building.accesses first last
   pub made : AreMadeAs scene new rounds nodes qs
 
 abbrev pub MakesNodesIn : Scene → Paths → (old new : Made) → List (Kept Numbered Node) → (nodes : Nodes) → Type 0
 MakesNodesIn scene paths old new forms nodes =
-    (rounds : List Round) (qs : List source.Phase) → ArePathsOf rounds paths.levels.items paths.count → ArePlaced (program_seen scene.program.now) qs → IsAtRest old → AreKept scene old rounds forms qs → MakesNodes scene rounds old new nodes qs
+    (rounds : List Round) (qs : List source.Phase) (first last : ℕ) → AreInside scene rounds paths → ArePlaced (known_in scene) (program_seen scene.program.now) (loops_round rounds) qs → IsAtRest old
+    → AreKept scene old rounds forms qs → AreOpen old.building.accesses first last (commands_kept forms) → MakesNodes scene rounds old new first last nodes qs
 
 -- Phases over other phases, from these.
 
@@ -203,7 +214,8 @@ pub record HasNodes (m : Made) (nodes : Nodes) : Type 0 where
   pub blocks : AllByRecursion (λ block. block < length m.starts.items) (blocks_of nodes)
   pub flags : AllByRecursion (IsFlagOf m) (flags_of nodes)
 
--- The nodes of the program's body, outside all loops: one for each of its phases.
+-- The nodes of the program's body, outside all loops: one for each of its phases. Its accesses have no operations before.
 abbrev pub MakesBody : Scene → Paths → (old new : Made) → Action → (nodes : Nodes) → Type 0
 MakesBody scene paths old new body nodes =
-    paths.levels.items ≡ [] → paths.count ≡ 1 → accesses_of body < 2 ^ 32 → body ≡ (program_seen scene.program.now).body → IsAtRest old → MakesNodes scene [] old new nodes (phases nothing_around 0 body) × HasNodes new nodes
+    IsTold scene → paths.levels.items ≡ [] → paths.count ≡ 1 → accesses_of body < 2 ^ 32 → body ≡ (program_seen scene.program.now).body → IsAtRest old → AreUntouched old.building.accesses 0 (accesses_of body)
+    → MakesNodes scene [] old new 0 (accesses_of body) nodes (phases nothing_around 0 body) × HasNodes new nodes

@@ -46,6 +46,18 @@ at_once (done_at_once cs ∷ []) = true
 at_once (another form ∷ []) = false
 at_once (p ∷ q ∷ rest) = false
 
+-- the commands that are kept, in order
+abbrev pub commands_kept : {A F : Type 0} → List (Kept A F) → List A
+commands_kept [] = []
+commands_kept (done_at_once cs ∷ ks) = cs ++ commands_kept ks
+commands_kept (another form ∷ ks) = commands_kept ks
+
+-- no other phase is kept
+abbrev pub KeepNoOther : {A F : Type 0} → List (Kept A F) → Type 0
+KeepNoOther [] = Unit {0}
+KeepNoOther (done_at_once cs ∷ ks) = KeepNoOther ks
+KeepNoOther (another form ∷ ks) = ⊥
+
 -- lists of one length, each item beside that of its place
 abbrev pub AreBeside : {A B : Type 0} → (A → B → Type 0) → List A → List B → Type 0
 AreBeside P [] [] = Unit {0}

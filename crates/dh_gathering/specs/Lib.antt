@@ -1,9 +1,12 @@
 pub mod KeptPhases
 pub mod Growing
 pub mod PushedSets
+pub mod PhasesInLoops
 pub mod PlacedPhases
+pub mod OpenAccesses
 pub mod MadeBlocks
 pub mod Gathered
+pub mod NamedOnce
 pub mod Cutting
 pub mod Registers
 pub mod LoopCounters

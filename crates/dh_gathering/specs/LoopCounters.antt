@@ -36,6 +36,8 @@ pub record IsCounting (scene : Scene) (p : Placing) (loop : Turning) : Type 0 wh
   pub counter : Counter
   pub counted : counter_of scene loop.iterator ≡ Some counter
   pub turns : loop.count ≡ turn_count counter.low counter.high counter.factor
+  pub low : loop.low ≡ counter.low
+  pub factor : loop.factor ≡ counter.factor
   pub copies : 1 ≤ copies_in (p.factors loop.iterator)
 
 -- loops round a place are so, and each has the counter of its iterator

@@ -1,6 +1,6 @@
 -- The blocks of a plan as they stand in its one list of operations: which commands each is made of, inside which
 -- loops, and where it begins and ends. This ties nodes to phases.
-use Rattle.std.specs.Prelude.{◌≡◌, ℕ, suc, ◌+◌, ◌*◌, ◌-◌, ◌<◌, ◌≤◌, ◌^◌, nat_le, if◌then◌else◌, min, List, [], ◌∷◌, ◌++◌, length, replicate, slice_get, Option, Some, None}
+use Rattle.std.specs.Prelude.{◌≡◌, ℕ, suc, ◌+◌, ◌*◌, ◌-◌, ◌<◌, ◌≤◌, ◌^◌, nat_le, Bool as Truth, true, false, if◌then◌else◌, min, List, [], ◌∷◌, ◌++◌, length, replicate, slice_get, Option, Some, None}
 use Rattle.std.specs.List.{AllByRecursion}
 use Rattle.dh_value.specs.declared.kinds.Kind.TheVariants as kind
 use Rattle.dh_value.specs.declared.operators.Op.TheVariants.{Both}
@@ -9,28 +9,38 @@ use Rattle.dh_value.specs.Operations.{binary_of}
 use Rattle.dh_tree.specs.PlainTrees as plain
 use Rattle.dh_meaning.specs.AccessNumbers.{accesses_of, term_accesses}
 use Rattle.dh_meaning.specs.Core.{CoreCommands, CoreTerm, Turning}
-use Rattle.dh_meaning.specs.CoreOf.{core_commands, core_test, entity_number, form_of, test_of}
+use Rattle.dh_meaning.specs.CoreOf.{core_commands, core_test, form_of, test_of}
 use Rattle.dh_meaning.specs.Phases.{Located, phases_of}
 use Rattle.dh_tree.specs.Seen.{program_seen}
-use Rattle.dh_sound.specs.PhaseFacts.{HasStraight, HasTest}
 use Rattle.dh_code.specs.Slots.{held_at}
-use Rattle.dh_plan.specs.declared.operations.OperationForm.TheVariants.{Set}
+use Rattle.dh_plan.specs.declared.operations.OperationForm.TheVariants.{Compute, Set}
 use Rattle.dh_plan.specs.Correspondence.{Round}
 use Rattle.dh_plan.specs.PlanPhases.{Tie}
 use Rattle.dh_expressions.specs.declared.drafts.Draft.{Draft}
 use Rattle.dh_expressions.specs.declared.paths.Level.{Level}
 use Rattle.dh_expressions.specs.declared.scenes.Around.{Around}
 use Rattle.dh_expressions.specs.declared.scenes.Scene.{Scene}
+use Rattle.dh_expressions.specs.Copying.{AreNone, HasScopes}
 use Rattle.dh_expressions.specs.Drafted.{Extends, Gives, Pushes, shown}
 use Rattle.dh_expressions.specs.Evaluated.{known_in}
+use Rattle.dh_expressions.specs.declared.paths.Paths.{Paths}
 use Rattle.dh_expressions.specs.Levels.{levels_inside}
 use Rattle.dh_expressions.specs.Shown.{is_read_term}
 use Rattle.dh_commands.specs.declared.buildings.Building.{Building}
 use Rattle.dh_commands.specs.Done.{DoesCommand}
+use Rattle.dh_commands.specs.LanesRun.{paths_counted}
+use Rattle.dh_commands.specs.MadeCommands.{MadeTests}
 use Rattle.dh_commands.specs.Setting.{TestsAll}
 use Rattle.dh_commands.specs.Undone.{given_at}
+use Rattle.dh_laid.specs.BareCommands.{AreRising, IsBare, IsBareFrom}
+use Rattle.dh_laid.specs.BlockSites.{MadeEach}
+use Rattle.dh_laid.specs.LaidAccesses.{AreLaid}
+use Rattle.dh_laid.specs.LaidNumbers.{StoresReach}
+use Rattle.dh_laid.specs.LaidQuiet.{StandsIn}
 use Rattle.dh_gathering.specs.declared.blocks.Made.{Made}
 use Rattle.dh_gathering.specs.Growing.{IsClear, place_in, registers_given}
+use Rattle.dh_gathering.specs.PhasesInLoops.{StraightOf, TestOf}
+use Rattle.dh_gathering.specs.PlacedPhases.{loops_round}
 use Rattle.dh_gathering.specs.PushedSets.{SetsLogged, settings}
 
 -- Paths.
@@ -43,18 +53,30 @@ count_inside count factor = if nat_le factor 1 then count else min (count * fact
 abbrev pub AreWithin : List Level → (count : ℕ) → List Round → List Level → ℕ → Type 0
 AreWithin levels count [] inner paths = (inner ≡ levels) × (paths ≡ count)
 AreWithin levels count (r ∷ rs) inner paths =
-    (entity : Option ℕ) × ((entity_number entity ≡ r.loop.iterator) × AreWithin (levels_inside levels entity r.loop.factor) (count_inside count r.loop.factor) rs inner paths)
+    (entity : Option ℕ) × ((entity ≡ Some r.loop.iterator) × AreWithin (levels_inside levels entity r.loop.factor) (count_inside count r.loop.factor) rs inner paths)
 
 -- those of these loops, of which there is at least one path
 pub record ArePathsOf (rounds : List Round) (levels : List Level) (paths : ℕ) : Type 0 where
   pub within : AreWithin [] 1 rounds levels paths
   pub some : 0 < paths
 
+-- what is told of a scene whose program is made: loops are known by their scopes, and all stores are into accesses
+pub record IsTold (scene : Scene) : Type 0 where
+  pub scopes : HasScopes scene
+  pub stores : (loops : List Turning) (cs : List Located) → StraightOf (known_in scene) [] (phases_of (program_seen scene.program.now)) loops cs → AllByRecursion (λ c. StoresReach c.command) cs
+
+-- these loops have these paths, in a program of which that is told
+pub record AreInside (scene : Scene) (rounds : List Round) (paths : Paths) : Type 0 where
+  pub told : IsTold scene
+  pub inside : ArePathsOf rounds paths.levels.items paths.count
+
 -- what stands round a block: these loops, and no arm
 pub record IsRoundBlock (rounds : List Round) (around : Around) : Type 0 where
   pub paths : ℕ
   pub levels : ArePathsOf rounds around.levels.now paths
   pub guards : around.guards.now ≡ replicate paths None
+  -- their number was not cut
+  pub small : paths < 2 ^ 63
 
 -- Blocks.
 
@@ -101,6 +123,15 @@ pub record MadeStraight (scene : Scene) (final : Made) (rounds : List Round) (ls
   pub stands : StandsAt final block before after
   pub few : AllByRecursion AreFew ls
   pub does : DoesCommands scene around ls before between
+  -- exactly what was put down
+  pub stands_in : StandsIn scene around
+  pub made : MadeEach scene around ls before between
+  -- As it begins all accesses with operations are laid, where faults are few, and none is counted; its own have no
+  -- operations, and stand one behind the other.
+  pub laid : length final.building.draft.faults ≤ 2 ^ 32 → AreLaid final.building.draft.faults before.accesses
+  pub counts : AreNone before.accesses.counts.items
+  pub rising : AreRising 0 ls
+  pub bare : AllByRecursion (IsBare before.accesses) ls
   -- from the log of what was given, and so of all that was given
   pub logged : SetsLogged between after
   pub sets : SetsGiven between after
@@ -116,6 +147,15 @@ pub record SetsFlag (old new : Draft) (t : plain.Term) (value flag : ℕ) : Type
   pub number : ℕ
   pub gives : Gives old mid made (λ x. flag_shown t (shown x value))
   pub set : Pushes mid new number None (Set flag made)
+
+-- The operations of a flag: of a read, whose value need be no word, both of it and itself.
+abbrev pub AddsFlag : (is_read : Truth) → (old new : Draft) → (value flag : ℕ) → Type 0
+AddsFlag true old new value flag = (mid : Draft) × ((made : ℕ) × ((number : ℕ) × (Pushes old mid made None (Compute Both value value) × Pushes mid new number None (Set flag made))))
+AddsFlag false old new value flag = (number : ℕ) × Pushes old new number None (Set flag value)
+
+-- so is a flag put down
+abbrev pub PutsFlag : (old new : Draft) → plain.Term → (value flag : ℕ) → Type 0
+PutsFlag old new t value flag = SetsFlag old new t value flag × AddsFlag (is_read_term t) old new value flag
 
 -- a flag is a truth, and the register of no variable
 pub record IsFlagOf (final : Made) (flag : ℕ) : Type 0 where
@@ -135,8 +175,17 @@ pub record MadeTest (scene : Scene) (final : Made) (rounds : List Round) (n : �
   pub tests : List ℕ
   pub value : ℕ
   pub does : TestsAll scene around before between n next t tests
+  pub stands_in : StandsIn scene around
+  pub made : MadeTests scene around n t (paths_counted around) before between next tests
+  pub laid : length final.building.draft.faults ≤ 2 ^ 32 → AreLaid final.building.draft.faults before.accesses
+  pub counts : AreNone before.accesses.counts.items
+  pub bare : IsBareFrom before.accesses n (term_accesses t)
+  -- its flag is set, and nothing else is changed behind
+  pub accesses : after.accesses ≡ between.accesses
+  pub values : after.values ≡ between.values
   pub first : slice_get tests 0 ≡ Some value
   pub sets : SetsFlag between.draft after.draft t value flag
+  pub adds : AddsFlag (is_read_term t) between.draft after.draft value flag
   pub is_flag : IsFlagOf final flag
 
 -- The tie.
@@ -145,7 +194,7 @@ pub record MadeTest (scene : Scene) (final : Made) (rounds : List Round) (n : �
 pub record IsStraightBlock (scene : Scene) (final : Made) (rounds : List Round) (cs : CoreCommands) (block : ℕ) : Type 0 where
   pub located : List Located
   pub are : cs ≡ core_commands (known_in scene) located
-  pub placed : HasStraight (phases_of (program_seen scene.program.now)) located
+  pub placed : StraightOf (known_in scene) [] (phases_of (program_seen scene.program.now)) (loops_round rounds) located
   pub made : MadeStraight scene final rounds located block
 
 -- and the test of one of its commands
@@ -153,7 +202,7 @@ pub record IsTestBlock (scene : Scene) (final : Made) (rounds : List Round) (tes
   pub tested : Located
   pub term : plain.Term
   pub is : test ≡ core_test (known_in scene) tested
-  pub placed : HasTest (phases_of (program_seen scene.program.now)) tested
+  pub placed : TestOf (known_in scene) [] (phases_of (program_seen scene.program.now)) (loops_round rounds) tested
   -- the test that the command has
   pub term_is : test_of (form_of tested.command) ≡ Some term
   pub made : MadeTest scene final rounds tested.first term flag block

@@ -3,7 +3,8 @@
 
 ghost use Rattle.std.specs.Prelude.{◌≡◌, ◌≤◌, ◌++◌, ◌∷◌, [], None, IfOk, OnOk, replicate};
 ghost use Rattle.dh_tree.specs.Seen.{term_seen};
-ghost use Rattle.dh_gathering.specs.MadeBlocks.{SetsFlag};
+ghost use Rattle.dh_gathering.specs.MadeBlocks.{PutsFlag};
+ghost use Rattle.dh_gathering.specs.NamedOnce.{NamesOnce};
 ghost use Rattle.dh_gathering.specs.PushedSets.{SetsLogged, SetsRegister};
 ghost use Rattle.dh_gathering.specs.Gathered.{DoesNumbered, EndsBlock, MakesStraightIn, MakesTestIn, SetsFirst, all_numbered};
 
@@ -97,8 +98,9 @@ pub fn straight_block(
     paths: &Paths,
     commands: &[Located<'_>],
 ) -> Result<u64, NoMemory>
-    ensures { IfOk result (λ block. MakesStraightIn scene.now paths.now made.old made.new
+    ensures made { IfOk result (λ block. MakesStraightIn scene.now paths.now made.old made.new
         (all_numbered commands.now) block) }
+    ensures once { IfOk result (λ block. NamesOnce made.old made.new [] (block ∷ [])) }
 {
     let start = made.building.draft.operations.len();
     let guards = no_guards(scene.alloc, paths.count)?;
@@ -122,7 +124,7 @@ pub struct Tested {
 
 /// Sets a flag to the value of a test. What memories hold need be no word: the flag is 1 where it is true, else 0.
 fn push_flag(draft: &mut Draft, test: &Expr, value: u64, flag: u64) -> Result<(), NoMemory>
-    ensures { OnOk result (SetsFlag draft.old draft.new (term_seen test.now) value flag) }
+    ensures { OnOk result (PutsFlag draft.old draft.new (term_seen test.now) value flag) }
 {
     let value = if is_read(test) {
         push_compute(draft, Op::Both, value, value)?
@@ -151,8 +153,9 @@ pub fn test_block(
     first: u32,
     test: &Expr,
 ) -> Result<Tested, NoMemory>
-    ensures { IfOk result (λ t. MakesTestIn scene.now paths.now made.old made.new first (term_seen
-        test.now) t.flag t.block) }
+    ensures made { IfOk result (λ t. MakesTestIn scene.now paths.now made.old made.new first
+        (term_seen test.now) t.flag t.block) }
+    ensures once { IfOk result (λ t. NamesOnce made.old made.new [] (t.block ∷ [])) }
 {
     let start = made.building.draft.operations.len();
     let guards = no_guards(scene.alloc, paths.count)?;

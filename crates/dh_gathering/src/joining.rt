@@ -3,7 +3,8 @@
 ghost use Rattle.std.specs.Prelude.{◌≡◌, ◌++◌, ◌∷◌, [], IfOk};
 ghost use Rattle.dh_tree.specs.Seen.{action_seen};
 ghost use Rattle.dh_gathering.specs.KeptPhases.{at_once, done_at_once, ended_at, folded_with, joined_at, joined_with};
-ghost use Rattle.dh_gathering.specs.Gathered.{all_kept, all_numbered, kept_of, numbered};
+ghost use Rattle.dh_gathering.specs.Gathered.{all_kept, all_numbered, kept_of};
+ghost use Rattle.dh_gathering.specs.OpenAccesses.{numbered};
 
 use dh_base::NoMemory;
 use dh_plan::Node;

@@ -1,6 +1,6 @@
 //! The nodes of a program whole: its registers, its operations and nodes, and the blocks cut out of them.
 
-ghost use Rattle.std.specs.Prelude.{IfOk};
+ghost use Rattle.std.specs.Prelude.{IfOk, length};
 ghost use Rattle.dh_tree.specs.Seen.{action_seen};
 ghost use Rattle.dh_gathering.specs.ProgramMade.{Begins, MakesPhased};
 
@@ -29,7 +29,7 @@ pub struct Phased {
 
 /// Nothing is made yet of a program with these registers.
 fn nothing_made(scene: &Scene<'_>, registers: Items<Kind>) -> Result<Made, NoMemory>
-    ensures { IfOk result (λ made. Begins registers made) }
+    ensures { IfOk result (λ made. Begins registers (length scene.now.shares.now) made) }
 {
     let accesses = untouched(scene)?;
     let values = no_values(scene.alloc, registers.len())?;

@@ -56,7 +56,7 @@ numbers_as old new first c d next same h = subst (λ (n : ℕ). Numbers old new 
 numbers_none : (old new : Building) (first next : ℕ) → new.accesses ≡ old.accesses → next ≡ first → Numbers old new first 0 next
 numbers_none old new first next same is = record { next_is = is ∙ omega arith; only = λ number out. accesses_same old new number same }
 
-numbers_then : (a b d : Building) (first own next c e : ℕ) → Numbers a b first c own → Numbers b d own e next → Numbers a d first (c + e) next
+pub numbers_then : (a b d : Building) (first own next c e : ℕ) → Numbers a b first c own → Numbers b d own e next → Numbers a d first (c + e) next
 numbers_then a b d first own next c e h k =
     let i = h.next_is in let j = k.next_is in
     record {
@@ -168,7 +168,7 @@ aims_within (plain.term place k (plain.converted inner to)) is = absurd is
 
 -- Parts.
 
-arm_number : (Inner : Commanding) (around : Around) (holds : Truth) (tests : List ℕ) (old new : Building) (first next : ℕ) (lefts : List Left) (m : MadeArm Inner around holds tests old new first next lefts) (count : ℕ)
+pub arm_number : (Inner : Commanding) (around : Around) (holds : Truth) (tests : List ℕ) (old new : Building) (first next : ℕ) (lefts : List Left) (m : MadeArm Inner around holds tests old new first next lefts) (count : ℕ)
     → Numbers m.begin m.inside first count next → Numbers old new first count next
 arm_number Inner around holds tests old new first next lefts m count h = record {
   next_is = h.next_is;
@@ -266,7 +266,7 @@ module _ (scene : Scene) where
     command_reached (action id place (counts iterator declared low high factor body combine combine_place)) around old new first next m is some few =
         (tt, numbers_idle old new first (0 + (accesses_of body + other_accesses combine)) next m.still m.next_is few)
 
-    other_reached : (other : MaybeAction) (around : Around) (tests : List ℕ) (old new : Building) (first next : ℕ) (lefts : List Left) (m : MadeOther scene other around tests old new first next lefts) → StoresReachOther other
+    pub other_reached : (other : MaybeAction) (around : Around) (tests : List ℕ) (old new : Building) (first next : ℕ) (lefts : List Left) (m : MadeOther scene other around tests old new first next lefts) → StoresReachOther other
         → 0 < length tests → first + other_accesses other < 2 ^ 32 → AreFewOther scene other around tests old new first next lefts m × Numbers old new first (other_accesses other) next
     other_reached no_action around tests old new first next lefts m is some few = (tt, numbers_none old new first next (ap (λ (b : Building). b.accesses) m.still) m.next_is)
     other_reached (one_action a) around tests old new first next lefts m is some few =

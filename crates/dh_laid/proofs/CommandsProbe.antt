@@ -56,7 +56,7 @@ use Rattle.dh_laid.specs.LaidQuiet.{StandsIn}
 use Rattle.dh_laid.proofs.CommandsNumbered.{actions_numbered, command_numbered, some_arm, tests_number}
 use Rattle.dh_laid.proofs.ValuesLogged.{arm_long, tests_same}
 
-append_probes : (access : ℕ) (xs ys : List Operation) → probes_among access (xs ++ ys) ≡ probes_among access xs + probes_among access ys
+pub append_probes : (access : ℕ) (xs ys : List Operation) → probes_among access (xs ++ ys) ≡ probes_among access xs + probes_among access ys
 append_probes access [] ys = omega arith
 append_probes access (o ∷ xs) ys = sum (counts_probe access o.form) (probes_among access (xs ++ ys)) (probes_among access xs) (probes_among access ys) (append_probes access xs ys)
   where
@@ -70,11 +70,11 @@ AddsNone old new = AddsProbes old new nothing
 none_same : (old new : Draft) → new.operations.items ≡ old.operations.items → AddsNone old new
 none_same old new same = record { more = []; adds = same ∙ sym (append-nil old.operations.items); probes_are = λ access. refl }
 
-none_none : (old new : Draft) → new ≡ old → AddsNone old new
+pub none_none : (old new : Draft) → new ≡ old → AddsNone old new
 none_none old new same = none_same old new (ap (λ (d : Draft). d.operations.items) same)
 
 -- one behind the other, where this is their sum
-probes_again : (a b c : Draft) (f g h : ℕ → ℕ) → ((access : ℕ) → f access + g access ≡ h access) → AddsProbes a b f → AddsProbes b c g → AddsProbes a c h
+pub probes_again : (a b c : Draft) (f g h : ℕ → ℕ) → ((access : ℕ) → f access + g access ≡ h access) → AddsProbes a b f → AddsProbes b c g → AddsProbes a c h
 probes_again a b c f g h sum one two = record {
   more = one.more ++ two.more;
   adds = two.adds ∙ (ap (λ (os : List Operation). os ++ two.more) one.adds ∙ append_assoc a.operations.items one.more two.more);
@@ -94,10 +94,10 @@ nothing_plus : (f : ℕ → ℕ) (access : ℕ) → nothing access + f access �
 nothing_plus f access = omega arith
 
 -- nothing behind, and nothing before
-probes_then_none : (a b c : Draft) (f : ℕ → ℕ) → AddsProbes a b f → AddsNone b c → AddsProbes a c f
+pub probes_then_none : (a b c : Draft) (f : ℕ → ℕ) → AddsProbes a b f → AddsNone b c → AddsProbes a c f
 probes_then_none a b c f h k = probes_again a b c f nothing f (plus_nothing f) h k
 
-none_then_probes : (a b c : Draft) (f : ℕ → ℕ) → AddsNone a b → AddsProbes b c f → AddsProbes a c f
+pub none_then_probes : (a b c : Draft) (f : ℕ → ℕ) → AddsNone a b → AddsProbes b c f → AddsProbes a c f
 none_then_probes a b c f h k = probes_again a b c nothing f f (nothing_plus f) h k
 
 none_pushed : (old new : Draft) (n : ℕ) (guard : Option ℕ) (form : OperationForm) → Pushes old new n guard form → ((access : ℕ) → counts_probe access form ≡ 0) → AddsNone old new
@@ -263,23 +263,23 @@ folded_probed lane current held op t value old new v m =
     (converted_probed (same_kind held.kind (extension_of op held.kind (kind_written t))) held.kind m.all m.fourth new v m.own))))
 
 module _ (scene : Scene) (lane : Lane) (stands : StandsIn scene lane.around) where
-  assigned_probed : (first entity : ℕ) (t : Term) (old new : Building) (next : ℕ) → AreFewIn first t → MadeAssigned scene lane first entity t old new next → AddsProbes old.draft new.draft (once first (term_accesses t))
+  pub assigned_probed : (first entity : ℕ) (t : Term) (old new : Building) (next : ℕ) → AreFewIn first t → MadeAssigned scene lane first entity t old new next → AddsProbes old.draft new.draft (once first (term_accesses t))
   assigned_probed first entity t old new next few m =
       probes_then_none old.draft m.middle new.draft (once first (term_accesses t))
       (term_probed scene lane stands old.values.current.items t old.draft m.middle old.accesses new.accesses first next m.value m.term few)
       (held_probed t (held_at scene.held.now entity).kind m.value m.middle new.draft m.held m.holds)
 
-  cleared_probed : (first entity : ℕ) (old new : Building) → MadeCleared scene lane entity old new → AddsProbes old.draft new.draft (once first 0)
+  pub cleared_probed : (first entity : ℕ) (old new : Building) → MadeCleared scene lane entity old new → AddsProbes old.draft new.draft (once first 0)
   cleared_probed first entity old new m =
       no_accesses old.draft new.draft first (probes_counted old.draft new.draft 0 _ _ (number_counts any_register any_reach any_reach any_reach (held_at scene.held.now entity).kind false 0 old.draft new.draft m.value m.number))
 
-  reduced_probed : (first entity : ℕ) (op : Op) (t : Term) (old new : Building) (next : ℕ) → AreFewIn first t → MadeReduced scene lane first entity op t old new next → AddsProbes old.draft new.draft (once first (term_accesses t))
+  pub reduced_probed : (first entity : ℕ) (op : Op) (t : Term) (old new : Building) (next : ℕ) → AreFewIn first t → MadeReduced scene lane first entity op t old new next → AddsProbes old.draft new.draft (once first (term_accesses t))
   reduced_probed first entity op t old new next few m =
       probes_then_none old.draft m.middle new.draft (once first (term_accesses t))
       (term_probed scene lane stands old.values.current.items t old.draft m.middle old.accesses new.accesses first next m.value m.term few)
       (folded_probed lane old.values.current.items (held_at scene.held.now entity) op t m.value m.middle new.draft m.folded m.folds)
 
-  stored_probed : (first : ℕ) (target t : Term) (old new : Building) (next : ℕ) → IsAccessForm (form_of target) → first + (term_accesses t + term_accesses target) < 2 ^ 32 → MadeStored scene lane first target t old new next
+  pub stored_probed : (first : ℕ) (target t : Term) (old new : Building) (next : ℕ) → IsAccessForm (form_of target) → first + (term_accesses t + term_accesses target) < 2 ^ 32 → MadeStored scene lane first target t old new next
       → AddsProbes old.draft new.draft (once first (term_accesses t + term_accesses target))
   stored_probed first (plain.term place k form) t old new next is few m =
       let less : AreFewIn first t = omega (arith, few) in
@@ -291,7 +291,7 @@ module _ (scene : Scene) (lane : Lane) (stands : StandsIn scene lane.around) whe
 -- All paths.
 
 -- at so many paths
-abbrev often : (n count paths : ℕ) → ℕ → ℕ
+abbrev pub often : (n count paths : ℕ) → ℕ → ℕ
 often n count paths = ranged n count (λ access. paths)
 
 often_more : (n count k access : ℕ) → often n count k access + once n count access ≡ often n count (suc k) access
@@ -311,14 +311,14 @@ often_none n count access = by (nat_le n access && nat_lt access (n + count)) 0
 none_often : (old new : Draft) (n count : ℕ) → AddsNone old new → AddsProbes old new (often n count 0)
 none_often old new n count h = record { more = h.more; adds = h.adds; probes_are = λ access. h.probes_are access ∙ often_none n count access }
 
-lanes_probed : (One : ℕ → (b d : Building) → ℕ → Type 0) (first count : ℕ) → ((n : ℕ) (b d : Building) (k : ℕ) → One n b d k → AddsProbes b.draft d.draft (once first count))
+pub lanes_probed : (One : ℕ → (b d : Building) → ℕ → Type 0) (first count : ℕ) → ((n : ℕ) (b d : Building) (k : ℕ) → One n b d k → AddsProbes b.draft d.draft (once first count))
     → (paths : ℕ) (old new : Building) (next : ℕ) → MadeLanes One paths first old new next → AddsProbes old.draft new.draft (often first count paths)
 lanes_probed One first count each zero old new next m = none_often old.draft new.draft first count (none_none old.draft new.draft (ap (λ (b : Building). b.draft) m.0))
 lanes_probed One first count each (suc n) old new next m =
     probes_again old.draft (m.0).draft new.draft (often first count n) (once first count) (often first count (suc n)) (λ access. often_more first count n access)
     (lanes_probed One first count each n old m.0 m.1.0 m.1.1.0) (each n m.0 new next m.1.1.1)
 
-tests_probed : (scene : Scene) (around : Around) → StandsIn scene around → (first : ℕ) (t : Term) → AreFewIn first t → (paths : ℕ) (old new : Building) (next : ℕ) (tests : List ℕ) → MadeTests scene around first t paths old new next tests
+pub tests_probed : (scene : Scene) (around : Around) → StandsIn scene around → (first : ℕ) (t : Term) → AreFewIn first t → (paths : ℕ) (old new : Building) (next : ℕ) (tests : List ℕ) → MadeTests scene around first t paths old new next tests
     → AddsProbes old.draft new.draft (often first (term_accesses t) paths)
 tests_probed scene around stands first t few zero old new next tests m = none_often old.draft new.draft first (term_accesses t) (none_none old.draft new.draft (ap (λ (b : Building). b.draft) m.0))
 tests_probed scene around stands first t few (suc n) old new next tests m =
@@ -348,7 +348,7 @@ guard_probed : (guard : Option ℕ) (t : ℕ) (old new : Draft) (v : ℕ) → Ma
 guard_probed None t old new v m = none_none old new m.0
 guard_probed (Some g) t old new v m = none_pushed old new v None (Compute Both g t) m (λ access. refl)
 
-guards_probed : (holds : Truth) (guards : List (Option ℕ)) (tests : List ℕ) (count : ℕ) (old new : Draft) (arm : List (Option ℕ)) → MadeArmGuards holds guards tests count old new arm → AddsNone old new
+pub guards_probed : (holds : Truth) (guards : List (Option ℕ)) (tests : List ℕ) (count : ℕ) (old new : Draft) (arm : List (Option ℕ)) → MadeArmGuards holds guards tests count old new arm → AddsNone old new
 guards_probed holds guards tests zero old new arm m = none_none old new m.0
 guards_probed holds guards tests (suc n) old new arm m = none_again old m.0 new (guards_probed holds guards tests n old m.0 m.1.0 m.1.1.1.1.0) (one m.0 m.1.1.0 m.1.1.1.0 m.1.1.1.1.1.1.0)
   where
@@ -365,12 +365,12 @@ choice_probed (Some test) c old new before after m =
     none_again old m.first new (behind_probed before.current.items c.register c.chosen old m.first m.yes_value m.chosen)
     (none_again m.first m.second new (behind_probed before.current.items c.register c.other m.first m.second m.no_value m.other) (none_pushed m.second new m.value None (Select test m.yes_value m.no_value) m.pushes (λ access. refl)))
 
-choices_probed : (tests : List ℕ) (choices : List Choice) (count : ℕ) (old new : Draft) (before after : Values) → MadeChoices tests choices count old new before after → AddsNone old new
+pub choices_probed : (tests : List ℕ) (choices : List Choice) (count : ℕ) (old new : Draft) (before after : Values) → MadeChoices tests choices count old new before after → AddsNone old new
 choices_probed tests choices zero old new before after m = none_none old new m.0
 choices_probed tests choices (suc n) old new before after m =
     none_again old m.0 new (choices_probed tests choices n old m.0 before m.1.0 m.1.1.1.0) (choice_probed (slice_get tests (m.1.1.0).path) m.1.1.0 m.0 new m.1.0 after m.1.1.1.1.1)
 
-stands_arm : (scene : Scene) (Inner : Commanding) (around : Around) (holds : Truth) (tests : List ℕ) (old new : Building) (first next : ℕ) (lefts : List Left) (m : MadeArm Inner around holds tests old new first next lefts)
+pub stands_arm : (scene : Scene) (Inner : Commanding) (around : Around) (holds : Truth) (tests : List ℕ) (old new : Building) (first next : ℕ) (lefts : List Left) (m : MadeArm Inner around holds tests old new first next lefts)
     → StandsIn scene around → length tests ≡ paths_counted around → StandsIn scene m.arm
 stands_arm scene Inner around holds tests old new first next lefts m s many = record {
   scopes = s.scopes;
@@ -399,7 +399,7 @@ inner_probed old new n c paths h = often_count old new n c (0 + c) paths (omega 
 
 module _ (scene : Scene) where
   mutual
-    command_probed : (a : Action) (around : Around) (old new : Building) (first next : ℕ) → StandsIn scene around → MadeCommand scene a around old new first next → IsStraight a → 0 < paths_counted around → first + accesses_of a < 2 ^ 32
+    pub command_probed : (a : Action) (around : Around) (old new : Building) (first next : ℕ) → StandsIn scene around → MadeCommand scene a around old new first next → IsStraight a → 0 < paths_counted around → first + accesses_of a < 2 ^ 32
         → AddsProbes old.draft new.draft (often first (accesses_of a) (paths_counted around))
     command_probed (action id place (lets name declared (Some value))) around old new first next s m is some few =
         own_probed old.draft new.draft first (term_accesses value) (paths_counted around)

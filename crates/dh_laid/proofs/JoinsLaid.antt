@@ -1,5 +1,5 @@
 -- What arms left is of the kinds of its registers, and so are variables behind them.
-use Rattle.std.proofs.Common.{◌≡◌, ◌⊎◌, inl, inr, ◌<◌, ℕ, List, Some, None, refl, sym, ◌∙◌, subst, length}
+use Rattle.std.proofs.Common.{◌≡◌, ◌⊎◌, inl, inr, ◌<◌, ◌≤◌, ℕ, List, Some, None, refl, sym, ◌∙◌, subst, length, arith}
 use Rattle.std.specs.Prelude.{[], ◌∷◌, ◌++◌, drop, Option}
 use Rattle.std.specs.List.{AllByRecursion}
 use Rattle.dh_expressions.specs.declared.drafts.Draft.{Draft}
@@ -50,17 +50,20 @@ held_joined x d old new chosen other choices j h = record {
   log = subst (λ l. AllByRecursion (HadKind x d) l.items) (sym j.log) h.log;
 }
 
-choices_suit : (x : Block) (d : Draft) (old new : Values) (chosen other : List Left) (choices : List Choice) → JoinsArms old new chosen other choices → AreReady old → length old.current.items ≡ length x.plan.registers
+choices_suit : (x : Block) (d : Draft) (old new : Values) (chosen other : List Left) (choices : List Choice) → JoinsArms old new chosen other choices → AreReady old → length old.current.items ≤ length x.plan.registers
     → AreLeft x d old chosen → AreLeft x d old other → ChoicesSuit x d choices
 choices_suit x d old new chosen other choices j ready long c1 c2 k c at =
     let are = j.are ready c1.left c2.left in
     let is = are.are k c at in
     record {
-      there = subst (λ (n : ℕ). c.register < n) long (by (are.left k c at).0 (are.left k c at).1.1);
+      there = within c.register (length old.current.items) (length x.plan.registers) (by (are.left k c at).0 (are.left k c at).1.1) long;
       chosen = first_holds x d chosen c.register c.chosen c1.hold is.chosen_is;
       other = first_holds x d other c.register c.other c2.hold is.other_is;
     }
   where
+    within : (r m n : ℕ) → r < m → m ≤ n → r < n
+    within r m n l k = omega (arith, l, k)
+
     by : (l : Left) → (first_left chosen c.register ≡ Some l) ⊎ (first_left other c.register ≡ Some l) → c.register < length old.current.items
     by l (inl e) = first_room old.current.items chosen c.register l c1.left e
     by l (inr e) = first_room old.current.items other c.register l c2.left e

@@ -13,3 +13,10 @@ pub mod CommandsMultiply
 pub mod ProductsOfCore
 pub mod CommandsProbe
 pub mod AccessesLaid
+pub mod SitesLaid
+pub mod UsesAdded
+pub mod ReadsUsed
+pub mod TermsUsed
+pub mod CommandsUsed
+pub mod ProbesSited
+pub mod BlocksUsed

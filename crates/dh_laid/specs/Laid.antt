@@ -190,7 +190,7 @@ pub record AreLeft (x : Block) (d : Draft) (v : Values) (lefts : List Left) : Ty
 pub record FormsJoined (tests : List ℕ) (chosen other : List Left) (old new : Building) : Type 0 where
   pub extends : Extends old.draft new.draft
   pub forms : (x : Block) → Agrees x new.draft → Started x old.draft → AreTruths x old.draft tests → IsNoted x old.draft old.accesses → AreHeld x old.draft old.values → AreReady old.values
-      → length old.values.current.items ≡ length x.plan.registers → AreLeft x old.draft old.values chosen → AreLeft x old.draft old.values other → FormsThere x old new
+      → length old.values.current.items ≤ length x.plan.registers → AreLeft x old.draft old.values chosen → AreLeft x old.draft old.values other → FormsThere x old new
 
 abbrev pub JoinsForm : Type 0
 JoinsForm = (tests : List ℕ) (chosen other : List Left) (old new : Building) → MadeJoined tests chosen other old new → FormsJoined tests chosen other old new

@@ -1,7 +1,7 @@
 -- What is asked of whole commands: each part at all its paths, the arms of an `if`, which are taken back, and the parts
 -- of a block. What must hold of a command goes by recursion on it and on what was put down for it: an access of an arm
 -- stands where the guards of the arm hold, and only what was put down tells which these are.
-use Rattle.std.specs.Prelude.{◌≡◌, ℕ, ◌+◌, ◌<◌, ◌^◌, List, length, Some, None}
+use Rattle.std.specs.Prelude.{◌≡◌, ℕ, ◌+◌, ◌<◌, ◌≤◌, ◌^◌, List, length, Some, None}
 use Rattle.dh_value.specs.declared.kinds.Kind.TheVariants.{Bool}
 use Rattle.dh_value.specs.declared.operators.Op.{Op}
 use Rattle.dh_value.specs.Words.{IsKind}
@@ -127,12 +127,12 @@ module _ (x : Block) (scene : Scene) where
 abbrev pub AreLogged : Values → Values → Type 0
 AreLogged old new = Logs (λ c. Unit {0}) old new
 
--- Values of the variables stand as they do at the begin of a command: none of the marks is set, and each register of the
--- plan has one.
+-- Values of the variables stand as they do at the begin of a command: none of the marks is set, and those that can be
+-- given are of registers of the plan.
 pub record StandsHeld (x : Block) (d : Draft) (v : Values) : Type 0 where
   pub held : AreHeld x d v
   pub ready : AreReady v
-  pub long : length v.current.items ≡ length x.plan.registers
+  pub long : length v.current.items ≤ length x.plan.registers
 
 -- a command: it forms what it adds, and what is noted and held behind it is of the block
 pub record FormsCommand (scene : Scene) (around : Around) (old new : Building) (Where : Block → Type 0) : Type 0 where

@@ -12,5 +12,9 @@ pub mod LaidProducts
 pub mod LaidProbes
 -- where the accesses of blocks stand
 pub mod BlockSites
+-- accesses without operations
+pub mod BareCommands
 -- accesses are laid
 pub mod LaidAccesses
+-- how often accesses are made
+pub mod LaidUses

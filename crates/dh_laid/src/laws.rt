@@ -6,6 +6,7 @@ ghost use Rattle.dh_laid.specs.LaidCommands.{CommandsForm, GroupsForm};
 ghost use Rattle.dh_laid.specs.LaidNumbers.{CommandsNumber, GroupsNumber, ReachingNumber};
 ghost use Rattle.dh_laid.specs.LaidProbes.{CommandsProbe, GroupsProbe};
 ghost use Rattle.dh_laid.specs.LaidProducts.{CommandsHaveProducts, CommandsMultiply, GroupsHaveProducts, GroupsMultiply, TermsMultiply};
+ghost use Rattle.dh_laid.specs.LaidUses.{BlocksLead, BlocksProbe, BlocksUse, TestsLead, TestsProbe, TestsUse};
 ghost use Rattle.dh_laid.specs.LaidQuiet.{CommandsAreQuiet, GroupsAreQuiet, QuietSetsNone, TermsAreQuiet};
 
 /// What is put down where a variable is assigned is formed, and it is given a value of the kind of its register.
@@ -85,4 +86,15 @@ pub fn whole_commands_lay()
     ensures groups { GroupsLay }
     ensures tests { TestsLay }
     ensures each { EachLay }
+{}
+
+/// Each access of a block is read or written at each path that leads, where it shares no earlier read, and probed at each
+/// path; and so is each access of a test.
+pub fn whole_blocks_use()
+    ensures blocks { BlocksUse }
+    ensures blocks_lead { BlocksLead }
+    ensures blocks_probed { BlocksProbe }
+    ensures tests { TestsUse }
+    ensures tests_lead { TestsLead }
+    ensures tests_probed { TestsProbe }
 {}

@@ -8,6 +8,8 @@ use Rattle.std.proofs.lemmas.Option.{slice_get_cases}
 use Rattle.dh_tree.specs.declared.tables.Dim.{Dim}
 use Rattle.dh_tree.specs.declared.tables.MemEntry.{MemEntry}
 use Rattle.dh_tree.specs.Elements.{banks_of, rows_of, dims_at, ports_at, entry_dims, entry_ports}
+use Rattle.dh_meaning.specs.Effects.{entry_kind, kind_in}
+use Rattle.dh_value.specs.Words.{width_of}
 use Rattle.dh_net.specs.BankPorts.{port_count, port_of, ports_of, first_port, port_number}
 use Rattle.dh_net.specs.RowWidths.{row_width_of}
 use Rattle.dh_net.specs.declared.ports.Port.{Port}
@@ -74,6 +76,7 @@ pub record IsBound (plan : PlainPlan) (u : Uses) (block i bank : ℕ) (r : Reach
   pub bank_is : p.bank ≡ bank
   pub rows : p.rows ≡ rows_of (dims_at plan.table r.memory)
   pub row_width : p.row_width ≡ row_width_of (rows_of (dims_at plan.table r.memory))
+  pub width : p.width ≡ width_of (kind_in plan.table r.memory)
 
 pub bound_port : (plan : PlainPlan) (u : Uses) → IsFormed plan → ArePorts plan u → (block i bank place : ℕ) (r : Reach) → HasUse plan block i r → IsListed bank place r.banks
     → (p : Port) × IsBound plan u block i bank r p
@@ -100,6 +103,7 @@ bound_port plan u formed ports block i bank place r h listed =
         bank_is = div-mul-add bank e.shape.ports port.0 port_below;
         rows = ap rows_of (sym dims);
         row_width = ap (λ (d : List Dim). row_width_of (rows_of d)) (sym dims);
+        width = ap (λ (o : Option MemEntry). width_of (entry_kind o)) (sym entry.1);
       },
     )
 

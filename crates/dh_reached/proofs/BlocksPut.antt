@@ -173,10 +173,11 @@ module _ (x : Step) (sites : ℕ → Option Site) (scene : Scene) (table : x.sta
       let own : CommandPut x sites scene table IsRead (paths_counted around) stands.some shares c.first (accesses_of c.command) old mid =
       command_put x sites scene table IsRead (paths_counted around) stands.some shares c.command around old mid c.first next one is.0 stands refl few places keeps.0 reads.1.0 (fits_before mid.draft new.draft x e_rest f) b
       (stood_later old.accesses from c.first rising.0 reads.0.1 h) in
-      let more = each_put cs (c.first + accesses_of c.command) mid new rest rising.1.1 is.1 reads.1.1 keeps.1 later f (begun_later old.draft mid.draft x e_one b) own.behind in
-      (c.first - from + accesses_of c.command + more.0,
-      down_then x sites from (c.first - from + accesses_of c.command) more.0 old.draft mid.draft new.draft (wider own.down)
-      (subst (λ (n : ℕ). PutsDown x sites n more.0 mid.draft new.draft) (let e : c.first + accesses_of c.command ≡ from + (c.first - from + accesses_of c.command) = omega (arith, low) in e) more.1))
+      let more = each_put cs (c.first + accesses_of c.command) mid new rest rising.1.1 is.1 reads.1.1 keeps.1 later f (begun_later old.draft mid.draft x e_one b) own.behind in (
+        c.first - from + accesses_of c.command + more.0,
+        down_then x sites from (c.first - from + accesses_of c.command) more.0 old.draft mid.draft new.draft (wider own.down)
+            (subst (λ (n : ℕ). PutsDown x sites n more.0 mid.draft new.draft) (let e : c.first + accesses_of c.command ≡ from + (c.first - from + accesses_of c.command) = omega (arith, low) in e) more.1),
+      )
     where
       long : length (command_sites scene c.command around old mid c.first next one) ≡ accesses_of c.command
       long = places_long scene c.command around old mid c.first next one is.0

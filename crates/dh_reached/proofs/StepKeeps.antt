@@ -153,10 +153,11 @@ module _ (plan : PlainPlan) (block : ℕ) (registers : List ℕ) (memories : Lis
   placed : (b i c j place : ℕ) (r t : Reach) (y z : Spot) → Reaches plan begun (block ∷ []) b i r y → Reaches plan begun (block ∷ []) c j t z → r.access ≡ t.access → InOneBank y z
       → IsListed y.bank place r.banks → IsListed y.bank place t.banks → (b ≡ c) × (i ≡ j)
   placed b i c j place r t y z h k same one first second =
-      let f = find b i r y h in let g = find c j t z k in
-      (only b h.active ∙ sym (only c k.active),
-      ⊎_elim (λ less. absurd (itself place (rises_in i j r t y z f g less same y.bank place place first second)))
-      (λ rest. ⊎_elim (λ more. absurd (itself place (rises_in j i t r z y g f more (sym same) y.bank place place second first))) (λ least. equal i j rest least) (cases_lt j i)) (cases_lt i j))
+      let f = find b i r y h in let g = find c j t z k in (
+        only b h.active ∙ sym (only c k.active),
+        ⊎_elim (λ less. absurd (itself place (rises_in i j r t y z f g less same y.bank place place first second)))
+            (λ rest. ⊎_elim (λ more. absurd (itself place (rises_in j i t r z y g f more (sym same) y.bank place place second first))) (λ least. equal i j rest least) (cases_lt j i)) (cases_lt i j),
+      )
     where
       itself : (n : ℕ) → n < n → ⊥
       itself n e = omega (arith, e)

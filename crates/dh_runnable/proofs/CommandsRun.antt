@@ -125,6 +125,7 @@ module _ (known : Known) (counters : List Counter) (p : Placing) where
             memory = record { name = name; shape = shape; shape_places = shape_places; outside = false };
             is = ap (memory_in known.memories) (sym number) ∙ h.declares_memories;
             kind = refl;
+            long = refl;
             sized = h.sized.0;
             keeps = shape_without shape shape_places (first_none (shape_breaches shape shape_places) _ h.indices);
           });

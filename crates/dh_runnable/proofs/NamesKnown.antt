@@ -43,7 +43,7 @@ abbrev pub IsGood : Known → Placing → (loops : List ℕ) → (n : ℕ) → F
 IsGood known p loops n (of_variable None) = ⊥
 IsGood known p loops n (of_variable (Some k)) = IsVariable known p loops n k
 IsGood known p loops n (of_iterator k) = IsVariable known p loops n k
-IsGood known p loops n (of_memory k dims) = IsMemory known.memories n k
+IsGood known p loops n (of_memory k dims) = IsMemory known.memories n k dims
 IsGood known p loops n (of_function parameters) = Unit {0}
 
 -- something that stands is known of an entity

@@ -105,7 +105,7 @@ kept_at (x ∷ ds) (suc n) d h e = kept_at ds n d (second_none (shape_breaches x
 none_before : (i : ℕ) → 0 + i ≡ i
 none_before i = omega arith
 
-body_known : (q : Program) (p : Placing) → TellsEnough q → Knows (known_of q) p [] (body_facts q) (body_scope q).visible
+pub body_known : (q : Program) (p : Placing) → TellsEnough q → Knows (known_of q) p [] (body_facts q) (body_scope q).visible
 body_known q p h =
     still_known (known_of q) p [] (first_facts q) (body_facts q) (body_scope q).visible (functions_grow (first_facts q) q.functions)
     (after_known (known_of q) p (first_facts q) [] (items_of q) (λ name n e. absurd cc)
@@ -128,6 +128,7 @@ body_known q p h =
         memory = outside_memory d;
         is = decl_found 0 q.decls (locals q.body) i (0 + i) d numbers e refl;
         kind = refl;
+        long = refl;
         sized = sized_at q.decls i d h.widths.decls e;
         keeps = kept_at q.decls i d (first_none (decls_shape_breaches q.decls) _ h.indices) e;
       };
@@ -153,7 +154,7 @@ body_size q h =
     ap (λ (fs : List Defined). length (after_functions (length q.decls) (record { visible = []; entities = map (λ d. entity d.name sort.Memory) q.decls ++ map (λ f. entity f.name sort.Function) fs }) fs).entities) none
     ∙ (ap length (append-nil (map (λ d. entity d.name sort.Memory) q.decls)) ∙ map_long (λ d. entity d.name sort.Memory) q.decls)
 
-body_sees : (q : Program) → TellsEnough q → Sees (memories_of q) (length (body_scope q).entities) (locals q.body ++ [])
+pub body_sees : (q : Program) → TellsEnough q → Sees (memories_of q) (length (body_scope q).entities) (locals q.body ++ [])
 body_sees q h =
     let numbers : resolved_decls 0 q.decls ≡ q.decls = ap (λ (x : Program). x.decls) h.entities in
     let size = body_size q h in
@@ -162,13 +163,13 @@ body_sees q h =
 
 -- Bodies.
 
-typed_body : (q : Program) → TellsEnough q → typed_action (body_facts q) q.body ≡ q.body
+pub typed_body : (q : Program) → TellsEnough q → typed_action (body_facts q) q.body ≡ q.body
 typed_body q h =
     let functions : typed_functions (first_facts q) q.functions ≡ q.functions = ap (λ (x : Program). x.functions) h.kinds in
     let body : typed_action (facts_after_functions (first_facts q) (typed_functions (first_facts q) q.functions)) q.body ≡ q.body = ap (λ (x : Program). x.body) h.kinds in
     ap (λ fs. typed_action (facts_after_functions (first_facts q) fs) q.body) (sym functions) ∙ body
 
-resolved_body : (q : Program) → TellsEnough q → resolved_action (body_scope q) q.body ≡ q.body
+pub resolved_body : (q : Program) → TellsEnough q → resolved_action (body_scope q) q.body ≡ q.body
 resolved_body q h = ap (λ (x : Program). x.body) h.entities
 
 -- a body of which each walk tells its own

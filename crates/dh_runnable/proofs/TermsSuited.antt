@@ -85,7 +85,7 @@ number_known : (k : Option Kind) (m : Kind) (negative : Bool) (n : ℕ) (place :
 number_known None m negative n place e f = not_none _ _ f
 number_known (Some x) m negative n place e f = sym e ∙ ap Some (one_kind _ m x (sym e))
 
-one_count : (all : Bool) (same : Bool) (place : Place) → all ≡ true → when (all && (if same then false else true)) (mismatch place) ≡ [] → same ≡ true
+pub one_count : (all : Bool) (same : Bool) (place : Place) → all ≡ true → when (all && (if same then false else true)) (mismatch place) ≡ [] → same ≡ true
 one_count true true place a e = refl
 one_count true false place a e = not_none _ _ e
 one_count false same place a e = cc
@@ -100,8 +100,8 @@ record IsFound (known : Known) (r : Ref) (k : Option Kind) : Type 0 where
   sized : IsKind kind
   element : IsElement known.memories r kind
 
-memory_found : (known : Known) (n : ℕ) (r : Ref) (k : Option Kind) → r.entity ≡ Some n → IsMemory known.memories n k → IsFound known r k
-memory_found known n r k e g = record {
+memory_found : (known : Known) (n : ℕ) (r : Ref) (k : Option Kind) (dims : ℕ) → r.entity ≡ Some n → IsMemory known.memories n k dims → IsFound known r k
+memory_found known n r k dims e g = record {
   kind = g.memory.shape.kind;
   is = g.kind;
   sized = g.sized;
@@ -115,7 +115,7 @@ no_breaches : (bs : List Breach) (k : Kind) → bs ≡ [] → unless bs k ≡ So
 no_breaches [] k e = refl
 no_breaches (b ∷ bs) k e = not_none _ _ e
 
-applied_known : (at to : Place) (o : Op) (l r : Option Kind) (j k : Kind) → l ≡ Some j → r ≡ Some k → applied_breaches o at to l r ≡ [] → (operands_breaches (takes o) at to j k ≡ []) × (applied_found o at to l r ≡ Some (applied_kind o j k))
+pub applied_known : (at to : Place) (o : Op) (l r : Option Kind) (j k : Kind) → l ≡ Some j → r ≡ Some k → applied_breaches o at to l r ≡ [] → (operands_breaches (takes o) at to j k ≡ []) × (applied_found o at to l r ≡ Some (applied_kind o j k))
 applied_known at to o l r j k e f h =
     let same : applied_breaches o at to l r ≡ operands_breaches (takes o) at to j k = ap (λ x. applied_breaches o at to x r) e ∙ ap (λ y. applied_breaches o at to (Some j) y) f in
     let none = sym same ∙ h in
@@ -129,7 +129,7 @@ cast_known place k j to e s h = cases to s (ap (λ x. cast_breaches place x to) 
     cases (kind.Unsigned w) s h = (ap (λ x. cast_found x (kind.Unsigned w)) e, s)
     cases (kind.Signed w) s h = (ap (λ x. cast_found x (kind.Signed w)) e, s)
 
-is_index : (k : Option Kind) (j : Kind) (place : Place) → k ≡ Some j → index_breaches k place ≡ [] → is_integer j ≡ true
+pub is_index : (k : Option Kind) (j : Kind) (place : Place) → k ≡ Some j → index_breaches k place ≡ [] → is_integer j ≡ true
 is_index k j place e h = cases j (ap (λ x. index_breaches x place) (sym e) ∙ h)
   where
     cases : (j : Kind) → index_breaches (Some j) place ≡ [] → is_integer j ≡ true
@@ -144,7 +144,7 @@ module _ (known : Known) (p : Placing) (loops : List ℕ) where
   known_sized t k = subst IsSized (sym k.is) (k.operand 0).sized
 
   -- both operands are known where each is for a sized kind of its place
-  operands_known : (facts : Facts) (o : Op) (want : Option Kind) (left right : Term) (bare_left bare_right : Bool)
+  pub operands_known : (facts : Facts) (o : Op) (want : Option Kind) (left right : Term) (bare_left bare_right : Bool)
       → IsSized want
       → ((w : Option Kind) → IsSized w → typed_term facts w left ≡ left → IsKnown known p loops left)
       → ((w : Option Kind) → IsSized w → typed_term facts w right ≡ right → IsKnown known p loops right)
@@ -200,7 +200,7 @@ module _ (known : Known) (p : Placing) (loops : List ℕ) where
       cases (of_function parameters) g e = not_none _ _ e
       cases (of_memory k dims) g e =
           subst (λ (x : Option Kind). IsFound known r x) (sym (when_both (all_integer indices) (count_of indices == dims) k i (one_count (all_found indices) (count_of indices == dims) place a e)))
-          (memory_found known n r k entity g)
+          (memory_found known n r k dims entity g)
 
   -- a physical access, by what is known of its name
   bank_known : (n : ℕ) (r : Ref) (o : Option Fact) (f : Fact) (place : Place) (row : Option Kind) (j : Kind) → r.entity ≡ Some n → o ≡ Some f → IsGood known p loops n f → bank_breaches o place ≡ [] → row ≡ Some j → is_integer j ≡ true → IsFound known r (bank_found o row)
@@ -213,7 +213,7 @@ module _ (known : Known) (p : Placing) (loops : List ℕ) where
       cases (of_function parameters) g e = not_none _ _ e
       cases (of_memory k dims) g e =
           let same : bank_found (Some (of_memory k dims)) row ≡ k = ap (bank_found (Some (of_memory k dims))) h ∙ ap (λ (b : Bool). if b then k else None) i in
-          subst (λ (x : Option Kind). IsFound known r x) (sym same) (memory_found known n r k entity g)
+          subst (λ (x : Option Kind). IsFound known r x) (sym same) (memory_found known n r k dims entity g)
 
   -- an element of the memory that a name stands for
   element_operand : (place : Place) (r : Ref) (k : Kind) (indices : Terms) → IsKind k → IsElement known.memories r k → AreKnown known p loops indices → (n : ℕ) → IsOperand (table_in known) k (core_form known n place k (accessed r indices))

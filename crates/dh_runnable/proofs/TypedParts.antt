@@ -1,5 +1,5 @@
 -- A typed expression has a typed form, of the kind that is found of it; and the kinds that are wanted of numbers have widths.
-use Rattle.std.proofs.Common.{◌≡◌, ℕ, List, Option, Some, None, true, ap, sym, ◌∙◌, arith}
+use Rattle.std.proofs.Common.{◌≡◌, ℕ, List, length, Option, Some, None, true, ap, sym, ◌∙◌, arith}
 use Rattle.dh_base.specs.declared.places.Place.{Place}
 use Rattle.dh_value.specs.declared.kinds.Kind.{Kind}
 use Rattle.dh_value.specs.declared.kinds.Kind.TheVariants as kind
@@ -10,11 +10,12 @@ use Rattle.dh_tree.specs.Memories.{Memory, memory_in}
 use Rattle.dh_tree.specs.PlainTrees.{Term, term, TermForm}
 use Rattle.dh_tree.specs.Widths.{IsSized}
 
--- the first memory that is entity number n; its shape keeps the rules
-pub record IsMemory (ms : List Memory) (n : ℕ) (k : Option Kind) : Type 0 where
+-- the first memory that is entity number n, of so many dimensions; its shape keeps the rules
+pub record IsMemory (ms : List Memory) (n : ℕ) (k : Option Kind) (dims : ℕ) : Type 0 where
   pub memory : Memory
   pub is : memory_in ms (Some n) ≡ Some memory
   pub kind : k ≡ Some memory.shape.kind
+  pub long : dims ≡ length memory.shape.dims
   pub sized : IsKind memory.shape.kind
   pub keeps : shape_keeps memory.shape ≡ true
 

@@ -1,15 +1,15 @@
 -- Each block of a ready program is that of straight commands of which something holds in their loops, and behind them
 -- reducers of which something else holds, or the test of such a command; for whatever holds of the body, and of the
 -- commands inside a command of which it holds. What is found stands along the trace, as all laws on blocks ask.
-use Rattle.std.proofs.Common.{◌≡◌, ◌⊎◌, inl, inr, ℕ, Option, List, [], ◌∷◌, ◌∙◌, ap, subst}
+use Rattle.std.proofs.Common.{◌≡◌, ◌⊎◌, inl, inr, ℕ, Option, List, [], ◌∷◌, ◌++◌, refl, ◌∙◌, ap, subst}
 use Rattle.dh_base.specs.declared.places.Place.{Place}
 use Rattle.dh_value.specs.declared.kinds.Kind.{Kind}
 use Rattle.dh_tree.specs.declared.trees.expressions.Ref.{Ref}
 use Rattle.dh_tree.specs.PlainTrees.{Placed, Unrolled, Term, Action, action, ActionForm, blocks, decides, repeats, counts, MaybeAction, Groups, Program}
 use Rattle.dh_tree.specs.Ready.{IsReady}
 use Rattle.dh_meaning.specs.Core.{Turning}
-use Rattle.dh_meaning.specs.CoreOf.{form_of, known_of, core_commands, core_of}
-use Rattle.dh_meaning.specs.Effects.{Block, commands}
+use Rattle.dh_meaning.specs.CoreOf.{form_of, known_of, core_commands, core_of, core_test}
+use Rattle.dh_meaning.specs.Effects.{Block, commands, tests}
 use Rattle.dh_meaning.specs.Paths.{paths_in}
 use Rattle.dh_meaning.specs.Phases.{Located, turn_count, phases_of}
 use Rattle.dh_meaning.specs.Sites.{nothing_around}
@@ -17,16 +17,16 @@ use Rattle.dh_meets.specs.Charges.{factors_of}
 use Rattle.dh_meets.specs.SourceEvents.{trace}
 use Rattle.dh_sound.specs.Blocks.{factors, StandsIn}
 use Rattle.dh_sound.specs.BlocksOfPhases.{OfStraight, OfTest}
-use Rattle.dh_sound.specs.LoopsMatch.{unrolled}
+use Rattle.dh_sound.specs.LoopsMatch.{unrolled, EachMatches}
 use Rattle.dh_sound.specs.PhaseFacts.{HasStraight, HasTest}
 use Rattle.dh_sound.specs.SimpleForms.{AreFolds, IsFold, IsFoldForm}
 use Rattle.dh_sound.specs.Trails.{Follows}
 use Rattle.dh_sound.proofs.BlocksOfPhases.{straight_along, tested_along, own_around, phases_follow}
 use Rattle.dh_sound.proofs.Folds.{follows_less}
-use Rattle.dh_sound.proofs.LoopsMatch.{match_factors, same_loops}
+use Rattle.dh_sound.proofs.LoopsMatch.{match_factors, same_loops, EachInside, ListInside, action_inside}
 use Rattle.dh_sound.proofs.NamedPrograms.{ready_named}
 use Rattle.dh_sound.proofs.Trails.{Tops}
-use Rattle.dh_typed_blocks.proofs.PhasesHolding.{EachGroup, OfOther, OtherOnlyFolds, EachOf, EachFold, IsReducer, inside, Holding, body_holds}
+use Rattle.dh_typed_blocks.proofs.PhasesHolding.{EachGroup, OfOther, OtherOnlyFolds, EachOf, EachFold, IsReducer, IsSplit, ListSplit, inside, Holding, body_holds, body_splits}
 
 as_fold : (a : Action) → IsFoldForm (form_of a) → IsFold a
 as_fold (action id place form) h = h
@@ -60,30 +60,48 @@ module _ (p : Program) (P : List Turning → Action → Type 0) (F : List Turnin
       tops : Tops nothing_around [] (trace p) (phases_of p)
       tops = phases_follow p ready.of_text.first ready.of_text.numbered (ready_named p ready)
 
+      -- straight commands that stand in these loops, split so
+      pub straight_of : (loops : List Turning) (block : Block) (cs : List Located) → block ≡ commands (core_commands (known_of p) cs) → HasStraight (phases_of p) cs → EachInside (known_of p) (unrolled loops) cs
+          → (split : IsSplit (known_of p) P F loops cs) → (f : StraightHolds loops block) × (cs ≡ f.of.done ++ f.of.folds)
+      straight_of loops block cs is has matched split =
+          let w = same_loops (known_of p) [] (trace p) (unrolled loops) cs (straight_along [] (trace p) nothing_around (phases_of p) cs tops has) matched in
+          let same : factors loops ≡ factors_of w.0.loops = match_factors (known_of p) loops w.0.loops w.1.1 in (
+            record {
+              of = record {
+                done = split.done;
+                folds = split.folds;
+                quiet = are_folds loops split.folds split.quiet;
+                is = is ∙ ap (λ (x : List Located). commands (core_commands (known_of p) x)) split.is;
+                has = subst (λ (x : List Located). HasStraight (phases_of p) x) split.is has;
+                round = w.0;
+                follows = follows_less w.0 [] (trace p) split.done split.folds (subst (λ (x : List Located). Follows w.0 [] (trace p) x) split.is w.1.0);
+                inside = same;
+                paths = ap paths_in same;
+              };
+              holds = split.holds;
+              quiet = split.quiet;
+            },
+            split.is,
+          )
+
+      -- and a command whose test is evaluated
+      pub tested_of : (loops : List Turning) (block : Block) (c : Located) → block ≡ tests (core_test (known_of p) c) → HasTest (phases_of p) c → EachMatches (known_of p) (unrolled loops) c.around.loops → P loops c.command → (f : TestHolds loops block) × (f.of.tested ≡ c)
+      tested_of loops block c is has matched h =
+          let f = own_around [] (trace p) c (tested_along [] (trace p) nothing_around (phases_of p) c tops has) in
+          let same : factors loops ≡ factors_of c.around.loops = match_factors (known_of p) loops c.around.loops matched in
+          (record { of = record { tested = c; is = is; has = has; follows = f; inside = same; paths = ap paths_in same }; holds = h }, refl)
+
       -- each block is one of these
       pub block_holds : (loops : List Turning) (block : Block) → StandsIn [] (core_of p).phases loops block → StraightHolds loops block ⊎ TestHolds loops block
       block_holds loops block s = by (body_holds (known_of p) P F of_blocks of_choices of_repeats of_counts p.body loops block (ready_named p ready) holds s)
         where
           by : Holding (known_of p) P F of_blocks of_choices of_repeats of_counts (HasStraight (phases_of p)) (HasTest (phases_of p)) loops block → StraightHolds loops block ⊎ TestHolds loops block
-          by (inl (cs, (is, (has, (matched, split))))) =
-              let w = same_loops (known_of p) [] (trace p) (unrolled loops) cs (straight_along [] (trace p) nothing_around (phases_of p) cs tops has) matched in
-              let same : factors loops ≡ factors_of w.0.loops = match_factors (known_of p) loops w.0.loops w.1.1 in
-              inl (record {
-                of = record {
-                  done = split.done;
-                  folds = split.folds;
-                  quiet = are_folds loops split.folds split.quiet;
-                  is = is ∙ ap (λ (x : List Located). commands (core_commands (known_of p) x)) split.is;
-                  has = subst (λ (x : List Located). HasStraight (phases_of p) x) split.is has;
-                  round = w.0;
-                  follows = follows_less w.0 [] (trace p) split.done split.folds (subst (λ (x : List Located). Follows w.0 [] (trace p) x) split.is w.1.0);
-                  inside = same;
-                  paths = ap paths_in same;
-                };
-                holds = split.holds;
-                quiet = split.quiet;
-              })
-          by (inr (c, (is, (has, (matched, h))))) =
-              let f = own_around [] (trace p) c (tested_along [] (trace p) nothing_around (phases_of p) c tops has) in
-              let same : factors loops ≡ factors_of c.around.loops = match_factors (known_of p) loops c.around.loops matched in
-              inr (record { of = record { tested = c; is = is; has = has; follows = f; inside = same; paths = ap paths_in same }; holds = h })
+          by (inl (cs, (is, (has, (matched, split))))) = inl (straight_of loops block cs is has matched split).0
+          by (inr (c, (is, (has, (matched, h))))) = inr (tested_of loops block c is has matched h).0
+
+      -- the phases of the body, as they are split, and the loops that stand round their commands in the source
+      pub program_split : ListSplit (known_of p) P F [] (phases_of p)
+      program_split = body_splits (known_of p) P F of_blocks of_choices of_repeats of_counts p.body holds
+
+      pub program_inside : ListInside (known_of p) [] (phases_of p)
+      program_inside = action_inside (known_of p) nothing_around [] 0 p.body (ready_named p ready) tt

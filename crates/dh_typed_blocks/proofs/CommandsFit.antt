@@ -52,9 +52,11 @@ use Rattle.dh_blocks.specs.SoundTerms.{IsSound, IsSoundTarget}
 use Rattle.dh_typed_blocks.specs.PlainPrograms.{AreFew, IsPlainTarget, FormPlain, OtherPlain, GroupsPlain, PartPlain}
 use Rattle.dh_typed_blocks.proofs.Fitting.{AllInteger, IsNamedIn, IsTargetIn, TermFits, FoldFits, FormFits, OtherFits, GroupsFit, PartFits}
 use Rattle.dh_typed_blocks.proofs.KindsGiven.{written_is}
+use Rattle.dh_typed_blocks.proofs.ReducersWhole.{FormJoinsWhole, OtherJoinsWhole, GroupsJoinWhole, PartJoinsWhole, FormReducesWhole, OtherReducesWhole, GroupsReduceWhole, PartReducesWhole}
 use Rattle.dh_typed_blocks.proofs.PhasesHolding.{FormOnlyFolds, GroupsOnlyFold, PartOnlyFolds, OtherOnlyFolds}
 use Rattle.dh_typed_blocks.proofs.SidesFit.{number_is, factors_more, integer_more, bound_is, to_name, can_hold, is_test, can_reduce}
 use Rattle.dh_typed_blocks.proofs.TermsSound.{term_sound}
+use Rattle.dh_typed_blocks.proofs.TermsTyped.{term_typed}
 
 -- Declarations.
 
@@ -87,7 +89,10 @@ module _ (known : Known) (counters : List Counter) (p : Placing) (few : AreFew k
   right ts facts s want t ai k w e n v b i z near =
       let ready : IsReady known counters facts s.visible t = record { named = n; visible = v; kinds = b; indices = i; sized = z } in (
         term_known known p (factors ts) counters facts s.visible k want w t e ready,
-        term_sound known p (factors ts) few (InScope known ts) (IsNamedIn known p ts) (to_name known p ts ai) counters facts s.visible k want w t e ready near,
+        (
+          term_sound known p (factors ts) few (InScope known ts) (IsNamedIn known p ts) (to_name known p ts ai) counters facts s.visible k want w t e ready near,
+          term_typed known p (factors ts) counters facts s.visible k want w t e ready,
+        ),
       )
 
   let_sized : (loops : List ℕ) (declared : Option Kind) (value : Option Term) → IsSized declared → MaybeKnown known p loops value → IsKind (let_kind declared value)
@@ -207,8 +212,8 @@ module _ (known : Known) (counters : List Counter) (p : Placing) (few : AreFew k
 
   mutual
     pub form_fits : (f : ActionForm) (ts : List Turning) (facts : Facts) (s : Scope) (place : Place) → InStep s facts → Knows known p (factors ts) facts s.visible → run.IsSound known counters p (factors ts) facts s place f
-        → FormScoped known ts f → FormAssignsInside known (length (factors ts)) f → FormSimple f → IsNamedForm f → FormPlain known f → AllInteger known ts → FormFits known p ts f
-    form_fits (lets name declared None) ts facts s place l k h sc asg si na pl ai =
+        → FormScoped known ts f → FormAssignsInside known (length (factors ts)) f → FormJoinsWhole known (length (factors ts)) f → FormSimple f → IsNamedForm f → FormPlain known f → AllInteger known ts → FormFits known p ts f
+    form_fits (lets name declared None) ts facts s place l k h sc asg wh si na pl ai =
         let same : declares s name ≡ name = let eq = h.named in cc in
         let entity : name.entity ≡ Some (length s.entities) = sym (ap (λ (r : Ref). r.entity) same) in (
           record {
@@ -220,7 +225,7 @@ module _ (known : Known) (counters : List Counter) (p : Placing) (few : AreFew k
           },
           sym (h.placed.bound ∙ let_none declared),
         )
-    form_fits (lets name declared (Some t)) ts facts s place l k h sc asg si na pl ai =
+    form_fits (lets name declared (Some t)) ts facts s place l k h sc asg wh si na pl ai =
         let same : declares s name ≡ name = let eq = h.named in cc in
         let entity : name.entity ≡ Some (length s.entities) = sym (ap (λ (r : Ref). r.entity) same) in
         let typed : typed_term facts (for_numbers declared) t ≡ t = let eq = h.typed in cc in
@@ -238,11 +243,11 @@ module _ (known : Known) (counters : List Counter) (p : Placing) (few : AreFew k
             let_holds (factors ts) (kind_of known name) declared t h.placed.bound v.0 (first_none (assigned_breaches declared (found t) (place_of t)) _ h.kinds),
           ),
         )
-    form_fits (lets_memory name shape shape_places value) ts facts s place l k h sc asg si na pl ai = tt
-    form_fits (views name parent form) ts facts s place l k h sc asg si na pl ai = tt
-    form_fits (calls function arguments) ts facts s place l k h sc asg si na pl ai = tt
-    form_fits (reduces target o value) ts facts s place l k h sc asg si na pl ai = elim si [ ]
-    form_fits (assigns target value) ts facts s place l k h sc asg si na pl ai =
+    form_fits (lets_memory name shape shape_places value) ts facts s place l k h sc asg wh si na pl ai = tt
+    form_fits (views name parent form) ts facts s place l k h sc asg wh si na pl ai = tt
+    form_fits (calls function arguments) ts facts s place l k h sc asg wh si na pl ai = tt
+    form_fits (reduces target o value) ts facts s place l k h sc asg wh si na pl ai = elim si [ ]
+    form_fits (assigns target value) ts facts s place l k h sc asg wh si na pl ai =
         let typed : typed_term facts (for_numbers (target_kind (fact_of facts target))) value ≡ value = let eq = h.typed in cc in
         let resolved : resolved_term s.visible value ≡ value = let eq = h.named in cc in
         let same : used s.visible target ≡ target = let eq = h.named in cc in
@@ -259,7 +264,7 @@ module _ (known : Known) (counters : List Counter) (p : Placing) (few : AreFew k
                 (first_none (assigned_breaches (target_kind (fact_of facts target)) (found value) (place_of value)) _ side),
           ),
         )
-    form_fits (stores target value) ts facts s place l k h sc asg si na pl ai =
+    form_fits (stores target value) ts facts s place l k h sc asg wh si na pl ai =
         let first : typed_term facts None target ≡ target = let eq = h.typed in cc in
         let second : typed_term facts (for_numbers (found (typed_term facts None target))) value ≡ value = let eq = h.typed in cc in
         let first_same : resolved_term s.visible target ≡ target = let eq = h.named in cc in
@@ -271,11 +276,11 @@ module _ (known : Known) (counters : List Counter) (p : Placing) (few : AreFew k
         let v = right ts facts s _ value ai k (for_numbers_sized _ sized) second second_same
         (second_none (term_breaches s.visible target) _ h.visible) (second_none (assigned_breaches (found target) (found value) (place_of value)) _ side)
         (second_none (term_index_breaches (indexed known counters) target) _ h.indices) h.sized.1 sc.1 in
-        let aim = store_target known (IsNamedIn known p ts) target t.0.kind na.0 t.1 t.0.is in (
-          (v.1, aim.0),
+        let aim = store_target known (IsNamedIn known p ts) target t.0.kind na.0 t.1.0 t.0.is in (
+          (v.1, (aim.0, t.1.1)),
           can_hold (kind_aimed known (table_in known) target) (found target) t.0.kind value v.0.kind t.0.is aim.1 v.0.is (first_none (assigned_breaches (found target) (found value) (place_of value)) _ side),
         )
-    form_fits (blocks body) ts facts s place l k h sc asg si na pl ai =
+    form_fits (blocks body) ts facts s place l k h sc asg wh si na pl ai =
         groups_fit body ts facts s l k (record {
           typed = let eq = h.typed in cc;
           named = let eq = h.named in cc;
@@ -288,8 +293,8 @@ module _ (known : Known) (counters : List Counter) (p : Placing) (few : AreFew k
           numbers = h.numbers;
           placed = h.placed;
           declares_memories = h.declares_memories;
-        }) sc asg si na pl ai
-    form_fits (decides test (action chosen_id chosen_place chosen) other) ts facts s place l k h sc asg si na pl ai =
+        }) sc asg wh si na pl ai
+    form_fits (decides test (action chosen_id chosen_place chosen) other) ts facts s place l k h sc asg wh si na pl ai =
         let loops : List ℕ = factors ts in
         let test_typed : typed_term facts None test ≡ test = let eq = h.typed in cc in
         let test_named : resolved_term s.visible test ≡ test = let eq = h.named in cc in
@@ -315,7 +320,7 @@ module _ (known : Known) (counters : List Counter) (p : Placing) (few : AreFew k
           numbers = h.numbers.0;
           placed = h.placed.0;
           declares_memories = h.declares_memories.0;
-        }) sc.1.0 asg.0 si.0 na.1.0 pl.0 ai in
+        }) sc.1.0 asg.0 wh.0 si.0 na.1.0 pl.0 ai in
         let second = other_fits other ts (facts_after_form facts chosen) (leave s (form_at_end s chosen)) (form_in_step s facts chosen l)
         (still_known known p (factors ts) facts (facts_after_form facts chosen) s.visible (form_grows facts chosen) k) (record {
           typed = subst (λ (f : ActionForm). typed_other (facts_after_form facts f) other ≡ other) chosen_typed other_typed;
@@ -329,9 +334,9 @@ module _ (known : Known) (counters : List Counter) (p : Placing) (few : AreFew k
           numbers = h.numbers.1;
           placed = h.placed.1;
           declares_memories = h.declares_memories.1;
-        }) sc.1.1 asg.1 si.1 na.1.1 pl.1 ai in
+        }) sc.1.1 asg.1 wh.1 si.1 na.1.1 pl.1 ai in
         ((t.1, is_test test t.0.kind t.0.is (first_none (truth_breaches (found test) (place_of test)) _ truth)), (first, second))
-    form_fits (repeats test (action body_id body_place body)) ts facts s place l k h sc asg si na pl ai =
+    form_fits (repeats test (action body_id body_place body)) ts facts s place l k h sc asg wh si na pl ai =
         let test_typed : typed_term facts None test ≡ test = let eq = h.typed in cc in
         let test_named : resolved_term s.visible test ≡ test = let eq = h.named in cc in
         let body_typed : typed_action_form facts body ≡ body = let eq = h.typed in cc in
@@ -351,9 +356,9 @@ module _ (known : Known) (counters : List Counter) (p : Placing) (few : AreFew k
           numbers = h.numbers;
           placed = h.placed;
           declares_memories = h.declares_memories;
-        }) sc.1 asg si na.1 pl ai in
+        }) sc.1 asg wh si na.1 pl ai in
         ((t.1, is_test test t.0.kind t.0.is (first_none (truth_breaches (found test) (place_of test)) _ truth)), inner)
-    form_fits (counts iterator declared low high factor (action body_id body_place body) combine combine_place) ts facts s place l k h sc asg si na pl ai =
+    form_fits (counts iterator declared low high factor (action body_id body_place body) combine combine_place) ts facts s place l k h sc asg wh si na pl ai =
         let whole : ActionForm = counts iterator declared low high factor (action body_id body_place body) combine combine_place in
         let own : Turning = turning_of known (turn_count low.value high.value factor.value) (counts iterator declared low high factor (action body_id body_place body) combine combine_place) in
         let more : Facts = facts ++ of_iterator (iterator_kind declared) ∷ [] in
@@ -408,18 +413,18 @@ module _ (known : Known) (counters : List Counter) (p : Placing) (few : AreFew k
           form_fits body (ts ++ own ∷ []) (facts ++ of_iterator (iterator_kind declared) ∷ []) (declare s iterator Iterator) body_place step
               (subst (λ (ls : List ℕ). Knows known p ls (facts ++ of_iterator (iterator_kind declared) ∷ []) (declare s iterator Iterator).visible) round known_inside)
               (subst (λ (ls : List ℕ). run.IsSound known counters p ls (facts ++ of_iterator (iterator_kind declared) ∷ []) (declare s iterator Iterator) body_place body) round body_sound)
-              sc.0 (subst (λ (d : ℕ). FormAssignsInside known d body) depth asg.0) si.0 na.1.0 pl.0 integers,
+              sc.0 (subst (λ (d : ℕ). FormAssignsInside known d body) depth asg.0) (subst (λ (d : ℕ). FormJoinsWhole known d body) depth wh.0) si.0 na.1.0 pl.0 integers,
           joins_fit combine (ts ++ own ∷ []) (facts_after_form (facts ++ of_iterator (iterator_kind declared) ∷ []) body) (form_at_end (declare s iterator Iterator) body)
               (form_in_step (declare s iterator Iterator) (facts ++ of_iterator (iterator_kind declared) ∷ []) body step)
               (subst (λ (ls : List ℕ). Knows known p ls (facts_after_form (facts ++ of_iterator (iterator_kind declared) ∷ []) body) (form_at_end (declare s iterator Iterator) body).visible) round first.knows)
               (subst (λ (ls : List ℕ). run.OtherSound known counters p ls (facts_after_form (facts ++ of_iterator (iterator_kind declared) ∷ []) body) (form_at_end (declare s iterator Iterator) body) combine) round combine_sound)
-              sc.1 si.1 pl.1 integers,
+              sc.1 (subst (λ (d : ℕ). OtherReducesWhole known d combine) depth wh.1) si.1 pl.1 integers,
         )
 
     other_fits : (m : MaybeAction) (ts : List Turning) (facts : Facts) (s : Scope) → InStep s facts → Knows known p (factors ts) facts s.visible → run.OtherSound known counters p (factors ts) facts s m
-        → OtherScoped known ts m → OtherAssignsInside known (length (factors ts)) m → OtherSimple m → IsNamedOther m → OtherPlain known m → AllInteger known ts → OtherFits known p ts m
-    other_fits no_action ts facts s l k h sc asg si na pl ai = tt
-    other_fits (one_action (action id place form)) ts facts s l k h sc asg si na pl ai =
+        → OtherScoped known ts m → OtherAssignsInside known (length (factors ts)) m → OtherJoinsWhole known (length (factors ts)) m → OtherSimple m → IsNamedOther m → OtherPlain known m → AllInteger known ts → OtherFits known p ts m
+    other_fits no_action ts facts s l k h sc asg wh si na pl ai = tt
+    other_fits (one_action (action id place form)) ts facts s l k h sc asg wh si na pl ai =
         form_fits form ts facts s place l k (record {
           typed = let eq = h.typed in cc;
           named = let eq = h.named in cc;
@@ -432,31 +437,31 @@ module _ (known : Known) (counters : List Counter) (p : Placing) (few : AreFew k
           numbers = h.numbers;
           placed = h.placed;
           declares_memories = h.declares_memories;
-        }) sc asg si na pl ai
+        }) sc asg wh si na pl ai
 
     part_fits : (part : Actions) (ts : List Turning) (facts : Facts) (s : Scope) (stepped : Bool) → InStep s facts → Knows known p (factors ts) facts s.visible → run.PartSound known counters p (factors ts) facts s stepped part
-        → PartScoped known ts part → PartAssignsInside known (length (factors ts)) part → PartSimple part → AreNamedActions part → PartPlain known part → AllInteger known ts → PartFits known p ts part
-    part_fits no_actions ts facts s stepped l k h sc asg si na pl ai = tt
-    part_fits (action_then (action id place form) rest) ts facts s stepped l k h sc asg si na pl ai =
+        → PartScoped known ts part → PartAssignsInside known (length (factors ts)) part → PartJoinsWhole known (length (factors ts)) part → PartSimple part → AreNamedActions part → PartPlain known part → AllInteger known ts → PartFits known p ts part
+    part_fits no_actions ts facts s stepped l k h sc asg wh si na pl ai = tt
+    part_fits (action_then (action id place form) rest) ts facts s stepped l k h sc asg wh si na pl ai =
         let parts = split_part form rest id place (factors ts) facts s stepped l k h in (
-          form_fits form ts facts s place l k parts.first sc.0 asg.0 si.0 na.0 pl.0 ai,
-          part_fits rest ts (facts_after_form facts form) (past s (action id place form) (at_end s (action id place form))) (stepped || form_holds form) parts.step parts.knows parts.behind sc.1 asg.1 si.1 na.1 pl.1 ai,
+          form_fits form ts facts s place l k parts.first sc.0 asg.0 wh.0 si.0 na.0 pl.0 ai,
+          part_fits rest ts (facts_after_form facts form) (past s (action id place form) (at_end s (action id place form))) (stepped || form_holds form) parts.step parts.knows parts.behind sc.1 asg.1 wh.1 si.1 na.1 pl.1 ai,
         )
 
     groups_fit : (gs : Groups) (ts : List Turning) (facts : Facts) (s : Scope) → InStep s facts → Knows known p (factors ts) facts s.visible → run.GroupsSound known counters p (factors ts) facts s gs
-        → GroupsScoped known ts gs → GroupsAssignInside known (length (factors ts)) gs → GroupsSimple gs → AreNamedGroups gs → GroupsPlain known gs → AllInteger known ts → GroupsFit known p ts gs
-    groups_fit no_groups ts facts s l k h sc asg si na pl ai = tt
-    groups_fit (group_then part rest) ts facts s l k h sc asg si na pl ai =
+        → GroupsScoped known ts gs → GroupsAssignInside known (length (factors ts)) gs → GroupsJoinWhole known (length (factors ts)) gs → GroupsSimple gs → AreNamedGroups gs → GroupsPlain known gs → AllInteger known ts → GroupsFit known p ts gs
+    groups_fit no_groups ts facts s l k h sc asg wh si na pl ai = tt
+    groups_fit (group_then part rest) ts facts s l k h sc asg wh si na pl ai =
         let parts = split_groups part rest (factors ts) facts s l k h in (
-          part_fits part ts facts s false l k parts.first sc.0 asg.0 si.0 na.0 pl.0 ai,
-          groups_fit rest ts (facts_after_actions facts part) (actions_at_end s part) parts.step parts.knows parts.behind sc.1 asg.1 si.1 na.1 pl.1 ai,
+          part_fits part ts facts s false l k parts.first sc.0 asg.0 wh.0 si.0 na.0 pl.0 ai,
+          groups_fit rest ts (facts_after_actions facts part) (actions_at_end s part) parts.step parts.knows parts.behind sc.1 asg.1 wh.1 si.1 na.1 pl.1 ai,
         )
 
     -- reducers that join copies
     joins_fit : (m : MaybeAction) (ts : List Turning) (facts : Facts) (s : Scope) → InStep s facts → Knows known p (factors ts) facts s.visible → run.OtherSound known counters p (factors ts) facts s m
-        → OtherScoped known ts m → JoinsFolds m → OtherPlain known m → AllInteger known ts → OtherOnlyFolds (FoldFits known p) ts m
-    joins_fit no_action ts facts s l k h sc fo pl ai = tt
-    joins_fit (one_action (action id place form)) ts facts s l k h sc fo pl ai =
+        → OtherScoped known ts m → OtherReducesWhole known (length (factors ts)) m → JoinsFolds m → OtherPlain known m → AllInteger known ts → OtherOnlyFolds (FoldFits known p) ts m
+    joins_fit no_action ts facts s l k h sc wh fo pl ai = tt
+    joins_fit (one_action (action id place form)) ts facts s l k h sc wh fo pl ai =
         fold_fits form ts facts s place l k (record {
           typed = let eq = h.typed in cc;
           named = let eq = h.named in cc;
@@ -469,11 +474,11 @@ module _ (known : Known) (counters : List Counter) (p : Placing) (few : AreFew k
           numbers = h.numbers;
           placed = h.placed;
           declares_memories = h.declares_memories;
-        }) sc fo pl ai
+        }) sc wh fo pl ai
 
     fold_fits : (f : ActionForm) (ts : List Turning) (facts : Facts) (s : Scope) (place : Place) → InStep s facts → Knows known p (factors ts) facts s.visible → run.IsSound known counters p (factors ts) facts s place f
-        → FormScoped known ts f → FormFoldsOnly f → FormPlain known f → AllInteger known ts → FormOnlyFolds (FoldFits known p) ts f
-    fold_fits (reduces target o value) ts facts s place l k h sc fo pl ai =
+        → FormScoped known ts f → FormReducesWhole known (length (factors ts)) f → FormFoldsOnly f → FormPlain known f → AllInteger known ts → FormOnlyFolds (FoldFits known p) ts f
+    fold_fits (reduces target o value) ts facts s place l k h sc wh fo pl ai =
         let typed : typed_term facts (for_numbers (target_kind (fact_of facts target))) value ≡ value = let eq = h.typed in cc in
         let resolved : resolved_term s.visible value ≡ value = let eq = h.named in cc in
         let same : used s.visible target ≡ target = let eq = h.named in cc in
@@ -486,14 +491,14 @@ module _ (known : Known) (counters : List Counter) (p : Placing) (few : AreFew k
         let t = target_known known p (factors ts) facts target name (first_none (target_breaches (fact_of facts target) target.place) _ h.kinds) in (
           (v.1, target_in ts 0 facts target t pl.0 (none_least (depth_of known target))),
           (
-            pl.1,
+            (pl.1, wh),
             can_reduce target.place (kind_of known target) (target_kind (fact_of facts target)) t.kind value v.0.kind t.is (bound_is known p (factors ts) target t.number t.kind t.entity t.stands) v.0.is
                 t.stands.sized (v.0.operand 0).sized
                 (first_none (reducer_breaches (target_kind (fact_of facts target)) (found value) target.place) _ below)
                 (first_none (assigned_breaches (target_kind (fact_of facts target)) (found value) (place_of value)) _ side),
           ),
         )
-    fold_fits (blocks body) ts facts s place l k h sc fo pl ai =
+    fold_fits (blocks body) ts facts s place l k h sc wh fo pl ai =
         fold_groups_fit body ts facts s l k (record {
           typed = let eq = h.typed in cc;
           named = let eq = h.named in cc;
@@ -506,31 +511,31 @@ module _ (known : Known) (counters : List Counter) (p : Placing) (few : AreFew k
           numbers = h.numbers;
           placed = h.placed;
           declares_memories = h.declares_memories;
-        }) sc fo pl ai
-    fold_fits (lets name declared value) ts facts s place l k h sc fo pl ai = elim fo [ ]
-    fold_fits (lets_memory name shape shape_places value) ts facts s place l k h sc fo pl ai = elim fo [ ]
-    fold_fits (views name parent form) ts facts s place l k h sc fo pl ai = elim fo [ ]
-    fold_fits (assigns target value) ts facts s place l k h sc fo pl ai = elim fo [ ]
-    fold_fits (stores target value) ts facts s place l k h sc fo pl ai = elim fo [ ]
-    fold_fits (calls function arguments) ts facts s place l k h sc fo pl ai = elim fo [ ]
-    fold_fits (decides test chosen other) ts facts s place l k h sc fo pl ai = elim fo [ ]
-    fold_fits (repeats test body) ts facts s place l k h sc fo pl ai = elim fo [ ]
-    fold_fits (counts iterator declared low high factor body combine combine_place) ts facts s place l k h sc fo pl ai = elim fo [ ]
+        }) sc wh fo pl ai
+    fold_fits (lets name declared value) ts facts s place l k h sc wh fo pl ai = elim fo [ ]
+    fold_fits (lets_memory name shape shape_places value) ts facts s place l k h sc wh fo pl ai = elim fo [ ]
+    fold_fits (views name parent form) ts facts s place l k h sc wh fo pl ai = elim fo [ ]
+    fold_fits (assigns target value) ts facts s place l k h sc wh fo pl ai = elim fo [ ]
+    fold_fits (stores target value) ts facts s place l k h sc wh fo pl ai = elim fo [ ]
+    fold_fits (calls function arguments) ts facts s place l k h sc wh fo pl ai = elim fo [ ]
+    fold_fits (decides test chosen other) ts facts s place l k h sc wh fo pl ai = elim fo [ ]
+    fold_fits (repeats test body) ts facts s place l k h sc wh fo pl ai = elim fo [ ]
+    fold_fits (counts iterator declared low high factor body combine combine_place) ts facts s place l k h sc wh fo pl ai = elim fo [ ]
 
     fold_groups_fit : (gs : Groups) (ts : List Turning) (facts : Facts) (s : Scope) → InStep s facts → Knows known p (factors ts) facts s.visible → run.GroupsSound known counters p (factors ts) facts s gs
-        → GroupsScoped known ts gs → GroupsFoldOnly gs → GroupsPlain known gs → AllInteger known ts → GroupsOnlyFold (FoldFits known p) ts gs
-    fold_groups_fit no_groups ts facts s l k h sc fo pl ai = tt
-    fold_groups_fit (group_then part rest) ts facts s l k h sc fo pl ai =
+        → GroupsScoped known ts gs → GroupsReduceWhole known (length (factors ts)) gs → GroupsFoldOnly gs → GroupsPlain known gs → AllInteger known ts → GroupsOnlyFold (FoldFits known p) ts gs
+    fold_groups_fit no_groups ts facts s l k h sc wh fo pl ai = tt
+    fold_groups_fit (group_then part rest) ts facts s l k h sc wh fo pl ai =
         let parts = split_groups part rest (factors ts) facts s l k h in (
-          fold_part_fits part ts facts s false l k parts.first sc.0 fo.0 pl.0 ai,
-          fold_groups_fit rest ts (facts_after_actions facts part) (actions_at_end s part) parts.step parts.knows parts.behind sc.1 fo.1 pl.1 ai,
+          fold_part_fits part ts facts s false l k parts.first sc.0 wh.0 fo.0 pl.0 ai,
+          fold_groups_fit rest ts (facts_after_actions facts part) (actions_at_end s part) parts.step parts.knows parts.behind sc.1 wh.1 fo.1 pl.1 ai,
         )
 
     fold_part_fits : (part : Actions) (ts : List Turning) (facts : Facts) (s : Scope) (stepped : Bool) → InStep s facts → Knows known p (factors ts) facts s.visible → run.PartSound known counters p (factors ts) facts s stepped part
-        → PartScoped known ts part → PartFoldsOnly part → PartPlain known part → AllInteger known ts → PartOnlyFolds (FoldFits known p) ts part
-    fold_part_fits no_actions ts facts s stepped l k h sc fo pl ai = tt
-    fold_part_fits (action_then (action id place form) rest) ts facts s stepped l k h sc fo pl ai =
+        → PartScoped known ts part → PartReducesWhole known (length (factors ts)) part → PartFoldsOnly part → PartPlain known part → AllInteger known ts → PartOnlyFolds (FoldFits known p) ts part
+    fold_part_fits no_actions ts facts s stepped l k h sc wh fo pl ai = tt
+    fold_part_fits (action_then (action id place form) rest) ts facts s stepped l k h sc wh fo pl ai =
         let parts = split_part form rest id place (factors ts) facts s stepped l k h in (
-          fold_fits form ts facts s place l k parts.first sc.0 fo.0 pl.0 ai,
-          fold_part_fits rest ts (facts_after_form facts form) (past s (action id place form) (at_end s (action id place form))) (stepped || form_holds form) parts.step parts.knows parts.behind sc.1 fo.1 pl.1 ai,
+          fold_fits form ts facts s place l k parts.first sc.0 wh.0 fo.0 pl.0 ai,
+          fold_part_fits rest ts (facts_after_form facts form) (past s (action id place form) (at_end s (action id place form))) (stepped || form_holds form) parts.step parts.knows parts.behind sc.1 wh.1 fo.1 pl.1 ai,
         )

@@ -30,9 +30,9 @@ use Rattle.dh_blocks.specs.NamedVariables.{IsNamedHere}
 use Rattle.dh_blocks.specs.SoundTerms.{IsSound}
 use Rattle.dh_blocks.specs.SoundCommands.{CanHold, IsOwnOf, SoundAction, SoundOther, SoundGroups, SoundPart}
 use Rattle.dh_blocks.proofs.SoundMapped.{action_mapped}
-use Rattle.dh_typed_blocks.specs.PlainPrograms.{IsPlainTarget}
+use Rattle.dh_typed_blocks.specs.PlainPrograms.{IsPlainTarget, IsWholeTerm}
 use Rattle.dh_typed_blocks.specs.ScenesTold.{TellsScene}
-use Rattle.dh_typed_blocks.specs.SoundBlocks.{loops_of, IsWholeTerm, IsWholeFold, AreWhole}
+use Rattle.dh_typed_blocks.specs.SoundBlocks.{loops_of}
 use Rattle.dh_typed_blocks.proofs.Fitting.{IsNamedIn, IsTargetIn, FoldFits, Fits, OtherFits, GroupsFit, PartFits}
 use Rattle.dh_typed_blocks.proofs.FittingParts.{SimpleFits, JoinFits}
 use Rattle.dh_typed_blocks.proofs.NamesHere.{long_is, seen_here, full_here}
@@ -100,15 +100,15 @@ module _ (scene : Scene) (levels : List Level) (rounds : List Round) (tells : Te
     pub action_here : (Folds : ℕ → Type 0) (a : Action) → IsSimple a → Fits (known_in scene) places (loops_of rounds) a → SoundAction scene levels (table_in (known_in scene)) Named Folds a
     action_here Folds (action id place (lets name declared None)) s h =
         (own_here name h.0, record { sized = subst IsKind (kind_same name) h.0.sized; kind_is = h.1 ∙ kind_same name })
-    action_here Folds (action id place (lets name declared (Some t))) s h = (h.0, (own_here name h.1.0, holds_here name t h.1.1))
+    action_here Folds (action id place (lets name declared (Some t))) s h = (h.0.0, (own_here name h.1.0, holds_here name t h.1.1))
     action_here Folds (action id place (lets_memory name shape shape_places value)) s h = tt
     action_here Folds (action id place (views name parent form)) s h = tt
-    action_here Folds (action id place (assigns target value)) s h = (h.0, (own_here target h.1.0, holds_here target value h.1.1))
-    action_here Folds (action id place (stores target value)) s h = h
+    action_here Folds (action id place (assigns target value)) s h = (h.0.0, (own_here target h.1.0, holds_here target value h.1.1))
+    action_here Folds (action id place (stores target value)) s h = ((h.0.0.0, h.0.1.0), h.1)
     action_here Folds (action id place (reduces target o value)) s h = elim h [ ]
     action_here Folds (action id place (calls function arguments)) s h = tt
     action_here Folds (action id place (blocks body)) s h = groups_here Folds body s h
-    action_here Folds (action id place (decides test chosen other)) s h = (h.0.0, (action_here (λ entity. ⊥) chosen s.0 h.1.0, other_here (λ entity. ⊥) other s.1 h.1.1))
+    action_here Folds (action id place (decides test chosen other)) s h = (h.0.0.0, (action_here (λ entity. ⊥) chosen s.0 h.1.0, other_here (λ entity. ⊥) other s.1 h.1.1))
     action_here Folds (action id place (repeats test body)) s h = tt
     action_here Folds (action id place (counts iterator declared low high factor body combine combine_place)) s h = tt
 
@@ -147,33 +147,33 @@ module _ (scene : Scene) (levels : List Level) (rounds : List Round) (tells : Te
     whole_term (term place k (applied o l r)) w s = elim w [ ]
     whole_term (term place k (converted t to)) w s = elim w [ ]
 
-    fold_here : (a : Action) → IsWholeFold (known_in scene) (length (factors (loops_of rounds))) (form_of a) → IsReducer (JoinFits (known_in scene) places) (loops_of rounds) (form_of a)
+    fold_here : (a : Action) → IsReducer (JoinFits (known_in scene) places) (loops_of rounds) (form_of a)
         → SoundAction scene levels (table_in (known_in scene)) Whole (IsSeen scene levels) a
-    fold_here (action id place (reduces r o t)) w h =
+    fold_here (action id place (reduces r o t)) h =
         let fits : FoldFits (known_in scene) places (loops_of rounds) (reduces r o t) = h.1 in (
-          (whole_term t w fits.0.0, seen_here scene levels rounds tells top r fits.0.1.inside fits.0.1.plain),
+          (whole_term t fits.1.0.1 fits.0.0.0, seen_here scene levels rounds tells top r fits.0.1.inside fits.0.1.plain),
           record {
-            operator = fits.1.0;
+            operator = fits.1.0.0;
             kind_is = kind_same r;
             sized = subst IsKind (kind_same r) fits.0.1.sized;
             integer = subst (λ (k : Kind). IsInteger (wider k (kind_written t))) (kind_same r) fits.1.1;
           },
         )
-    fold_here (action id place (lets name declared value)) w h = elim w [ ]
-    fold_here (action id place (lets_memory name shape shape_places value)) w h = elim w [ ]
-    fold_here (action id place (views name parent form)) w h = elim w [ ]
-    fold_here (action id place (assigns target value)) w h = elim w [ ]
-    fold_here (action id place (stores target value)) w h = elim w [ ]
-    fold_here (action id place (calls function arguments)) w h = elim w [ ]
-    fold_here (action id place (blocks body)) w h = elim w [ ]
-    fold_here (action id place (decides test chosen other)) w h = elim w [ ]
-    fold_here (action id place (repeats test body)) w h = elim w [ ]
-    fold_here (action id place (counts iterator declared low high factor body combine combine_place)) w h = elim w [ ]
+    fold_here (action id place (lets name declared value)) h = elim h [ ]
+    fold_here (action id place (lets_memory name shape shape_places value)) h = elim h [ ]
+    fold_here (action id place (views name parent form)) h = elim h [ ]
+    fold_here (action id place (assigns target value)) h = elim h [ ]
+    fold_here (action id place (stores target value)) h = elim h [ ]
+    fold_here (action id place (calls function arguments)) h = elim h [ ]
+    fold_here (action id place (blocks body)) h = elim h [ ]
+    fold_here (action id place (decides test chosen other)) h = elim h [ ]
+    fold_here (action id place (repeats test body)) h = elim h [ ]
+    fold_here (action id place (counts iterator declared low high factor body combine combine_place)) h = elim h [ ]
 
-    pub folds_here : (cs : List Located) → AreWhole (known_in scene) (length (factors (loops_of rounds))) cs → EachFold (JoinFits (known_in scene) places) (loops_of rounds) cs
+    pub folds_here : (cs : List Located) → EachFold (JoinFits (known_in scene) places) (loops_of rounds) cs
         → AllByRecursion (λ (c : Located). SoundAction scene levels (table_in (known_in scene)) Whole (IsSeen scene levels) c.command) cs
-    folds_here [] w h = tt
-    folds_here (c ∷ cs) w h = (fold_here c.command w.0 h.0, folds_here cs w.1 h.1)
+    folds_here [] h = tt
+    folds_here (c ∷ cs) h = (fold_here c.command h.0, folds_here cs h.1)
 
     -- straight commands, by what is known of names
     pub all_here : (touched : ℕ → Bool) → ((r : Ref) (k : Kind) → Named r k → IsNamedHere scene levels kinds rounds touched r k) → (cs : List Located) → EachOf (SimpleFits (known_in scene) places) (loops_of rounds) cs

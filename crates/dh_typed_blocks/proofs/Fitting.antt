@@ -21,7 +21,8 @@ use Rattle.dh_expressions.specs.Shown.{kind_written}
 use Rattle.dh_blocks.specs.SoundTerms.{IsSound, IsSoundTarget}
 use Rattle.dh_tree.specs.TextNumbers.{Reduces}
 use Rattle.dh_blocks.specs.SoundCommands.{CanHold, kind_aimed}
-use Rattle.dh_typed_blocks.specs.PlainPrograms.{IsPlainTarget}
+use Rattle.dh_typed_blocks.specs.PlainPrograms.{IsPlainTarget, IsWholeTerm}
+use Rattle.dh_typed_blocks.specs.TypedTerms.{IsTyped}
 use Rattle.dh_typed_blocks.proofs.PhasesHolding.{OtherOnlyFolds}
 
 module _ (known : Known) where
@@ -48,7 +49,7 @@ module _ (known : Known) (p : Placing) where
     pub full : least ≤ depth_of known r
 
   abbrev pub TermFits : List Turning → Term → Type 0
-  TermFits loops t = IsSound known (table_in known) (IsNamedIn loops) t
+  TermFits loops t = IsSound known (table_in known) (IsNamedIn loops) t × IsTyped known (table_in known) t
 
   abbrev pub TestFits : List Turning → Term → Type 0
   TestFits loops t = TermFits loops t × (kind_written t ≡ Bool)
@@ -61,10 +62,13 @@ module _ (known : Known) (p : Placing) where
   LetFits loops r declared (Some t) = AssignFits loops r t
 
   abbrev pub StoreFits : List Turning → (target value : Term) → Type 0
-  StoreFits loops target t = (TermFits loops t × IsSoundTarget known (table_in known) (IsNamedIn loops) target) × CanHold (kind_aimed known (table_in known) target) t
+  StoreFits loops target t =
+      (TermFits loops t × (IsSoundTarget known (table_in known) (IsNamedIn loops) target × IsTyped known (table_in known) target))
+      × CanHold (kind_aimed known (table_in known) target) t
 
   abbrev pub FoldFits : List Turning → ActionForm → Type 0
-  FoldFits loops (reduces r o t) = (TermFits loops t × IsTargetIn loops 0 r) × (Reduces o × IsInteger (wider (kind_of known r) (kind_written t)))
+  FoldFits loops (reduces r o t) =
+      (TermFits loops t × IsTargetIn loops 0 r) × ((Reduces o × IsWholeTerm known (length (factors loops)) t) × IsInteger (wider (kind_of known r) (kind_written t)))
   FoldFits loops (lets name declared value) = ⊥
   FoldFits loops (lets_memory name shape shape_places value) = ⊥
   FoldFits loops (views name parent form) = ⊥

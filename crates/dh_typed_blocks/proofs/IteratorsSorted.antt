@@ -17,13 +17,14 @@ use Rattle.dh_tree.specs.PlainTrees.{Term, Action, action, ActionForm, lets, let
 use Rattle.dh_tree.specs.Placements.{Context, nothing_round, branched, in_body, in_combine, entity_iterates, entity_varies, names_iterator, names_variable, is_from_outside, is_folded_into, reducer_breaches, joined_breaches, decls_placement_breaches, action_placement_breaches, form_placement_breaches, other_placement_breaches, actions_placement_breaches, groups_placement_breaches}
 use Rattle.dh_tree.specs.Ready.{IsReady}
 use Rattle.dh_tree.specs.Resolved.{resolved_action, resolved_form, resolved_other, resolved_actions, resolved_groups}
+use Rattle.dh_tree.specs.TextNumbers.{HasTextNumbers, FormHasTextNumbers, OtherHasTextNumbers, GroupsHaveTextNumbers, PartHasTextNumbers}
 use Rattle.dh_tree.specs.Scopes.{Scope, entity, declare, leave, past, at_end, form_at_end, other_at_end, actions_at_end, groups_at_end, body_scope, last_scope}
 use Rattle.dh_tree.proofs.UncheckedBuilt.{first_none, second_none, not_none}
 use Rattle.dh_meaning.specs.Bindings.{Binding, bindings, form_bindings, other_bindings, groups_bindings, part_bindings, binding_in, depth_inside}
 use Rattle.dh_meaning.specs.CoreOf.{Known, known_of, entity_number}
 use Rattle.dh_sound.specs.SameKeys.{IsNoIterator}
 use Rattle.dh_sound.specs.Straight.{Stands, IsNamedAction, IsNamedForm, IsNamedOther, AreNamedGroups, AreNamedActions}
-use Rattle.dh_typed_blocks.specs.PlainPrograms.{IsPlainTarget, AssignsPlain, FormPlain, OtherPlain, GroupsPlain, PartPlain, ReducersWritten, FormWritten, OtherWritten, GroupsWritten, PartWritten}
+use Rattle.dh_typed_blocks.specs.PlainPrograms.{IsPlainTarget, AssignsPlain, FormPlain, OtherPlain, GroupsPlain, PartPlain}
 use Rattle.dh_sound.proofs.NamedPrograms.{ready_named}
 use Rattle.dh_sound.proofs.FactsGrow.{appended, added_last}
 use Rattle.dh_sound.proofs.IteratorsNamed.{GoesOn, past_on, goes_on, other_on, part_on, groups_on, none_when}
@@ -137,7 +138,7 @@ module _ (es : List Entity) where
       by sort.View h = refl
       by sort.Function h = refl
 
-  variable_plain : (o : Option ℕ) → names_variable es o ≡ true → names_iterator es o ≡ false
+  pub variable_plain : (o : Option ℕ) → names_variable es o ≡ true → names_iterator es o ≡ false
   variable_plain None h = refl
   variable_plain (Some n) h = varies_plain (slice_get es n) h
 
@@ -148,15 +149,15 @@ module _ (es : List Entity) where
       (none_when (not (is_folded_into es i target.entity)) (breach Reducer target.place) (first_none (when (not (is_folded_into es i target.entity)) (breach Reducer target.place ∷ [])) _ e)))
 
   module _ (known : Known) (all : AllSorted known.bindings) where
-    plain_of : (r : Ref) → Stands r → names_iterator es r.entity ≡ false → IsPlainTarget known r
+    pub plain_of : (r : Ref) → Stands r → names_iterator es r.entity ≡ false → IsPlainTarget known r
     plain_of r (n, is) e =
         subst (λ (k : ℕ). IsNoIterator (binding_in known.bindings k)) (sym (ap entity_number is)) (found_plain known.bindings n all (ap (names_iterator es) (sym is) ∙ e))
 
     mutual
-      plain : (a : Action) (s : Scope) (c : Context) → resolved_action s a ≡ a → action_placement_breaches es c a ≡ [] → IsNamedAction a → ReducersWritten a → GoesOn (at_end s a).entities es → AssignsPlain known a
+      plain : (a : Action) (s : Scope) (c : Context) → resolved_action s a ≡ a → action_placement_breaches es c a ≡ [] → IsNamedAction a → HasTextNumbers a → GoesOn (at_end s a).entities es → AssignsPlain known a
       plain (action id place form) s c e b n w on = let same : resolved_form s form ≡ form = cc in form_plain form s c place same b n w on
 
-      form_plain : (f : ActionForm) (s : Scope) (c : Context) (place : Place) → resolved_form s f ≡ f → form_placement_breaches es c place f ≡ [] → IsNamedForm f → FormWritten f → GoesOn (form_at_end s f).entities es → FormPlain known f
+      form_plain : (f : ActionForm) (s : Scope) (c : Context) (place : Place) → resolved_form s f ≡ f → form_placement_breaches es c place f ≡ [] → IsNamedForm f → FormHasTextNumbers f → GoesOn (form_at_end s f).entities es → FormPlain known f
       form_plain (lets name declared value) s c place e b n w on =
           let own : Some (length s.entities) ≡ name.entity = cc in
           let is : names_iterator es (Some (length s.entities)) ≡ false = ap entity_iterates (at_own es s name sort.Variable on) in
@@ -185,16 +186,16 @@ module _ (es : List Entity) where
           let first : resolved_action inner body ≡ body = cc in
           let second : resolved_other (at_end inner body) combine ≡ combine = cc in
           let below = second_none (action_placement_breaches es (in_body c factor.value iterator.entity) body) _ b in (
-            plain body inner (in_body c factor.value iterator.entity) first (first_none (action_placement_breaches es (in_body c factor.value iterator.entity) body) _ b) n.1.0 w.0
+            plain body inner (in_body c factor.value iterator.entity) first (first_none (action_placement_breaches es (in_body c factor.value iterator.entity) body) _ b) n.1.0 w.1.0
                 (then_on (at_end inner body).entities (other_at_end (at_end inner body) combine).entities es (other_on combine (at_end inner body)) on),
-            other_plain combine (at_end inner body) (in_combine c iterator.entity) second (first_none (other_placement_breaches es (in_combine c iterator.entity) combine) _ below) n.1.1 w.1 on,
+            other_plain combine (at_end inner body) (in_combine c iterator.entity) second (first_none (other_placement_breaches es (in_combine c iterator.entity) combine) _ below) n.1.1 w.1.1 on,
           )
 
-      other_plain : (m : MaybeAction) (s : Scope) (c : Context) → resolved_other s m ≡ m → other_placement_breaches es c m ≡ [] → IsNamedOther m → OtherWritten m → GoesOn (other_at_end s m).entities es → OtherPlain known m
+      other_plain : (m : MaybeAction) (s : Scope) (c : Context) → resolved_other s m ≡ m → other_placement_breaches es c m ≡ [] → IsNamedOther m → OtherHasTextNumbers m → GoesOn (other_at_end s m).entities es → OtherPlain known m
       other_plain no_action s c e b n w on = tt
       other_plain (one_action a) s c e b n w on = let same : resolved_action s a ≡ a = cc in plain a s c same b n w on
 
-      part_plain : (part : Actions) (s : Scope) (c : Context) → resolved_actions s part ≡ part → actions_placement_breaches es c part ≡ [] → AreNamedActions part → PartWritten part → GoesOn (actions_at_end s part).entities es → PartPlain known part
+      part_plain : (part : Actions) (s : Scope) (c : Context) → resolved_actions s part ≡ part → actions_placement_breaches es c part ≡ [] → AreNamedActions part → PartHasTextNumbers part → GoesOn (actions_at_end s part).entities es → PartPlain known part
       part_plain no_actions s c e b n w on = tt
       part_plain (action_then a rest) s c e b n w on =
           let after : Scope = past s a (at_end s a) in
@@ -205,7 +206,7 @@ module _ (es : List Entity) where
             part_plain rest after c second (second_none (joined_breaches c.joins a) _ (second_none (action_placement_breaches es c a) _ b)) n.1 w.1 on,
           )
 
-      groups_plain : (gs : Groups) (s : Scope) (c : Context) → resolved_groups s gs ≡ gs → groups_placement_breaches es c gs ≡ [] → AreNamedGroups gs → GroupsWritten gs → GoesOn (groups_at_end s gs).entities es → GroupsPlain known gs
+      groups_plain : (gs : Groups) (s : Scope) (c : Context) → resolved_groups s gs ≡ gs → groups_placement_breaches es c gs ≡ [] → AreNamedGroups gs → GroupsHaveTextNumbers gs → GoesOn (groups_at_end s gs).entities es → GroupsPlain known gs
       groups_plain no_groups s c e b n w on = tt
       groups_plain (group_then g rest) s c e b n w on =
           let after : Scope = actions_at_end s g in
@@ -215,9 +216,15 @@ module _ (es : List Entity) where
             groups_plain rest after c second (second_none (actions_placement_breaches es c g) _ b) n.1 w.1 on,
           )
 
--- a ready program whose reducers are those of a text
-pub ready_plain : (p : Program) → IsReady p → ReducersWritten p.body → AssignsPlain (known_of p) p.body
-ready_plain p r w =
+-- the bindings of a ready program
+pub ready_sorted : (p : Program) → IsReady p → AllSorted p.entities (known_of p).bindings
+ready_sorted p r =
+    let same : resolved_action (body_scope p) p.body ≡ p.body = ap (λ (x : Program). x.body) r.entities in
+    sorted p.entities p.body (body_scope p) 0 same (record { more = []; is = sym (ap (λ (x : Program). x.entities) r.entities) ∙ sym (append-nil (last_scope p).entities) })
+
+-- a ready program
+pub ready_plain : (p : Program) → IsReady p → AssignsPlain (known_of p) p.body
+ready_plain p r =
     let same : resolved_action (body_scope p) p.body ≡ p.body = ap (λ (x : Program). x.body) r.entities in
     let on : GoesOn (last_scope p).entities p.entities = record { more = []; is = sym (ap (λ (x : Program). x.entities) r.entities) ∙ sym (append-nil (last_scope p).entities) } in
-    plain p.entities (known_of p) (sorted p.entities p.body (body_scope p) 0 same on) p.body (body_scope p) nothing_round same (second_none (decls_placement_breaches p.decls) _ r.placements) (ready_named p r) w on
+    plain p.entities (known_of p) (ready_sorted p r) p.body (body_scope p) nothing_round same (second_none (decls_placement_breaches p.decls) _ r.placements) (ready_named p r) r.of_text.numbers on

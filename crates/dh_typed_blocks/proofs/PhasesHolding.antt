@@ -101,23 +101,23 @@ module _ (known : Known) (P : List Turning → Action → Type 0) (F : List Turn
     pub quiet : EachFold F loops folds
 
   abbrev mutual
-    IsOwn : (loops : List Turning) → Phase → Type 0
+    pub IsOwn : (loops : List Turning) → Phase → Type 0
     IsOwn loops (straight cs) = EachOf P loops cs
     IsOwn loops (turns loop count body) = AreSplit (inside loops count (form_of loop.command)) body
     IsOwn loops (repeated loop body) = P loops loop.command × AreOwn loops body
     IsOwn loops (decided choice chosen other) = P loops choice.command × (AreOwn loops chosen × AreOwn loops other)
 
-    AreOwn : (loops : List Turning) → Phases → Type 0
+    pub AreOwn : (loops : List Turning) → Phases → Type 0
     AreOwn loops no_phases = Unit {0}
     AreOwn loops (phase p ps) = IsOwn loops p × AreOwn loops ps
 
-    PhaseSplit : (loops : List Turning) → Phase → Type 0
+    pub PhaseSplit : (loops : List Turning) → Phase → Type 0
     PhaseSplit loops (straight cs) = IsSplit loops cs
     PhaseSplit loops (turns loop count body) = AreSplit (inside loops count (form_of loop.command)) body
     PhaseSplit loops (repeated loop body) = P loops loop.command × AreOwn loops body
     PhaseSplit loops (decided choice chosen other) = P loops choice.command × (AreOwn loops chosen × AreOwn loops other)
 
-    AreSplit : (loops : List Turning) → Phases → Type 0
+    pub AreSplit : (loops : List Turning) → Phases → Type 0
     AreSplit loops no_phases = Unit {0}
     AreSplit loops (phase p ps) = PhaseSplit loops p × AreSplit loops ps
 
@@ -125,7 +125,7 @@ module _ (known : Known) (P : List Turning → Action → Type 0) (F : List Turn
   ListOwn loops [] = Unit {0}
   ListOwn loops (p ∷ ps) = IsOwn loops p × ListOwn loops ps
 
-  abbrev ListSplit : (loops : List Turning) → List Phase → Type 0
+  abbrev pub ListSplit : (loops : List Turning) → List Phase → Type 0
   ListSplit loops [] = Unit {0}
   ListSplit loops (p ∷ ps) = PhaseSplit loops p × ListSplit loops ps
 
@@ -154,7 +154,7 @@ module _ (known : Known) (P : List Turning → Action → Type 0) (F : List Turn
   phase_splits d (repeated loop body) h = h
   phase_splits d (decided choice chosen other) h = h
 
-  phases_split : (d : List Turning) (ps : Phases) → AreOwn d ps → AreSplit d ps
+  pub phases_split : (d : List Turning) (ps : Phases) → AreOwn d ps → AreSplit d ps
   phases_split d no_phases h = tt
   phases_split d (phase p ps) h = (phase_splits d p h.0, phases_split d ps h.1)
 
@@ -413,8 +413,12 @@ module _ (known : Known) (P : List Turning → Action → Type 0) (F : List Turn
     find_listed (p ∷ ps) round loops b m h (inr s) =
         holding_more (HasStraight ps) (HasStraight (p ∷ ps)) (HasTest ps) (HasTest (p ∷ ps)) loops b (λ cs g. inr g) (λ c g. inr g) (find_listed ps round loops b m.1 h.1 s)
 
+    -- the phases of a body of which it holds in no loop
+    pub body_splits : (a : Action) → P [] a → ListSplit [] (phases nothing_around 0 a)
+    body_splits a h = list_splits [] (phases nothing_around 0 a) (own_phases a [] nothing_around 0 h)
+
     -- of a body of which it holds in no loop, and of which every name that is declared or used stands for something
     pub body_holds : (a : Action) (loops : List Turning) (b : Block) → IsNamedAction a → P [] a → StandsIn [] (core_phases known (of_list (phases nothing_around 0 a))) loops b
         → Holding (HasStraight (phases nothing_around 0 a)) (HasTest (phases nothing_around 0 a)) loops b
     body_holds a loops b names h s =
-        find_listed (phases nothing_around 0 a) [] loops b (action_inside known nothing_around [] 0 a names tt) (list_splits [] (phases nothing_around 0 a) (own_phases a [] nothing_around 0 h)) s
+        find_listed (phases nothing_around 0 a) [] loops b (action_inside known nothing_around [] 0 a names tt) (body_splits a h) s

@@ -1,44 +1,33 @@
--- The body of a ready program fits. Where it begins, the names that are visible are those of memories from outside, each
--- found by the number of its declaration, and of functions, of which there are none; no loop is round it.
-use Rattle.std.proofs.Common.{◌≡◌, ℕ, zero, suc, ◌+◌, ◌≤◌, Bool, true, false, if◌then◌else◌, List, [], ◌∷◌, ◌++◌, length, map, Some, None, refl, ap, sym, ◌∙◌, subst, arith}
+-- The body of a ready program fits: where it begins, no loop is round it, and the names that are visible are known.
+use Rattle.std.proofs.Common.{◌≡◌, ℕ, ◌≤◌, List, [], length, None, refl, ap, sym, arith}
 use Rattle.std.proofs.lemmas.List.{append-nil}
-use Rattle.std.specs.Prelude.{slice_get}
-use Rattle.std.specs.List.{AllByRecursion}
-use Rattle.dh_base.specs.declared.limits.Limit.TheVariants as limit
-use Rattle.dh_value.specs.Words.{IsKind}
 use Rattle.dh_tree.specs.declared.trees.counters.Counter.{Counter}
-use Rattle.dh_tree.specs.declared.trees.programs.Sort.TheVariants as sort
 use Rattle.dh_tree.specs.Breaches.{breaches, items_breaches, functions_breaches}
 use Rattle.dh_tree.specs.Counters.{counters_of}
-use Rattle.dh_tree.specs.Elements.{banks_of}
-use Rattle.dh_tree.specs.Excesses.{copies_excess, first_above}
+use Rattle.dh_tree.specs.Excesses.{copies_excess}
 use Rattle.dh_tree.specs.Forms.{unbuilt_functions}
-use Rattle.dh_tree.specs.Indices.{shape_breaches, action_index_breaches, decls_shape_breaches, shape_keeps}
+use Rattle.dh_tree.specs.Indices.{action_index_breaches, decls_shape_breaches}
 use Rattle.dh_tree.specs.KindBreaches.{action_kind_breaches, functions_kind_breaches}
-use Rattle.dh_tree.specs.Kinds.{of_memory, Facts, declared_facts, function_fact, first_facts, body_facts, facts_after_functions, typed_functions, typed_action, typed_action_form}
-use Rattle.dh_tree.specs.LeastBreach.{is_before}
-use Rattle.dh_tree.specs.Memories.{Memory, outside_memory, locals, memories_of}
-use Rattle.dh_tree.specs.PlainTrees.{Action, action, Declared, Defined, Program}
-use Rattle.dh_tree.specs.Resolved.{resolved_decls, resolved_action, resolved_form}
-use Rattle.dh_tree.specs.Scopes.{Binding, bind, Scope, entity, after_functions, Item, memory_items, function_items, merged, items_of, after_items, first_scope, body_scope, last_scope}
+use Rattle.dh_tree.specs.Kinds.{Facts, first_facts, body_facts, typed_action, typed_action_form}
+use Rattle.dh_tree.specs.Memories.{memories_of}
+use Rattle.dh_tree.specs.PlainTrees.{Action, action, Program}
+use Rattle.dh_tree.specs.Resolved.{resolved_action, resolved_form}
+use Rattle.dh_tree.specs.Scopes.{Scope, items_of, first_scope, body_scope, last_scope}
 use Rattle.dh_tree.specs.TextNumbers.{HasTextNumbers}
 use Rattle.dh_tree.specs.Widths.{ActionSized}
-use Rattle.dh_tree.proofs.ShapeRules.{shape_without}
-use Rattle.dh_runnable.proofs.ElementsFound.{Sees, sees_later}
-use Rattle.dh_tree.proofs.UncheckedBuilt.{first_none, second_none, not_none}
+use Rattle.dh_tree.proofs.UncheckedBuilt.{second_none}
 use Rattle.dh_meaning.specs.CoreOf.{Known, known_of}
 use Rattle.dh_tree.specs.Ready.{IsReady}
 use Rattle.dh_tree.specs.UncheckedForms.{unchecked_action}
-use Rattle.dh_sound.proofs.FactsGrow.{appended, InStep}
-use Rattle.dh_sound.proofs.KindsOfPrograms.{functions_grow, body_in_step, map_long, mapped_at, behind_at, next_number}
+use Rattle.dh_sound.proofs.FactsGrow.{InStep}
+use Rattle.dh_sound.proofs.KindsOfPrograms.{body_in_step}
 use Rattle.dh_code.specs.Declarations.{declarations, placing_of}
-use Rattle.dh_runnable.specs.ReadyRuns.{TellsEnough}
 use Rattle.dh_code.specs.Slots.{Placing}
 use Rattle.dh_runnable.proofs.DeclarationsFound.{ArePlaced, placed}
-use Rattle.dh_runnable.proofs.MemoriesFound.{Declares, finds, decl_found, decls_seen}
-use Rattle.dh_runnable.proofs.NamesKnown.{IsKnownName, Knows, still_known, bind_known}
+use Rattle.dh_runnable.proofs.MemoriesFound.{Declares, finds}
+use Rattle.dh_runnable.proofs.NamesKnown.{Knows}
+use Rattle.dh_runnable.proofs.ProgramsRun.{body_known, body_sees, resolved_body, typed_body}
 use Rattle.dh_runnable.proofs.TermsSuited.{indexed}
-use Rattle.dh_runnable.proofs.TurnsCounted.{first_within, second_within}
 use Rattle.dh_runnable.proofs.VariablesPlaced.{all_same}
 use Rattle.dh_sound.specs.AssignsInside.{AssignsInside}
 use Rattle.dh_sound.specs.NamesInScope.{IsScoped}
@@ -51,132 +40,15 @@ use Rattle.dh_typed_blocks.specs.PlainPrograms.{AssignsPlain}
 use Rattle.dh_typed_blocks.proofs.Fitting.{Fits}
 use Rattle.dh_typed_blocks.proofs.SimplePrograms.{body_simple}
 use Rattle.dh_typed_blocks.specs.PlainPrograms.{AreFew}
-
--- Names where the body begins.
-
-module _ (known : Known) (p : Placing) (facts : Facts) where
-  -- something is known of what an item of a program declares
-  abbrev ItemsKnown : List Item → Type 0
-  ItemsKnown items = AllByRecursion (λ (i : Item). IsKnownName known p [] facts i.entity) items
-
-  merged_known : (ms fs : List Item) → ItemsKnown ms → ItemsKnown fs → ItemsKnown (merged ms fs)
-  merged_known [] fs h i = i
-  merged_known (m ∷ ms) [] h i = h
-  merged_known (m ∷ ms) (f ∷ fs) h i = by (is_before f.name.place m.name.place) (merged_known (m ∷ ms) fs h i.1) (merged_known ms (f ∷ fs) h.1 i)
-    where
-      by : (b : Bool) → ItemsKnown (merged (m ∷ ms) fs) → ItemsKnown (merged ms (f ∷ fs)) → ItemsKnown (if b then f ∷ merged (m ∷ ms) fs else m ∷ merged ms (f ∷ fs))
-      by true g k = (i.0, g)
-      by false g k = (h.0, k)
-
-  after_known : (bs : List Binding) (items : List Item) → Knows known p [] facts bs → ItemsKnown items → Knows known p [] facts (after_items bs items)
-  after_known bs [] k h = k
-  after_known bs (i ∷ is) k h = after_known (bind bs i.name.name i.entity) is (bind_known known p [] facts bs i.name.name i.entity k h.0) h.1
-
-  front : (n : ℕ) → n + 0 ≡ n
-  front n = omega arith
-
-  memories_known : (n : ℕ) (ds : List Declared) → ((i : ℕ) (d : Declared) → slice_get ds i ≡ Some d → IsKnownName known p [] facts (n + i)) → ItemsKnown (memory_items n ds)
-  memories_known n [] h = tt
-  memories_known n (d ∷ ds) h = (
-    subst (λ (k : ℕ). IsKnownName known p [] facts k) (front n) (h 0 d refl),
-    memories_known (n + 1) ds (λ i x e. subst (λ (k : ℕ). IsKnownName known p [] facts k) (sym (next_number n i)) (h (suc i) x e)),
-  )
-
-  functions_known : (n : ℕ) (fs : List Defined) → ((i : ℕ) (f : Defined) → slice_get fs i ≡ Some f → IsKnownName known p [] facts (n + i)) → ItemsKnown (function_items n fs)
-  functions_known n [] h = tt
-  functions_known n (f ∷ fs) h = (
-    subst (λ (k : ℕ). IsKnownName known p [] facts k) (front n) (h 0 f refl),
-    functions_known (n + 1) fs (λ i x e. subst (λ (k : ℕ). IsKnownName known p [] facts k) (sym (next_number n i)) (h (suc i) x e)),
-  )
-
--- each declaration has a kind of 1 to 64 bits, and a shape that keeps the rules
-sized_at : (ds : List Declared) (n : ℕ) (d : Declared) → AllByRecursion (λ (d : Declared). IsKind d.shape.kind) ds → slice_get ds n ≡ Some d → IsKind d.shape.kind
-sized_at [] n d h e = absurd cc
-sized_at (x ∷ ds) zero d h e = let same : x ≡ d = cc in subst (λ (y : Declared). IsKind y.shape.kind) same h.0
-sized_at (x ∷ ds) (suc n) d h e = sized_at ds n d h.1 e
-
-kept_at : (ds : List Declared) (n : ℕ) (d : Declared) → decls_shape_breaches ds ≡ [] → slice_get ds n ≡ Some d → shape_keeps d.shape ≡ true
-kept_at [] n d h e = absurd cc
-kept_at (x ∷ ds) zero d h e =
-    let same : x ≡ d = cc in
-    subst (λ (y : Declared). shape_keeps y.shape ≡ true) same (shape_without x.shape x.shape_places (first_none (shape_breaches x.shape x.shape_places) _ h))
-kept_at (x ∷ ds) (suc n) d h e = kept_at ds n d (second_none (shape_breaches x.shape x.shape_places) _ h) e
-
-none_before : (i : ℕ) → 0 + i ≡ i
-none_before i = omega arith
-
-body_known : (q : Program) (p : Placing) → TellsEnough q → Knows (known_of q) p [] (body_facts q) (body_scope q).visible
-body_known q p h =
-    still_known (known_of q) p [] (first_facts q) (body_facts q) (body_scope q).visible (functions_grow (first_facts q) q.functions)
-    (after_known (known_of q) p (first_facts q) [] (items_of q) (λ name n e. absurd cc)
-    (merged_known (known_of q) p (first_facts q) (memory_items 0 q.decls) (function_items (length q.decls) q.functions)
-    (memories_known (known_of q) p (first_facts q) 0 q.decls outside)
-    (functions_known (known_of q) p (first_facts q) (length q.decls) q.functions functions)))
-  where
-    long : length (declared_facts q.decls) ≡ length q.decls
-    long = map_long (λ (d : Declared). of_memory (Some d.shape.kind) (length d.shape.dims)) q.decls
-
-    numbers : resolved_decls 0 q.decls ≡ q.decls
-    numbers = ap (λ (x : Program). x.decls) h.entities
-
-    outside : (i : ℕ) (d : Declared) → slice_get q.decls i ≡ Some d → IsKnownName (known_of q) p [] (first_facts q) (0 + i)
-    outside i d e = record {
-      fact = of_memory (Some d.shape.kind) (length d.shape.dims);
-      is = ap (slice_get (first_facts q)) (none_before i)
-          ∙ appended (declared_facts q.decls) (map function_fact q.functions) i _ (mapped_at (λ (d : Declared). of_memory (Some d.shape.kind) (length d.shape.dims)) q.decls i d e);
-      good = record {
-        memory = outside_memory d;
-        is = decl_found 0 q.decls (locals q.body) i (0 + i) d numbers e refl;
-        kind = refl;
-        sized = sized_at q.decls i d h.widths.decls e;
-        keeps = kept_at q.decls i d (first_none (decls_shape_breaches q.decls) _ h.indices) e;
-      };
-    }
-
-    functions : (i : ℕ) (f : Defined) → slice_get q.functions i ≡ Some f → IsKnownName (known_of q) p [] (first_facts q) (length q.decls + i)
-    functions i f e = record {
-      fact = function_fact f;
-      is = ap (λ n. slice_get (first_facts q) (n + i)) (sym long)
-          ∙ (behind_at (declared_facts q.decls) (map function_fact q.functions) i ∙ mapped_at function_fact q.functions i f e);
-      good = tt;
-    }
-
--- Memories where the body begins.
-
-no_functions : (fs : List Defined) → unbuilt_functions fs ≡ [] → fs ≡ []
-no_functions [] e = refl
-no_functions (f ∷ fs) e = not_none _ _ e
-
-body_size : (q : Program) → TellsEnough q → length (body_scope q).entities ≡ length q.decls
-body_size q h =
-    let none : q.functions ≡ [] = no_functions q.functions (first_none (unbuilt_functions q.functions) _ h.built) in
-    ap (λ (fs : List Defined). length (after_functions (length q.decls) (record { visible = []; entities = map (λ d. entity d.name sort.Memory) q.decls ++ map (λ f. entity f.name sort.Function) fs }) fs).entities) none
-    ∙ (ap length (append-nil (map (λ d. entity d.name sort.Memory) q.decls)) ∙ map_long (λ d. entity d.name sort.Memory) q.decls)
-
-body_sees : (q : Program) → TellsEnough q → Sees (memories_of q) (length (body_scope q).entities) (locals q.body ++ [])
-body_sees q h =
-    let numbers : resolved_decls 0 q.decls ≡ q.decls = ap (λ (x : Program). x.decls) h.entities in
-    let size = body_size q h in
-    subst (λ (ms : List Memory). Sees (memories_of q) (length (body_scope q).entities) ms) (sym (append-nil (locals q.body)))
-    (sees_later (memories_of q) (0 + length q.decls) (length (body_scope q).entities) (locals q.body) (omega (arith, size)) (decls_seen 0 q.decls (locals q.body) numbers))
-
--- Bodies.
-
-typed_body : (q : Program) → TellsEnough q → typed_action (body_facts q) q.body ≡ q.body
-typed_body q h =
-    let functions : typed_functions (first_facts q) q.functions ≡ q.functions = ap (λ (x : Program). x.functions) h.kinds in
-    let body : typed_action (facts_after_functions (first_facts q) (typed_functions (first_facts q) q.functions)) q.body ≡ q.body = ap (λ (x : Program). x.body) h.kinds in
-    ap (λ fs. typed_action (facts_after_functions (first_facts q) fs) q.body) (sym functions) ∙ body
-
-resolved_body : (q : Program) → TellsEnough q → resolved_action (body_scope q) q.body ≡ q.body
-resolved_body q h = ap (λ (x : Program). x.body) h.entities
+use Rattle.dh_typed_blocks.proofs.ProgramsEnough.{enough}
+use Rattle.dh_typed_blocks.proofs.ReducersWhole.{JoinsWhole, ready_whole}
 
 -- a body of which each walk tells its own
 body_fits : (known : Known) (counters : List Counter) (p : Placing) (few : AreFew known) (a : Action) (facts : Facts) (s : Scope) → InStep s facts → Knows known p [] facts s.visible
     → typed_action facts a ≡ a → resolved_action s a ≡ a → breaches s a ≡ [] → action_kind_breaches facts a ≡ [] → action_index_breaches (indexed known counters) a ≡ [] → unchecked_action a ≡ []
     → ActionSized a → copies_excess 1 a ≡ None → HasTextNumbers a → ArePlaced known p [] a → Declares known.memories a
-    → IsScoped known [] a → AssignsInside known 0 a → IsSimple a → IsNamedAction a → AssignsPlain known a → Fits known p [] a
-body_fits known counters p few (action id place form) facts s l k typed named visible kinds indices forms sized copies numbers places declares sc asg si na pl =
+    → IsScoped known [] a → AssignsInside known 0 a → JoinsWhole known 0 a → IsSimple a → IsNamedAction a → AssignsPlain known a → Fits known p [] a
+body_fits known counters p few (action id place form) facts s l k typed named visible kinds indices forms sized copies numbers places declares sc asg wh si na pl =
     let form_typed : typed_action_form facts form ≡ form = cc in
     let form_named : resolved_form s form ≡ form = cc in
     form_fits known counters p few form [] facts s place l k (record {
@@ -191,26 +63,7 @@ body_fits known counters p few (action id place form) facts s l k typed named vi
       numbers = numbers;
       placed = places;
       declares_memories = declares;
-    }) sc asg si na pl tt
-
--- what the interpreter asks is told of a ready program
-enough : (q : Program) → IsReady q → TellsEnough q
-enough q r =
-    let dims = second_within (first_above limit.Dimensions (λ (m : Memory). length m.shape.dims) (memories_of q)) _ r.limits in
-    let banks = second_within (first_above limit.Banks (λ (m : Memory). banks_of m.shape.dims) (memories_of q)) _ dims in
-    let ports = second_within (first_above limit.Ports (λ (m : Memory). m.shape.ports) (memories_of q)) _ banks in
-    record {
-      widths = r.of_text.widths;
-      numbers = r.of_text.numbers;
-      declared = r.of_text.names;
-      built = r.built;
-      names = r.names;
-      entities = r.entities;
-      kinds = r.kinds;
-      suits = r.suits;
-      indices = r.indices;
-      copies = first_within (copies_excess 1 q.body) _ ports;
-    }
+    }) sc asg wh si na pl tt
 
 -- the body of a ready program fits, if its memories are few, it assigns inside its loops and to no iterators
 pub ready_fits : (q : Program) → IsReady q → AreFew (known_of q) → AssignsInside (known_of q) 0 q.body → AssignsPlain (known_of q) q.body → Fits (known_of q) (placing_of q) [] q.body
@@ -226,7 +79,7 @@ ready_fits q r few inside plain =
     (second_none (functions_kind_breaches (first_facts q) q.functions) _ h.suits)
     (second_none (decls_shape_breaches q.decls) _ h.indices)
     (second_none (unbuilt_functions q.functions) _ h.built)
-    h.widths.body h.copies h.numbers places memories.found (body_scoped q r) inside (body_simple q r) (ready_named q r) plain
+    h.widths.body h.copies h.numbers places memories.found (body_scoped q r) inside (ready_whole q r) (body_simple q r) (ready_named q r) plain
   where
     at_most : (m n : ℕ) → m ≡ n → m ≤ n
     at_most m n e = omega (arith, e)

@@ -1,11 +1,10 @@
 -- An expression of a typed program that breaks no rule on names, kinds or indices is sound: its kinds are as its operators
 -- give them, and its memories and banks have numbers of 32 bits. What is known of its names is asked of a premise, by
 -- what is known of the names that are visible. By recursion beside that of dh_runnable.
-use Rattle.std.proofs.Common.{◌≡◌, ℕ, ◌<◌, ◌≤◌, ◌^◌, Bool, true, false, if◌then◌else◌, List, Option, Some, None, refl, ap, sym, ◌∙◌, subst, arith}
+use Rattle.std.proofs.Common.{◌≡◌, ℕ, ◌<◌, ◌≤◌, ◌^◌, List, Option, Some, None, refl, ap, sym, ◌∙◌, subst, arith}
 use Rattle.dh_base.specs.declared.places.Place.{Place}
 use Rattle.dh_value.specs.declared.kinds.Kind.{Kind}
 use Rattle.dh_value.specs.declared.kinds.Kind.TheVariants as kind
-use Rattle.dh_value.specs.declared.operators.Op.{Op}
 use Rattle.dh_tree.specs.declared.breaches.Breach.{Breach}
 use Rattle.dh_tree.specs.declared.trees.counters.Counter.{Counter}
 use Rattle.dh_tree.specs.declared.trees.expressions.Ref.{Ref}
@@ -13,7 +12,7 @@ use Rattle.dh_tree.specs.Breaches.{unknown, term_breaches}
 use Rattle.dh_tree.specs.Indices as places
 use Rattle.dh_tree.specs.Indices.{kept_dims, physical_breaches, term_index_breaches}
 use Rattle.dh_tree.specs.KindBreaches.{term_kind_breaches}
-use Rattle.dh_tree.specs.Kinds.{Fact, of_variable, of_iterator, of_memory, of_function, Facts, fact_of, for_numbers, is_shift, keeps_bare, is_bare, found, place_of, left_want, right_want, applied_kind, applied_breaches, value_kind, index_breaches, access_breaches, bank_breaches, cast_breaches, typed_term, typed_terms}
+use Rattle.dh_tree.specs.Kinds.{Fact, of_variable, of_iterator, of_memory, of_function, Facts, fact_of, for_numbers, is_bare, found, place_of, left_want, right_want, applied_kind, applied_breaches, value_kind, index_breaches, access_breaches, bank_breaches, cast_breaches, typed_term, typed_terms}
 use Rattle.dh_tree.specs.Memories.{memory_in}
 use Rattle.dh_tree.specs.PlainTrees.{Term, term, TermForm, number, truth_value, named, accessed, in_bank, applied, converted, Terms, no_terms, term_then}
 use Rattle.dh_tree.specs.Resolved.{used, resolved_term, resolved_terms}
@@ -25,52 +24,19 @@ use Rattle.dh_meaning.specs.CoreOf.{Known, memory_of}
 use Rattle.dh_sound.specs.SameKeys.{EachName, EachNameOf}
 use Rattle.dh_runnable.specs.ActionsRun.{table_in}
 use Rattle.dh_runnable.proofs.NamesKnown.{IsVariable, IsGood, Knows, name_known, fact_is}
-use Rattle.dh_runnable.proofs.TermsSuited.{indexed, IsReady, AreReady, IsKnown, known_sized, term_known}
+use Rattle.dh_runnable.proofs.TermsSuited.{indexed, IsReady, AreReady, IsKnown, term_known}
 use Rattle.dh_runnable.proofs.TypedParts.{for_numbers_sized, typed_parts}
 use Rattle.dh_code.specs.Slots.{Placing}
 use Rattle.dh_blocks.specs.SoundTerms.{IsSound, IsSoundForm, AreSound}
 use Rattle.dh_typed_blocks.specs.PlainPrograms.{AreFew}
 use Rattle.dh_typed_blocks.proofs.KindsGiven.{gives, gives_written, applied_known}
-
-either_sized : (b : Bool) (j k : Option Kind) → IsSized j → IsSized k → IsSized (if b then j else k)
-either_sized true j k h i = h
-either_sized false j k h i = i
-
-amount_sized : IsSized (Some (kind.Unsigned 32))
-amount_sized = (omega arith, omega arith)
+use Rattle.dh_typed_blocks.proofs.OperandsRight.{operands_right}
 
 below_more : (a b c : ℕ) → a < b → b ≤ c → a < c
 below_more a b c l m = omega (arith, l, m)
 
 module _ (known : Known) (p : Placing) (loops : List ℕ) (few : AreFew known) (Near : Ref → Type 0) (Name : Ref → Kind → Type 0)
     (to_name : (r : Ref) (n : ℕ) (k : Kind) → r.entity ≡ Some n → IsVariable known p loops n k → Near r → Name r k) where
-  -- an expression of which a kind is known
-  abbrev pub IsRight : Term → Type 0
-  IsRight t = IsKnown known p loops t × IsSound known (table_in known) Name t
-
-  right_sized : (t : Term) → IsRight t → IsSized (found t)
-  right_sized t k = known_sized known p loops t k.0
-
-  -- both operands are right where each is for a sized kind of its place
-  operands_right : (facts : Facts) (o : Op) (want : Option Kind) (left right : Term) (bare_left bare_right : Bool)
-      → IsSized want
-      → ((w : Option Kind) → IsSized w → typed_term facts w left ≡ left → IsRight left)
-      → ((w : Option Kind) → IsSized w → typed_term facts w right ≡ right → IsRight right)
-      → typed_term facts (left_want o want bare_left bare_right (found (typed_term facts None right))) left ≡ left
-      → typed_term facts (right_want o want bare_left bare_right (found (typed_term facts None left))) right ≡ right
-      → IsRight left × IsRight right
-  operands_right facts o want left right false false s l r e f = (l None tt e, r None tt f)
-  operands_right facts o want left right false true s l r e f =
-      let first = l None tt e in
-      let sized : IsSized (found (typed_term facts None left)) = subst (λ (t : Term). IsSized (found t)) (sym e) (right_sized left first) in
-      (first, r _ (either_sized (is_shift o) _ _ amount_sized (for_numbers_sized _ sized)) f)
-  operands_right facts o want left right true false s l r e f =
-      let second = r None tt f in
-      let sized : IsSized (found (typed_term facts None right)) = subst (λ (t : Term). IsSized (found t)) (sym f) (right_sized right second) in
-      (l _ (either_sized (is_shift o) _ _ tt (for_numbers_sized _ sized)) e, second)
-  operands_right facts o want left right true true s l r e f =
-      (l _ (either_sized (keeps_bare o) _ _ s tt) e, r _ (either_sized (is_shift o) _ _ amount_sized (either_sized (keeps_bare o) _ _ s tt)) f)
-
   -- a form that is sound at the kind that was found
   of_form : (place : Place) (m : Option Kind) (k : Kind) (form : TermForm) → m ≡ Some k → IsSoundForm known (table_in known) Name k form → IsSound known (table_in known) Name (term place m form)
   of_form place m k form e s = subst (λ (j : Kind). IsSoundForm known (table_in known) Name j form) (sym (ap kind_or_first e)) s
@@ -153,7 +119,7 @@ module _ (known : Known) (p : Placing) (loops : List ℕ) (few : AreFew known) (
             indices = second_none (term_index_breaches (indexed known counters) left) _ h.indices;
             sized = h.sized.1;
           } in
-          let both = operands_right facts o want left right (is_bare left) (is_bare right) s
+          let both = operands_right known p loops (IsSound known (table_in known) Name) facts o want left right (is_bare left) (is_bare right) s
           (λ w z f. (term_known known p loops counters facts bs k w z left f left_ready, term_sound facts bs k w z left f left_ready near.0))
           (λ w z f. (term_known known p loops counters facts bs k w z right f right_ready, term_sound facts bs k w z right f right_ready near.1))
           left_typed right_typed in

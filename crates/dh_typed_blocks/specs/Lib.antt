@@ -1,4 +1,5 @@
 pub mod SimpleBlocks
 pub mod PlainPrograms
+pub mod TypedTerms
 pub mod ScenesTold
 pub mod SoundBlocks

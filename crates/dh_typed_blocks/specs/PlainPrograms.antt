@@ -1,11 +1,11 @@
--- What is asked of a program beside the rules on names, kinds and shapes so that its blocks are sound: that its memories are few,
--- that no command assigns to an iterator, and that its reducers are those of a text.
+-- What holds of a program beside the rules on names, kinds and shapes so that its blocks are sound: its memories are few, no
+-- command assigns to an iterator, and its reducers are those of a text.
 use Rattle.std.specs.Prelude.{ℕ, ◌≤◌, ◌^◌, length}
 use Rattle.dh_tree.specs.declared.trees.expressions.Ref.{Ref}
 use Rattle.dh_tree.specs.Elements.{banks_of, dims_at}
-use Rattle.dh_tree.specs.PlainTrees.{Action, action, ActionForm, lets, lets_memory, views, assigns, stores, reduces, calls, blocks, decides, repeats, counts, MaybeAction, no_action, one_action, Actions, no_actions, action_then, Groups, no_groups, group_then}
+use Rattle.dh_tree.specs.PlainTrees.{Term, term, number, truth_value, named, accessed, in_bank, applied, converted, Action, action, ActionForm, lets, lets_memory, views, assigns, stores, reduces, calls, blocks, decides, repeats, counts, MaybeAction, no_action, one_action, Actions, no_actions, action_then, Groups, no_groups, group_then}
 use Rattle.dh_meaning.specs.Bindings.{binding_in}
-use Rattle.dh_meaning.specs.CoreOf.{Known, entity_number}
+use Rattle.dh_meaning.specs.CoreOf.{Known, depth_of, entity_number}
 use Rattle.dh_runnable.specs.ActionsRun.{table_in}
 use Rattle.dh_sound.specs.SameKeys.{IsNoIterator}
 use Rattle.dh_tree.specs.TextNumbers.{Reduces}
@@ -15,8 +15,7 @@ pub record AreFew (known : Known) : Type 0 where
   pub memories : length (table_in known) ≤ 2 ^ 32
   pub banks : (memory : ℕ) → banks_of (dims_at (table_in known) memory) ≤ 2 ^ 32
 
--- What no pass tells of a ready program by the rules on kinds: a command assigns to no iterator, and a reducer is one of
--- those that a text has.
+-- A command assigns to no iterator, and a reducer is one of those that a text has.
 module _ (known : Known) where
   abbrev pub IsPlainTarget : Ref → Type 0
   IsPlainTarget r = IsNoIterator (binding_in known.bindings (entity_number r.entity))
@@ -50,32 +49,12 @@ module _ (known : Known) where
     PartPlain no_actions = Unit {0}
     PartPlain (action_then a rest) = AssignsPlain a × PartPlain rest
 
--- each reducer is one that a text has
-abbrev mutual
-  pub ReducersWritten : Action → Type 0
-  ReducersWritten (action id place form) = FormWritten form
-
-  pub FormWritten : ActionForm → Type 0
-  FormWritten (lets name declared value) = Unit {0}
-  FormWritten (lets_memory name shape shape_places value) = Unit {0}
-  FormWritten (views name parent form) = Unit {0}
-  FormWritten (assigns target value) = Unit {0}
-  FormWritten (stores target value) = Unit {0}
-  FormWritten (reduces target o value) = Reduces o
-  FormWritten (calls function arguments) = Unit {0}
-  FormWritten (blocks body) = GroupsWritten body
-  FormWritten (decides test chosen other) = ReducersWritten chosen × OtherWritten other
-  FormWritten (repeats test body) = ReducersWritten body
-  FormWritten (counts iterator declared low high factor body combine combine_place) = ReducersWritten body × OtherWritten combine
-
-  pub OtherWritten : MaybeAction → Type 0
-  OtherWritten no_action = Unit {0}
-  OtherWritten (one_action a) = ReducersWritten a
-
-  pub GroupsWritten : Groups → Type 0
-  GroupsWritten no_groups = Unit {0}
-  GroupsWritten (group_then part rest) = PartWritten part × GroupsWritten rest
-
-  pub PartWritten : Actions → Type 0
-  PartWritten no_actions = Unit {0}
-  PartWritten (action_then a rest) = ReducersWritten a × PartWritten rest
+-- what a reducer puts together is a variable that is declared inside so many loops
+abbrev pub IsWholeTerm : Known → (depth : ℕ) → Term → Type 0
+IsWholeTerm known depth (term place k (named r)) = IsPlainTarget known r × (depth ≤ depth_of known r)
+IsWholeTerm known depth (term place k (number negative x)) = ⊥
+IsWholeTerm known depth (term place k (truth_value x)) = ⊥
+IsWholeTerm known depth (term place k (accessed r ts)) = ⊥
+IsWholeTerm known depth (term place k (in_bank r bank at t)) = ⊥
+IsWholeTerm known depth (term place k (applied o l r)) = ⊥
+IsWholeTerm known depth (term place k (converted t to)) = ⊥

@@ -1,17 +1,17 @@
 -- That the blocks of a ready program are sound, as the laws on made blocks ask, where the scene and the plan are of it.
-use Rattle.std.specs.Prelude.{◌≡◌, ◌⊎◌, ℕ, ◌≤◌, List, [], length, map, Some}
+use Rattle.std.specs.Prelude.{◌≡◌, ◌⊎◌, List, [], ◌++◌, map, Some}
 use Rattle.std.specs.List.{AllByRecursion}
-use Rattle.dh_tree.specs.PlainTrees.{Term, term, number, truth_value, named, accessed, in_bank, applied, converted, ActionForm, lets, lets_memory, views, assigns, stores, reduces, calls, blocks, decides, repeats, counts}
+use Rattle.dh_tree.specs.PlainTrees.{Term}
 use Rattle.dh_tree.specs.Memories.{table_of}
 use Rattle.dh_tree.specs.Ready.{IsReady}
 use Rattle.dh_tree.specs.Seen.{program_seen}
 use Rattle.dh_meaning.specs.Core.{Turning}
-use Rattle.dh_meaning.specs.CoreOf.{Known, core_of, depth_of, form_of, test_of}
+use Rattle.dh_meaning.specs.CoreOf.{core_of, form_of, test_of}
 use Rattle.dh_meaning.specs.Effects.{Block}
 use Rattle.dh_meaning.specs.Phases.{Located}
 use Rattle.dh_plan.specs.Correspondence.{Round}
 use Rattle.dh_plan.specs.PlainPlans.{PlainPlan}
-use Rattle.dh_sound.specs.Blocks.{factors, StandsIn}
+use Rattle.dh_sound.specs.Blocks.{StandsIn}
 use Rattle.dh_sound.specs.BlocksOfPhases.{OfStraight, OfTest}
 use Rattle.dh_sound.specs.SimpleForms.{IsSimple}
 use Rattle.dh_expressions.specs.declared.scenes.Around.{Around}
@@ -19,34 +19,8 @@ use Rattle.dh_expressions.specs.declared.scenes.Scene.{Scene}
 use Rattle.dh_expressions.specs.Evaluated.{known_in}
 use Rattle.dh_blocks.specs.BlockMade.{AreSoundHere, IsTop}
 use Rattle.dh_blocks.specs.TestMade.{IsSoundTest}
-use Rattle.dh_typed_blocks.specs.PlainPrograms.{IsPlainTarget, ReducersWritten}
 use Rattle.dh_typed_blocks.specs.ScenesTold.{TellsScene, AreRoundsTold}
-
--- what a reducer puts together is a variable that is declared inside so many loops
-abbrev pub IsWholeTerm : Known → (depth : ℕ) → Term → Type 0
-IsWholeTerm known depth (term place k (named r)) = IsPlainTarget known r × (depth ≤ depth_of known r)
-IsWholeTerm known depth (term place k (number negative x)) = ⊥
-IsWholeTerm known depth (term place k (truth_value x)) = ⊥
-IsWholeTerm known depth (term place k (accessed r ts)) = ⊥
-IsWholeTerm known depth (term place k (in_bank r bank at t)) = ⊥
-IsWholeTerm known depth (term place k (applied o l r)) = ⊥
-IsWholeTerm known depth (term place k (converted t to)) = ⊥
-
-abbrev pub IsWholeFold : Known → (depth : ℕ) → ActionForm → Type 0
-IsWholeFold known depth (reduces target o value) = IsWholeTerm known depth value
-IsWholeFold known depth (lets name declared value) = ⊥
-IsWholeFold known depth (lets_memory name shape shape_places value) = ⊥
-IsWholeFold known depth (views name parent form) = ⊥
-IsWholeFold known depth (assigns target value) = ⊥
-IsWholeFold known depth (stores target value) = ⊥
-IsWholeFold known depth (calls function arguments) = ⊥
-IsWholeFold known depth (blocks body) = ⊥
-IsWholeFold known depth (decides test chosen other) = ⊥
-IsWholeFold known depth (repeats test body) = ⊥
-IsWholeFold known depth (counts iterator declared low high factor body combine combine_place) = ⊥
-
-abbrev pub AreWhole : Known → (depth : ℕ) → List Located → Type 0
-AreWhole known depth folds = AllByRecursion (λ (c : Located). IsWholeFold known depth (form_of c.command)) folds
+use Rattle.dh_typed_blocks.specs.TypedTerms.{ActionTyped, IsTyped}
 
 abbrev pub loops_of : List Round → List Turning
 loops_of rounds = map (λ (r : Round). r.loop) rounds
@@ -58,18 +32,20 @@ pub record IsPlaceTold (scene : Scene) (around : Around) (plan : PlainPlan) (rou
   pub told : AreRoundsTold scene plan.registers rounds
   pub table : plan.table ≡ table_of (program_seen scene.program.now)
 
--- a block of straight commands is sound, if its reducers put variables together that are others in each copy
+-- a block of straight commands is typed and sound: its reducers put variables together that are others in each copy
 pub record StraightSound (scene : Scene) (around : Around) (plan : PlainPlan) (rounds : List Round) (block : Block) : Type 0 where
   pub of : OfStraight (program_seen scene.program.now) (loops_of rounds) block
   pub simple : AllByRecursion (λ (c : Located). IsSimple c.command) of.done
-  pub sound : AreWhole (known_in scene) (length (factors (loops_of rounds))) of.folds → AreSoundHere scene around plan rounds of.done of.folds
+  pub typed : AllByRecursion (λ (c : Located). ActionTyped (known_in scene) (table_of (program_seen scene.program.now)) c.command) (of.done ++ of.folds)
+  pub sound : AreSoundHere scene around plan rounds of.done of.folds
 
 pub record TestSound (scene : Scene) (around : Around) (plan : PlainPlan) (rounds : List Round) (block : Block) : Type 0 where
   pub of : OfTest (program_seen scene.program.now) (loops_of rounds) block
+  pub typed : (t : Term) → test_of (form_of of.tested.command) ≡ Some t → IsTyped (known_in scene) (table_of (program_seen scene.program.now)) t
   pub sound : (t : Term) → test_of (form_of of.tested.command) ≡ Some t → IsSoundTest scene around plan rounds t
 
 abbrev pub ReadyBlocksAreSound : (scene : Scene) (around : Around) (plan : PlainPlan) (rounds : List Round) → Type 0
 ReadyBlocksAreSound scene around plan rounds =
-    IsReady (program_seen scene.program.now) → ReducersWritten (program_seen scene.program.now).body
+    IsReady (program_seen scene.program.now)
     → IsPlaceTold scene around plan rounds → (block : Block) → StandsIn [] (core_of (program_seen scene.program.now)).phases (loops_of rounds) block
     → StraightSound scene around plan rounds block ⊎ TestSound scene around plan rounds block

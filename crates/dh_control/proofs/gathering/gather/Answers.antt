@@ -9,5 +9,8 @@ loop-entry-preserved g c =
     gather_step c.args.count c.loop-entry.entry-index c.loop-entry.lists.len c.loop-entry.lists.items c.as_mut_slice.result.now c.put.new.lists c.args.entries.now c.entry-item.result
     c.loop-entry-test.true c.entry-item.is c.loop-entry.lists.ok.0 c.as_mut_slice.ensures.value c.in_ok-put.ensures c.loop-entry.invariant
 
-pub returns : goal.returns
-returns g c = gather_end c.args.count c.loop-entry.entry-index c.loop-entry.lists.items c.args.entries.now c.loop-entry-test.false c.loop-entry.invariant
+pub returns-clause-each : goal.returns-clause-each
+returns-clause-each g c = gather_end c.args.count c.loop-entry.entry-index c.loop-entry.lists.items c.args.entries.now c.loop-entry-test.false c.loop-entry.invariant
+
+pub returns-clause-long : goal.returns-clause-long
+returns-clause-long g c = c.loop-entry.invariant.long

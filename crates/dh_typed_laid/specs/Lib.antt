@@ -1,0 +1,2 @@
+pub mod SuitingBlocks
+pub mod FormedBlocks

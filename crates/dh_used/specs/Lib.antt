@@ -1,0 +1,8 @@
+-- sites of accesses, and the accesses of the source
+pub mod SourceSites
+-- how often blocks use them
+pub mod UsedBlocks
+-- how often plans use them
+pub mod UsedPlans
+-- plans as they are made
+pub mod MadePlans
