@@ -1,2 +1,3 @@
 pub mod EntitiesKnown
 pub mod VariablesKept
+pub mod RoundsKnown

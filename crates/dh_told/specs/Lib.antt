@@ -1,1 +1,2 @@
 pub mod ScenesKnown
+pub mod PlansTold
