@@ -1,6 +1,6 @@
 -- The accesses of commands and tests of a ready program keep the rules on indices, in each step that does them.
 use Rattle.std.proofs.Common.{◌≡◌, ℕ, zero, suc, ◌+◌, ◌<◌, ◌≤◌, ◌^◌, List, length, Option, Some, None, refl, sym, ap, ◌∙◌, subst}
-use Rattle.std.specs.Prelude.{[], ◌∷◌, ◌++◌, slice_get}
+use Rattle.std.specs.Prelude.{true, false, [], ◌∷◌, ◌++◌, slice_get}
 use Rattle.std.specs.List.{AllByRecursion}
 use Rattle.dh_value.specs.declared.kinds.Kind.{Kind}
 use Rattle.dh_base.specs.declared.places.Place.{Place}
@@ -47,17 +47,17 @@ use Rattle.dh_reached.proofs.OppositeArms.{each_back, each_front}
 -- Accesses.
 
 -- indices of a memory of the program that keep the rules
-record IndicesOk (scene : Scene) (memory : ℕ) (ts : plain.Terms) : Type 0 where
-  dims : AllByRecursion IsDim (dims_at (table_of (program_seen scene.program.now)) memory)
-  few : banks_of (dims_at (table_of (program_seen scene.program.now)) memory) ≤ 2 ^ 32
-  kinds : AllHaveIndexKinds (counters_of (program_seen scene.program.now)) ts
-  keeps : indices_breaches (counters_of (program_seen scene.program.now)) (dims_at (table_of (program_seen scene.program.now)) memory) ts ≡ []
+pub record IndicesOk (scene : Scene) (memory : ℕ) (ts : plain.Terms) : Type 0 where
+  pub dims : AllByRecursion IsDim (dims_at (table_of (program_seen scene.program.now)) memory)
+  pub few : banks_of (dims_at (table_of (program_seen scene.program.now)) memory) ≤ 2 ^ 32
+  pub kinds : AllHaveIndexKinds (counters_of (program_seen scene.program.now)) ts
+  pub keeps : indices_breaches (counters_of (program_seen scene.program.now)) (dims_at (table_of (program_seen scene.program.now)) memory) ts ≡ []
 
-abbrev ElementOk : Scene → Option ℕ → Element → Type 0
+abbrev pub ElementOk : Scene → Option ℕ → Element → Type 0
 ElementOk scene entity (with_indices ts) = IndicesOk scene (entity_number (number_in (known_in scene).memories entity)) ts
 ElementOk scene entity (in_row bank row) = Unit {0}
 
-abbrev AccessOk : Scene → SourceAccess → Type 0
+abbrev pub AccessOk : Scene → SourceAccess → Type 0
 AccessOk scene a = ElementOk scene a.entity a.element
 
 each_from : (P : SourceAccess → Type 0) (es : List SourceEvent) → ((k : ℕ) (a : SourceAccess) → slice_get (accesses_in es) k ≡ Some a → P a) → EachAccess P es

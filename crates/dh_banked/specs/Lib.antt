@@ -1,0 +1,2 @@
+pub mod ReadsOfBlocks
+pub mod MadeBanks
