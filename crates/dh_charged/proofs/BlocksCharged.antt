@@ -1,8 +1,8 @@
 -- A block charges no more than the program, and so does a plan whose blocks are all so.
 use Rattle.std.proofs.Common.{◌≡◌, ◌⊎◌, inl, inr, ℕ, suc, ◌<◌, ◌≤◌, List, [], ◌∷◌, ◌++◌, length, Option, Some, None, refl, ap, sym, ◌∙◌, subst, arith, append_assoc}
-use Rattle.std.specs.Prelude.{true, max, slice_get}
+use Rattle.std.specs.Prelude.{true, drop, max, slice_get}
 use Rattle.std.specs.List.{AllByRecursion}
-use Rattle.std.proofs.lemmas.List.{append_cancel_left}
+use Rattle.std.proofs.Math.Seq.{drop-append_seam}
 use Rattle.dh_meaning.specs.Core.{CorePhase, straightly, turning, looping, choosing, CorePhases, no_core_phases, phase_and}
 use Rattle.dh_meaning.specs.Paths.{Path, copies_in}
 use Rattle.dh_meets.specs.Charges.{charge, picked}
@@ -18,7 +18,6 @@ use Rattle.dh_expressions.specs.declared.scenes.Around.{Around}
 use Rattle.dh_expressions.specs.declared.scenes.Scene.{Scene}
 use Rattle.dh_expressions.specs.Levels.{leader_number, path_at}
 use Rattle.dh_formed.specs.Formed.{Site}
-use Rattle.dh_formed.specs.WholeBlocks.{IsCut}
 use Rattle.dh_formed.proofs.ElementsFormed.{all_append}
 use Rattle.dh_commands.specs.LanesRun.{paths_counted}
 use Rattle.dh_commands.specs.ShownVariables.{factors_of}
@@ -26,7 +25,7 @@ use Rattle.dh_laid.specs.BlockSites.{block_sites, test_sites}
 use Rattle.dh_laid.specs.LaidUses.{AddsLedUses, AreLedUses, IsLeadersUse, PathsLead, used_to}
 use Rattle.dh_laid.proofs.BlocksUsed.{blocks_lead, tests_lead}
 use Rattle.dh_blocks.proofs.PathNumbers.{leader_leads, leader_within, number_is, some_copies}
-use Rattle.dh_charged.specs.ChargedBlocks.{BlocksCharge, EndsUnused, PlansCharge, StandsAtPaths, TestsCharge}
+use Rattle.dh_charged.specs.ChargedBlocks.{BlocksCharge, EndsUnused, IsCutFrom, PlansCharge, StandsAtPaths, TestsCharge}
 use Rattle.dh_charged.specs.ChargedUses.{OperationsCharge}
 use Rattle.dh_charged.proofs.KeysLed.{leader_key}
 use Rattle.dh_charged.proofs.UsesCharge.{led_uses_charge}
@@ -53,7 +52,7 @@ some_paths scene around s = subst (λ (n : ℕ). 0 < n) (sym s.counted) (some_co
 
 -- A block.
 
-module _ (scene : Scene) (plan : PlainPlan) (block : ℕ) (sites : ℕ → Option Site) (old new end : Draft) (uses : ℕ → ℕ) (led : AddsLedUses scene sites old new uses) (cut : IsCut plan block old end) (ends : EndsUnused new end) where
+module _ (scene : Scene) (plan : PlainPlan) (block : ℕ) (sites : ℕ → Option Site) (old new end : Draft) (uses : ℕ → ℕ) (led : AddsLedUses scene sites old new uses) (cut : IsCutFrom plan block old end) (ends : EndsUnused new end) where
   unused_led : (os : List Operation) → AllByRecursion (λ (o : Operation). use_in o.form ≡ None) os → AreLedUses scene sites os
   unused_led [] h = tt
   unused_led (o ∷ os) h = ((λ r e. absurd (lost r (sym h.0 ∙ e))), unused_led os h.1)
@@ -63,8 +62,9 @@ module _ (scene : Scene) (plan : PlainPlan) (block : ℕ) (sites : ℕ → Optio
 
   whole : operations_in plan block ≡ led.more ++ ends.more
   whole =
-      append_cancel_left old.operations.items (operations_in plan block) (led.more ++ ends.more)
-      (sym cut.operations ∙ (ends.adds ∙ (ap (λ (os : List Operation). os ++ ends.more) led.adds ∙ append_assoc old.operations.items led.more ends.more)))
+      cut
+      ∙ (ap (λ (os : List Operation). drop (length old.operations.items) os) (ends.adds ∙ (ap (λ (os : List Operation). os ++ ends.more) led.adds ∙ append_assoc old.operations.items led.more ends.more))
+      ∙ drop-append_seam old.operations.items (led.more ++ ends.more))
 
   pub block_led : AreLedUses scene sites (operations_in plan block)
   block_led =

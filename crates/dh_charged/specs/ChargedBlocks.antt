@@ -1,5 +1,5 @@
 -- What a block of a plan charges, and so what a plan charges: on no bank more than the program.
-use Rattle.std.specs.Prelude.{◌≡◌, ℕ, ◌+◌, ◌<◌, ◌^◌, List, [], ◌++◌, length, None}
+use Rattle.std.specs.Prelude.{◌≡◌, ℕ, ◌+◌, ◌<◌, ◌^◌, List, [], ◌++◌, drop, length, None}
 use Rattle.std.specs.List.{AllByRecursion}
 use Rattle.dh_tree.specs.PlainTrees.{Program, Term}
 use Rattle.dh_tree.specs.Seen.{program_seen}
@@ -15,7 +15,6 @@ use Rattle.dh_plan.specs.SoundPlans.{IsOneOf, blocks_of, use_in}
 use Rattle.dh_expressions.specs.declared.drafts.Draft.{Draft}
 use Rattle.dh_expressions.specs.declared.scenes.Around.{Around}
 use Rattle.dh_expressions.specs.declared.scenes.Scene.{Scene}
-use Rattle.dh_formed.specs.WholeBlocks.{IsCut}
 use Rattle.dh_commands.specs.declared.buildings.Building.{Building}
 use Rattle.dh_commands.specs.LanesRun.{paths_counted}
 use Rattle.dh_commands.specs.MadeCommands.{MadeTests}
@@ -32,6 +31,10 @@ pub record StandsAtPaths (scene : Scene) (around : Around) : Type 0 where
   pub spread : AreSpread around.levels.now
   pub counted : paths_counted around ≡ copies_in (factors_of around.levels.now)
 
+-- the operations of a block are those behind a draft
+abbrev pub IsCutFrom : PlainPlan → (block : ℕ) → (old end : Draft) → Type 0
+IsCutFrom plan block old end = operations_in plan block ≡ drop (length old.operations.items) end.operations.items
+
 -- behind what was put down for its commands, a block reads and writes nothing
 pub record EndsUnused (d e : Draft) : Type 0 where
   pub more : List Operation
@@ -43,7 +46,7 @@ abbrev pub BlocksCharge : Type 0
 BlocksCharge =
     (scene : Scene) (plan : PlainPlan) (block : ℕ) (around : Around) (cs : List Located) (old new : Building) (end : Draft) (m : MadeEach scene around cs old new)
     → StandsAtPaths scene around → AreAlong 0 cs → WritesAlone scene cs → SharesInside scene (block_sites scene around cs old new m) → HaveNoOperations (block_sites scene around cs old new m) old.accesses
-    → HasShares scene → AreSitesAt scene around.levels.now (block_sites scene around cs old new m) → IsCut plan block old.draft end → EndsUnused new.draft end
+    → HasShares scene → AreSitesAt scene around.levels.now (block_sites scene around cs old new m) → IsCutFrom plan block old.draft end → EndsUnused new.draft end
     → OperationsCharge (program_seen scene.program.now) (operations_in plan block)
 
 -- a block of a test
@@ -52,7 +55,7 @@ TestsCharge =
     (scene : Scene) (plan : PlainPlan) (block : ℕ) (around : Around) (first : ℕ) (t : Term) (old new : Building) (end : Draft) (next : ℕ) (tests : List ℕ)
     → MadeTests scene around first t (paths_counted around) old new next tests → StandsAtPaths scene around → first + term_accesses t < 2 ^ 32
     → SharesInside scene (test_sites scene around first t) → HaveNoOperations (test_sites scene around first t) old.accesses
-    → HasShares scene → AreSitesAt scene around.levels.now (test_sites scene around first t) → IsCut plan block old.draft end → EndsUnused new.draft end
+    → HasShares scene → AreSitesAt scene around.levels.now (test_sites scene around first t) → IsCutFrom plan block old.draft end → EndsUnused new.draft end
     → OperationsCharge (program_seen scene.program.now) (operations_in plan block)
 
 -- Plans.

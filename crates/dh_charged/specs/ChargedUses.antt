@@ -43,7 +43,7 @@ pub record TellsAccess (scene : Scene) (levels : List Level) (site : Site) (a : 
   pub loops : AreLevelsOf levels a.site.loops
 
 -- an access is of a memory that is declared; memories and banks are few
-pub record IsOfMemory (p : Program) (a : SourceAccess) : Type 0 where
+pub record IsOfSmallMemory (p : Program) (a : SourceAccess) : Type 0 where
   pub entity : ℕ
   pub memory : Memory
   pub number : ℕ
@@ -58,7 +58,7 @@ pub record IsSiteAt (scene : Scene) (levels : List Level) (number : ℕ) (site :
   pub access : SourceAccess
   pub at : slice_get (accesses_in (trace (program_seen scene.program.now))) number ≡ Some access
   pub tells : TellsAccess scene levels site access
-  pub memory : IsOfMemory (program_seen scene.program.now) access
+  pub memory : IsOfSmallMemory (program_seen scene.program.now) access
 
 abbrev pub AreSitesAt : Scene → List Level → (sites : ℕ → Option Site) → Type 0
 AreSitesAt scene levels sites = (number : ℕ) (s : Site) → sites number ≡ Some s → IsSiteAt scene levels number s

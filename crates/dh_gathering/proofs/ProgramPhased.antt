@@ -1,8 +1,9 @@
 -- A program whole: from nothing to its nodes, with the registers of its variables kept.
-use Rattle.std.proofs.Common.{◌≡◌, ℕ, zero, suc, ◌<◌, ◌≤◌, List, [], ◌∷◌, length, refl, ap, sym, ◌∙◌, subst, arith}
+use Rattle.std.proofs.Common.{◌≡◌, ◌⊎◌, inl, inr, ℕ, zero, suc, ◌<◌, ◌≤◌, List, [], ◌∷◌, length, refl, ap, sym, ◌∙◌, subst, arith}
 use Rattle.std.specs.Prelude.{Option, Some, None, replicate, slice_get, slice_index, slice_index_or}
 use Rattle.std.proofs.lemmas.List.{length-replicate}
 use Rattle.dh_value.specs.declared.kinds.Kind.{Kind}
+use Rattle.dh_value.specs.declared.kinds.Kind.TheVariants as kind
 use Rattle.dh_tree.specs.PlainTrees.{Action}
 use Rattle.dh_tree.specs.Seen.{program_seen}
 use Rattle.dh_meaning.specs.AccessNumbers.{accesses_of}
@@ -88,6 +89,7 @@ makes_phased scene count body begun final variables paths blocks p registers beg
   blocks = subst (λ (bs : List PlanBlock). AreBlocksOf final.building.draft.operations.items final.starts.items bs) (sym blocks_are) (cuts (rest_rises final made.0.rest));
   registers = registers_are;
   faults = faults_are;
+  flags = λ register k from at. flag register k from (made.0.grows.flags register k (ap (λ (l : List Kind). slice_get l register) (sym registers_are) ∙ at));
   given = made.0.grows.variables ∙ (begins.given ∙ (kinds.long ∙ all_behind scene.held.now count));
   kinds = λ entity register within from to.
       let k = kinds.kinds entity register within from to in
@@ -99,6 +101,22 @@ makes_phased scene count body begun final variables paths blocks p registers beg
 
     kinds : HaveKinds (program_seen scene.program.now) scene.held.now count (length scene.held.now) variables
     kinds = registers successive
+
+    past : (xs : List Kind) (i : ℕ) (k : Kind) → length xs ≤ i → slice_get xs i ≡ Some k → ⊥
+    past [] i k l e = cc
+    past (x ∷ xs) zero k l e = none (length xs) l
+      where
+        none : (n : ℕ) → suc n ≤ 0 → ⊥
+        none n h = omega (arith, h)
+    past (x ∷ xs) (suc i) k l e = past xs i k (less (length xs) l) e
+      where
+        less : (n : ℕ) → suc n ≤ suc i → n ≤ i
+        less n h = omega (arith, h)
+
+    flag : (register : ℕ) (k : Kind) → count ≤ register → (slice_get begun.registers register ≡ Some k) ⊎ (k ≡ kind.Bool) → k ≡ kind.Bool
+    flag register k from (inr is) = is
+    flag register k from (inl at) =
+        absurd (past variables register k (subst (λ (n : ℕ). n ≤ register) (sym (kinds.long ∙ all_behind scene.held.now count)) from) (ap (λ (l : List Kind). slice_get l register) (sym begins.registers_are) ∙ at))
 
     all_behind : (held : List Held) (n : ℕ) → first_among held n (length held) ≡ n
     all_behind [] n = refl

@@ -1,6 +1,7 @@
 -- The nodes, blocks and registers of a program whole.
-use Rattle.std.specs.Prelude.{◌≡◌, ℕ, suc, ◌<◌, ◌≤◌, ◌^◌, List, [], length}
+use Rattle.std.specs.Prelude.{◌≡◌, ℕ, suc, ◌<◌, ◌≤◌, ◌^◌, List, [], length, slice_get, Some}
 use Rattle.dh_value.specs.declared.kinds.Kind.{Kind}
+use Rattle.dh_value.specs.declared.kinds.Kind.TheVariants as kind
 use Rattle.dh_tree.specs.PlainTrees.{Action}
 use Rattle.dh_tree.specs.Seen.{program_seen}
 use Rattle.dh_meaning.specs.AccessNumbers.{accesses_of}
@@ -40,7 +41,8 @@ pub record IsPhased (scene : Scene) (count : ℕ) (body : Action) (p : Phased) :
   pub blocks : AreBlocksOf final.building.draft.operations.items final.starts.items p.blocks
   pub registers : p.registers ≡ final.registers
   pub faults : p.faults ≡ final.building.draft.faults
-  -- the first registers are those of variables, so many, each of its kind
+  -- the first registers are those of variables, so many, each of its kind, and behind them stand flags
+  pub flags : (register : ℕ) (k : Kind) → count ≤ register → slice_get p.registers register ≡ Some k → k ≡ kind.Bool
   pub given : registers_given final ≡ count
   pub kinds : (entity register : ℕ) → entity < length scene.held.now → first_among scene.held.now count entity ≤ register → register < first_among scene.held.now count (suc entity)
       → HasKind (program_seen scene.program.now) scene.held.now p.registers entity register

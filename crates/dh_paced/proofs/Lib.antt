@@ -10,3 +10,7 @@ pub mod ChoicesPaced
 pub mod AssignedCore
 pub mod ArmsPaced
 pub mod CommandsPaced
+pub mod OwnsCommands
+pub mod ReadsHaveSites
+pub mod EachPaced
+pub mod BlocksPaced

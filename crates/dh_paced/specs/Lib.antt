@@ -4,3 +4,5 @@ pub mod Paced
 pub mod Assigned
 -- what stands where a command begins
 pub mod Standing
+-- blocks are as long as their phases
+pub mod BlockLengths

@@ -1,13 +1,12 @@
 -- What stands as a block begins: no variable has a value, and its own accesses have no operations.
-use Rattle.std.proofs.Common.{◌≡◌, ℕ, zero, suc, ◌+◌, ◌-◌, ◌<◌, ◌≤◌, ◌^◌, Bool as Truth, true, false, if◌then◌else◌, List, [], ◌∷◌, ◌++◌, length, Option, Some, None, refl, ap, sym, ◌∙◌, subst, arith, inl, inr, ◌⊎◌}
-use Rattle.std.specs.Prelude.{nat_lt, replicate, slice_get, slice_index_or}
+use Rattle.std.proofs.Common.{◌≡◌, ℕ, zero, suc, ◌+◌, ◌-◌, ◌<◌, ◌≤◌, Bool as Truth, true, false, if◌then◌else◌, List, [], ◌∷◌, length, Option, Some, None, refl, ap, sym, ◌∙◌, subst, arith}
+use Rattle.std.specs.Prelude.{nat_lt, replicate, slice_get}
 use Rattle.std.specs.List.{AllByRecursion}
 use Rattle.std.proofs.lemmas.Bool.Decides.{nat_tests}
-use Rattle.std.proofs.lemmas.Option.{slice_get_past, slice_get_within}
+use Rattle.std.proofs.lemmas.Option.{slice_get_within}
 use Rattle.dh_tree.specs.PlainTrees.{Term}
 use Rattle.dh_meaning.specs.AccessNumbers.{accesses_of, term_accesses}
 use Rattle.dh_meaning.specs.Phases.{Located}
-use Rattle.dh_plan.specs.PlainPlans.{PlainPlan}
 use Rattle.dh_expressions.specs.declared.accesses.Accesses.{Accesses}
 use Rattle.dh_expressions.specs.declared.accesses.Touched.{Touched}
 use Rattle.dh_expressions.specs.declared.drafts.Draft.{Draft}
@@ -19,11 +18,10 @@ use Rattle.dh_formed.specs.Formed.{Block, IsGuard, IsNoted, Site}
 use Rattle.dh_commands.specs.declared.assignments.Change.{Change}
 use Rattle.dh_commands.specs.declared.assignments.Values.{Values}
 use Rattle.dh_commands.specs.declared.buildings.Building.{Building}
-use Rattle.dh_commands.specs.LanesRun.{paths_counted}
 use Rattle.dh_commands.specs.Undone.{given_at}
 use Rattle.dh_laid.specs.BareCommands.{IsBare, IsBareFrom}
-use Rattle.dh_laid.specs.BlockSites.{MadeEach, block_sites, command_sites, one_site, places_from, site_or, sites_from, term_sites, test_sites}
-use Rattle.dh_laid.specs.Laid.{AreHeld, HadKind, StandsRound}
+use Rattle.dh_laid.specs.BlockSites.{MadeEach, block_sites, command_sites, one_site, places_from, site_or, term_sites, test_sites}
+use Rattle.dh_laid.specs.Laid.{HadKind, StandsRound}
 use Rattle.dh_laid.specs.LaidCommands.{StandsHeld}
 use Rattle.dh_laid.specs.LaidNumbers.{StoresReach}
 use Rattle.dh_laid.specs.LaidQuiet.{StandsIn}
@@ -33,7 +31,7 @@ use Rattle.dh_typed_laid.proofs.PlacesOfSites.{term_long}
 
 -- Guards.
 
-none_at : (n : ℕ) (path : ℕ) (guard : Option ℕ) → slice_get (replicate n (None {ℕ})) path ≡ Some guard → guard ≡ None
+none_at : (n : ℕ) (path : ℕ) (guard : Option ℕ) → slice_get (replicate n None) path ≡ Some guard → guard ≡ None
 none_at zero path guard e = absurd cc
 none_at (suc n) zero guard e = let f : None ≡ guard = cc in sym f
 none_at (suc n) (suc path) guard e = none_at n path guard e
@@ -119,14 +117,15 @@ pub bare_sites : (scene : Scene) (around : Around) (cs : List Located) (old new 
     → AreBareSites a (block_sites scene around cs old new m)
 bare_sites scene around [] old new m a reach bare number s e = absurd cc
 bare_sites scene around (c ∷ cs) old new (mid, (next, (m, rest))) a reach bare number s e =
-    by (places_from c.first (command_sites scene c.command around old mid c.first next m) number) refl e
+    by (places_from c.first (command_sites scene c.command around old mid c.first next m) number) refl e (λ g. bare_sites scene around cs mid new rest a reach.1 bare.1 number s g)
   where
     long : length (command_sites scene c.command around old mid c.first next m) ≡ accesses_of c.command
     long = command_long scene c.command around old mid c.first next m reach.0
 
-    by : (o : Option Site) → places_from c.first (command_sites scene c.command around old mid c.first next m) number ≡ o → site_or o (block_sites scene around cs mid new rest number) ≡ Some s → (number < length a.touched.items) × (touched_in a number ≡ None)
-    by None f g = bare_sites scene around cs mid new rest a reach.1 bare.1 number s g
-    by (Some t) f g =
+    by : (o : Option Site) → places_from c.first (command_sites scene c.command around old mid c.first next m) number ≡ o → site_or o (block_sites scene around cs mid new rest number) ≡ Some s
+        → (block_sites scene around cs mid new rest number ≡ Some s → (number < length a.touched.items) × (touched_in a number ≡ None)) → (number < length a.touched.items) × (touched_in a number ≡ None)
+    by None f g later = later g
+    by (Some t) f g later =
         let at = place_there c.first (command_sites scene c.command around old mid c.first next m) number t f in
         bare_at a c.first (accesses_of c.command) number bare.0 at.0 (subst (λ (n : ℕ). number - c.first < n) long at.1)
 

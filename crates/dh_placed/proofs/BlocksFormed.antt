@@ -11,7 +11,6 @@ use Rattle.dh_value.specs.declared.kinds.Kind.TheVariants as kind
 use Rattle.dh_value.specs.declared.operators.Op.TheVariants.{Both}
 use Rattle.dh_value.specs.Operations.{AreTruths}
 use Rattle.dh_tree.specs.Memories.{table_of}
-use Rattle.dh_tree.specs.PlainTrees.{Term}
 use Rattle.dh_tree.specs.Seen.{program_seen}
 use Rattle.dh_meaning.specs.Phases.{Located}
 use Rattle.dh_plan.specs.declared.operations.Operation.{Operation}
@@ -19,36 +18,32 @@ use Rattle.dh_plan.specs.declared.operations.OperationForm.TheVariants.{Compute,
 use Rattle.dh_plan.specs.Blocks.{kind_at}
 use Rattle.dh_plan.specs.Correspondence.{Round}
 use Rattle.dh_plan.specs.PlainPlans.{PlainPlan}
-use Rattle.dh_plan.specs.PlanKinds.{IsFormedBlock}
 use Rattle.dh_expressions.specs.declared.drafts.Draft.{Draft}
 use Rattle.dh_expressions.specs.declared.scenes.Scene.{Scene}
-use Rattle.dh_expressions.specs.Drafted.{Extends, Pushes}
-use Rattle.dh_expressions.specs.Shown.{is_read_term, kind_written}
+use Rattle.dh_expressions.specs.Drafted.{Extends}
+use Rattle.dh_expressions.specs.Shown.{is_read_term}
 use Rattle.dh_expressions.proofs.Pushing.{extends_again, in_front, pushed_extends}
 use Rattle.dh_formed.specs.Formed.{Agrees, Block, Forms, FormsValue, HasKind, IsFormedAt, Site, Started, kind_of}
-use Rattle.dh_formed.specs.WholeBlocks.{IsCut, block_of}
+use Rattle.dh_formed.specs.WholeBlocks.{block_of}
 use Rattle.dh_formed.proofs.BlocksWhole.{blocks_agree, blocks_are_formed}
 use Rattle.dh_formed.proofs.CommandsFormed.{sets_form}
-use Rattle.dh_formed.proofs.ValuesFormed.{agrees_before, forms_again, forms_pushed, kind_later, started_later}
+use Rattle.dh_formed.proofs.ValuesFormed.{agrees_before, forms_again, forms_pushed, started_later}
 use Rattle.dh_commands.specs.declared.buildings.Building.{Building}
-use Rattle.dh_commands.specs.LanesRun.{lane_of, paths_counted}
+use Rattle.dh_commands.specs.LanesRun.{paths_counted}
 use Rattle.dh_commands.specs.Undone.{given_at}
 use Rattle.dh_blocks.specs.NamedVariables.{IsNamedHere}
-use Rattle.dh_blocks.specs.SoundTerms.{IsSound}
 use Rattle.dh_laid.specs.BlockSites.{block_sites, sites_from, term_sites, test_sites}
 use Rattle.dh_laid.specs.Laid.{FormsTested, FormsThere}
 use Rattle.dh_laid.specs.LaidCommands.{FormsCommand}
 use Rattle.dh_laid.specs.LaidNumbers.{StoresReach}
 use Rattle.dh_laid.proofs.PathsLaid.{tests_form}
-use Rattle.dh_laid.proofs.ValuesLogged.{tests_same}
-use Rattle.dh_typed_blocks.specs.TypedTerms.{IsTyped}
-use Rattle.dh_typed_laid.specs.SuitingBlocks.{EachFew, EachSuits, FitsBlock, HasSites, NamedHere, StandsSo}
+use Rattle.dh_typed_laid.specs.SuitingBlocks.{EachFew, EachSuits, FitsBlock, HasSites}
 use Rattle.dh_typed_laid.proofs.CommandsSuit.{sound_reaches}
 use Rattle.dh_typed_laid.proofs.EachFormed.{each_forms, made_commands_suit}
 use Rattle.dh_typed_laid.proofs.TermsSuit.{term_suits}
 use Rattle.dh_gathering.specs.declared.blocks.Made.{Made}
 use Rattle.dh_gathering.specs.Growing.{registers_given}
-use Rattle.dh_gathering.specs.MadeBlocks.{AddsFlag, MadeStraight, MadeTest, SetsGiven}
+use Rattle.dh_gathering.specs.MadeBlocks.{AddsFlag, SetsGiven}
 use Rattle.dh_gathering.specs.PushedSets.{setting, settings}
 use Rattle.dh_placed.specs.MadeFormed.{HasRegisters, MadeStraightsAreFormed, MadeTestsAreFormed}
 use Rattle.dh_placed.proofs.BlocksBegin.{bare_sites, bare_test, held_begins, held_of, noted_begins, round_begins}
@@ -111,14 +106,8 @@ all_reach x scene rounds around (c ∷ cs) h =
 
 pub made_straights_are_formed : MadeStraightsAreFormed
 made_straights_are_formed scene plan count final rounds ls block m cut has stands fits =
-    blocks_are_formed plan block sites m.before.draft m.after.draft cut (forms_again x m.before.draft m.between.draft m.after.draft ends there.forms (sets_formed x m.between m.after m.sets within there.held.current))
+    blocks_are_formed plan block (block_sites scene m.around ls m.before m.between m.made) m.before.draft m.after.draft cut (forms_again (block_of plan block (block_sites scene m.around ls m.before m.between m.made)) m.before.draft m.between.draft m.after.draft ends there.forms (sets_formed (block_of plan block (block_sites scene m.around ls m.before m.between m.made)) m.between m.after m.sets within there.held.current))
   where
-    sites : (number : ℕ) → Option _
-    sites = block_sites scene m.around ls m.before m.between m.made
-
-    x : Block
-    x = block_of plan block (block_sites scene m.around ls m.before m.between m.made)
-
     agrees : Agrees (block_of plan block (block_sites scene m.around ls m.before m.between m.made)) m.after.draft × Started (block_of plan block (block_sites scene m.around ls m.before m.between m.made)) m.before.draft
     agrees = blocks_agree plan block (block_sites scene m.around ls m.before m.between m.made) m.before.draft m.after.draft cut
 
@@ -192,11 +181,8 @@ test_has sites first ss same i s e = same (first + i) ∙ own_at first ss i s e
 
 pub made_tests_are_formed : MadeTestsAreFormed
 made_tests_are_formed scene plan count final rounds touched n t flag block m cut has stands sound typed bool =
-    blocks_are_formed plan block (test_sites scene m.around n t) m.before.draft m.after.draft cut (forms_again _ m.before.draft m.between.draft m.after.draft flagged.0 there.there.forms flagged.1)
+    blocks_are_formed plan block (test_sites scene m.around n t) m.before.draft m.after.draft cut (forms_again (block_of plan block (test_sites scene m.around n t)) m.before.draft m.between.draft m.after.draft flagged.0 there.there.forms flagged.1)
   where
-    x : Block
-    x = block_of plan block (test_sites scene m.around n t)
-
     agrees : Agrees (block_of plan block (test_sites scene m.around n t)) m.after.draft × Started (block_of plan block (test_sites scene m.around n t)) m.before.draft
     agrees = blocks_agree plan block (test_sites scene m.around n t) m.before.draft m.after.draft cut
 
@@ -220,5 +206,5 @@ made_tests_are_formed scene plan count final rounds touched n t flag block m cut
     flagged : Extends m.between.draft m.after.draft × Forms (block_of plan block (test_sites scene m.around n t)) m.between.draft m.after.draft
     flagged =
         flag_formed (is_read_term t) (block_of plan block (test_sites scene m.around n t)) m.between.draft m.after.draft m.value flag m.adds agrees.0
-        (started_later _ m.before.draft m.between.draft (tests_form scene m.around n t (paths_counted m.around) m.before m.between m.next m.tests m.few bool (omega arith) m.made).extends agrees.1)
+        (started_later (block_of plan block (test_sites scene m.around n t)) m.before.draft m.between.draft (tests_form scene m.around n t (paths_counted m.around) m.before m.between m.next m.tests m.few bool (omega arith) m.made).extends agrees.1)
         own_flag.0 own_flag.1 (there.truths 0 m.value m.first)

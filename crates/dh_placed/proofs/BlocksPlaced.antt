@@ -1,29 +1,22 @@
 -- The straight phases and tests of a ready program are sound where they stand.
 use Rattle.std.proofs.Common.{◌≡◌, List, [], ◌++◌, Some, ap, sym, ◌∙◌, subst}
-use Rattle.dh_tree.specs.PlainTrees.{Term, Program}
-use Rattle.dh_tree.specs.Ready.{IsReady}
+use Rattle.dh_tree.specs.PlainTrees.{Program}
 use Rattle.dh_tree.specs.Seen.{program_seen}
 use Rattle.dh_meaning.specs.Core.{Turning}
-use Rattle.dh_meaning.specs.CoreOf.{known_of, core_commands, core_of, core_test, form_of, test_of}
-use Rattle.dh_meaning.specs.Effects.{Block, commands, tests}
+use Rattle.dh_meaning.specs.CoreOf.{core_commands, core_of, core_test, form_of, test_of}
+use Rattle.dh_meaning.specs.Effects.{commands, tests}
 use Rattle.dh_meaning.specs.Phases.{Located, phases_of}
-use Rattle.dh_plan.specs.Correspondence.{Round}
-use Rattle.dh_plan.specs.PlainPlans.{PlainPlan}
 use Rattle.dh_sound.specs.Blocks.{StandsIn}
 use Rattle.dh_sound.specs.BlocksOfPhases.{OfStraight, OfTest}
-use Rattle.dh_expressions.specs.declared.scenes.Around.{Around}
-use Rattle.dh_expressions.specs.declared.scenes.Scene.{Scene}
 use Rattle.dh_expressions.specs.Evaluated.{known_in}
-use Rattle.dh_blocks.specs.TestMade.{IsSoundTest, IsTestTraced}
+use Rattle.dh_blocks.specs.TestMade.{IsTestTraced}
 use Rattle.dh_blocks.proofs.PhasesTraced.{straight_traced, test_traced}
-use Rattle.dh_typed_blocks.specs.SoundBlocks.{IsPlaceTold, loops_of}
-use Rattle.dh_typed_blocks.specs.TypedTerms.{IsTyped}
+use Rattle.dh_typed_blocks.specs.SoundBlocks.{loops_of}
 use Rattle.dh_typed_blocks.proofs.BlocksFit.{Simple, Joins, phases_fit, phases_inside, straight_fits, tested_fits}
 use Rattle.dh_typed_blocks.proofs.BlocksSound.{ready_assigns, straight_sound, test_sound}
 use Rattle.dh_typed_blocks.proofs.IteratorsSorted.{ready_plain}
 use Rattle.dh_typed_blocks.proofs.MemoriesFew.{ready_few}
-use Rattle.dh_gathering.specs.PhasesInLoops.{StraightOf, TestOf}
-use Rattle.dh_placed.specs.PlacedSound.{PlacedStraightsAreSound, PlacedTestsAreSound, SoundStraight, SoundTest}
+use Rattle.dh_placed.specs.PlacedSound.{PlacedStraightsAreSound, PlacedTestsAreSound}
 use Rattle.dh_placed.proofs.PhasesHeld.{straight_of_held, straight_run, straight_there, test_of_held, test_run, test_there}
 
 pub placed_straights_are_sound : PlacedStraightsAreSound

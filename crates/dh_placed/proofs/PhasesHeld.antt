@@ -1,10 +1,10 @@
 -- Straight phases and tests that stand in loops: they are those of the phases without the loops, and the blocks of the core
 -- in these loops. And what is told of all phases holds of each in its loops.
-use Rattle.std.proofs.Common.{◌≡◌, ◌⊎◌, inl, inr, ℕ, List, [], ◌∷◌, ◌++◌, refl, sym, subst}
+use Rattle.std.proofs.Common.{◌≡◌, inl, inr, List, [], ◌∷◌, ◌++◌, refl, sym, subst}
 use Rattle.dh_tree.specs.PlainTrees.{Action, ActionForm}
 use Rattle.dh_meaning.specs.Core.{Turning}
 use Rattle.dh_meaning.specs.CoreOf.{Known, core_commands, core_phase, core_phases, core_test, form_of, turning_of}
-use Rattle.dh_meaning.specs.Effects.{Block, commands, tests}
+use Rattle.dh_meaning.specs.Effects.{commands, tests}
 use Rattle.dh_meaning.specs.Phases.{Located, Phase, straight, turns, repeated, decided, Phases, no_phases, phase, of_list}
 use Rattle.dh_sound.specs.Blocks.{StandsIn, StandsInPhase}
 use Rattle.dh_sound.specs.LoopsMatch.{unrolled, EachMatches}

@@ -1,6 +1,6 @@
 -- Blocks of a plan, as they were made of the commands and tests of a program, are formed: each operation takes earlier
 -- values of its block, of the kinds that it needs.
-use Rattle.std.specs.Prelude.{◌≡◌, ℕ, ◌≤◌, ◌<◌, Bool, List, length, slice_get, Some}
+use Rattle.std.specs.Prelude.{◌≡◌, ℕ, ◌≤◌, Bool, List, length}
 use Rattle.std.specs.List.{AllByRecursion}
 use Rattle.dh_value.specs.declared.kinds.Kind.TheVariants as kind
 use Rattle.dh_tree.specs.Memories.{table_of}

@@ -51,7 +51,7 @@ use Rattle.dh_reached.proofs.CommandsPut.{CommandPut, arm_paths, assigned_put, c
 use Rattle.dh_reached.proofs.LanesPut.{Behind}
 use Rattle.dh_reached.proofs.NoUses.{AddsNone, before_none, behind_none, down_then, none_again, none_counted, none_pushed, none_still, puts_added}
 use Rattle.dh_reached.proofs.PlacesOf.{PlacesAt, actions_long, places_back, places_front, places_long, places_there, stored_long, there_long}
-use Rattle.dh_reached.proofs.ReadsPut.{StandsSpread}
+use Rattle.dh_reached.specs.ReachedBlocks.{StandsSpread}
 use Rattle.dh_reached.proofs.StoresPut.{IsLast, stored_lane}
 use Rattle.dh_reached.proofs.TermsPut.{SitesAt, sites_long}
 

@@ -50,7 +50,7 @@ use Rattle.dh_reached.specs.ReadsTold.{ActionReads, ActionsRead, BlockShares, Co
 use Rattle.dh_reached.proofs.LanesPut.{AllLanes, Behind, LaneDone, all_lanes, assigned_lane, cleared_lane, reduced_lane, tested_lane}
 use Rattle.dh_reached.proofs.NoUses.{AddsNone, before_none, behind_none, down_then, none_again, none_counted, none_pushed, none_still, puts_added}
 use Rattle.dh_reached.proofs.PlacesOf.{PlacesAt, actions_long, places_back, places_front, places_long, places_there}
-use Rattle.dh_reached.proofs.ReadsPut.{StandsSpread}
+use Rattle.dh_reached.specs.ReachedBlocks.{StandsSpread}
 use Rattle.dh_reached.proofs.StoresPut.{IsLast, stored_lane}
 use Rattle.dh_reached.proofs.TermsPut.{SitesAt, sites_long}
 
@@ -98,6 +98,8 @@ pub spread_arm : (scene : Scene) (Inner : Commanding) (around : Around) (holds :
     → StandsSpread scene around → length tests ≡ paths_counted around → StandsSpread scene m.arm
 spread_arm scene Inner around holds tests old new first next lefts m s many = record {
   stands = stands_arm scene Inner around holds tests old new first next lefts m s.stands many;
+  some = subst (λ (n : ℕ). 0 < n) (sym (paths_same Inner around holds tests old new first next lefts m many)) s.some;
+  few = subst (λ (n : ℕ). n < 2 ^ 32) (sym (paths_same Inner around holds tests old new first next lefts m many)) s.few;
   spread = subst (λ (ls : List Level). AreSpread ls) (sym m.levels) s.spread;
   counted = paths_same Inner around holds tests old new first next lefts m many ∙ (s.counted ∙ ap (λ (ls : List Level). copies_in (factors_of ls)) (sym m.levels));
 }

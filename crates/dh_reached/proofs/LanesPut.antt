@@ -49,7 +49,8 @@ use Rattle.dh_reached.specs.Puts.{AreSited, PutsAt, PutsDown}
 use Rattle.dh_reached.specs.ReadsTold.{BlockShares}
 use Rattle.dh_reached.proofs.IndicesReach.{indices_reach, row_reaches}
 use Rattle.dh_reached.proofs.NoUses.{AddsNone, at_then, before_none, behind_none, none_again, none_counted, none_pushed, none_same, none_still, paths_then, puts_added, puts_wider}
-use Rattle.dh_reached.proofs.ReadsPut.{PutsHere, StandsSpread, write_given, write_puts}
+use Rattle.dh_reached.specs.ReachedBlocks.{StandsSpread}
+use Rattle.dh_reached.proofs.ReadsPut.{PutsHere, write_given, write_puts}
 use Rattle.dh_reached.proofs.TermsPut.{Done, SitesAt, converted_none, done_before, done_none, done_then, site_one, sites_back, sites_front, sites_long, all_sites_long, term_done, terms_done}
 
 -- Values that use nothing.

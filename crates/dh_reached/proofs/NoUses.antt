@@ -160,6 +160,22 @@ module _ (x : Step) (sites : ℕ → Option Site) where
       less : (m n : ℕ) → m < first + many → first + many ≤ n → m < n
       less m n l g = omega (arith, l, g)
 
+  -- fewer accesses are among more
+  pub down_wider : (first count from many : ℕ) (old new : Draft) → first ≤ from → from + many ≤ first + count → PutsDown x sites from many old new → PutsDown x sites first count old new
+  down_wider first count from many old new low high h = record {
+    puts = h.puts;
+    adds = h.adds;
+    uses = h.uses;
+    within = each_weaker (λ u r. (from ≤ r.access) × (r.access < from + many)) (λ u r. (first ≤ r.access) × (r.access < first + count)) h.puts (λ u r w. (lower r.access w.0, upper r.access w.1)) h.within;
+    order = h.order;
+  }
+    where
+      lower : (a : ℕ) → from ≤ a → first ≤ a
+      lower a l = omega (arith, l, low)
+
+      upper : (a : ℕ) → a < from + many → a < first + count
+      upper a l = omega (arith, l, high)
+
   -- at one path
   pub at_then : (first many more : ℕ) (IsAt Written : ℕ → Type 0) (a b c : Draft) → PutsAt x sites first many IsAt Written a b → PutsAt x sites (first + many) more IsAt Written b c → PutsAt x sites first (many + more) IsAt Written a c
   unfolding down_then

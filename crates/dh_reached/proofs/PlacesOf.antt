@@ -10,12 +10,13 @@ use Rattle.dh_tree.specs.PlainTrees.{Action, action, ActionForm, lets, lets_memo
 use Rattle.dh_meaning.specs.AccessNumbers.{accesses_of, groups_accesses, other_accesses, own_accesses, inner_accesses, part_accesses, term_accesses}
 use Rattle.dh_expressions.specs.declared.scenes.Around.{Around}
 use Rattle.dh_expressions.specs.declared.scenes.Scene.{Scene}
+use Rattle.dh_expressions.proofs.ListPlaces.{place_within}
 use Rattle.dh_expressions.proofs.Pushing.{in_front}
 use Rattle.dh_formed.specs.Formed.{Site}
 use Rattle.dh_commands.specs.declared.buildings.Building.{Building}
 use Rattle.dh_commands.specs.declared.choices.Left.{Left}
 use Rattle.dh_commands.specs.MadeCommands.{MadeActionForm, MadeActions, MadeCommand, MadeGroups, MadeOther}
-use Rattle.dh_laid.specs.BlockSites.{action_sites, actions_sites, all_there, command_sites, groups_sites, none_there, one_site, other_sites, places_from, site_or, target_sites, term_sites, terms_sites}
+use Rattle.dh_laid.specs.BlockSites.{action_sites, actions_sites, all_there, command_sites, groups_sites, none_there, one_site, other_sites, places_from, site_or, sites_from, target_sites, term_sites, terms_sites}
 use Rattle.dh_laid.specs.LaidNumbers.{IsAccessForm, StoresReach, StoresReachForm, StoresReachGroups, StoresReachOther, StoresReachPart}
 use Rattle.dh_reached.proofs.TermsPut.{SitesAt, all_sites_long, sites_long}
 
@@ -84,7 +85,7 @@ module _ (scene : Scene) where
     pub places_long : (a : Action) (around : Around) (old new : Building) (first next : ℕ) (m : MadeCommand scene a around old new first next) → StoresReach a → length (command_sites scene a around old new first next m) ≡ accesses_of a
     places_long (action id place form) around old new first next m is = form_long form around old new first next m is
 
-    form_long : (form : ActionForm) (around : Around) (old new : Building) (first next : ℕ) (m : MadeActionForm scene form around old new first next) → StoresReachForm form
+    pub form_long : (form : ActionForm) (around : Around) (old new : Building) (first next : ℕ) (m : MadeActionForm scene form around old new first next) → StoresReachForm form
         → length (action_sites scene form around old new first next m) ≡ own_accesses form + inner_accesses form
     form_long (lets name declared (Some value)) around old new first next m is = there_long (term_sites scene around value) ∙ (sites_long scene around value ∙ plus_none (term_accesses value))
     form_long (lets name declared None) around old new first next m is = omega arith
@@ -104,7 +105,7 @@ module _ (scene : Scene) where
     form_long (repeats test body) around old new first next m is = none_long (term_accesses test + accesses_of body)
     form_long (counts iterator declared low high factor body combine combine_place) around old new first next m is = none_long (accesses_of body + other_accesses combine) ∙ none_plus (accesses_of body + other_accesses combine)
 
-    other_long : (other : MaybeAction) (around : Around) (tests : List ℕ) (old new : Building) (first next : ℕ) (lefts : List Left) (m : MadeOther scene other around tests old new first next lefts) → StoresReachOther other
+    pub other_long : (other : MaybeAction) (around : Around) (tests : List ℕ) (old new : Building) (first next : ℕ) (lefts : List Left) (m : MadeOther scene other around tests old new first next lefts) → StoresReachOther other
         → length (other_sites scene other around tests old new first next lefts m) ≡ other_accesses other
     other_long no_action around tests old new first next lefts m is = refl
     other_long (one_action a) around tests old new first next lefts m is = places_long a m.arm m.begin m.inside first next m.command is
@@ -116,7 +117,7 @@ module _ (scene : Scene) where
         both_long (command_sites scene a around old m.middle first m.own m.one) (actions_sites scene rest around m.middle new m.own next m.rest) (accesses_of a) (part_accesses rest)
         (places_long a around old m.middle first m.own m.one is.0) (actions_long rest around m.middle new m.own next m.rest is.1)
 
-    groups_long : (body : Groups) (around : Around) (old new : Building) (first next : ℕ) (m : MadeGroups scene body around old new first next) → StoresReachGroups body
+    pub groups_long : (body : Groups) (around : Around) (old new : Building) (first next : ℕ) (m : MadeGroups scene body around old new first next) → StoresReachGroups body
         → length (groups_sites scene body around old new first next m) ≡ groups_accesses body
     groups_long no_groups around old new first next m is = refl
     groups_long (group_then g rest) around old new first next m is =
@@ -148,3 +149,27 @@ place_past first number ss past = by (nat_lt number first)
     by : (b : Bool) → (if b then None else one_site (slice_get ss (number - first))) ≡ None
     by true = refl
     by false = ap one_site (past_none ss (number - first) (omega (arith, past)))
+
+-- The same of sites.
+pub site_by : (first : ℕ) (ss : List Site) (i : ℕ) (s : Site) → slice_get ss i ≡ Some s → sites_from first ss (first + i) ≡ Some s
+site_by first ss i s at = by (nat_lt (first + i) first) (above first i)
+  where
+    above : (n i : ℕ) → nat_lt (n + i) n ≡ false
+    above n i = grind (arith, nat_tests)
+
+    by : (b : Bool) → b ≡ false → (if b then None else slice_get ss (first + i - first)) ≡ Some s
+    by true e = absurd (cc)
+    by false e = ap (λ k. slice_get ss k) (let d : first + i - first ≡ i = omega arith in d) ∙ at
+
+pub site_told : (first number : ℕ) (ss : List Site) (s : Site) → sites_from first ss number ≡ Some s → (first ≤ number) × (number < first + length ss)
+site_told first number ss s e = by (nat_lt number first) refl e
+  where
+    above : (n k : ℕ) → nat_lt n k ≡ false → k ≤ n
+    above n k f = grind (arith, nat_tests)
+
+    by : (b : Bool) → nat_lt number first ≡ b → (if b then None else slice_get ss (number - first)) ≡ Some s → (first ≤ number) × (number < first + length ss)
+    by true g f = absurd (cc)
+    by false g f =
+        let low = above number first g in
+        let less = place_within ss (number - first) s f in
+        (low, omega (arith, low, less))

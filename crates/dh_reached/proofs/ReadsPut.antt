@@ -46,13 +46,8 @@ use Rattle.dh_blocks.specs.PathsOfLevels.{AreSpread}
 use Rattle.dh_blocks.proofs.PathNumbers.{kept, leader_within, leads, number_is}
 use Rattle.dh_laid.specs.LaidQuiet.{StandsIn}
 use Rattle.dh_reached.specs.Puts.{AreSited, IsUse, Put, PutsAt, is_write}
+use Rattle.dh_reached.specs.ReachedBlocks.{StandsSpread}
 use Rattle.dh_reached.proofs.NoUses.{AddsNone, behind_none, none_again, none_counted, none_pushed, none_same, none_still, puts_added, puts_one}
-
--- What stands round a command: loops that are told apart, and as many paths as they have.
-pub record StandsSpread (scene : Scene) (around : Around) : Type 0 where
-  pub stands : StandsIn scene around
-  pub spread : AreSpread around.levels.now
-  pub counted : paths_counted around ≡ copies_in (factors_of around.levels.now)
 
 -- A write leads at each path.
 
@@ -186,6 +181,7 @@ module _ (x : Step) (sites : ℕ → Option Site) (scene : Scene) (lane : Lane) 
           there = at;
           memory_is = refl;
           within = within;
+          few = stands.few;
           leads = leading;
           banks_are = banks_are access memory aim false a t is laid;
           done = guard_done access memory aim false a t is laid leading;
@@ -337,6 +333,7 @@ module _ (x : Step) (sites : ℕ → Option Site) (scene : Scene) (lane : Lane) 
           there = at;
           memory_is = refl;
           within = within;
+          few = stands.few;
           leads = write_leads;
           banks_are = banks_are access memory aim true after write_touched.0 write_touched.1 write_laid;
           done = λ on. record { path = lane.number; within = within; leads = write_leads; on = on };

@@ -147,16 +147,17 @@ module _ (plan : PlainPlan) (block : ℕ) (registers : List ℕ) (memories : Lis
   -- of two uses of one access the earlier has the smaller place
   rises_in : (i j : ℕ) (r t : Reach) (y z : Spot) (f : Found i r y) (g : Found j t z) → i < j → r.access ≡ t.access → (bank m n : ℕ) → IsListed bank m r.banks → IsListed bank n t.banks → m < n
   rises_in i j r t y z f g less same bank m n first second =
-      rising x f.is.site f.put g.put r t bank m n (u.few r.access f.is.site f.is.there) f.facts (uses_site x sites g.put t f.is.site g.is (ap sites (sym same) ∙ f.is.there))
+      rising x f.is.site f.put g.put r t bank m n f.is.few f.facts (uses_site x sites g.put t f.is.site g.is (ap sites (sym same) ∙ f.is.there))
       ((goes_at u.puts i j f.put g.put u.order f.at g.at less r t f.uses g.uses).rises same) first second
 
   placed : (b i c j place : ℕ) (r t : Reach) (y z : Spot) → Reaches plan begun (block ∷ []) b i r y → Reaches plan begun (block ∷ []) c j t z → r.access ≡ t.access → InOneBank y z
       → IsListed y.bank place r.banks → IsListed y.bank place t.banks → (b ≡ c) × (i ≡ j)
   placed b i c j place r t y z h k same one first second =
-      let f = find b i r y h in let g = find c j t z k in
-      (only b h.active ∙ sym (only c k.active),
-      ⊎_elim (λ less. absurd (itself place (rises_in i j r t y z f g less same y.bank place place first second)))
-      (λ rest. ⊎_elim (λ more. absurd (itself place (rises_in j i t r z y g f more (sym same) y.bank place place second first))) (λ least. equal i j rest least) (cases_lt j i)) (cases_lt i j))
+      let f = find b i r y h in let g = find c j t z k in (
+        only b h.active ∙ sym (only c k.active),
+        ⊎_elim (λ less. absurd (itself place (rises_in i j r t y z f g less same y.bank place place first second)))
+            (λ rest. ⊎_elim (λ more. absurd (itself place (rises_in j i t r z y g f more (sym same) y.bank place place second first))) (λ least. equal i j rest least) (cases_lt j i)) (cases_lt i j),
+      )
     where
       itself : (n : ℕ) → n < n → ⊥
       itself n e = omega (arith, e)

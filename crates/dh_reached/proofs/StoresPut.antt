@@ -43,7 +43,8 @@ use Rattle.dh_reached.specs.Puts.{AreSited, PutsAt}
 use Rattle.dh_reached.proofs.IndicesReach.{indices_reach, row_reaches}
 use Rattle.dh_reached.proofs.LanesPut.{LaneDone, held_none}
 use Rattle.dh_reached.proofs.NoUses.{at_then, behind_none, puts_wider}
-use Rattle.dh_reached.proofs.ReadsPut.{PutsHere, ReachesAt, StandsSpread, write_given, write_puts}
+use Rattle.dh_reached.specs.ReachedBlocks.{StandsSpread}
+use Rattle.dh_reached.proofs.ReadsPut.{PutsHere, ReachesAt, write_given, write_puts}
 use Rattle.dh_reached.proofs.TermsPut.{Done, SitesAt, all_sites_long, done_then, site_one, sites_back, sites_front, sites_long, term_done, terms_done}
 
 -- the number behind so many reads

@@ -42,7 +42,8 @@ use Rattle.dh_reached.specs.IndicesKept.{IndicesKeep, TermKeeps, TermsKeep}
 use Rattle.dh_reached.specs.Puts.{AreSited, IsUse, PutsAt}
 use Rattle.dh_reached.proofs.IndicesReach.{indices_reach, row_reaches}
 use Rattle.dh_reached.proofs.NoUses.{AddsNone, at_then, before_none, none_counted, none_pushed, none_same, none_still, puts_added, puts_wider}
-use Rattle.dh_reached.proofs.ReadsPut.{PutsHere, ReachesAt, StandsSpread, read_given, read_puts}
+use Rattle.dh_reached.specs.ReachedBlocks.{StandsSpread}
+use Rattle.dh_reached.proofs.ReadsPut.{PutsHere, ReachesAt, read_given, read_puts}
 
 -- Sites by their numbers.
 

@@ -6,3 +6,7 @@ pub mod StepBanks
 pub mod IndicesKept
 -- which accesses are reads, and which share one
 pub mod ReadsTold
+-- blocks as they are reached in a step
+pub mod ReachedBlocks
+-- accesses that never meet
+pub mod NeverMeet

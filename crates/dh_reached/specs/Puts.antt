@@ -1,6 +1,6 @@
 -- What is put down for a block, in order, each operation for a path: which accesses it reads and writes, where these
 -- stand, on which bank and with which place. It is told of one step in which the block is done.
-use Rattle.std.specs.Prelude.{◌≡◌, ◌⊎◌, ℕ, ◌+◌, ◌<◌, ◌≤◌, List, [], ◌∷◌, ◌++◌, length, map, Option, Some}
+use Rattle.std.specs.Prelude.{◌≡◌, ◌⊎◌, ℕ, ◌+◌, ◌<◌, ◌≤◌, ◌^◌, List, [], ◌∷◌, ◌++◌, length, map, Option, Some}
 use Rattle.std.specs.List.{AllByRecursion}
 use Rattle.dh_tree.specs.Elements.{Spot}
 use Rattle.dh_plan.specs.declared.operations.Operation.{Operation}
@@ -45,6 +45,7 @@ pub record IsUse (x : Step) (sites : ℕ → Option Site) (u : Put) (r : Reach) 
   pub there : sites r.access ≡ Some site
   pub memory_is : r.memory ≡ narrowed site.memory
   pub within : u.path < length site.standing.guards
+  pub few : length site.standing.guards < 2 ^ 32
   pub leads : site.standing.leader u.path ≡ u.path
   pub banks_are : r.banks ≡ (site.standing.bank u.path, narrowed (leaders_at site.standing.leader site.standing.bank (site.standing.bank u.path) u.path)) ∷ []
   pub done : holds x u.operation.guard → DoneBy x site.standing.leader site.standing.guards (length site.standing.guards) u.path

@@ -17,8 +17,6 @@ pub record BlockUses (plan : PlainPlan) (block : ℕ) (x : Step) (sites : ℕ �
   pub all : operations_in plan block ≡ operations_of puts
   pub uses : EachUse (IsUse x sites) puts
   pub order : AreInOrder puts
-  -- paths are few
-  pub few : (number : ℕ) (s : Site) → sites number ≡ Some s → length s.standing.guards < 2 ^ 32
 
 -- accesses in a tree stand in the order of their numbers
 abbrev pub StandInOrder : Meets → Type 0

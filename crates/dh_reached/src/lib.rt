@@ -6,4 +6,4 @@
 
 mod laws;
 
-pub use laws::blocks_keep_banks;
+pub use laws::{blocks_keep_banks, blocks_use_what_stands};

@@ -66,21 +66,23 @@ module _ (p : Program) (P : List Turning → Action → Type 0) (F : List Turnin
       straight_of loops block cs is has matched split =
           let w = same_loops (known_of p) [] (trace p) (unrolled loops) cs (straight_along [] (trace p) nothing_around (phases_of p) cs tops has) matched in
           let same : factors loops ≡ factors_of w.0.loops = match_factors (known_of p) loops w.0.loops w.1.1 in (
-          record {
-            of = record {
-              done = split.done;
-              folds = split.folds;
-              quiet = are_folds loops split.folds split.quiet;
-              is = is ∙ ap (λ (x : List Located). commands (core_commands (known_of p) x)) split.is;
-              has = subst (λ (x : List Located). HasStraight (phases_of p) x) split.is has;
-              round = w.0;
-              follows = follows_less w.0 [] (trace p) split.done split.folds (subst (λ (x : List Located). Follows w.0 [] (trace p) x) split.is w.1.0);
-              inside = same;
-              paths = ap paths_in same;
-            };
-            holds = split.holds;
-            quiet = split.quiet;
-          }, split.is)
+            record {
+              of = record {
+                done = split.done;
+                folds = split.folds;
+                quiet = are_folds loops split.folds split.quiet;
+                is = is ∙ ap (λ (x : List Located). commands (core_commands (known_of p) x)) split.is;
+                has = subst (λ (x : List Located). HasStraight (phases_of p) x) split.is has;
+                round = w.0;
+                follows = follows_less w.0 [] (trace p) split.done split.folds (subst (λ (x : List Located). Follows w.0 [] (trace p) x) split.is w.1.0);
+                inside = same;
+                paths = ap paths_in same;
+              };
+              holds = split.holds;
+              quiet = split.quiet;
+            },
+            split.is,
+          )
 
       -- and a command whose test is evaluated
       pub tested_of : (loops : List Turning) (block : Block) (c : Located) → block ≡ tests (core_test (known_of p) c) → HasTest (phases_of p) c → EachMatches (known_of p) (unrolled loops) c.around.loops → P loops c.command → (f : TestHolds loops block) × (f.of.tested ≡ c)

@@ -87,17 +87,20 @@ module _ (scene : Scene) (around : Around) (plan : PlainPlan) (rounds : List Rou
     same_table = place.table
 
     pub straight_sound : (f : StraightHolds p (SimpleFits (known_of p) places) (JoinFits (known_of p) places) (loops_of rounds) block) → (s : StraightSound scene around plan rounds block) × (s.of ≡ f.of)
-    straight_sound f = (record {
-      of = f.of;
-      simple = all_simple (known_of p) places (loops_of rounds) f.of.done f.holds;
-      typed = all_typed (known_of p) places (loops_of rounds) f.of.done f.of.folds f.holds f.quiet;
-      sound = record {
-        first = subst (λ (table : List MemEntry). AllByRecursion (λ (c : Located). SoundAction scene around.levels.now table (IsNamedHere scene around.levels.now plan.registers rounds touched) (IsSeen scene around.levels.now) c.command) f.of.done)
-            (sym same_table) (all_here scene around.levels.now rounds place.tells place.top.factors_are plan.registers touched names f.of.done f.holds);
-        then_folds = subst (λ (table : List MemEntry). AllByRecursion (λ (c : Located). SoundAction scene around.levels.now table (IsNamedHere scene around.levels.now plan.registers rounds (λ entity. true)) (IsSeen scene around.levels.now) c.command) f.of.folds)
-            (sym same_table) (folds_here scene around.levels.now rounds place.tells place.top.factors_are plan.registers f.of.folds f.quiet);
-      };
-    }, refl)
+    straight_sound f = (
+      record {
+        of = f.of;
+        simple = all_simple (known_of p) places (loops_of rounds) f.of.done f.holds;
+        typed = all_typed (known_of p) places (loops_of rounds) f.of.done f.of.folds f.holds f.quiet;
+        sound = record {
+          first = subst (λ (table : List MemEntry). AllByRecursion (λ (c : Located). SoundAction scene around.levels.now table (IsNamedHere scene around.levels.now plan.registers rounds touched) (IsSeen scene around.levels.now) c.command) f.of.done)
+              (sym same_table) (all_here scene around.levels.now rounds place.tells place.top.factors_are plan.registers touched names f.of.done f.holds);
+          then_folds = subst (λ (table : List MemEntry). AllByRecursion (λ (c : Located). SoundAction scene around.levels.now table (IsNamedHere scene around.levels.now plan.registers rounds (λ entity. true)) (IsSeen scene around.levels.now) c.command) f.of.folds)
+              (sym same_table) (folds_here scene around.levels.now rounds place.tells place.top.factors_are plan.registers f.of.folds f.quiet);
+        };
+      },
+      refl,
+    )
       where
         touched : ℕ → Bool
         touched entity = any_assigns entity (core_commands (known_in scene) f.of.done)
@@ -115,17 +118,20 @@ module _ (scene : Scene) (around : Around) (plan : PlainPlan) (rounds : List Rou
         names = named_here scene around.levels.now rounds place.tells place.top.factors_are plan.registers place.told touched spared inside
 
     pub test_sound : (f : TestHolds p (SimpleFits (known_of p) places) (JoinFits (known_of p) places) (loops_of rounds) block) → (s : TestSound scene around plan rounds block) × (s.of ≡ f.of)
-    test_sound f = (record {
-      of = f.of;
-      typed = λ t e. (test_fits (known_of p) places (loops_of rounds) f.of.tested.command t e f.holds.1).0.1;
-      sound = λ t e.
-          let fits = test_fits (known_of p) places (loops_of rounds) f.of.tested.command t e f.holds.1 in
-          record {
-            sound = subst (λ (table : List MemEntry). IsSound (known_in scene) table (IsNamedHere scene around.levels.now plan.registers rounds (λ entity. false)) t) (sym same_table)
-                (term_mapped (known_in scene) (table_in (known_in scene)) (IsNamedIn (known_in scene) places (loops_of rounds)) (IsNamedHere scene around.levels.now plan.registers rounds (λ entity. false)) names t fits.0.0);
-            kind_is = fits.1;
-          };
-    }, refl)
+    test_sound f = (
+      record {
+        of = f.of;
+        typed = λ t e. (test_fits (known_of p) places (loops_of rounds) f.of.tested.command t e f.holds.1).0.1;
+        sound = λ t e.
+            let fits = test_fits (known_of p) places (loops_of rounds) f.of.tested.command t e f.holds.1 in
+            record {
+              sound = subst (λ (table : List MemEntry). IsSound (known_in scene) table (IsNamedHere scene around.levels.now plan.registers rounds (λ entity. false)) t) (sym same_table)
+                  (term_mapped (known_in scene) (table_in (known_in scene)) (IsNamedIn (known_in scene) places (loops_of rounds)) (IsNamedHere scene around.levels.now plan.registers rounds (λ entity. false)) names t fits.0.0);
+              kind_is = fits.1;
+            };
+      },
+      refl,
+    )
       where
         names : (r : Ref) (k : Kind) → IsNamedIn (known_in scene) places (loops_of rounds) r k → IsNamedHere scene around.levels.now plan.registers rounds (λ entity. false) r k
         names = named_here scene around.levels.now rounds place.tells place.top.factors_are plan.registers place.told (λ entity. false) (spared_test (loops_of rounds)) (λ entity t. absurd cc)

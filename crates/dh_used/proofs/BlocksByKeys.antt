@@ -158,7 +158,7 @@ module _ (scene : Scene) (around : Around) (spread : AreSpread around.levels.now
 
 -- Blocks.
 
-each_of : (P : Located → Type 0) (cs : List Located) → ((c : Located) → Has c cs → P c) → AllByRecursion P cs
+pub each_of : (P : Located → Type 0) (cs : List Located) → ((c : Located) → Has c cs → P c) → AllByRecursion P cs
 each_of P [] h = tt
 each_of P (c ∷ cs) h = (h c (inl refl), each_of P cs (λ d g. h d (inr g)))
 

@@ -1,3 +1,4 @@
+pub mod SharedReads
 pub mod SitesOfSource
 pub mod SharesOfProgram
 pub mod BlocksByKeys

@@ -79,7 +79,7 @@ module _ (known : Known) where
     straights_there round (phase q qs) loops cs (inl h) = inl (straight_there_in round q loops cs h)
     straights_there round (phase q qs) loops cs (inr h) = inr (straights_there round qs loops cs h)
 
-  straight_there : (round : List Turning) (qs : List Phase) (loops : List Turning) (cs : List Located) → StraightOf known round qs loops cs → HasStraight qs cs
+  pub straight_there : (round : List Turning) (qs : List Phase) (loops : List Turning) (cs : List Located) → StraightOf known round qs loops cs → HasStraight qs cs
   straight_there round [] loops cs h = h
   straight_there round (q ∷ qs) loops cs (inl h) = inl (straight_there_in round q loops cs h)
   straight_there round (q ∷ qs) loops cs (inr h) = inr (straight_there round qs loops cs h)
@@ -99,7 +99,7 @@ module _ (known : Known) where
     tests_there round (phase q qs) loops c (inl h) = inl (test_there_in round q loops c h)
     tests_there round (phase q qs) loops c (inr h) = inr (tests_there round qs loops c h)
 
-  test_there : (round : List Turning) (qs : List Phase) (loops : List Turning) (c : Located) → TestOf known round qs loops c → HasTest qs c
+  pub test_there : (round : List Turning) (qs : List Phase) (loops : List Turning) (c : Located) → TestOf known round qs loops c → HasTest qs c
   test_there round [] loops c h = h
   test_there round (q ∷ qs) loops c (inl h) = inl (test_there_in round q loops c h)
   test_there round (q ∷ qs) loops c (inr h) = inr (test_there round qs loops c h)
@@ -122,7 +122,7 @@ module _ (known : Known) where
     straights_inside round (phase q qs) loops cs i (inl h) = straight_inside_in round q loops cs i.0 h
     straights_inside round (phase q qs) loops cs i (inr h) = straights_inside round qs loops cs i.1 h
 
-  straight_inside : (round : List Turning) (qs : List Phase) (loops : List Turning) (cs : List Located) → ListInside known (unrolled round) qs → StraightOf known round qs loops cs → EachInside known (unrolled loops) cs
+  pub straight_inside : (round : List Turning) (qs : List Phase) (loops : List Turning) (cs : List Located) → ListInside known (unrolled round) qs → StraightOf known round qs loops cs → EachInside known (unrolled loops) cs
   straight_inside round [] loops cs i h = absurd h
   straight_inside round (q ∷ qs) loops cs i (inl h) = straight_inside_in round q loops cs i.0 h
   straight_inside round (q ∷ qs) loops cs i (inr h) = straight_inside round qs loops cs i.1 h
@@ -145,7 +145,7 @@ module _ (known : Known) where
     tests_inside round (phase q qs) loops c i (inl h) = test_inside_in round q loops c i.0 h
     tests_inside round (phase q qs) loops c i (inr h) = tests_inside round qs loops c i.1 h
 
-  test_inside : (round : List Turning) (qs : List Phase) (loops : List Turning) (c : Located) → ListInside known (unrolled round) qs → TestOf known round qs loops c → EachMatches known (unrolled loops) c.around.loops
+  pub test_inside : (round : List Turning) (qs : List Phase) (loops : List Turning) (c : Located) → ListInside known (unrolled round) qs → TestOf known round qs loops c → EachMatches known (unrolled loops) c.around.loops
   test_inside round [] loops c i h = absurd h
   test_inside round (q ∷ qs) loops c i (inl h) = test_inside_in round q loops c i.0 h
   test_inside round (q ∷ qs) loops c i (inr h) = test_inside round qs loops c i.1 h
@@ -165,28 +165,28 @@ mutual
   straights_named (phase q qs) cs h (inl e) = straight_named_in q cs h.0 e
   straights_named (phase q qs) cs h (inr e) = straights_named qs cs h.1 e
 
-straight_named : (qs : List Phase) (cs : List Located) → ListHolds named_facts tt qs → HasStraight qs cs → AllHold named_facts tt cs
+pub straight_named : (qs : List Phase) (cs : List Located) → ListHolds named_facts tt qs → HasStraight qs cs → AllHold named_facts tt cs
 straight_named [] cs h e = absurd e
 straight_named (q ∷ qs) cs h (inl e) = straight_named_in q cs h.0 e
 straight_named (q ∷ qs) cs h (inr e) = straight_named qs cs h.1 e
 
-all_named : (cs : List Located) → AllHold named_facts tt cs → AllByRecursion (λ (c : Located). IsNamedAction c.command) cs
+pub all_named : (cs : List Located) → AllHold named_facts tt cs → AllByRecursion (λ (c : Located). IsNamedAction c.command) cs
 all_named [] h = tt
 all_named (c ∷ cs) h = (h.0, all_named cs h.1)
 
-along : (from : ℕ) (cs : List Located) → AreRising from cs → AllHold named_facts tt cs → AreAlong from cs
+pub along : (from : ℕ) (cs : List Located) → AreRising from cs → AllHold named_facts tt cs → AreAlong from cs
 along from [] r h = tt
 along from (c ∷ cs) r h = (record { behind = r.0; few = r.1.0; reaches = named_reaches c.command h.0 }, along (c.first + accesses_of c.command) cs r.1.1 h.1)
 
 -- Accesses that have no operations yet.
 
-bare_at : (a : Accesses) (first count k : ℕ) → IsBareFrom a first count → first ≤ k → k < first + count → (k < length a.touched.items) × (touched_in a k ≡ None)
+pub bare_at : (a : Accesses) (first count k : ℕ) → IsBareFrom a first count → first ≤ k → k < first + count → (k < length a.touched.items) × (touched_in a k ≡ None)
 bare_at a first count k h from below = subst (λ (n : ℕ). (n < length a.touched.items) × (touched_in a n ≡ None)) (again first k from) (h (k - first) (omega (arith, from, below)))
   where
     again : (f k : ℕ) → f ≤ k → f + (k - f) ≡ k
     again f k h = omega (arith, h)
 
-bare_made : (a : Accesses) (cs : List Located) (k : ℕ) → AllByRecursion (IsBare a) cs → any_makes k cs ≡ true → (k < length a.touched.items) × (touched_in a k ≡ None)
+pub bare_made : (a : Accesses) (cs : List Located) (k : ℕ) → AllByRecursion (IsBare a) cs → any_makes k cs ≡ true → (k < length a.touched.items) × (touched_in a k ≡ None)
 bare_made a [] k h e = absurd (cc)
 bare_made a (c ∷ cs) k h e = by (makes k c.first c.command) refl e (λ g. bare_made a cs k h.1 g)
   where
@@ -195,7 +195,7 @@ bare_made a (c ∷ cs) k h e = by (makes k c.first c.command) refl e (λ g. bare
     by false g f more = more f
 
 -- a command that makes an access is one of those that do
-maker : (k : ℕ) (cs : List Located) → any_makes k cs ≡ true → (c : Located) × (Has c cs × (makes k c.first c.command ≡ true))
+pub maker : (k : ℕ) (cs : List Located) → any_makes k cs ≡ true → (c : Located) × (Has c cs × (makes k c.first c.command ≡ true))
 maker k [] e = absurd (cc)
 maker k (c ∷ cs) e = by (makes k c.first c.command) refl e (λ g. maker k cs g)
   where
@@ -203,7 +203,7 @@ maker k (c ∷ cs) e = by (makes k c.first c.command) refl e (λ g. maker k cs g
     by true g f more = (c, (inl refl, g))
     by false g f more = let m = more f in (m.0, (inr m.1.0, m.1.1))
 
-inside_of : (known : Known) (ts : List Turning) (cs : List Located) (c : Located) → EachInside known ts cs → Has c cs → EachMatches known ts c.around.loops
+pub inside_of : (known : Known) (ts : List Turning) (cs : List Located) (c : Located) → EachInside known ts cs → Has c cs → EachMatches known ts c.around.loops
 inside_of known ts [] c i h = absurd h
 inside_of known ts (d ∷ cs) c i (inl e) = subst (λ (x : Located). EachMatches known ts x.around.loops) (sym e) i.0
 inside_of known ts (d ∷ cs) c i (inr h) = inside_of known ts cs c i.1 h
@@ -238,10 +238,10 @@ module _ (scene : Scene) (final : Made) (plan : PlainPlan) (is : IsMadeOf scene 
   abbrev p : Program
   p = program_seen scene.program.now
 
-  body_named : ListHolds named_facts tt (phases_of p)
+  pub body_named : ListHolds named_facts tt (phases_of p)
   body_named = phases_named nothing_around 0 p.body is.named
 
-  body_inside : ListInside (known_of p) [] (phases_of p)
+  pub body_inside : ListInside (known_of p) [] (phases_of p)
   body_inside = action_inside (known_of p) nothing_around [] 0 p.body is.named tt
 
   module _ (rounds : List Round) (around : Around) (round : IsRoundBlock rounds around) (stands : StandsIn scene around) where
@@ -323,7 +323,7 @@ module _ (scene : Scene) (final : Made) (plan : PlainPlan) (is : IsMadeOf scene 
 -- Nodes that are tied in one way are tied in another, where each of their blocks, tests and loops is.
 module _ (a b : Tie) (of_block : (rounds : List Round) (cs : _) (block : ℕ) → a.of_block rounds cs block → b.of_block rounds cs block) (of_test : (rounds : List Round) (test : _) (flag block : ℕ) → a.of_test rounds test flag block → b.of_test rounds test flag block) (of_loop : (rounds : List Round) (loop : Turning) (counter : ℕ) → a.of_loop rounds loop counter → b.of_loop rounds loop counter) where
   mutual
-    nodes_so : (rounds : List Round) (ps : CorePhases) (ns : Nodes) → AreNodesOf a rounds ps ns → AreNodesOf b rounds ps ns
+    pub nodes_so : (rounds : List Round) (ps : CorePhases) (ns : Nodes) → AreNodesOf a rounds ps ns → AreNodesOf b rounds ps ns
     nodes_so rounds no_core_phases no_nodes h = tt
     nodes_so rounds no_core_phases (node_then n ns) h = h
     nodes_so rounds (phase_and q qs) no_nodes h = h

@@ -15,7 +15,7 @@ use Rattle.dh_meaning.specs.Sites as source
 use Rattle.dh_meaning.specs.Sites.{in_arm, nothing_around}
 use Rattle.dh_meets.specs.Sharing.{shared}
 use Rattle.dh_meets.specs.SourceEvents.{with_indices, SourceAccess, SourceEvent, accesses, assigned, accesses_in, events, groups_events, other_events, part_events, site_of, term_events, terms_events, trace, write_events}
-use Rattle.dh_bridge.proofs.SharedReads.{shared_before, shared_there}
+use Rattle.dh_used.proofs.SharedReads.{shared_before, shared_there}
 use Rattle.dh_sound.specs.PhaseFacts.{StandsAmong}
 use Rattle.dh_sound.specs.ToldEvents.{access_at}
 use Rattle.dh_sound.specs.Trails.{count}

@@ -1,4 +1,4 @@
-use Rattle.std.proofs.Common.{ap, sym, ◌∙◌, subst, rules}
+use Rattle.std.proofs.Common.{Some, ap, sym, ◌∙◌, subst, rules}
 use Rattle.std.proofs.lemmas.List.{drop_all}
 use Rattle.std.proofs.lemmas.Result.{IfOk-weaker}
 use Rattle.dh_accesses.proofs.CountedParts.{left_first, next_command}
@@ -6,6 +6,7 @@ use Rattle.dh_tree.proofs.SeenActions as known
 use Rattle.dh_tree.specs.PlainTrees.{action, repeats, counts, decides}
 use Rattle.dh_tree.specs.Seen.{action_seen, action_form_seen, all_parts_seen, maybe_block_seen, term_seen, placed, unrolled}
 use Rattle.dh_meaning.specs.AccessNumbers.{groups_accesses}
+use Rattle.dh_expressions.specs.Levels.{levels_inside}
 use Rattle.dh_gathering.specs.Gathered.{Chooses, GathersGroups, all_kept, all_numbered}
 use Rattle.dh_gathering.proofs.EachNamedOnce.{once_arms, once_body, once_counts, once_joined, once_nothing, once_part}
 use Rattle.dh_gathering.proofs.PartsGathered.{command_turn, commands_begin, left_all, left_begin, left_end, part_end, parts_begin, parts_end}
@@ -37,7 +38,7 @@ gather-returns-in_ok-forms-in-For-clause-gathers t c =
     (turns_of_code c.args.scene.now c.args.paths.now c.in_ok-within-in-For.within c.args.made.now c.gather-in-For.new.made c.gather_other-in-For.new.made c.turns.new.made (all_kept c.in_ok-body-in-For.body.items) (all_kept c.in_ok-folds-in-For.folds.items) (all_kept c.in_ok-turn-in-For.turn.items) (all_kept c.in_ok-forms-in-For.forms.items)
     c.args.first c.in_ok-body-in-For.next c.args.command.now.id c.args.command.now.place c.in-For.iterator c.in-For.declared (placed c.in-For.low c.in-For.low_place) (placed c.in-For.high c.in-For.high_place) (unrolled c.in-For.factor c.in-For.factor_place c.in-For.unroll_place)
     (action_seen c.deref-in-For.result.now) (maybe_block_seen c.in-For.combine) c.in-For.combine_place c.turn_count-count.result
-    c.turn_count-count.ensures c.if-count-eq0.false c.in_ok-within-in-For.ensures.levels c.in_ok-within-in-For.ensures.count c.in_ok-body-in-For.ensures.next c.in_ok-body-in-For.ensures.gathers c.in_ok-folds-in-For.ensures.gathers c.in_ok-turn-in-For.ensures c.in_ok-forms-in-For.ensures.made)
+    c.turn_count-count.ensures c.if-count-eq0.false (c.in_ok-within-in-For.ensures.levels ∙ ap (λ e. levels_inside c.args.paths.now.levels.items (Some e) c.in-For.factor) c.entity_of-entity.ensures) c.in_ok-within-in-For.ensures.count c.in_ok-body-in-For.ensures.next c.in_ok-body-in-For.ensures.gathers c.in_ok-folds-in-For.ensures.gathers c.in_ok-turn-in-For.ensures c.in_ok-forms-in-For.ensures.made)
 
 pub gather-returns-in-Block-clause-gathers : goal.gather-returns-in-Block-clause-gathers
 gather-returns-in-Block-clause-gathers t c =
