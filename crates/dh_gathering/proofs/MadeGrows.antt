@@ -6,6 +6,7 @@ use Rattle.std.proofs.lemmas.List.{length-append}
 use Rattle.std.proofs.Math.ListN.{get_or-append, get_or-eq_default}
 use Rattle.std.proofs.Math.Seq.{get_or-append_seam}
 use Rattle.dh_value.specs.declared.kinds.Kind.{Kind}
+use Rattle.dh_value.specs.declared.kinds.Kind.TheVariants as kind
 use Rattle.dh_expressions.specs.Copying.{AreNone}
 use Rattle.dh_expressions.specs.Drafted.{Extends}
 use Rattle.dh_expressions.proofs.Pushing.{extends_again, extends_self}
@@ -17,7 +18,11 @@ not_more : (a b c : ℕ) → a ≤ b → b ≤ c → a ≤ c
 not_more a b c h k = omega (arith, h, k)
 
 pub grows_none : (m : Made) → Grows m m
-grows_none m = record { draft = extends_self m.building.draft; starts = omega arith; places = λ block within. refl; registers = λ register k at. at; variables = refl }
+grows_none m = record { draft = extends_self m.building.draft; starts = omega arith; places = λ block within. refl; registers = λ register k at. at; flags = λ register k at. inl at; variables = refl }
+
+flags_then : {X Y Z : Type 0} → (Y → X ⊎ Z) → Y ⊎ Z → X ⊎ Z
+flags_then f (inl y) = f y
+flags_then f (inr z) = inr z
 
 pub grows_then : (a b c : Made) → Grows a b → Grows b c → Grows a c
 grows_then a b c h k = record {
@@ -25,6 +30,7 @@ grows_then a b c h k = record {
   starts = not_more (length a.starts.items) (length b.starts.items) (length c.starts.items) h.starts k.starts;
   places = λ block within. k.places block (not_more block (length a.starts.items) (length b.starts.items) within h.starts) ∙ h.places block within;
   registers = λ register kind at. k.registers register kind (h.registers register kind at);
+  flags = λ register kind at. flags_then (h.flags register kind) (k.flags register kind at);
   variables = k.variables ∙ h.variables;
 }
 
@@ -33,6 +39,7 @@ pub record AddsBlock (old new : Made) : Type 0 where
   pub draft : Extends old.building.draft new.building.draft
   pub starts : new.starts.items ≡ old.starts.items ++ length old.building.draft.operations.items ∷ []
   pub registers : (register : ℕ) (k : Kind) → slice_get old.registers register ≡ Some k → slice_get new.registers register ≡ Some k
+  pub flags : (register : ℕ) (k : Kind) → slice_get new.registers register ≡ Some k → (slice_get old.registers register ≡ Some k) ⊎ (k ≡ kind.Bool)
   pub longer : length old.registers ≤ length new.registers
   pub variables : registers_given new ≡ registers_given old
   pub clear : IsClear new.building.values
@@ -99,6 +106,7 @@ module _ (old new : Made) (h : AddsBlock old new) where
     starts = subst (λ (n : ℕ). length old.starts.items ≤ n) (sym one_longer) (next (length old.starts.items));
     places = places_same;
     registers = h.registers;
+    flags = h.flags;
     variables = h.variables;
   }
     where

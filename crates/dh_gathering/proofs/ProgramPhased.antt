@@ -1,8 +1,9 @@
 -- A program whole: from nothing to its nodes, with the registers of its variables kept.
-use Rattle.std.proofs.Common.{◌≡◌, ℕ, zero, suc, ◌<◌, ◌≤◌, List, [], ◌∷◌, length, refl, ap, sym, ◌∙◌, subst, arith}
+use Rattle.std.proofs.Common.{◌≡◌, ◌⊎◌, inl, inr, ℕ, zero, suc, ◌<◌, ◌≤◌, List, [], ◌∷◌, length, refl, ap, sym, ◌∙◌, subst, arith}
 use Rattle.std.specs.Prelude.{Option, Some, None, replicate, slice_get, slice_index, slice_index_or}
 use Rattle.std.proofs.lemmas.List.{length-replicate}
 use Rattle.dh_value.specs.declared.kinds.Kind.{Kind}
+use Rattle.dh_value.specs.declared.kinds.Kind.TheVariants as kind
 use Rattle.dh_tree.specs.PlainTrees.{Action}
 use Rattle.dh_tree.specs.Seen.{program_seen}
 use Rattle.dh_meaning.specs.AccessNumbers.{accesses_of}
@@ -11,6 +12,7 @@ use Rattle.dh_meaning.specs.Sites.{nothing_around}
 use Rattle.dh_plan.specs.declared.operations.Operation.{Operation}
 use Rattle.dh_plan.specs.declared.operations.PlanBlock.{PlanBlock}
 use Rattle.dh_plan.specs.SeenPlans.{nodes_seen}
+use Rattle.dh_plan.specs.SoundPlans.{blocks_of}
 use Rattle.dh_code.specs.declared.places.Held.{Held}
 use Rattle.dh_expressions.specs.declared.accesses.Accesses.{Accesses}
 use Rattle.dh_expressions.specs.declared.accesses.Touched.{Touched}
@@ -23,10 +25,12 @@ use Rattle.dh_gathering.specs.declared.making.Phased.{Phased}
 use Rattle.dh_gathering.specs.Cutting.{AreBlocksOf, IsCut}
 use Rattle.dh_gathering.specs.Gathered.{HasNodes, MakesBody, MakesNodes}
 use Rattle.dh_gathering.specs.Growing.{place_in, registers_given}
+use Rattle.dh_gathering.specs.NamedOnce.{NamesOnce}
 use Rattle.dh_gathering.specs.ProgramMade.{Begins, MakesPhased}
 use Rattle.dh_gathering.specs.Registers.{AreRegisters, HaveKinds, first_among}
 use Rattle.dh_gathering.proofs.AccessesOpen.{untouched_part}
 use Rattle.dh_gathering.proofs.BlocksPlanned.{none_clear, rest_rises}
+use Rattle.dh_gathering.proofs.EachNamedOnce.{once_each}
 use Rattle.dh_gathering.proofs.MadeGrows.{grows_none}
 
 replicate_given : (m : Made) (n : ℕ) → NoneGiven m.building.values n → registers_given m ≡ n
@@ -58,6 +62,7 @@ begins_made m registers count many no_operation no_start untouched none is are =
   );
   registers_are = are;
   given = replicate_given m count none ∙ is;
+  starts = no_start;
 }
   where
     never : {A : Type 0} {x : A} → None ≡ Some x → ⊥
@@ -74,15 +79,17 @@ begins_made m registers count many no_operation no_start untouched none is are =
 
 -- what is made in the end, by what the code takes of it
 pub makes_phased : (scene : Scene) (count : ℕ) (body : Action) (begun final : Made) (variables : List Kind) (paths : Paths) (blocks : List PlanBlock) (p : Phased) → AreRegisters (program_seen scene.program.now) scene.held.now count variables → Begins variables (length scene.shares.now) begun
-    → paths.levels.items ≡ [] → paths.count ≡ 1 → MakesBody scene paths begun final body (nodes_seen p.nodes.items) → IsCut final.building.draft.operations.items final.starts.items blocks
+    → paths.levels.items ≡ [] → paths.count ≡ 1 → MakesBody scene paths begun final body (nodes_seen p.nodes.items) → NamesOnce begun final [] (blocks_of (nodes_seen p.nodes.items)) → IsCut final.building.draft.operations.items final.starts.items blocks
     → p.blocks ≡ blocks → p.registers ≡ final.registers → p.faults ≡ final.building.draft.faults → MakesPhased scene count body p
-makes_phased scene count body begun final variables paths blocks p registers begins levels one makes cuts blocks_are registers_are faults_are told known few body_is successive = record {
+makes_phased scene count body begun final variables paths blocks p registers begins levels one makes each cuts blocks_are registers_are faults_are told known few body_is successive = record {
   final = final;
   nodes = made.0.made final (grows_none final);
   named = made.1;
+  once = λ block within. once_each begun final (nodes_seen p.nodes.items) begins.starts each block (subst (λ (n : ℕ). block < n) (ap (λ (l : List PlanBlock). length l) blocks_are ∙ (cuts (rest_rises final made.0.rest)).count) within);
   blocks = subst (λ (bs : List PlanBlock). AreBlocksOf final.building.draft.operations.items final.starts.items bs) (sym blocks_are) (cuts (rest_rises final made.0.rest));
   registers = registers_are;
   faults = faults_are;
+  flags = λ register k from at. flag register k from (made.0.grows.flags register k (ap (λ (l : List Kind). slice_get l register) (sym registers_are) ∙ at));
   given = made.0.grows.variables ∙ (begins.given ∙ (kinds.long ∙ all_behind scene.held.now count));
   kinds = λ entity register within from to.
       let k = kinds.kinds entity register within from to in
@@ -94,6 +101,22 @@ makes_phased scene count body begun final variables paths blocks p registers beg
 
     kinds : HaveKinds (program_seen scene.program.now) scene.held.now count (length scene.held.now) variables
     kinds = registers successive
+
+    past : (xs : List Kind) (i : ℕ) (k : Kind) → length xs ≤ i → slice_get xs i ≡ Some k → ⊥
+    past [] i k l e = cc
+    past (x ∷ xs) zero k l e = none (length xs) l
+      where
+        none : (n : ℕ) → suc n ≤ 0 → ⊥
+        none n h = omega (arith, h)
+    past (x ∷ xs) (suc i) k l e = past xs i k (less (length xs) l) e
+      where
+        less : (n : ℕ) → suc n ≤ suc i → n ≤ i
+        less n h = omega (arith, h)
+
+    flag : (register : ℕ) (k : Kind) → count ≤ register → (slice_get begun.registers register ≡ Some k) ⊎ (k ≡ kind.Bool) → k ≡ kind.Bool
+    flag register k from (inr is) = is
+    flag register k from (inl at) =
+        absurd (past variables register k (subst (λ (n : ℕ). n ≤ register) (sym (kinds.long ∙ all_behind scene.held.now count)) from) (ap (λ (l : List Kind). slice_get l register) (sym begins.registers_are) ∙ at))
 
     all_behind : (held : List Held) (n : ℕ) → first_among held n (length held) ≡ n
     all_behind [] n = refl

@@ -1,5 +1,5 @@
 -- The block of straight commands: it begins and ends between two blocks, and stands where it was put down.
-use Rattle.std.proofs.Common.{◌≡◌, inr, ℕ, ◌+◌, ◌<◌, ◌≤◌, ◌^◌, List, [], ◌∷◌, ◌++◌, length, map, Some, None, replicate, refl, ap, sym, ◌∙◌, subst, arith}
+use Rattle.std.proofs.Common.{◌≡◌, inl, inr, ℕ, ◌+◌, ◌<◌, ◌≤◌, ◌^◌, List, [], ◌∷◌, ◌++◌, length, map, Some, None, replicate, refl, ap, sym, ◌∙◌, subst, arith}
 use Rattle.std.specs.Prelude.{Option, slice_get, slice_index}
 use Rattle.std.specs.List.{AllByRecursion}
 use Rattle.std.proofs.lemmas.List.{length-append, length-replicate}
@@ -304,6 +304,7 @@ module _ (scene : Scene) (paths : Paths) (old new : Made) (between after : Build
           (extends_again old.building.draft between.draft after.draft leaves.extends (more_operations between.draft after.draft _ given_sets.operations given_sets.faults));
       starts = starts ∙ ap (λ (n : ℕ). old.starts.items ++ n ∷ []) start_is;
       registers = same_registers old.registers new.registers registers;
+      flags = λ register k at. inl (ap (λ (l : List Kind). slice_get l register) (sym registers) ∙ at);
       longer = not_longer (length old.registers) (length new.registers) (ap (λ (l : List Kind). length l) registers);
       variables = ap (λ (b : Building). length b.values.current.items) building ∙ current_long;
       clear = subst (λ (b : Building). IsClear b.values) (sym building) clear_after;

@@ -1,5 +1,5 @@
 -- The block of a test, and its flag: a register that was not there before.
-use Rattle.std.proofs.Common.{◌≡◌, ℕ, ◌+◌, ◌<◌, ◌≤◌, ◌^◌, List, [], ◌∷◌, ◌++◌, length, Some, None, replicate, refl, ap, sym, ◌∙◌, subst, arith}
+use Rattle.std.proofs.Common.{◌≡◌, ◌⊎◌, inl, inr, zero, suc, None, ℕ, ◌+◌, ◌<◌, ◌≤◌, ◌^◌, List, [], ◌∷◌, ◌++◌, length, Some, None, replicate, refl, ap, sym, ◌∙◌, subst, arith}
 use Rattle.std.specs.Prelude.{Option, slice_get, slice_index}
 use Rattle.std.specs.List.{AllByRecursion}
 use Rattle.std.proofs.lemmas.List.{append-nil, length-append}
@@ -62,6 +62,20 @@ module _ (scene : Scene) (around : Around) where
 pub flag_extends : (old new : Draft) (t : tree.Term) (value flag : ℕ) → SetsFlag old new t value flag → Extends old new
 flag_extends old new t value flag h = extends_again old h.mid new h.gives.extends (pushed_extends h.mid new h.number None (Set flag h.made) h.set)
 
+-- a flag behind these registers
+one_flag : (old : List Kind) (register : ℕ) (k : Kind) → slice_get (old ++ kind.Bool ∷ []) register ≡ Some k → (slice_get old register ≡ Some k) ⊎ (k ≡ kind.Bool)
+one_flag [] zero k at = inr (sym (ap kind_or at))
+  where
+    kind_or : Option Kind → Kind
+    kind_or None = kind.Bool
+    kind_or (Some x) = x
+one_flag [] (suc register) k at = absurd (never at)
+  where
+    never : None ≡ Some k → ⊥
+    never e = cc
+one_flag (x ∷ old) zero k at = inl at
+one_flag (x ∷ old) (suc register) k at = one_flag old register k at
+
 one_more : (n m : ℕ) → m ≡ n + 1 → n ≤ m
 one_more n m e = omega (arith, e)
 
@@ -112,6 +126,7 @@ module _ (scene : Scene) (paths : Paths) (old new : Made) (between : Building) (
         draft = subst (λ (d : Draft). Extends old.building.draft d) (sym draft_is) (extends_again old.building.draft between.draft draft (does.does.so few).extends (flag_extends between.draft draft t value flag puts.0));
         starts = starts ∙ ap (λ (n : ℕ). old.starts.items ++ n ∷ []) start_is;
         registers = λ register k at. ap (λ (l : List Kind). slice_get l register) registers ∙ in_front old.registers (kind.Bool ∷ []) register k at;
+        flags = λ register k at. one_flag old.registers register k (ap (λ (l : List Kind). slice_get l register) (sym registers) ∙ at);
         longer = one_more (length old.registers) (length new.registers) (ap (λ (l : List Kind). length l) registers ∙ length-append old.registers (kind.Bool ∷ []));
         variables = variables;
         clear = subst (λ (v : Values). IsClear v) (sym values_are) (clear_still scene around old.building.values between.values changes rest.clear);

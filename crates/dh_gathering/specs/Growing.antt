@@ -1,9 +1,10 @@
 -- What is made of a program grows: operations, starts of blocks and registers are only added. Between two blocks no
 -- variable is given a value, all accesses with operations are laid, and none is counted.
-use Rattle.std.specs.Prelude.{◌≡◌, ℕ, suc, ◌≤◌, ◌^◌, List, [], length, slice_get, slice_index_or, Some, None}
+use Rattle.std.specs.Prelude.{◌≡◌, ◌⊎◌, ℕ, suc, ◌≤◌, ◌^◌, List, [], length, slice_get, slice_index_or, Some, None}
 use Rattle.dh_base.specs.declared.outcomes.FaultKind.{FaultKind}
 use Rattle.dh_base.specs.declared.places.Place.{Place}
 use Rattle.dh_value.specs.declared.kinds.Kind.{Kind}
+use Rattle.dh_value.specs.declared.kinds.Kind.TheVariants as kind
 use Rattle.dh_plan.specs.declared.operations.Operation.{Operation}
 use Rattle.dh_expressions.specs.Copying.{AreNone}
 use Rattle.dh_expressions.specs.Drafted.{Extends}
@@ -50,4 +51,6 @@ pub record Grows (old new : Made) : Type 0 where
   -- a block that was begun or is to be begun next begins where it did
   pub places : (block : ℕ) → block ≤ length old.starts.items → place_in new block ≡ place_in old block
   pub registers : (register : ℕ) (k : Kind) → slice_get old.registers register ≡ Some k → slice_get new.registers register ≡ Some k
+  -- those that are added are flags
+  pub flags : (register : ℕ) (k : Kind) → slice_get new.registers register ≡ Some k → (slice_get old.registers register ≡ Some k) ⊎ (k ≡ kind.Bool)
   pub variables : registers_given new ≡ registers_given old

@@ -1,10 +1,9 @@
 -- The commands of a block in time, one after the other.
-use Rattle.std.proofs.Common.{◌≡◌, ◌⊎◌, inl, inr, ℕ, suc, ◌+◌, ◌^◌, ◌<◌, ◌≤◌, true, Some, None, Option, List, [], ◌∷◌, length, refl, sym, ap, ◌∙◌, subst, arith}
-use Rattle.std.specs.Prelude.{◌||◌}
+use Rattle.std.proofs.Common.{◌≡◌, ◌⊎◌, inl, inr, ℕ, ◌+◌, ◌^◌, ◌<◌, ◌≤◌, true, Some, Option, List, [], ◌∷◌, length, refl, sym, ◌∙◌, subst, arith}
 use Rattle.std.specs.List.{AllByRecursion}
 use Rattle.std.proofs.lemmas.Bool.{cases_lt}
 use Rattle.dh_meaning.specs.AccessNumbers.{accesses_of}
-use Rattle.dh_meaning.specs.Core.{CoreCommands, no_commands}
+use Rattle.dh_meaning.specs.Core.{no_commands}
 use Rattle.dh_meaning.specs.CoreOf.{core_action, core_commands}
 use Rattle.dh_meaning.specs.Levels.{Levels}
 use Rattle.dh_meaning.specs.Phases.{Located}
@@ -16,8 +15,8 @@ use Rattle.dh_expressions.specs.Drafted.{Extends}
 use Rattle.dh_expressions.specs.Evaluated.{known_in}
 use Rattle.dh_expressions.proofs.Pushing.{extends_again}
 use Rattle.dh_formed.specs.Counted.{given_at_paths}
-use Rattle.dh_formed.specs.Formed.{Agrees, Block, IsNoted, Site}
-use Rattle.dh_formed.specs.Timed.{AgreeInTime, AreBounded, Clocks, ReadsAgree}
+use Rattle.dh_formed.specs.Formed.{Agrees, IsNoted, Site}
+use Rattle.dh_formed.specs.Timed.{AgreeInTime, AreBounded, Clocks}
 use Rattle.dh_formed.proofs.TermsCounted.{left_of, right_of}
 use Rattle.dh_formed.proofs.ValuesFormed.{agrees_before}
 use Rattle.dh_formed.proofs.ValuesTimed.{agree_before}
@@ -26,14 +25,14 @@ use Rattle.dh_commands.specs.LanesRun.{paths_counted}
 use Rattle.dh_commands.specs.MadeCommands.{MadeCommand}
 use Rattle.dh_laid.specs.BareCommands.{AreRising}
 use Rattle.dh_laid.specs.BlockSites.{MadeEach}
-use Rattle.dh_laid.specs.LaidCommands.{AreFew, CommandSuits, FormsCommand}
-use Rattle.dh_laid.specs.LaidNumbers.{Numbers, StoresReach}
+use Rattle.dh_laid.specs.LaidCommands.{CommandSuits, FormsCommand}
+use Rattle.dh_laid.specs.LaidNumbers.{StoresReach}
 use Rattle.dh_laid.proofs.CommandsLaid.{command_forms}
 use Rattle.dh_laid.proofs.CommandsNumbered.{command_reached}
 use Rattle.dh_laid.proofs.PathsLaid.{extends_same}
 use Rattle.dh_paced.specs.BlockLengths.{AssignsOwn, EachSuits}
 use Rattle.dh_paced.specs.Paced.{IsIn, IsOfEach, IsReadIn, IsReadOfEach, action_levels, each_levels, outer_each, outer_in}
-use Rattle.dh_paced.specs.Standing.{HaveGivenTo, IsGround, OwnsIn, Paces, StandsFor}
+use Rattle.dh_paced.specs.Standing.{HaveGivenTo, IsGround, Paces, StandsFor}
 use Rattle.dh_paced.proofs.CommandsPaced.{both_paced, command_paced, stands_then}
 use Rattle.dh_paced.proofs.CoreAppended.{action_then_mentions}
 use Rattle.dh_paced.proofs.LevelsOfCommands.{LevelsGo, action_go, read_in}

@@ -1,11 +1,8 @@
 -- What is asked of each part of a command, from what is known of the whole: by recursion on the command.
-use Rattle.std.proofs.Common.{◌≡◌, ◌⊎◌, inl, inr, ℕ, suc, ◌+◌, ◌<◌, ◌≤◌, true, false, Some, None, Option, refl, sym, ap, ◌∙◌, subst, arith}
+use Rattle.std.proofs.Common.{◌≡◌, ◌⊎◌, inl, inr, ℕ, suc, ◌+◌, ◌<◌, ◌≤◌, true, false, Some, None, Option, refl, sym, ◌∙◌, subst, arith}
 use Rattle.std.specs.Prelude.{Bool as Truth, ◌==◌, ◌||◌, if◌then◌else◌, max, nat_lt}
-use Rattle.std.proofs.lemmas.Bool.{eq-eqb}
 use Rattle.std.proofs.lemmas.Bool.Decides.{nat_tests}
 use Rattle.dh_tree.specs.Indices.{form_of}
-use Rattle.dh_tree.specs.declared.trees.expressions.Ref.{Ref}
-use Rattle.dh_value.specs.declared.operators.Op.{Op}
 use Rattle.dh_tree.specs.PlainTrees as plain
 use Rattle.dh_tree.specs.PlainTrees.{Term, Action, action, ActionForm, lets, lets_memory, views, assigns, stores, reduces, calls, blocks, decides, repeats, counts, MaybeAction, no_action, one_action, Actions, no_actions, action_then, Groups, no_groups, group_then}
 use Rattle.dh_meaning.specs.AccessNumbers.{accesses_of, groups_accesses, other_accesses, part_accesses, term_accesses, terms_accesses}
@@ -13,7 +10,7 @@ use Rattle.dh_meaning.specs.Bindings.{kind_found}
 use Rattle.dh_meaning.specs.Core.{CoreCommands, CoreTerm, assign, choose, command_and, no_commands, variable}
 use Rattle.dh_meaning.specs.CoreOf.{core_action, core_groups, core_other, core_part, core_term, core_terms, depth_of, entity_number, kind_of, operation_of, store_to}
 use Rattle.dh_meaning.specs.Levels.{Leveled, Levels}
-use Rattle.dh_plan.specs.PlanPhases.{command_mentions, commands_mention, term_mentions, terms_mention}
+use Rattle.dh_plan.specs.PlanPhases.{commands_mention, term_mentions, terms_mention}
 use Rattle.dh_expressions.specs.declared.scenes.Around.{Around}
 use Rattle.dh_expressions.specs.declared.scenes.Scene.{Scene}
 use Rattle.dh_expressions.specs.Evaluated.{known_in}
@@ -23,9 +20,9 @@ use Rattle.dh_laid.specs.Laid.{aim_accesses}
 use Rattle.dh_laid.specs.LaidNumbers.{IsAccessForm, StoresReach, StoresReachGroups, StoresReachOther, StoresReachPart}
 use Rattle.dh_paced.specs.BlockLengths.{AssignsOwn, AssignsOwnGroups, AssignsOwnOther, AssignsOwnPart}
 use Rattle.dh_paced.specs.Paced.{IsIn, IsReadGroups, IsReadIn, IsReadOther, IsReadPart, action_levels, between_arms, outer_groups, outer_in, outer_other, outer_part, part_levels}
-use Rattle.dh_paced.specs.Standing.{AreOwn, IsTarget, OwnsGroups, OwnsIn, OwnsOther, OwnsPart, OwnsTarget, OwnsTerm, OwnsTerms, OwnsWrite}
+use Rattle.dh_paced.specs.Standing.{OwnsGroups, OwnsIn, OwnsOther, OwnsPart, OwnsTarget, OwnsTerm, OwnsTerms}
 use Rattle.dh_paced.proofs.CoreAppended.{action_then_mentions, appended, appended_mentions, part_then_mentions}
-use Rattle.dh_paced.proofs.LevelsOfCommands.{aims_fewer, read_in, read_in_groups, read_in_other, read_in_part}
+use Rattle.dh_paced.proofs.LevelsOfCommands.{read_in, read_in_groups, read_in_other, read_in_part}
 
 pub pick_low : (m k x y : ℕ) → m < k → (if nat_lt m k then x else y) ≡ x
 pick_low m k x y less = grind (arith, nat_tests, less)

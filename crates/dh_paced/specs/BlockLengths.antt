@@ -18,10 +18,10 @@ use Rattle.dh_expressions.specs.declared.scenes.Scene.{Scene}
 use Rattle.dh_expressions.specs.Drafted.{Extends}
 use Rattle.dh_expressions.specs.Evaluated.{counter_of, known_in}
 use Rattle.dh_expressions.specs.Noted.{touched_in}
-use Rattle.dh_formed.specs.Formed.{Block, IsNoted, Site, TermSuits}
+use Rattle.dh_formed.specs.Formed.{Block, IsNoted, Site}
 use Rattle.dh_formed.specs.WholeBlocks.{IsCut, block_of}
 use Rattle.dh_commands.specs.declared.buildings.Building.{Building}
-use Rattle.dh_commands.specs.LanesRun.{lane_of, paths_counted}
+use Rattle.dh_commands.specs.LanesRun.{paths_counted}
 use Rattle.dh_commands.specs.MadeCommands.{MadeTests}
 use Rattle.dh_commands.specs.ShownVariables.{register_in}
 use Rattle.dh_laid.specs.BareCommands.{AreRising}

@@ -9,4 +9,8 @@ pub mod PlacesOf
 pub mod CommandsPut
 pub mod CommandsDown
 pub mod BlocksPut
+pub mod GuardsIn
+pub mod OppositeArms
+pub mod SitesMade
+pub mod NeverMeet
 pub mod StepKeeps

@@ -8,3 +8,5 @@ pub mod IndicesKept
 pub mod ReadsTold
 -- blocks as they are reached in a step
 pub mod ReachedBlocks
+-- accesses that never meet
+pub mod NeverMeet

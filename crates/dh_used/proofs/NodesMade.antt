@@ -12,7 +12,10 @@ use Rattle.dh_meaning.specs.Phases.{Located, Phase, straight, turns, repeated, d
 use Rattle.dh_meaning.specs.Sites.{nothing_around}
 use Rattle.dh_meets.specs.Charges as charges
 use Rattle.dh_meets.specs.SourceEvents.{SourceAccess, site_of}
+use Rattle.dh_value.specs.declared.operators.Op.TheVariants.{Both}
 use Rattle.dh_plan.specs.declared.operations.Operation.{Operation}
+use Rattle.dh_plan.specs.declared.operations.OperationForm.{OperationForm}
+use Rattle.dh_plan.specs.declared.operations.OperationForm.TheVariants.{Compute, Set}
 use Rattle.dh_plan.specs.Correspondence.{Round}
 use Rattle.dh_plan.specs.DoneProgram.{operations_using, probes_among}
 use Rattle.dh_plan.specs.PlainPlans.{Node, block_node, turns_node, loop_node, choice_node, threads_node, Nodes, no_nodes, node_then, PlainPlan, operations_in}
@@ -124,6 +127,9 @@ module _ (known : Known) where
   straight_inside round (q ∷ qs) loops cs i (inl h) = straight_inside_in round q loops cs i.0 h
   straight_inside round (q ∷ qs) loops cs i (inr h) = straight_inside round qs loops cs i.1 h
 
+  test_matches : (round loops : List Turning) (d c : Located) → EachMatches known (unrolled round) d.around.loops → (loops ≡ round) × (d ≡ c) → EachMatches known (unrolled loops) c.around.loops
+  test_matches round loops d c i h = subst (λ (ls : List Turning). EachMatches known (unrolled ls) c.around.loops) (sym h.0) (subst (λ (x : Located). EachMatches known (unrolled round) x.around.loops) h.1 i)
+
   mutual
     test_inside_in : (round : List Turning) (q : Phase) (loops : List Turning) (c : Located) → IsInside known (unrolled round) q → TestInLoops known round q loops c → EachMatches known (unrolled loops) c.around.loops
     test_inside_in round (straight ds) loops c i h = absurd h
@@ -133,9 +139,6 @@ module _ (known : Known) where
     test_inside_in round (decided choice chosen other) loops c i (inl h) = test_matches round loops choice c i.0 h
     test_inside_in round (decided choice chosen other) loops c i (inr (inl h)) = tests_inside round chosen loops c i.1.0 h
     test_inside_in round (decided choice chosen other) loops c i (inr (inr h)) = tests_inside round other loops c i.1.1 h
-
-    test_matches : (round loops : List Turning) (d c : Located) → EachMatches known (unrolled round) d.around.loops → (loops ≡ round) × (d ≡ c) → EachMatches known (unrolled loops) c.around.loops
-    test_matches round loops d c i h = subst (λ (ls : List Turning). EachMatches known (unrolled ls) c.around.loops) (sym h.0) (subst (λ (x : Located). EachMatches known (unrolled round) x.around.loops) h.1 i)
 
     tests_inside : (round : List Turning) (qs : Phases) (loops : List Turning) (c : Located) → AreInside known (unrolled round) qs → TestsInLoops known round qs loops c → EachMatches known (unrolled loops) c.around.loops
     tests_inside round no_phases loops c i h = absurd h
@@ -215,14 +218,19 @@ sets_probe_none : (number : ℕ) (ss : List (ℕ × ℕ)) → probes_among numbe
 sets_probe_none number [] = refl
 sets_probe_none number (s ∷ ss) = let e = sets_probe_none number ss in omega (arith, e)
 
+abbrev put_down : OperationForm → Operation
+put_down form = record { guard = None; form = form }
+
 flag_quiet : (read : Truth) (old new : Draft) (value flag : ℕ) → AddsFlag read old new value flag → EndsQuietly old new
 flag_quiet true old new value flag (mid, (made, (number, (both, set)))) = record {
-  more = _ ∷ (_ ∷ []);
-  adds = set.operations ∙ (ap (λ (os : List Operation). os ++ _ ∷ []) both.operations ∙ append_assoc old.operations.items (_ ∷ []) (_ ∷ []));
+  more = put_down (Compute Both value value) ∷ (put_down (Set flag made) ∷ []);
+  adds = set.operations
+      ∙ (ap (λ (os : List Operation). os ++ put_down (Set flag made) ∷ []) both.operations
+      ∙ append_assoc old.operations.items (put_down (Compute Both value value) ∷ []) (put_down (Set flag made) ∷ []));
   no_use = λ k. refl;
   no_probe = λ k. refl;
 }
-flag_quiet false old new value flag (number, set) = record { more = _ ∷ []; adds = set.operations; no_use = λ k. refl; no_probe = λ k. refl }
+flag_quiet false old new value flag (number, set) = record { more = put_down (Set flag value) ∷ []; adds = set.operations; no_use = λ k. refl; no_probe = λ k. refl }
 
 -- Blocks.
 

@@ -1,0 +1,2 @@
+pub mod EntitiesKnown
+pub mod VariablesKept
