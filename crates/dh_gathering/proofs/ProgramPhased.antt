@@ -102,6 +102,10 @@ makes_phased scene count body begun final variables paths blocks p registers beg
     kinds : HaveKinds (program_seen scene.program.now) scene.held.now count (length scene.held.now) variables
     kinds = registers successive
 
+    all_behind : (held : List Held) (n : ℕ) → first_among held n (length held) ≡ n
+    all_behind [] n = refl
+    all_behind (h ∷ held) n = all_behind held n
+
     past : (xs : List Kind) (i : ℕ) (k : Kind) → length xs ≤ i → slice_get xs i ≡ Some k → ⊥
     past [] i k l e = cc
     past (x ∷ xs) zero k l e = none (length xs) l
@@ -117,7 +121,3 @@ makes_phased scene count body begun final variables paths blocks p registers beg
     flag register k from (inr is) = is
     flag register k from (inl at) =
         absurd (past variables register k (subst (λ (n : ℕ). n ≤ register) (sym (kinds.long ∙ all_behind scene.held.now count)) from) (ap (λ (l : List Kind). slice_get l register) (sym begins.registers_are) ∙ at))
-
-    all_behind : (held : List Held) (n : ℕ) → first_among held n (length held) ≡ n
-    all_behind [] n = refl
-    all_behind (h ∷ held) n = all_behind held n
