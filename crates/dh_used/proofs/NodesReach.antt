@@ -1,5 +1,5 @@
 -- Plans reach memories of accesses of the source: each of their blocks is that of a node.
-use Rattle.std.proofs.Common.{◌≡◌, ◌<◌, ◌+◌, ◌==◌, ℕ, zero, suc, List, [], ◌∷◌, ◌++◌, Option, Some, None, length, refl, ap, sym, ◌∙◌, subst, arith}
+use Rattle.std.proofs.Common.{◌≡◌, ◌<◌, ◌+◌, ◌==◌, ℕ, List, [], ◌∷◌, Option, Some, None, length, refl, sym, subst, arith}
 use Rattle.std.specs.Prelude.{Bool as Truth, true, false, if◌then◌else◌, slice_get}
 use Rattle.std.specs.List.{AllByRecursion}
 use Rattle.std.proofs.lemmas.Bool.{eqb-true}
@@ -12,14 +12,12 @@ use Rattle.dh_plan.specs.declared.operations.Reach.{Reach}
 use Rattle.dh_plan.specs.Correspondence.{Round}
 use Rattle.dh_plan.specs.PlainPlans.{Node, block_node, turns_node, loop_node, choice_node, threads_node, Nodes, no_nodes, node_then, PlainPlan, block_operations, operations_in}
 use Rattle.dh_plan.specs.PlanPhases.{AreNodesOf, IsNodeOf, Tie}
-use Rattle.dh_plan.specs.SoundPlans.{HasAccess, access_in, blocks_of, node_blocks}
+use Rattle.dh_plan.specs.SoundPlans.{access_in, blocks_of, node_blocks}
 use Rattle.dh_expressions.specs.declared.scenes.Scene.{Scene}
 use Rattle.dh_expressions.proofs.ListPlaces.{place_within}
 use Rattle.dh_formed.proofs.ElementsFormed.{all_append}
-use Rattle.dh_gathering.specs.declared.blocks.Made.{Made}
 use Rattle.dh_gathering.specs.MadeBlocks.{IsStraightBlock, IsTestBlock, made_tie}
 use Rattle.dh_charged.proofs.BlocksTouch.{place_holds}
-use Rattle.dh_used.specs.MadePlans.{IsMadeOf}
 use Rattle.dh_used.specs.SourceReaches.{IsOfSource, MadePlansReach, ReachSource}
 use Rattle.dh_used.specs.UsedPlans.{listed}
 use Rattle.dh_used.proofs.BlocksReach.{straights_reach, tests_reach}
