@@ -1,0 +1,3 @@
+pub mod TestsMultiply
+pub mod StraightsMultiply
+pub mod NodesMultiply
