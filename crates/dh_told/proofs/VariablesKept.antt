@@ -136,7 +136,7 @@ module _ (scene : Scene) (count : ℕ) (order : AreInOrder scene count) where
   first_is : (e : ℕ) → first_among scene.held.now count e ≡ first_among (all_held ds 0 0 many) (slots_counted ds 0 0 many) e
   first_is e = ap (λ (held : List Held). first_among held count e) order.held ∙ ap (λ k. first_among (all_held ds 0 0 many) k e) order.count_is
 
-  long : length scene.held.now ≡ many
+  pub long : length scene.held.now ≡ many
   long = ap (λ (held : List Held). length held) order.held ∙ length_held ds 0 0 many
 
   -- the registers of variables are among those that are there
