@@ -1,11 +1,10 @@
 -- Each block of a plan that was made of a ready program is sound and formed, in whatever loops it stands that count.
-use Rattle.std.proofs.Common.{◌≡◌, inl, ℕ, ◌<◌, ◌≤◌, Bool, true, false, List, [], ◌∷◌, ◌++◌, length, replicate, Option, Some, None, refl, ap, sym, ◌∙◌, subst, arith}
+use Rattle.std.proofs.Common.{◌≡◌, inl, ℕ, ◌<◌, ◌≤◌, Bool, false, List, [], ◌∷◌, ◌++◌, length, Option, None, ap, sym, ◌∙◌, subst}
 use Rattle.std.specs.List.{AllByRecursion}
 use Rattle.std.proofs.lemmas.List.{length-replicate}
 use Rattle.dh_value.specs.declared.kinds.Kind.{Kind}
 use Rattle.dh_tree.specs.declared.tables.MemEntry.{MemEntry}
 use Rattle.dh_tree.specs.Memories.{table_of}
-use Rattle.dh_tree.specs.PlainTrees.{Term}
 use Rattle.dh_tree.specs.Ready.{most_tokens}
 use Rattle.dh_tree.specs.Seen.{program_seen}
 use Rattle.dh_tree.specs.Shapes.{IsProgramTable}
@@ -43,13 +42,13 @@ use Rattle.dh_laid.specs.LaidNumbers.{StoresReach}
 use Rattle.dh_laid.specs.LaidQuiet.{StandsIn}
 use Rattle.dh_typed_blocks.specs.ScenesTold.{TellsScene}
 use Rattle.dh_typed_blocks.specs.SoundBlocks.{IsPlaceTold, loops_of}
-use Rattle.dh_typed_blocks.specs.TypedTerms.{ActionTyped, IsTyped}
+use Rattle.dh_typed_blocks.specs.TypedTerms.{ActionTyped}
 use Rattle.dh_typed_laid.specs.SuitingBlocks.{FitsBlock, KeepsShares, StandsSo}
 use Rattle.dh_gathering.specs.declared.blocks.Made.{Made}
 use Rattle.dh_gathering.specs.LoopCounters.{AreCounting}
 use Rattle.dh_gathering.specs.MadeBlocks.{IsRoundBlock, IsStraightBlock, IsTestBlock}
 use Rattle.dh_gathering.specs.PushedSets.{settings}
-use Rattle.dh_phased.specs.DonePhases.{HasSoundBlocks, IsSoundStraight, IsSoundTested}
+use Rattle.dh_phased.specs.DonePhases.{IsSoundStraight, IsSoundTested}
 use Rattle.dh_phased.proofs.ReachingPhases.{ready_scenes_are_told}
 use Rattle.dh_phased.proofs.RoundsTop.{rounds_are_top}
 use Rattle.dh_used.specs.SourceSites.{AllStand, AreSited}

@@ -1,6 +1,6 @@
 -- The plan of a ready program is formed: its blocks by what was made, its counters by the loops of the program. By a walk
 -- over its nodes.
-use Rattle.std.proofs.Common.{◌≡◌, ◌⊎◌, inl, inr, ℕ, zero, suc, ◌+◌, ◌<◌, ◌≤◌, ◌^◌, ◌==◌, Bool, true, false, if◌then◌else◌, List, [], ◌∷◌, ◌++◌, length, Option, Some, None, refl, ap, sym, ◌∙◌, subst, arith}
+use Rattle.std.proofs.Common.{◌≡◌, ◌⊎◌, inl, inr, ℕ, suc, ◌+◌, ◌<◌, ◌≤◌, ◌^◌, ◌==◌, Bool, true, false, if◌then◌else◌, List, [], ◌∷◌, ◌++◌, length, Option, Some, None, refl, ap, sym, ◌∙◌, subst, arith}
 use Rattle.std.specs.Prelude.{slice_get}
 use Rattle.std.specs.List.{AllByRecursion}
 use Rattle.std.proofs.lemmas.Bool.{cases_lt}
@@ -12,10 +12,8 @@ use Rattle.dh_tree.specs.declared.tables.MemEntry.{MemEntry}
 use Rattle.dh_tree.specs.declared.trees.counters.Counter.{Counter}
 use Rattle.dh_tree.specs.Meets.{In}
 use Rattle.dh_tree.specs.Memories.{memories_of, number_in}
-use Rattle.dh_tree.specs.PlainTrees.{Program}
 use Rattle.dh_tree.specs.Seen.{program_seen}
 use Rattle.dh_tree.specs.Shapes.{IsProgramTable}
-use Rattle.dh_meaning.specs.AccessNumbers.{accesses_of}
 use Rattle.dh_meaning.specs.Core.{CoreCommands, CorePhase, CoreTerm, straightly, turning, looping, choosing, CorePhases, no_core_phases, phase_and, Turning}
 use Rattle.dh_meaning.specs.CoreOf.{core_of, entity_number}
 use Rattle.dh_meaning.specs.Effects.{commands, tests}
@@ -28,13 +26,10 @@ use Rattle.dh_code.specs.Declarations.{declarations}
 use Rattle.dh_code.specs.Slots.{held_at}
 use Rattle.dh_plan.specs.declared.operations.Operation.{Operation}
 use Rattle.dh_plan.specs.declared.operations.OperationForm.TheVariants.{Set}
-use Rattle.dh_plan.specs.declared.operations.PlanBlock.{PlanBlock}
 use Rattle.dh_plan.specs.declared.operations.Reach.{Reach}
 use Rattle.dh_plan.specs.declared.viewing.ViewMap.{ViewMap}
-use Rattle.dh_plan.specs.Blocks.{kind_at}
 use Rattle.dh_plan.specs.Correspondence.{Round}
-use Rattle.dh_plan.specs.Ordered.{IsOrdered}
-use Rattle.dh_plan.specs.PlainPlans.{Node, block_node, turns_node, loop_node, choice_node, threads_node, Nodes, no_nodes, node_then, PlainPlan, block_operations, first_in, operations_in}
+use Rattle.dh_plan.specs.PlainPlans.{Node, block_node, turns_node, loop_node, choice_node, threads_node, Nodes, no_nodes, node_then, PlainPlan, block_operations, operations_in}
 use Rattle.dh_plan.specs.PlanKinds.{IsFormedBlock, IsViewMap, Names}
 use Rattle.dh_plan.specs.PlanPhases.{AreNodesOf, IsLoopRegister, IsNodeOf, IsRegisterOf, Touches, block_assigns, does_phases}
 use Rattle.dh_plan.specs.SoundPlans.{Counting, HasAccess, IsFlag, IsFormed, KeepsCounter, NodeThreadsMeet, ThreadsMeet, blocks_of, countings, flags_of, node_blocks, node_countings}
@@ -43,7 +38,6 @@ use Rattle.dh_expressions.specs.Numbers.{narrowed}
 use Rattle.dh_expressions.proofs.ListPlaces.{place_within}
 use Rattle.dh_blocks.specs.SlotsOfScene.{placing_in, slots_in}
 use Rattle.dh_gathering.specs.declared.blocks.Made.{Made}
-use Rattle.dh_gathering.specs.Growing.{registers_given}
 use Rattle.dh_gathering.specs.LoopCounters.{AreCounting, HasCounter, IsCounting, LoopsCount, LoopsCountIn, loops_of}
 use Rattle.dh_gathering.specs.MadeBlocks.{IsFlagOf, IsStraightBlock, IsTestBlock, counter_in, made_tie}
 use Rattle.dh_gathering.specs.Registers.{IsRegisterKind, first_among}

@@ -1,12 +1,11 @@
 -- A read of a block that shares an earlier read shares one of the block, of the same memory.
-use Rattle.std.proofs.Common.{◌≡◌, ◌<◌, ◌&&◌, not, ℕ, zero, suc, Bool, true, false, List, [], ◌∷◌, ◌++◌, length, Option, Some, None, refl, ap, sym, ◌∙◌, subst, arith, append_assoc}
+use Rattle.std.proofs.Common.{◌≡◌, ◌<◌, ◌&&◌, not, ℕ, zero, suc, Bool, true, false, List, [], ◌∷◌, ◌++◌, length, Option, Some, None, refl, ap, sym, ◌∙◌, arith, append_assoc}
 use Rattle.std.specs.Prelude.{slice_get}
 use Rattle.std.specs.Option.{is_some}
 use Rattle.std.proofs.lemmas.Bool.Decides.{nat_tests}
 use Rattle.dh_tree.specs.Memories.{number_in, same_entity}
-use Rattle.dh_tree.specs.PlainTrees.{Program}
 use Rattle.dh_tree.specs.Seen.{program_seen}
-use Rattle.dh_meaning.specs.CoreOf.{entity_number, memory_of}
+use Rattle.dh_meaning.specs.CoreOf.{entity_number}
 use Rattle.dh_meaning.specs.OnePhase.{in_one_phase}
 use Rattle.dh_meets.specs.Sharing.{alike_elements, shared}
 use Rattle.dh_meets.specs.SourceEvents.{SourceAccess, SourceEvent, accesses, accesses_in, assigned, trace}
@@ -18,7 +17,7 @@ use Rattle.dh_expressions.specs.declared.scenes.Around.{Around}
 use Rattle.dh_expressions.specs.declared.scenes.Scene.{Scene}
 use Rattle.dh_expressions.specs.Evaluated.{known_in}
 use Rattle.dh_expressions.proofs.ListPlaces.{there}
-use Rattle.dh_formed.specs.Formed.{SharesMemory, Site}
+use Rattle.dh_formed.specs.Formed.{Site}
 use Rattle.dh_formed.specs.WholeBlocks.{block_of}
 use Rattle.dh_typed_laid.specs.SuitingBlocks.{KeepsShares}
 use Rattle.dh_used.specs.SourceSites.{AreSited, IsSiteOf}

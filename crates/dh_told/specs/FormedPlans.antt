@@ -1,5 +1,5 @@
 -- The plan of a ready program whole is formed.
-use Rattle.std.specs.Prelude.{◌≡◌, ℕ, List, [], Some}
+use Rattle.std.specs.Prelude.{◌≡◌, ℕ, [], Some}
 use Rattle.dh_tree.specs.Memories.{memories_of, number_in}
 use Rattle.dh_tree.specs.PlainTrees.{Program}
 use Rattle.dh_tree.specs.Seen.{program_seen}
