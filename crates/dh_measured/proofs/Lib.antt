@@ -1,1 +1,3 @@
 pub mod NamesMentioned
+pub mod BlocksUnread
+pub mod BlocksMeasured
