@@ -48,24 +48,29 @@ def memories_of(text):
     return [Memory(*found) for found in HEAD.findall(text.encode())]
 
 
+def faults_of(text):
+    """What a text names its faults, in order: the outcomes of reports."""
+    return [f'fault {kind} {place}' for kind, place in re.findall(r'^// fault \d+ (\w+) (\S+)$', text, re.M)]
+
+
 def bank_lines(memory, bank):
-    """The bank, its pins, and what a rising edge does to it."""
+    """The bank, its pins, and what a rising edge does to it: reads see it as it was, and writes come in order of ports."""
     width, row = memory.width - 1, memory.row_width - 1
     name = f'm{memory.number}_b{bank}'
-    lines = [f'  reg [{width}:0] {name} [0:{memory.rows - 1}];']
+    lines, edge = [f'  reg [{width}:0] {name} [0:{memory.rows - 1}];'], []
     for port in range(memory.ports):
         p = f'{name}_p{port}'
         lines += [
             f'  wire {p}_en;', f'  wire {p}_we;', f'  wire [{row}:0] {p}_row;', f'  wire [{width}:0] {p}_out;',
             f"  reg [{width}:0] {p}_in = {memory.width}'d0;",
-            '  always @(posedge clk) begin',
+        ]
+        edge += [
             f"    if ({p}_en !== 1'b0 && {p}_en !== 1'b1) $display(\"stray {p}: unknown enable\");",
             f"    if ({p}_en === 1'b1 && !({p}_row < {memory.rows})) $display(\"stray {p}: row %0d\", {p}_row);",
             f'    if ({p}_en & ~{p}_we) {p}_in <= {name}[{p}_row];',
             f'    if ({p}_en & {p}_we) {name}[{p}_row] <= {p}_out;',
-            '  end',
         ]
-    return lines
+    return lines + ['  always @(posedge clk) begin'] + edge + ['  end']
 
 
 def start_lines(memory, value):

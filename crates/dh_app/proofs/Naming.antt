@@ -2,7 +2,7 @@
 use Rattle.std.proofs.Common.{◌≡◌, ℕ, ◌<◌, ◌≤◌, ◌&&◌, Bool, true, false, if◌then◌else◌, List, [], ◌∷◌, length, map, get_or, codes, Option, Some, None, sym, ap, subst, zero, suc, arith}
 use Rattle.std.specs.Str.{bytes_eq}
 use Rattle.std.proofs.lemmas.List.{length-map}
-use Rattle.dh_app.specs.Words.{is_file_word, usual_steps, steps_of, over_file, interpret_for, interpret_with, simulate_with, over_data, job_of}
+use Rattle.dh_app.specs.Words.{is_file_word, usual_steps, usual_clocks, steps_of, over_file, interpret_for, interpret_with, simulate_for, simulate_with, over_data, job_of}
 use Rattle.dh_app.specs.Asking.{file_at, data_at}
 use Rattle.dh_app.specs.declared.words.Job.{Job}
 use Rattle.dh_app.specs.declared.words.Job.TheVariants.{Check, Lower, Interpret, Simulate}
@@ -18,7 +18,7 @@ abbrev Within : Job → ℕ → Type 0
 Within (Check file) n = file < n
 Within (Lower file) n = file < n
 Within (Interpret file data_ steps unchecked) n = (file < n) × (data_ < n)
-Within (Simulate file data_) n = (file < n) × (data_ < n)
+Within (Simulate file data_ clocks) n = (file < n) × (data_ < n)
 
 -- whatever job it is, if it is one
 abbrev WithinAll : Option Job → ℕ → Type 0
@@ -46,13 +46,19 @@ with_options (a ∷ (b ∷ (c ∷ []))) n l =
     (either (bytes_eq a (codes "--steps") && bytes_eq c (codes "--unchecked")) _ _ n (for_steps true (steps_of b) n l) tt)
 with_options (a ∷ (b ∷ (c ∷ (d ∷ more)))) n l = tt
 
-without_options : (options : List (List ℕ)) (n : ℕ) → 3 ≤ n → WithinAll (simulate_with options) n
-without_options [] n l = (omega (arith, l), omega (arith, l))
-without_options (a ∷ more) n l = tt
+for_clocks : (clocks : Option ℕ) (n : ℕ) → 3 ≤ n → WithinAll (simulate_for clocks) n
+for_clocks None n l = tt
+for_clocks (Some clocks) n l = (omega (arith, l), omega (arith, l))
+
+clock_options : (options : List (List ℕ)) (n : ℕ) → 3 ≤ n → WithinAll (simulate_with options) n
+clock_options [] n l = for_clocks (Some usual_clocks) n l
+clock_options (a ∷ []) n l = tt
+clock_options (a ∷ (b ∷ [])) n l = either (bytes_eq a (codes "--clocks")) _ _ n (for_clocks (steps_of b) n l) tt
+clock_options (a ∷ (b ∷ (c ∷ more))) n l = tt
 
 over_two : (command : List ℕ) (options : List (List ℕ)) (n : ℕ) → 3 ≤ n → WithinAll (over_data command options) n
 over_two command options n l =
-    either (bytes_eq command (codes "simulate")) _ _ n (without_options options n l)
+    either (bytes_eq command (codes "simulate")) _ _ n (clock_options options n l)
     (either (bytes_eq command (codes "interpret")) _ _ n (with_options options n l) tt)
 
 within_all : (ws : List (List ℕ)) → WithinAll (job_of ws) (length ws)
@@ -72,8 +78,8 @@ file_within view ws (Lower file) job = omega (arith, within (map view ws) (Lower
 file_within view ws (Interpret file data_ steps unchecked) job =
     let both = within (map view ws) (Interpret file data_ steps unchecked) job in
     omega (arith, both.0, length-map ws view)
-file_within view ws (Simulate file data_) job =
-    let both = within (map view ws) (Simulate file data_) job in
+file_within view ws (Simulate file data_ clocks) job =
+    let both = within (map view ws) (Simulate file data_ clocks) job in
     omega (arith, both.0, length-map ws view)
 
 pub data_within : {S : Type 0} (view : S → List ℕ) (ws : List S) (j : Job) (d : ℕ) → job_of (map view ws) ≡ Some j → data_at j ≡ Some d → d < length ws
@@ -83,7 +89,7 @@ data_within view ws (Interpret file data_ steps unchecked) d job e =
     let both = within (map view ws) (Interpret file data_ steps unchecked) job in
     let same : data_ ≡ d = cc in
     omega (arith, both.1, same, length-map ws view)
-data_within view ws (Simulate file data_) d job e =
-    let both = within (map view ws) (Simulate file data_) job in
+data_within view ws (Simulate file data_ clocks) d job e =
+    let both = within (map view ws) (Simulate file data_ clocks) job in
     let same : data_ ≡ d = cc in
     omega (arith, both.1, same, length-map ws view)

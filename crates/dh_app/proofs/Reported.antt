@@ -15,7 +15,7 @@ use Rattle.dh_app.specs.InterpretJob.{stands_after, ending_at, IsStandingReport}
 use Rattle.dh_app.specs.Parts.{IsFirstReport}
 use Rattle.dh_app.specs.Replies.{ReplySeen, replied, unread, no_memory, Says}
 use Rattle.dh_app.specs.Reporting.{status_of, IsEndingReport}
-use Rattle.dh_app.specs.SimulateJob.{most_clocks, ending_of, IsReport, RunsNet}
+use Rattle.dh_app.specs.SimulateJob.{ending_of, IsReport, RunsNet}
 use Rattle.dh_app.specs.declared.engine.Finish.{Finish}
 use Rattle.dh_app.proofs.Lined.{says_as}
 
@@ -38,11 +38,12 @@ only_answer net memories (f ∷ []) h = (f, (refl, h.0.fits))
 only_answer net memories (f ∷ (g ∷ fs)) h = absurd h.1
 
 -- the one answer of the engine is reported
-one_report : (p : Program) (net : Net) (memories : List (List ℕ)) (exact : Bool) (answers : List Finish) (s : Status) (text : List ℕ) → PlaysProgram net p → Fits net.table memories
-    → AnswersTo net (memories ∷ []) answers → (exact ≡ true → AreRuns net most_clocks (memories ∷ []) answers) → IsFirstReport net.table answers s text → IsReport p memories exact answers s text
-one_report p net memories exact answers s text plays fits answered runs h =
+one_report : (p : Program) (net : Net) (memories : List (List ℕ)) (clocks : ℕ) (exact : Bool) (answers : List Finish) (s : Status) (text : List ℕ) → PlaysProgram p net → Fits net.table memories
+    → AnswersTo net (memories ∷ []) answers → (exact ≡ true → AreRuns net clocks (memories ∷ []) answers) → IsFirstReport net.table answers s text → IsReport p memories clocks exact answers s text
+one_report p net memories clocks exact answers s text is fits answered runs h =
+    let plays = is.plays in
     let P : List Finish → Type 0 = λ fs. AnswersTo net (memories ∷ []) fs in
-    let Q : List Finish → Type 0 = λ fs. AreRuns net most_clocks (memories ∷ []) fs in
+    let Q : List Finish → Type 0 = λ fs. AreRuns net clocks (memories ∷ []) fs in
     let F : List MemEntry → Type 0 = λ t. Fits t memories in
     record {
       finish = h.finish;
@@ -53,8 +54,8 @@ one_report p net memories exact answers s text plays fits answered runs h =
       right = λ e. reports_by (plays.plays memories (subst F plays.table fits)) (subst Q h.answered (runs e)).0;
     }
 
-pub run_reported : (p : Program) (net : Net) (memories : List (List ℕ)) (old new : EngineSeen) (r : ReplySeen) → PlaysProgram net p → Fits net.table memories → Asks old new
-    → AnswersTo net (memories ∷ []) new.answers → (old.exact ≡ true → AreRuns net most_clocks (memories ∷ []) new.answers) → Says (IsFirstReport net.table new.answers) r → RunsNet old new p memories r
-run_reported p net memories old new (replied s text) plays fits asks answered runs h = (asks, one_report p net memories old.exact new.answers s text plays fits answered runs h)
-run_reported p net memories old new unread plays fits asks answered runs h = h
-run_reported p net memories old new no_memory plays fits asks answered runs h = inr asks
+pub run_reported : (p : Program) (net : Net) (memories : List (List ℕ)) (clocks : ℕ) (old new : EngineSeen) (r : ReplySeen) → PlaysProgram p net → Fits net.table memories → Asks old new
+    → AnswersTo net (memories ∷ []) new.answers → (old.exact ≡ true → AreRuns net clocks (memories ∷ []) new.answers) → Says (IsFirstReport net.table new.answers) r → RunsNet old new p memories clocks r
+run_reported p net memories clocks old new (replied s text) plays fits asks answered runs h = (asks, one_report p net memories clocks old.exact new.answers s text plays fits answered runs h)
+run_reported p net memories clocks old new unread plays fits asks answered runs h = h
+run_reported p net memories clocks old new no_memory plays fits asks answered runs h = inr asks

@@ -12,12 +12,13 @@ use Rattle.dh_tree.specs.Memories.{table_of}
 use Rattle.dh_tree.specs.PlainTrees.{Program}
 use Rattle.dh_tree.specs.declared.tables.MemEntry.{MemEntry}
 use Rattle.dh_check.specs.Verdicts.{Asked, Verdict, accepts, refuses, exceeds}
-use Rattle.dh_app.specs.Asking.{compiled, checked, interpreted, asked_by, file_at, data_at, word_at}
+use Rattle.dh_app.specs.Asking.{checked, interpreted, asked_by, file_at, data_at, word_at}
 use Rattle.dh_app.specs.CheckJob.{IsOk, ChecksFile}
 use Rattle.dh_app.specs.Engines.{EngineSeen, Asks}
 use Rattle.dh_app.specs.Inputs.{InputsSeen, HasRead, IsIdle, OnlyReads}
 use Rattle.dh_app.specs.InterpretJob.{stands_after, IsStandingReport, InterpretsData, InterpretsFiles}
 use Rattle.dh_app.specs.Jobs.{IsUsage, JobComes, ComesFor}
+use Rattle.dh_app.specs.NetStage.{NoNetOf}
 use Rattle.dh_app.specs.LowerJob.{IsNetText, LowersProgram, LowersFile}
 use Rattle.dh_app.specs.Promises.{ReadsSecond, ReadsFor, AsksFor}
 use Rattle.dh_app.specs.Replies.{ReplySeen, replied, unread, no_memory, Says}
@@ -97,16 +98,16 @@ outcome_shown outcome.Ended = tt
 outcome_shown (outcome.Faulted kind place) = tt
 outcome_shown (outcome.Stuck memory bank place) = tt
 
-run_left : (old new : FilesSeen) (e f : EngineSeen) (p : Program) (memories : List (List ℕ)) (r : ReplySeen) → HasRead old new 2 → RunsNet e f p memories r → Left old new r 2
-run_left old new e f p memories (replied s text) k h =
+run_left : (old new : FilesSeen) (e f : EngineSeen) (p : Program) (memories : List (List ℕ)) (clocks : ℕ) (r : ReplySeen) → HasRead old new 2 → RunsNet e f p memories clocks r → Left old new r 2
+run_left old new e f p memories clocks (replied s text) k h =
     record { reads = k.reads; calm = k.faults; shows = shown_as s (status_of h.1.finish.outcome) h.1.status_is (outcome_shown h.1.finish.outcome) }
-run_left old new e f p memories unread k h = absurd h
-run_left old new e f p memories no_memory k h = record { reads = k.reads; calm = k.faults; shows = tt }
+run_left old new e f p memories clocks unread k h = absurd h
+run_left old new e f p memories clocks no_memory k h = record { reads = k.reads; calm = k.faults; shows = tt }
 
-run_asks : (e f : EngineSeen) (p : Program) (memories : List (List ℕ)) (r : ReplySeen) → RunsNet e f p memories r → (f ≡ e) ⊎ Asks e f
-run_asks e f p memories (replied s text) h = inr h.0
-run_asks e f p memories unread h = absurd h
-run_asks e f p memories no_memory h = h
+run_asks : (e f : EngineSeen) (p : Program) (memories : List (List ℕ)) (clocks : ℕ) (r : ReplySeen) → RunsNet e f p memories clocks r → (f ≡ e) ⊎ Asks e f
+run_asks e f p memories clocks (replied s text) h = inr h.0
+run_asks e f p memories clocks unread h = absurd h
+run_asks e f p memories clocks no_memory h = h
 
 -- ---- the jobs
 
@@ -132,12 +133,14 @@ check_left words old new file r (inl h) = one_left words old new (Check file) r 
 check_left words old new file r (inr (p, (is, (only, says)))) =
     one_left words old new (Check file) r (said_left IsOk old.files new.files r 1 (λ s text l. shown_as s status.Done l.0 tt) only.read says) only.idle
 
+none_left : (old new : FilesSeen) (p : Program) (r : ReplySeen) → HasRead old new 1 → NoNetOf p r → Left old new r 1
+none_left old new p (replied s text) k h = record { reads = k.reads; calm = k.faults; shows = shown_as s status.TooLarge h.status_is tt }
+none_left old new p unread k h = absurd h
+none_left old new p no_memory k h = record { reads = k.reads; calm = k.faults; shows = tt }
+
 lower_left : (words : List (List ℕ)) (old new : InputsSeen) (file : ℕ) (r : ReplySeen) → LowersFile old new (word_at words file) r → JobLeft words old new (Some (Lower file)) r
-lower_left words old new file r (inl h) = one_left words old new (Lower file) r (program_left old.files new.files compiled (word_at words file) r h.0) h.1
-lower_left words old new file (replied s text) (inr (p, (is, inl h))) = absurd h
-lower_left words old new file unread (inr (p, (is, inl h))) = absurd h
-lower_left words old new file no_memory (inr (p, (is, inl h))) =
-    one_left words old new (Lower file) no_memory (record { reads = h.read.reads; calm = h.read.faults; shows = tt }) h.idle
+lower_left words old new file r (inl h) = one_left words old new (Lower file) r (program_left old.files new.files checked (word_at words file) r h.0) h.1
+lower_left words old new file r (inr (p, (is, inl h))) = one_left words old new (Lower file) r (none_left old.files new.files p r h.0.read h.1) h.0.idle
 lower_left words old new file r (inr (p, (is, inr (net, (plays, (only, says)))))) =
     one_left words old new (Lower file) r (said_left (IsNetText net) old.files new.files r 1 (λ s text l. shown_as s status.Done l.done tt) only.read says) only.idle
 
@@ -151,21 +154,19 @@ interpret_left words old new file data_ steps unchecked r (inr (p, (is, inr (m, 
     two_left words old new (Interpret file data_ steps unchecked) r data_ refl p is
     (said_left (IsStandingReport p m steps) old.files new.files r 2 (λ s text l. shown_as s (status_of (stands_after p m steps).outcome) l.status_is (outcome_shown (stands_after p m steps).outcome)) only.read says) only.idle
 
-simulate_left : (words : List (List ℕ)) (old new : InputsSeen) (file data_ : ℕ) (r : ReplySeen) → SimulatesFiles old new (word_at words file) (word_at words data_) r
-    → JobLeft words old new (Some (Simulate file data_)) r
-simulate_left words old new file data_ r (inl h) =
-    one_left words old new (Simulate file data_) r (program_left old.files new.files compiled (word_at words file) r h.0) (inl h.1)
-simulate_left words old new file data_ (replied s text) (inr (p, (is, inl h))) = absurd h
-simulate_left words old new file data_ unread (inr (p, (is, inl h))) = absurd h
-simulate_left words old new file data_ no_memory (inr (p, (is, inl h))) =
-    one_left words old new (Simulate file data_) no_memory (record { reads = h.read.reads; calm = h.read.faults; shows = tt }) (inl h.idle)
-simulate_left words old new file data_ r (inr (p, (is, inr (net, (plays, inl h))))) =
-    two_left words old new (Simulate file data_) r data_ refl p is (data_left old.files new.files (word_at words data_) (table_of p) 2 r h.0) (inl h.1)
-simulate_left words old new file data_ r (inr (p, (is, inr (net, (plays, inr (m, (held, (read, runs)))))))) =
-    two_left words old new (Simulate file data_) r data_ refl p is (run_left old.files new.files old.engine new.engine p m r read runs)
-    (asked (run_asks old.engine new.engine p m r runs))
+simulate_left : (words : List (List ℕ)) (old new : InputsSeen) (file data_ clocks : ℕ) (r : ReplySeen) → SimulatesFiles old new (word_at words file) (word_at words data_) clocks r
+    → JobLeft words old new (Some (Simulate file data_ clocks)) r
+simulate_left words old new file data_ clocks r (inl h) =
+    one_left words old new (Simulate file data_ clocks) r (program_left old.files new.files checked (word_at words file) r h.0) (inl h.1)
+simulate_left words old new file data_ clocks r (inr (p, (is, inl h))) =
+    one_left words old new (Simulate file data_ clocks) r (none_left old.files new.files p r h.0.read h.1) (inl h.0.idle)
+simulate_left words old new file data_ clocks r (inr (p, (is, inr (net, (plays, inl h))))) =
+    two_left words old new (Simulate file data_ clocks) r data_ refl p is (data_left old.files new.files (word_at words data_) (table_of p) 2 r h.0) (inl h.1)
+simulate_left words old new file data_ clocks r (inr (p, (is, inr (net, (plays, inr (m, (held, (read, runs)))))))) =
+    two_left words old new (Simulate file data_ clocks) r data_ refl p is (run_left old.files new.files old.engine new.engine p m clocks r read runs)
+    (asked (run_asks old.engine new.engine p m clocks r runs))
   where
-    asked : (new.engine ≡ old.engine) ⊎ Asks old.engine new.engine → AsksFor words old new (Some (Simulate file data_))
+    asked : (new.engine ≡ old.engine) ⊎ Asks old.engine new.engine → AsksFor words old new (Some (Simulate file data_ clocks))
     asked (inl e) = inl e
     asked (inr a) = inr (record { program = p; is_program = is; memories = m; is_data = held; asks = a })
 
@@ -173,7 +174,7 @@ job_left : (words : List (List ℕ)) (old new : InputsSeen) (job : Job) (r : Rep
 job_left words old new (Check file) r h = check_left words old new file r h
 job_left words old new (Lower file) r h = lower_left words old new file r h
 job_left words old new (Interpret file data_ steps unchecked) r h = interpret_left words old new file data_ steps unchecked r h
-job_left words old new (Simulate file data_) r h = simulate_left words old new file data_ r h
+job_left words old new (Simulate file data_ clocks) r h = simulate_left words old new file data_ clocks r h
 
 usage_calm : (old new : InputsSeen) (r : ReplySeen) → new ≡ old → Calm old.files new.files r
 usage_calm old new (replied s text) e = ap (λ x. x.files.faults) e

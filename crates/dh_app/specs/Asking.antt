@@ -2,17 +2,13 @@
 -- whether its ports are judged.
 use Rattle.std.specs.Prelude.{ℕ, Bool, true, false, List, [], Option, Some, None, slice_index_or}
 use Rattle.dh_check.specs.Verdicts.{Asked, asked_of}
-use Rattle.dh_check.specs.declared.checking.Forms.TheVariants.{Unchecked, Checked, Compiled}
+use Rattle.dh_check.specs.declared.checking.Forms.TheVariants.{Unchecked, Checked}
 use Rattle.dh_app.specs.declared.words.Job.{Job}
 use Rattle.dh_app.specs.declared.words.Job.TheVariants.{Check, Lower, Interpret, Simulate}
 
--- what a check asks
+-- what a check asks, and the compiler
 abbrev pub checked : Asked
 checked = asked_of Checked true
-
--- what the compiler asks
-abbrev pub compiled : Asked
-compiled = asked_of Compiled true
 
 -- what the interpreter asks: with `--unchecked` it runs more forms, and does not ask for the ports
 abbrev pub interpreted : (unchecked : Bool) → Asked
@@ -22,23 +18,23 @@ interpreted true = asked_of Unchecked false
 -- what a job asks
 abbrev pub asked_by : Job → Asked
 asked_by (Check file) = checked
-asked_by (Lower file) = compiled
+asked_by (Lower file) = checked
 asked_by (Interpret file data_ steps unchecked) = interpreted unchecked
-asked_by (Simulate file data_) = compiled
+asked_by (Simulate file data_ clocks) = checked
 
 -- the position of the word that names the file of its program
 abbrev pub file_at : Job → ℕ
 file_at (Check file) = file
 file_at (Lower file) = file
 file_at (Interpret file data_ steps unchecked) = file
-file_at (Simulate file data_) = file
+file_at (Simulate file data_ clocks) = file
 
 -- and of its data, where it has them
 abbrev pub data_at : Job → Option ℕ
 data_at (Check file) = None
 data_at (Lower file) = None
 data_at (Interpret file data_ steps unchecked) = Some data_
-data_at (Simulate file data_) = Some data_
+data_at (Simulate file data_ clocks) = Some data_
 
 -- the word at a position
 abbrev pub word_at : (words : List (List ℕ)) → ℕ → List ℕ

@@ -19,7 +19,7 @@ abbrev pub JobComes : (words : List (List ℕ)) → (old new : InputsSeen) → J
 JobComes words old new (Check file) r = ChecksFile old new (word_at words file) r
 JobComes words old new (Lower file) r = LowersFile old new (word_at words file) r
 JobComes words old new (Interpret file data_ steps unchecked) r = InterpretsFiles old new (word_at words file) (word_at words data_) steps unchecked r
-JobComes words old new (Simulate file data_) r = SimulatesFiles old new (word_at words file) (word_at words data_) r
+JobComes words old new (Simulate file data_ clocks) r = SimulatesFiles old new (word_at words file) (word_at words data_) clocks r
 
 -- the reply is how to call the program
 abbrev pub IsUsage : Status → (text : List ℕ) → Type 0

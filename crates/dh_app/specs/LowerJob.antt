@@ -6,7 +6,7 @@ use Rattle.dh_tree.specs.PlainTrees.{Program}
 use Rattle.dh_net.specs.declared.nets.Net.{Net}
 use Rattle.dh_verilog.specs.Ranges.{IsAlone}
 use Rattle.dh_verilog.specs.Text.{text_of}
-use Rattle.dh_app.specs.Asking.{compiled}
+use Rattle.dh_app.specs.Asking.{checked}
 use Rattle.dh_app.specs.Inputs.{InputsSeen, OnlyReads}
 use Rattle.dh_app.specs.NetStage.{NetStage}
 use Rattle.dh_app.specs.Replies.{ReplySeen, Says}
@@ -18,7 +18,7 @@ pub record IsNetText (net : Net) (s : Status) (text : List ℕ) : Type 0 where
   pub text_is : text ≡ text_of net
   pub alone : IsAlone text net
 
--- an accepted program is compiled: the text of a net that plays it is the reply
+-- an accepted program is compiled: the text of a net that plays it is the reply, or that it is too large
 abbrev pub LowersProgram : (old new : InputsSeen) → Program → ReplySeen → Type 0
 LowersProgram old new p r = NetStage old new p (λ net answer. OnlyReads old new 1 × Says (IsNetText net) answer) r
 
@@ -28,4 +28,4 @@ LowersOnceRead p r = (old new : InputsSeen) → OnlyReads old new 1 → LowersPr
 
 -- the one file is read, and its program is compiled
 abbrev pub LowersFile : (old new : InputsSeen) → (file : List ℕ) → ReplySeen → Type 0
-LowersFile old new file r = ProgramStage old new compiled file (λ p. LowersProgram old new p) r
+LowersFile old new file r = ProgramStage old new checked file (λ p. LowersProgram old new p) r

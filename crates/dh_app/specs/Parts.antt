@@ -14,12 +14,10 @@ use Rattle.dh_tree.specs.Seen.{program_seen}
 use Rattle.dh_tree.specs.Tables.{Fits}
 use Rattle.dh_ports.specs.declared.accepted.Accepted.{Accepted}
 use Rattle.dh_net.specs.declared.nets.Net.{Net}
-use Rattle.dh_check.specs.Acceptance.{IsCompilable}
 use Rattle.dh_check.specs.Verdicts.{Asked, asked_of, Verdict, accepts, IsVerdict}
 use Rattle.dh_check.specs.declared.checking.CheckFault.{CheckFault}
 use Rattle.dh_check.specs.declared.checking.CheckFault.TheVariants as check_fault
 use Rattle.dh_check.specs.declared.checking.Forms.{Forms}
-use Rattle.dh_check.specs.declared.checking.Forms.TheVariants as column
 use Rattle.dh_compile.specs.Compiled.{PlaysProgram}
 use Rattle.dh_data.specs.DataFiles.{Holds, Means}
 use Rattle.dh_data.specs.declared.data_files.DataFault.{DataFault}
@@ -95,10 +93,6 @@ ProgramRead old new asked file (Err r) = NoProgram old new asked file (reply_see
 abbrev pub AcceptedRead : (old new : FilesSeen) → Forms → (file : List ℕ) → Result Accepted Reply → Type 0
 AcceptedRead old new forms file r = ProgramRead old new (asked_of forms true) file r
 
--- a program that was accepted by the forms that are compiled can be compiled
-abbrev pub IsCompilableOf : Forms → Result Accepted Reply → Type 0
-IsCompilableOf forms r = forms ≡ column.Compiled → IfOk r (λ a. IsCompilable (program_seen a))
-
 abbrev pub TypedRead : (old new : FilesSeen) → Asked → (file : List ℕ) → Result Typed Reply → Type 0
 TypedRead old new asked file (Ok t) = IsProgram old asked file (program_seen t) × (HasRead old new 1 × IsReady (program_seen t))
 TypedRead old new asked file (Err r) = NoProgram old new asked file (reply_seen r)
@@ -137,8 +131,8 @@ SecondRead old new data_ table r = (first : FilesSeen) → HasBegun first old �
 -- ---- the engine
 
 -- the reply is that of the run of each program that the net plays
-abbrev pub RunsAsPlayed : (old new : EngineSeen) → Net → (memories : List (List ℕ)) → Reply → Type 0
-RunsAsPlayed old new net memories r = (p : Program) → PlaysProgram net p → RunsNet old new p memories (reply_seen r)
+abbrev pub RunsAsPlayed : (old new : EngineSeen) → Net → (memories : List (List ℕ)) → (clocks : ℕ) → Reply → Type 0
+RunsAsPlayed old new net memories clocks r = (p : Program) → PlaysProgram p net → RunsNet old new p memories clocks (reply_seen r)
 
 -- there is one answer, whose memories fit the table
 abbrev pub IsSingleAnswer : List MemEntry → List Finish → Type 0

@@ -6,7 +6,7 @@ use Rattle.dh_base.specs.declared.statuses.Status.{Status}
 use Rattle.dh_base.specs.declared.statuses.Status.TheVariants as status
 use Rattle.dh_tree.specs.Memories.{table_of}
 use Rattle.dh_tree.specs.PlainTrees.{Program}
-use Rattle.dh_app.specs.Asking.{compiled, asked_by, file_at, data_at, word_at}
+use Rattle.dh_app.specs.Asking.{checked, asked_by, file_at, data_at, word_at}
 use Rattle.dh_app.specs.Engines.{Asks}
 use Rattle.dh_app.specs.Inputs.{InputsSeen, IsIdle}
 use Rattle.dh_app.specs.Jobs.{Comes, Answers}
@@ -36,7 +36,7 @@ ReadsFor words old new (Some job) = (new.reads ≡ risen old.reads 1) ⊎ ReadsS
 -- an accepted program and memories that fit it were read, and the engine was asked once
 pub record AsksOnce (words : List (List ℕ)) (old new : InputsSeen) (file data_ : ℕ) : Type 0 where
   pub program : Program
-  pub is_program : IsProgram old.files compiled (word_at words file) program
+  pub is_program : IsProgram old.files checked (word_at words file) program
   pub memories : List (List ℕ)
   pub is_data : IsData old.files (word_at words data_) (table_of program) memories
   pub asks : Asks old.engine new.engine
@@ -47,7 +47,7 @@ AsksFor words old new None = IsIdle old new
 AsksFor words old new (Some (Check file)) = IsIdle old new
 AsksFor words old new (Some (Lower file)) = IsIdle old new
 AsksFor words old new (Some (Interpret file data_ steps unchecked)) = IsIdle old new
-AsksFor words old new (Some (Simulate file data_)) = IsIdle old new ⊎ AsksOnce words old new file data_
+AsksFor words old new (Some (Simulate file data_ clocks)) = IsIdle old new ⊎ AsksOnce words old new file data_
 
 pub record Touches (words : List (List ℕ)) (old new : InputsSeen) : Type 0 where
   pub reads : ReadsFor words old.files new.files (job_of words)
@@ -101,7 +101,7 @@ MayDiffer None s = ⊥
 MayDiffer (Some (Check file)) s = ⊥
 MayDiffer (Some (Lower file)) s = s ≡ status.Done
 MayDiffer (Some (Interpret file data_ steps unchecked)) s = ⊥
-MayDiffer (Some (Simulate file data_)) s = ⊥
+MayDiffer (Some (Simulate file data_ clocks)) s = ⊥
 
 -- where it is told of each file of the job what it has, and no fault was counted: whatever answers the
 -- words, or that a file could not be read, is how the call ended, but for want of memory

@@ -5,10 +5,10 @@ use Rattle.dh_tree.specs.Memories.{table_of}
 use Rattle.dh_tree.specs.PlainTrees.{Program}
 use Rattle.dh_net.specs.Plays.{IsStuck}
 use Rattle.dh_net.specs.Reports.{Reports}
-use Rattle.dh_compile.specs.Compiled.{run_of}
+use Rattle.dh_plan.specs.PlayedPlans.{program_run}
 use Rattle.dh_data.specs.Reports.{report_text}
 use Rattle.dh_data.specs.declared.reports.Ending.{Ending}
-use Rattle.dh_app.specs.Asking.{compiled}
+use Rattle.dh_app.specs.Asking.{checked}
 use Rattle.dh_app.specs.Engines.{EngineSeen, Asks}
 use Rattle.dh_app.specs.Inputs.{InputsSeen, HasRead}
 use Rattle.dh_app.specs.NetStage.{NetStage}
@@ -17,38 +17,34 @@ use Rattle.dh_app.specs.Reporting.{status_of}
 use Rattle.dh_app.specs.Sources.{ProgramStage, DataStage}
 use Rattle.dh_app.specs.declared.engine.Finish.{Finish}
 
--- the clocks that a run may take
-abbrev pub most_clocks : ℕ
-most_clocks = 10000000
-
 abbrev pub ending_of : Finish → Ending
 ending_of f = record { outcome = f.outcome; steps = f.steps; clocks = Some f.clocks }
 
 -- this status and this text report the engine's one answer. Where the engine is exact, that is what
--- the checked run of the program comes to within the limit of clocks.
-pub record IsReport (p : Program) (memories : List (List ℕ)) (exact : Bool) (answers : List Finish) (s : Status) (text : List ℕ) : Type 0 where
+-- the checked run of the program comes to within so many clocks.
+pub record IsReport (p : Program) (memories : List (List ℕ)) (clocks : ℕ) (exact : Bool) (answers : List Finish) (s : Status) (text : List ℕ) : Type 0 where
   pub finish : Finish
   pub answered : answers ≡ finish ∷ []
   pub not_stuck : IsStuck finish.outcome → ⊥
   pub status_is : s ≡ status_of finish.outcome
   pub text_is : text ≡ report_text (table_of p) finish.memories (ending_of finish)
-  pub right : exact ≡ true → Reports (run_of p memories) most_clocks finish.outcome finish.steps finish.clocks finish.memories
+  pub right : exact ≡ true → Reports (program_run p memories) clocks finish.outcome finish.steps finish.clocks finish.memories
 
 -- the engine is asked once, and its answer is the reply; memory may be refused before it is asked or after
-abbrev pub RunsNet : (old new : EngineSeen) → Program → (memories : List (List ℕ)) → ReplySeen → Type 0
-RunsNet old new p memories (replied s text) = Asks old new × IsReport p memories old.exact new.answers s text
-RunsNet old new p memories unread = ⊥
-RunsNet old new p memories no_memory = (new ≡ old) ⊎ Asks old new
+abbrev pub RunsNet : (old new : EngineSeen) → Program → (memories : List (List ℕ)) → (clocks : ℕ) → ReplySeen → Type 0
+RunsNet old new p memories clocks (replied s text) = Asks old new × IsReport p memories clocks old.exact new.answers s text
+RunsNet old new p memories clocks unread = ⊥
+RunsNet old new p memories clocks no_memory = (new ≡ old) ⊎ Asks old new
 
 -- the data is read, and the engine runs the net from it
-abbrev pub SimulatesData : (old new : InputsSeen) → (data_ : List ℕ) → Program → ReplySeen → Type 0
-SimulatesData old new data_ p r =
-    DataStage old new data_ (table_of p) (λ memories answer. HasRead old.files new.files 2 × RunsNet old.engine new.engine p memories answer) r
+abbrev pub SimulatesData : (old new : InputsSeen) → (data_ : List ℕ) → (clocks : ℕ) → Program → ReplySeen → Type 0
+SimulatesData old new data_ clocks p r =
+    DataStage old new data_ (table_of p) (λ memories answer. HasRead old.files new.files 2 × RunsNet old.engine new.engine p memories clocks answer) r
 
 -- an accepted program is compiled, then its data is read, and the engine runs the net
-abbrev pub SimulatesProgram : (old new : InputsSeen) → (data_ : List ℕ) → Program → ReplySeen → Type 0
-SimulatesProgram old new data_ p r = NetStage old new p (λ net. SimulatesData old new data_ p) r
+abbrev pub SimulatesProgram : (old new : InputsSeen) → (data_ : List ℕ) → (clocks : ℕ) → Program → ReplySeen → Type 0
+SimulatesProgram old new data_ clocks p r = NetStage old new p (λ net. SimulatesData old new data_ clocks p) r
 
 -- the file of the program is read, then the file of the data, and the engine's answer is the reply
-abbrev pub SimulatesFiles : (old new : InputsSeen) → (file data_ : List ℕ) → ReplySeen → Type 0
-SimulatesFiles old new file data_ r = ProgramStage old new compiled file (λ p. SimulatesProgram old new data_ p) r
+abbrev pub SimulatesFiles : (old new : InputsSeen) → (file data_ : List ℕ) → (clocks : ℕ) → ReplySeen → Type 0
+SimulatesFiles old new file data_ clocks r = ProgramStage old new checked file (λ p. SimulatesProgram old new data_ clocks p) r

@@ -15,14 +15,17 @@ abbrev pub is_file_word : List ℕ → Bool
 is_file_word [] = false
 is_file_word (b ∷ bs) = not (b == 45)
 
--- the steps that a run may be given, and those that it is given where the words do not say
+-- the steps or clocks that a run may be given, and those that it is given where the words do not say
 abbrev pub most_steps : ℕ
 most_steps = 1000000000000
 
 abbrev pub usual_steps : ℕ
 usual_steps = 1000000
 
--- the number of steps that a word writes, in decimal and without a leading zero
+abbrev pub usual_clocks : ℕ
+usual_clocks = 10000000
+
+-- the number of steps or clocks that a word writes, in decimal and without a leading zero
 unfoldable pub steps_of : List ℕ → Option ℕ
 steps_of word = if nat_le (digits_value 10 word) most_steps && bytes_eq word (decimal (digits_value 10 word)) then Some (digits_value 10 word) else None
 
@@ -51,9 +54,15 @@ interpret_with (a ∷ (b ∷ (c ∷ []))) =
     else (if bytes_eq a (codes "--steps") && bytes_eq c (codes "--unchecked") then interpret_for true (steps_of b) else None)
 interpret_with _ = None
 
--- `simulate FILE DATA` has no options yet
+-- `simulate FILE DATA` for these clocks
+abbrev pub simulate_for : Option ℕ → Option Job
+simulate_for None = None
+simulate_for (Some clocks) = Some (Simulate 1 2 clocks)
+
+-- the options of `simulate`: `--clocks N`, at most once
 abbrev pub simulate_with : (options : List (List ℕ)) → Option Job
-simulate_with [] = Some (Simulate 1 2)
+simulate_with [] = simulate_for (Some usual_clocks)
+simulate_with (a ∷ (b ∷ [])) = if bytes_eq a (codes "--clocks") then simulate_for (steps_of b) else None
 simulate_with _ = None
 
 abbrev pub over_data : (command : List ℕ) → (options : List (List ℕ)) → Option Job

@@ -3,6 +3,7 @@
 #![tactic(auto)]
 
 mod checking;
+mod compiling;
 mod engine;
 mod interpreting;
 mod lines;

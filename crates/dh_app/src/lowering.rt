@@ -3,16 +3,15 @@
 ghost use Rattle.dh_base.specs.Outside.{KeepsFiles};
 ghost use Rattle.dh_tree.specs.Seen.{program_seen};
 ghost use Rattle.dh_net.specs.Valid.{IsValid, HasReadsZero};
-ghost use Rattle.dh_check.specs.Acceptance.{IsCompilable};
 ghost use Rattle.dh_app.specs.Inputs.{WithAnyEngine};
 ghost use Rattle.dh_app.specs.LowerJob.{IsNetText, LowersFile, LowersOnceRead};
 ghost use Rattle.dh_app.specs.Replies.{Says, reply_seen};
 
+use crate::compiling::net_of;
 use crate::replies::{Answer, Reply};
 use crate::sources::read_program;
 use dh_base::{Files, NoMemory, Status};
 use dh_check::{Accepted, Forms};
-use dh_compile::compile;
 use dh_net::Net;
 use std::alloc::Global;
 
@@ -22,7 +21,7 @@ pub fn lower<F: Files>(alloc: Global, file: &str, files: &mut F) -> Reply
     ensures comes { WithAnyEngine (F.seen files.old) (F.seen files.new) (λ old new.
         LowersFile old new file.now (reply_seen result)) }
 {
-    match read_program(alloc, file, files, Forms::Compiled) {
+    match read_program(alloc, file, files, Forms::Checked) {
         Ok(accepted) => lower_program(alloc, &accepted),
         Err(reply) => reply,
     }
@@ -30,12 +29,11 @@ pub fn lower<F: Files>(alloc: Global, file: &str, files: &mut F) -> Reply
 
 /// Compiles an accepted program, and writes the text of its net.
 fn lower_program(alloc: Global, accepted: &Accepted) -> Reply
-    requires { IsCompilable (program_seen accepted.now) }
     ensures { LowersOnceRead (program_seen accepted.now) (reply_seen result) }
 {
-    match compile(alloc, accepted) {
+    match net_of(alloc, accepted) {
         Ok(net) => net_text(alloc, &net),
-        Err(NoMemory) => Reply::NoMemory,
+        Err(reply) => reply,
     }
 }
 

@@ -145,10 +145,14 @@ fn do_job<F: Files, E: Engine>(
             let data_ = word(words, data_);
             interpret(alloc, file, data_, steps, unchecked, files)
         }
-        Job::Simulate { file, data_ } => {
+        Job::Simulate {
+            file,
+            data_,
+            clocks,
+        } => {
             let file = word(words, file);
             let data_ = word(words, data_);
-            simulate(alloc, file, data_, files, engine)
+            simulate(alloc, file, data_, clocks, files, engine)
         }
     }
 }

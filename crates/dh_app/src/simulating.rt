@@ -1,4 +1,4 @@
-//! `simulate FILE DATA`: what the engine answers of the net of a program, and its report.
+//! `simulate FILE DATA [--clocks N]`: what the engine answers of the net of a program, and its report.
 
 ghost use Rattle.std.specs.Prelude.{◌≡◌, [], ◌∷◌, IfOk};
 ghost use Rattle.dh_base.specs.Outside.{FilesSeen, KeepsFiles};
@@ -6,43 +6,40 @@ ghost use Rattle.dh_tree.specs.Seen.{program_seen};
 ghost use Rattle.dh_tree.specs.Shapes.{IsProgramTable};
 ghost use Rattle.dh_tree.specs.Tables.{Fits};
 ghost use Rattle.dh_net.specs.Valid.{IsValid};
-ghost use Rattle.dh_check.specs.Acceptance.{IsCompilable};
 ghost use Rattle.dh_app.specs.Inputs.{HasBegun, OverInputs};
 ghost use Rattle.dh_app.specs.Parts.{IsFirstReport, IsSingleAnswer, RunsAsPlayed};
 ghost use Rattle.dh_app.specs.Replies.{Says, reply_seen};
 ghost use Rattle.dh_app.specs.SimulateJob.{SimulatesProgram, SimulatesFiles};
 
+use crate::compiling::net_of;
 use crate::engine::{Engine, Finish};
 use crate::replies::Reply;
 use crate::reporting::report_ending;
 use crate::sources::{read_memories, read_program};
 use dh_base::{Files, NoMemory};
 use dh_check::{Accepted, Forms};
-use dh_compile::compile;
 use dh_data::Ending;
 use dh_net::Net;
 use dh_tree::{MemTable, Memories};
 use std::alloc::Global;
 
-/// The clocks that a run may take.
-const MOST_CLOCKS: u64 = 10_000_000;
-
-/// Compiles the program of the one file, has the engine run its net from the memories of the other,
-/// and reports the engine's answer.
+/// Compiles the program of the one file, has the engine run its net from the memories of the other for at most so
+/// many clocks, and reports the engine's answer.
 pub fn simulate<F: Files, E: Engine>(
     alloc: Global,
     file: &str,
     data_: &str,
+    clocks: u64,
     files: &mut F,
     engine: &mut E,
 ) -> Reply
     ensures files { KeepsFiles (F.seen files.old) (F.seen files.new) }
     ensures comes { OverInputs (F.seen files.old) (E.seen engine.old)
         (F.seen files.new) (E.seen engine.new)
-        (λ old new. SimulatesFiles old new file.now data_.now (reply_seen result)) }
+        (λ old new. SimulatesFiles old new file.now data_.now clocks (reply_seen result)) }
 {
-    match read_program(alloc, file, files, Forms::Compiled) {
-        Ok(accepted) => simulate_program(alloc, &accepted, data_, files, engine),
+    match read_program(alloc, file, files, Forms::Checked) {
+        Ok(accepted) => simulate_program(alloc, &accepted, data_, clocks, files, engine),
         Err(reply) => reply,
     }
 }
@@ -52,34 +49,41 @@ fn simulate_program<F: Files, E: Engine>(
     alloc: Global,
     accepted: &Accepted,
     data_: &str,
+    clocks: u64,
     files: &mut F,
     engine: &mut E,
 ) -> Reply
-    requires { IsCompilable (program_seen accepted.now) }
     ensures files { KeepsFiles (F.seen files.old) (F.seen files.new) }
     ensures comes { (first : FilesSeen) → HasBegun first (F.seen files.old)
         → OverInputs first (E.seen engine.old) (F.seen files.new) (E.seen engine.new) (λ old new.
-        SimulatesProgram old new data_.now (program_seen accepted.now) (reply_seen result)) }
+        SimulatesProgram old new data_.now clocks (program_seen accepted.now) (reply_seen result)) }
 {
-    let Ok(net) = compile(alloc, accepted) else {
-        return Reply::NoMemory;
+    let net = match net_of(alloc, accepted) {
+        Ok(net) => net,
+        Err(reply) => return reply,
     };
     match read_memories(alloc, data_, &net.table, files) {
-        Ok(memories) => report_run(alloc, &net, memories, engine),
+        Ok(memories) => report_run(alloc, &net, memories, clocks, engine),
         Err(reply) => reply,
     }
 }
 
 /// Has the engine run a net, and reports the engine's answer.
-fn report_run<E: Engine>(alloc: Global, net: &Net, memories: Memories, engine: &mut E) -> Reply
+fn report_run<E: Engine>(
+    alloc: Global,
+    net: &Net,
+    memories: Memories,
+    clocks: u64,
+    engine: &mut E,
+) -> Reply
     requires valid { IsValid net.now }
     requires fits { Fits net.now.table memories }
-    ensures { RunsAsPlayed (E.seen engine.old) (E.seen engine.new) net.now memories result }
+    ensures { RunsAsPlayed (E.seen engine.old) (E.seen engine.new) net.now memories clocks result }
 {
     let Ok(sets) = only(alloc, memories) else {
         return Reply::NoMemory;
     };
-    let Ok(()) = engine.finish(net, sets, MOST_CLOCKS) else {
+    let Ok(()) = engine.finish(net, sets, clocks) else {
         return Reply::NoMemory;
     };
     report_first(alloc, &net.table, engine.answers())

@@ -6,7 +6,7 @@ ghost use Rattle.dh_tree.specs.Shapes.{IsProgramTable};
 ghost use Rattle.dh_tree.specs.Tables.{Fits};
 ghost use Rattle.dh_check.specs.Verdicts.{asked_of};
 ghost use Rattle.dh_app.specs.Asking.{interpreted};
-ghost use Rattle.dh_app.specs.Parts.{SaysFault, FileRead, ProgramOf, AcceptedRead, IsCompilableOf, TypedOf, UncheckedRead, DataOf, SecondRead};
+ghost use Rattle.dh_app.specs.Parts.{SaysFault, FileRead, ProgramOf, AcceptedRead, TypedOf, UncheckedRead, DataOf, SecondRead};
 ghost use Rattle.dh_app.specs.Replies.{reply_seen};
 
 use crate::lines::{bad_data_line, refused_line, too_large_line};
@@ -43,7 +43,6 @@ pub fn read_program<F: Files>(
 ) -> Result<Accepted, Reply>
     ensures files { KeepsFiles (F.seen files.old) (F.seen files.new) }
     ensures read { AcceptedRead (F.seen files.old) (F.seen files.new) forms name.now result }
-    ensures compilable { IsCompilableOf forms result }
 {
     let text = read_file(alloc, name, Limit::Source, files)?;
     program_of(alloc, text.as_slice(), forms)
@@ -62,7 +61,6 @@ pub fn read_typed<F: Files>(alloc: Global, name: &str, files: &mut F) -> Result<
 fn program_of(alloc: Global, text: &[u8], forms: Forms) -> Result<Accepted, Reply>
     requires { length text.now ≤ 1048576 }
     ensures program { ProgramOf (asked_of forms true) text.now result }
-    ensures compilable { IsCompilableOf forms result }
 {
     match check(alloc, text, forms) {
         Ok(accepted) => Ok(accepted),

@@ -35,14 +35,19 @@ pub enum Job {
         file: u32,
         /// The file of the memories.
         data_: u32,
+        /// The most clocks that the run may take.
+        clocks: u64,
     },
 }
 
-/// The most steps that a run may be given.
+/// The most steps or clocks that a run may be given.
 const MOST_STEPS: u64 = 1_000_000_000_000;
 
 /// The steps that a run is given where the words do not say.
 const USUAL_STEPS: u64 = 1_000_000;
+
+/// The clocks that the run of a net is given where the words do not say.
+const USUAL_CLOCKS: u64 = 10_000_000;
 
 impl Job {
     ghost use Rattle.dh_app.specs.Words.{job_of, words_seen};
@@ -99,14 +104,38 @@ fn over_data(command: &str, file: &str, data_: &str, options: &[String]) -> Opti
     }
 }
 
-/// The job of `simulate` with these options, of which there are none yet.
+/// The job of `simulate` with these options: `--clocks N`, at most once.
 fn simulate_with(options: &[String]) -> Option<Job>
     ensures { result ≡ words.simulate_with (words_seen options.now) }
 {
     match options {
-        [] => Some(Job::Simulate { file: 1, data_: 2 }),
+        [] => simulate_for(Some(USUAL_CLOCKS)),
+        [a, b] => clocks_alone(a.as_str(), b.as_str()),
         _ => None,
     }
+}
+
+/// The job of `simulate` with two options.
+fn clocks_alone(a: &str, b: &str) -> Option<Job>
+    ensures { result ≡ words.simulate_with (a.now ∷ (b.now ∷ [])) }
+{
+    if a == "--clocks" {
+        simulate_for(steps_of(b))
+    } else {
+        None
+    }
+}
+
+/// The job of `simulate` for these clocks.
+fn simulate_for(clocks: Option<u64>) -> Option<Job>
+    ensures { result ≡ words.simulate_for clocks }
+{
+    let clocks = clocks?;
+    Some(Job::Simulate {
+        file: 1,
+        data_: 2,
+        clocks,
+    })
 }
 
 /// The job of `interpret` with these options: `--steps N` and `--unchecked`, each at most once.
@@ -170,7 +199,7 @@ fn interpret_for(unchecked: bool, steps: Option<u64>) -> Option<Job>
     })
 }
 
-/// The number of steps that a word writes: `0`, or decimal digits without a leading zero, up to
+/// The number of steps or clocks that a word writes: `0`, or decimal digits without a leading zero, up to
 /// 1,000,000,000,000.
 fn steps_of(word: &str) -> Option<u64>
     ensures { result ≡ words.steps_of word.now }

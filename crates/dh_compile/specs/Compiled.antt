@@ -1,32 +1,25 @@
--- What the compiler promises of a net: it is valid, its table is the program's, its reads have data 0,
--- and from all fitting memories it plays the checked run of the program.
-use Rattle.std.specs.Prelude.{◌≡◌, ℕ, List, length}
-use Rattle.dh_tree.specs.PlainTrees.{Program}
-use Rattle.dh_tree.specs.Phases.{phases}
-use Rattle.dh_tree.specs.Tables.{Fits}
+-- What the compiler promises: a net that plays the program, or that the program is too large, and how large it is.
+use Rattle.std.specs.Prelude.{◌≤◌, ℕ, List, Result, Ok, Err}
 use Rattle.dh_tree.specs.Memories.{table_of}
-use Rattle.dh_meaning.specs.CoreOf.{core_of}
-use Rattle.dh_meaning.specs.Runs.{run_state}
-use Rattle.dh_bridge.specs.RunsAlike.{length_after}
+use Rattle.dh_tree.specs.PlainTrees.{Program}
+use Rattle.dh_tree.specs.Tables.{Fits}
 use Rattle.dh_net.specs.declared.nets.Net.{Net}
-use Rattle.dh_net.specs.Valid.{IsValid, HasReadsZero}
-use Rattle.dh_net.specs.Plays.{Run, EndsAfter, Plays}
+use Rattle.dh_net.specs.Valid.{HasReadsZero}
+use Rattle.dh_plan.specs.Passes.{IsTooLarge}
+use Rattle.dh_plan.specs.PlanSizes.{plan_size_of, most_plan}
+use Rattle.dh_plan.specs.PlayedPlans.{program_run, WritesLast, PlaysItsProgram}
+use Rattle.dh_compile.specs.declared.compiling.CompileFault.{CompileFault}
+use Rattle.dh_compile.specs.declared.compiling.CompileFault.TheVariants as fault
 
--- the checked run of a program from these memories
-abbrev pub run_of : Program → List (List ℕ) → Run
-run_of p memories = record {
-  outcome = λ n. (run_state (core_of p) memories n).outcome;
-  memories = λ n. (run_state (core_of p) memories n).memories;
-  length = λ n. length_after p memories n;
-}
-
--- for all fitting memories and every number of clocks
-pub record PlaysProgram (net : Net) (p : Program) : Type 0 where
-  pub valid : IsValid net
-  pub table : net.table ≡ table_of p
+-- A net of a program: valid, with its table, it plays the checked run from all fitting memories; its reads have data 0,
+-- and a driver that writes is active only in the last clock of a step without fault.
+pub record PlaysProgram (p : Program) (net : Net) : Type 0 where
+  pub plays : PlaysItsProgram p net
   pub zero_reads : HasReadsZero net
-  pub plays : (memories : List (List ℕ)) → Fits (table_of p) memories → Plays net (run_of p memories) memories
+  pub writes : (start : List (List ℕ)) → Fits (table_of p) start → WritesLast net (program_run p start) start
 
--- the run of a program ends after its last phase, whatever fitting memories it begins with
-pub record EndsSoon (p : Program) : Type 0 where
-  pub ends : (memories : List (List ℕ)) → Fits (table_of p) memories → EndsAfter (run_of p memories) (length (phases p.body))
+-- there is a net only where the plan is within the limit; want of memory is free
+abbrev pub Compiles : Program → Result Net CompileFault → Type 0
+Compiles p (Ok net) = (plan_size_of p ≤ most_plan) × PlaysProgram p net
+Compiles p (Err (fault.TooLarge size)) = IsTooLarge p size
+Compiles p (Err fault.NoMemory) = Unit {0}

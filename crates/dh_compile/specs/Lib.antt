@@ -1,12 +1,1 @@
-pub mod Timetable
-pub mod Grouped
-pub mod Reading
-pub mod Built
-pub mod GroupRun
 pub mod Compiled
-pub mod Drafts
-pub mod WireValues
-pub mod Counts
-pub mod Drivers
-pub mod Heads
-pub mod Taken

@@ -3,38 +3,99 @@
 ghost use Rattle.std.specs.Prelude.{IfOk};
 ghost use Rattle.dh_tree.specs.PlainTrees.{Program};
 ghost use Rattle.dh_tree.specs.Seen.{program_seen};
-ghost use Rattle.dh_check.specs.Acceptance.{IsCompilable, IsCompiled};
-ghost use Rattle.dh_compile.specs.Compiled.{PlaysProgram, EndsSoon};
+ghost use Rattle.dh_net.specs.Valid.{HasReadsZero};
+ghost use Rattle.dh_plan.specs.DoneProgram.{IsPlanOf};
+ghost use Rattle.dh_plan.specs.Passes.{IsToCompile, uses_seen};
+ghost use Rattle.dh_plan.specs.PlayedPlans.{PlaysPlan};
+ghost use Rattle.dh_plan.specs.SeenPlans.{plan_seen};
+ghost use Rattle.dh_backend.specs.NetParts.{times_seen};
+ghost use Rattle.dh_backend.specs.SuitedPlans.{IsCompiled};
+ghost use Rattle.dh_build.specs.BuiltPlans.{CanBuild};
+ghost use Rattle.dh_compile.specs.Compiled.{Compiles, PlaysProgram};
 
-use crate::building::build;
-use crate::gathering::groups_of;
-use dh_base::NoMemory;
-use dh_bridge::{compiled_programs_keep_ports, first_forms_run_alike};
-use dh_check::Accepted;
+use dh_backend::{NetParts, parts_of};
+use dh_base::{Limit, NoMemory};
+use dh_build::build;
 use dh_net::Net;
+use dh_plan::Plan;
+use dh_ports::Accepted;
+use dh_size::plan_size;
+use dh_tree::Typed;
+use dh_unroll::unroll;
 use std::alloc::Global;
 
-/// Compiles an accepted program of the forms that are compiled. The net is valid, its table is the program's, and from all fitting
-/// memories it plays the checked run of the program: no clock drives a bank beyond its ports, at its
-/// nth tick it holds the memories after n steps, and it shows done exactly once the run has ended.
+/// Why there is no net of an accepted program.
+#[derive(Clone, Copy, Debug, PartialEq, Eq)]
+pub enum CompileFault {
+    /// Its plan is above the limit.
+    TooLarge {
+        /// The size of the plan, at most 1,000,000,000.
+        size: u64,
+    },
+    /// Want of memory: an allocation was refused.
+    NoMemory,
+}
+
+/// The net of what it is made of.
+fn net_of_parts(alloc: Global, parts: &NetParts) -> Result<Net, NoMemory>
+    requires { CanBuild (plan_seen parts.now.plan) parts.now.passed.graph
+        (times_seen parts.now.passed.times) (uses_seen parts.now.passed.binding) }
+    ensures plays { IfOk result (λ net. PlaysPlan (plan_seen parts.now.plan)
+        parts.now.passed.times.lengths net) }
+    ensures zero_reads { IfOk result (λ net. HasReadsZero net) }
+{
+    let passed = &parts.passed;
+    let (clocks, lengths) = (&passed.times.clocks, &passed.times.lengths);
+    build(
+        alloc,
+        &parts.plan,
+        &passed.graph,
+        &passed.binding,
+        clocks.as_slice(),
+        lengths.as_slice(),
+    )
+}
+
+/// The net of a program's plan.
+fn net_of_plan(alloc: Global, plan: &Plan) -> Result<Net, NoMemory>
+    requires { IsCompiled (plan_seen plan.now) }
+    ensures { (p : Program) → IsToCompile p → IsPlanOf p (plan_seen plan.now)
+        → IfOk result (PlaysProgram p) }
+{
+    let parts = parts_of(alloc, plan)?;
+    net_of_parts(alloc, &parts)
+}
+
+/// The net of a program that is to be compiled.
+fn net_of(alloc: Global, program: &Typed) -> Result<Net, NoMemory>
+    requires { IsToCompile (program_seen program.now) }
+    ensures { IfOk result (PlaysProgram (program_seen program.now)) }
+{
+    let plan = unroll(alloc, program)?;
+    net_of_plan(alloc, &plan)
+}
+
+/// Compiles an accepted program. The net is valid, its table is the program's, and from all fitting memories it plays
+/// the checked run of the program: no clock drives a bank beyond its ports, at its nth tick it holds the memories
+/// after n steps, and it shows done, or a fault with its place, exactly once the run has ended so. A driver that
+/// writes is active only in the last clock of a step without fault.
 ///
 /// # Errors
 ///
-/// `NoMemory` where an allocation was refused.
-pub fn compile(alloc: Global, accepted: &Accepted) -> Result<Net, NoMemory>
-    requires compilable { IsCompilable (program_seen accepted.now) }
-    ensures { IfOk result (λ net. PlaysProgram net (program_seen accepted.now)) }
+/// `TooLarge` exactly where the size of the program's plan is above 200,000; `NoMemory` where an allocation was
+/// refused.
+pub fn compile(alloc: Global, accepted: &Accepted) -> Result<Net, CompileFault>
+    ensures { Compiles (program_seen accepted.now) result }
 {
-    first_forms_run_alike();
-    compiled_programs_keep_ports();
-    let program = groups_of(alloc, accepted.typed())?;
-    build(alloc, &program)
-}
-
-/// The run of an accepted program of the forms that are compiled ends after its last phase.
-pub fn accepted_programs_end()
-    ensures { (p : Program) → IsCompiled p → EndsSoon p }
-{
-    first_forms_run_alike();
-    compiled_programs_keep_ports();
+    let program = accepted.typed();
+    let Ok(size) = plan_size(alloc, program) else {
+        return Err(CompileFault::NoMemory);
+    };
+    if size > Limit::Plan.greatest() {
+        return Err(CompileFault::TooLarge { size });
+    }
+    match net_of(alloc, program) {
+        Ok(net) => Ok(net),
+        Err(NoMemory) => Err(CompileFault::NoMemory),
+    }
 }

@@ -1,20 +1,9 @@
-//! Compiles accepted programs to nets that play them. A program is gathered into groups of stores, one for
-//! each straight phase, and the net is built from these.
-//! A group of stores is a step: of one clock, or of two where it reads. The net counts its clocks in
-//! one register; each memory's port has a driver for each group that uses the memory, enabled at the
-//! one clock at which that group reads or writes it.
-//! Stands on `dh_check` and `dh_net`.
+//! Compiles accepted programs to nets that play them, by the passes one after the other: the size of the plan is
+//! counted, the plan is made of the program's phases, its accesses get banks and rows, its operations clocks and
+//! ports, its blocks states, and of all that the net is built.
+//! Stands on `dh_ports` and the crates of the passes.
 #![tactic(auto)]
 
-mod building;
-mod clocks;
 mod compiling;
-mod drafts;
-mod gathering;
-mod ports;
-mod stores;
-mod uses;
-mod wires;
 
-pub use compiling::{accepted_programs_end, compile};
-pub use uses::Use;
+pub use compiling::{CompileFault, compile};

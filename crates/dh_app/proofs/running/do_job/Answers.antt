@@ -19,10 +19,10 @@ word-data_-requires g c =
     data_within string_bytes c.args.words.now (Interpret c.in-Interpret.file c.in-Interpret.data_ c.in-Interpret.steps c.in-Interpret.unchecked) c.in-Interpret.data_ (c.requires ∙ ap Some c.in-Interpret.is) refl
 
 pub word-file-requires-in-Simulate : goal.word-file-requires-in-Simulate
-word-file-requires-in-Simulate g c = file_within string_bytes c.args.words.now (Simulate c.in-Simulate.file c.in-Simulate.data_) (c.requires ∙ ap Some c.in-Simulate.is)
+word-file-requires-in-Simulate g c = file_within string_bytes c.args.words.now (Simulate c.in-Simulate.file c.in-Simulate.data_ c.in-Simulate.clocks) (c.requires ∙ ap Some c.in-Simulate.is)
 
 pub word-data_-requires-in-Simulate : goal.word-data_-requires-in-Simulate
-word-data_-requires-in-Simulate g c = data_within string_bytes c.args.words.now (Simulate c.in-Simulate.file c.in-Simulate.data_) c.in-Simulate.data_ (c.requires ∙ ap Some c.in-Simulate.is) refl
+word-data_-requires-in-Simulate g c = data_within string_bytes c.args.words.now (Simulate c.in-Simulate.file c.in-Simulate.data_ c.in-Simulate.clocks) c.in-Simulate.data_ (c.requires ∙ ap Some c.in-Simulate.is) refl
 
 pub returns-in-Check-clause-comes : goal.returns-in-Check-clause-comes
 returns-in-Check-clause-comes g c = rw c.in-Check.is (rw c.word.ensures at (c.check_file.ensures.comes (g.E.Engine.seen c.args.engine.now)))

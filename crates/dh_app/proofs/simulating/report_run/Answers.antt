@@ -14,6 +14,6 @@ report_first-requires g c =
 pub returns : goal.returns
 returns g c =
     λ p plays.
-    run_reported p c.args.net.now c.args.memories (g.E.Engine.seen c.args.engine.now) (g.E.Engine.seen c.finish.new.self) (reply_seen c.report_first.result)
+    run_reported p c.args.net.now c.args.memories c.args.clocks (g.E.Engine.seen c.args.engine.now) (g.E.Engine.seen c.finish.new.self) (reply_seen c.report_first.result)
     plays c.requires.fits c.in-Ok-finish.ensures.asks (rw c.in-Ok.ensures at c.in-Ok-finish.ensures.answers)
     (λ e. rw c.in-Ok.ensures at (c.in-Ok-finish.ensures.right e)) (rw c.answers.ensures at c.report_first.ensures)

@@ -1,2 +1,0 @@
-pub mod RunsAlike
-pub mod PortsKept
