@@ -1,6 +1,6 @@
 -- Where it is told what the files of a job hold, and no fault of reading was counted, two replies to the
 -- same words agree; and where the files are there, none of them is that a file could not be read.
-use Rattle.std.proofs.Common.{◌≡◌, ℕ, ◌⊎◌, Bool, List, [], ◌∷◌, Option, Some, None, refl, sym, ap, ◌∙◌, subst, inl, inr}
+use Rattle.std.proofs.Common.{◌≡◌, ℕ, ◌⊎◌, Bool, List, [], ◌∷◌, Option, Some, None, refl, sym, ap, ◌∙◌, subst, arith, inl, inr}
 use Rattle.dh_base.specs.Outside.{Told, Untold, Absent, Holds, FilesSeen, Rose, IsAbsent}
 use Rattle.dh_base.specs.declared.limits.Limit.{Limit}
 use Rattle.dh_base.specs.declared.limits.Limit.TheVariants as limit
