@@ -11,6 +11,7 @@ use Rattle.dh_tree.specs.declared.tables.MemEntry.{MemEntry}
 use Rattle.dh_check.specs.Verdicts.{Asked}
 use Rattle.dh_data.specs.Reports.{report_text}
 use Rattle.dh_net.specs.declared.nets.Net.{Net}
+use Rattle.dh_compile.specs.Compiled.{IsNetOfProgram}
 use Rattle.dh_app.specs.Asking.{checked, interpreted, word_at}
 use Rattle.dh_app.specs.CheckJob.{IsOk}
 use Rattle.dh_app.specs.Engines.{EngineSeen}
@@ -19,7 +20,7 @@ use Rattle.dh_app.specs.InterpretJob.{IsStandingReport, InterpretsData}
 use Rattle.dh_app.specs.Jobs.{IsUsage, ComesFor}
 use Rattle.dh_app.specs.Lines.{ok_line, usage_line, too_large_line}
 use Rattle.dh_app.specs.LowerJob.{IsNetText, LowersProgram}
-use Rattle.dh_app.specs.NetStage.{SaysTooLarge, NoNetOf, IsNetOf, NetStage}
+use Rattle.dh_app.specs.NetStage.{SaysTooLarge, NoNetOf, NetStage}
 use Rattle.dh_app.specs.Promises.{IsTold, IsThere, FilesAre, MayDiffer}
 use Rattle.dh_app.specs.Replies.{ReplySeen, replied, unread, no_memory, Says}
 use Rattle.dh_app.specs.Reporting.{status_of}
@@ -82,7 +83,7 @@ runs_agree o e f p m clocks (replied s text) no_memory h k = tt
 runs_agree o e f p m clocks unread q h k = absurd h
 
 -- a program that is too large has no net, and its size has one line
-large_alone : (p : Program) (net : Net) (s : Status) (text : List ℕ) → SaysTooLarge p s text → IsNetOf p net → ⊥
+large_alone : (p : Program) (net : Net) (s : Status) (text : List ℕ) → SaysTooLarge p s text → IsNetOfProgram p net → ⊥
 large_alone p net s text h k = let l = h.large.0 in let m = k.small in omega (arith, l, m)
 
 large_agree : (o : Option Job) (p : Program) (s t : Status) (text other : List ℕ) → SaysTooLarge p s text → SaysTooLarge p t other → (s ≡ t) × (MayDiffer o s ⊎ (text ≡ other))
@@ -98,7 +99,7 @@ none_agree o p (replied s text) no_memory h k = tt
 none_agree o p unread q h k = absurd h
 
 -- a reply without a net, beside one with a net
-alone_agree : (o : Option Job) (p : Program) (net : Net) (r q : ReplySeen) → IsNetOf p net → NoNetOf p r → Agree o r q × Agree o q r
+alone_agree : (o : Option Job) (p : Program) (net : Net) (r q : ReplySeen) → IsNetOfProgram p net → NoNetOf p r → Agree o r q × Agree o q r
 alone_agree o p net no_memory q k h = (tt, (agreement o).second q)
 alone_agree o p net (replied s text) q k h = absurd (large_alone p net s text h k)
 alone_agree o p net unread q k h = absurd h

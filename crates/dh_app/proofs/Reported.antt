@@ -9,7 +9,7 @@ use Rattle.dh_data.specs.Reports.{report_text}
 use Rattle.dh_data.specs.declared.reports.Ending.{Ending}
 use Rattle.dh_net.specs.declared.nets.Net.{Net}
 use Rattle.dh_net.proofs.Reporting.{reports_by}
-use Rattle.dh_compile.specs.Compiled.{PlaysProgram}
+use Rattle.dh_compile.specs.Compiled.{IsNetOfProgram}
 use Rattle.dh_app.specs.Engines.{EngineSeen, Asks, AnswersTo, AreRuns}
 use Rattle.dh_app.specs.InterpretJob.{stands_after, ending_at, IsStandingReport}
 use Rattle.dh_app.specs.Parts.{IsFirstReport}
@@ -38,7 +38,7 @@ only_answer net memories (f ∷ []) h = (f, (refl, h.0.fits))
 only_answer net memories (f ∷ (g ∷ fs)) h = absurd h.1
 
 -- the one answer of the engine is reported
-one_report : (p : Program) (net : Net) (memories : List (List ℕ)) (clocks : ℕ) (exact : Bool) (answers : List Finish) (s : Status) (text : List ℕ) → PlaysProgram p net → Fits net.table memories
+one_report : (p : Program) (net : Net) (memories : List (List ℕ)) (clocks : ℕ) (exact : Bool) (answers : List Finish) (s : Status) (text : List ℕ) → IsNetOfProgram p net → Fits net.table memories
     → AnswersTo net (memories ∷ []) answers → (exact ≡ true → AreRuns net clocks (memories ∷ []) answers) → IsFirstReport net.table answers s text → IsReport p memories clocks exact answers s text
 one_report p net memories clocks exact answers s text is fits answered runs h =
     let plays = is.plays in
@@ -54,7 +54,7 @@ one_report p net memories clocks exact answers s text is fits answered runs h =
       right = λ e. reports_by (plays.plays memories (subst F plays.table fits)) (subst Q h.answered (runs e)).0;
     }
 
-pub run_reported : (p : Program) (net : Net) (memories : List (List ℕ)) (clocks : ℕ) (old new : EngineSeen) (r : ReplySeen) → PlaysProgram p net → Fits net.table memories → Asks old new
+pub run_reported : (p : Program) (net : Net) (memories : List (List ℕ)) (clocks : ℕ) (old new : EngineSeen) (r : ReplySeen) → IsNetOfProgram p net → Fits net.table memories → Asks old new
     → AnswersTo net (memories ∷ []) new.answers → (old.exact ≡ true → AreRuns net clocks (memories ∷ []) new.answers) → Says (IsFirstReport net.table new.answers) r → RunsNet old new p memories clocks r
 run_reported p net memories clocks old new (replied s text) plays fits asks answered runs h = (asks, one_report p net memories clocks old.exact new.answers s text plays fits answered runs h)
 run_reported p net memories clocks old new unread plays fits asks answered runs h = h

@@ -1,13 +1,12 @@
 -- The stage of a job that compiles its program.
-use Rattle.std.specs.Prelude.{◌≡◌, ◌≤◌, ℕ, ◌⊎◌, List, Result, Ok, Err}
+use Rattle.std.specs.Prelude.{◌≡◌, ℕ, ◌⊎◌, List, Result, Ok, Err}
 use Rattle.dh_base.specs.declared.limits.Limit.TheVariants as limit
 use Rattle.dh_base.specs.declared.statuses.Status.{Status}
 use Rattle.dh_base.specs.declared.statuses.Status.TheVariants as status
 use Rattle.dh_tree.specs.PlainTrees.{Program}
 use Rattle.dh_net.specs.declared.nets.Net.{Net}
 use Rattle.dh_plan.specs.Passes.{IsTooLarge}
-use Rattle.dh_plan.specs.PlanSizes.{plan_size_of, most_plan}
-use Rattle.dh_compile.specs.Compiled.{PlaysProgram}
+use Rattle.dh_compile.specs.Compiled.{IsNetOfProgram}
 use Rattle.dh_app.specs.Inputs.{InputsSeen, OnlyReads}
 use Rattle.dh_app.specs.Lines.{too_large_line}
 use Rattle.dh_app.specs.Replies.{ReplySeen, replied, unread, no_memory, reply_seen}
@@ -26,14 +25,9 @@ NoNetOf p (replied s text) = SaysTooLarge p s text
 NoNetOf p unread = ⊥
 NoNetOf p no_memory = Unit {0}
 
--- the plan of the program is within the limit, and the net plays it from all fitting memories
-pub record IsNetOf (p : Program) (net : Net) : Type 0 where
-  pub small : plan_size_of p ≤ most_plan
-  pub played : PlaysProgram p net
-
--- such a net, or none
+-- a net that plays the program from all fitting memories, or none
 abbrev pub NetOf : Program → Result Net Reply → Type 0
-NetOf p (Ok net) = IsNetOf p net
+NetOf p (Ok net) = IsNetOfProgram p net
 NetOf p (Err r) = NoNetOf p (reply_seen r)
 
 -- the compiler gave no net, and no file but the program's was read
@@ -42,4 +36,4 @@ NoNet old new p r = OnlyReads old new 1 × NoNetOf p r
 
 -- there is no net, or a net that plays the program from all fitting memories, and the rest of the job follows
 abbrev pub NetStage : (old new : InputsSeen) → Program → (rest : Net → ReplySeen → Type 0) → ReplySeen → Type 0
-NetStage old new p rest r = NoNet old new p r ⊎ ((net : Net) × (IsNetOf p net × rest net r))
+NetStage old new p rest r = NoNet old new p r ⊎ ((net : Net) × (IsNetOfProgram p net × rest net r))

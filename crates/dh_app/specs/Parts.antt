@@ -18,7 +18,7 @@ use Rattle.dh_check.specs.Verdicts.{Asked, asked_of, Verdict, accepts, IsVerdict
 use Rattle.dh_check.specs.declared.checking.CheckFault.{CheckFault}
 use Rattle.dh_check.specs.declared.checking.CheckFault.TheVariants as check_fault
 use Rattle.dh_check.specs.declared.checking.Forms.{Forms}
-use Rattle.dh_compile.specs.Compiled.{PlaysProgram}
+use Rattle.dh_compile.specs.Compiled.{IsNetOfProgram}
 use Rattle.dh_data.specs.DataFiles.{Holds, Means}
 use Rattle.dh_data.specs.declared.data_files.DataFault.{DataFault}
 use Rattle.dh_data.specs.declared.data_files.DataFault.TheVariants as fault
@@ -132,7 +132,7 @@ SecondRead old new data_ table r = (first : FilesSeen) → HasBegun first old �
 
 -- the reply is that of the run of each program that the net plays
 abbrev pub RunsAsPlayed : (old new : EngineSeen) → Net → (memories : List (List ℕ)) → (clocks : ℕ) → Reply → Type 0
-RunsAsPlayed old new net memories clocks r = (p : Program) → PlaysProgram p net → RunsNet old new p memories clocks (reply_seen r)
+RunsAsPlayed old new net memories clocks r = (p : Program) → IsNetOfProgram p net → RunsNet old new p memories clocks (reply_seen r)
 
 -- there is one answer, whose memories fit the table
 abbrev pub IsSingleAnswer : List MemEntry → List Finish → Type 0

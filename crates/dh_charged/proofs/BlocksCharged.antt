@@ -1,11 +1,8 @@
 -- A block charges no more than the program, and so does a plan whose blocks are all so.
-use Rattle.std.proofs.Common.{◌≡◌, ◌⊎◌, inl, inr, ℕ, zero, suc, ◌<◌, ◌≤◌, ◌+◌, List, [], ◌∷◌, ◌++◌, length, Option, Some, None, refl, ap, sym, ◌∙◌, subst, arith, append_assoc}
-use Rattle.std.specs.Prelude.{true, max, slice_get}
+use Rattle.std.proofs.Common.{◌≡◌, ◌⊎◌, inl, inr, ℕ, suc, ◌<◌, ◌≤◌, List, [], ◌∷◌, ◌++◌, length, Option, Some, None, refl, ap, sym, ◌∙◌, subst, arith, append_assoc}
+use Rattle.std.specs.Prelude.{true, drop, max, slice_get}
 use Rattle.std.specs.List.{AllByRecursion}
-use Rattle.std.proofs.lemmas.List.{append_cancel_left}
-use Rattle.dh_tree.specs.Memories.{memories_of, number_in}
-use Rattle.dh_tree.specs.PlainTrees.{Program}
-use Rattle.dh_tree.specs.Seen.{program_seen}
+use Rattle.std.proofs.Math.Seq.{drop-append_seam}
 use Rattle.dh_meaning.specs.Core.{CorePhase, straightly, turning, looping, choosing, CorePhases, no_core_phases, phase_and}
 use Rattle.dh_meaning.specs.Paths.{Path, copies_in}
 use Rattle.dh_meets.specs.Charges.{charge, picked}
@@ -17,21 +14,18 @@ use Rattle.dh_plan.specs.PlainPlans.{Node, block_node, turns_node, loop_node, ch
 use Rattle.dh_plan.specs.PlanPhases.{Tie, AreNodesOf, IsNodeOf}
 use Rattle.dh_plan.specs.SoundPlans.{IsOneOf, blocks_charge, blocks_of, node_blocks, operations_charge, use_in}
 use Rattle.dh_expressions.specs.declared.drafts.Draft.{Draft}
-use Rattle.dh_expressions.specs.declared.paths.Level.{Level}
 use Rattle.dh_expressions.specs.declared.scenes.Around.{Around}
 use Rattle.dh_expressions.specs.declared.scenes.Scene.{Scene}
 use Rattle.dh_expressions.specs.Levels.{leader_number, path_at}
 use Rattle.dh_formed.specs.Formed.{Site}
-use Rattle.dh_formed.specs.WholeBlocks.{IsCut}
 use Rattle.dh_formed.proofs.ElementsFormed.{all_append}
 use Rattle.dh_commands.specs.LanesRun.{paths_counted}
 use Rattle.dh_commands.specs.ShownVariables.{factors_of}
 use Rattle.dh_laid.specs.BlockSites.{block_sites, test_sites}
-use Rattle.dh_laid.specs.LaidUses.{AddsLedUses, AreLedUses, IsLedUse, PathsLead, used_to}
+use Rattle.dh_laid.specs.LaidUses.{AddsLedUses, AreLedUses, IsLeadersUse, PathsLead, used_to}
 use Rattle.dh_laid.proofs.BlocksUsed.{blocks_lead, tests_lead}
-use Rattle.dh_blocks.specs.PathsOfLevels.{AreSpread}
 use Rattle.dh_blocks.proofs.PathNumbers.{leader_leads, leader_within, number_is, some_copies}
-use Rattle.dh_charged.specs.ChargedBlocks.{BlocksCharge, EndsUnused, PlansCharge, StandsAtPaths, TestsCharge, charges_blocks}
+use Rattle.dh_charged.specs.ChargedBlocks.{BlocksCharge, EndsUnused, IsCutFrom, PlansCharge, StandsAtPaths, TestsCharge}
 use Rattle.dh_charged.specs.ChargedUses.{OperationsCharge}
 use Rattle.dh_charged.proofs.KeysLed.{leader_key}
 use Rattle.dh_charged.proofs.UsesCharge.{led_uses_charge}
@@ -58,7 +52,7 @@ some_paths scene around s = subst (λ (n : ℕ). 0 < n) (sym s.counted) (some_co
 
 -- A block.
 
-module _ (scene : Scene) (plan : PlainPlan) (block : ℕ) (sites : ℕ → Option Site) (old new end : Draft) (uses : ℕ → ℕ) (led : AddsLedUses scene sites old new uses) (cut : IsCut plan block old end) (ends : EndsUnused new end) where
+module _ (scene : Scene) (plan : PlainPlan) (block : ℕ) (sites : ℕ → Option Site) (old new end : Draft) (uses : ℕ → ℕ) (led : AddsLedUses scene sites old new uses) (cut : IsCutFrom plan block old end) (ends : EndsUnused new end) where
   unused_led : (os : List Operation) → AllByRecursion (λ (o : Operation). use_in o.form ≡ None) os → AreLedUses scene sites os
   unused_led [] h = tt
   unused_led (o ∷ os) h = ((λ r e. absurd (lost r (sym h.0 ∙ e))), unused_led os h.1)
@@ -68,13 +62,14 @@ module _ (scene : Scene) (plan : PlainPlan) (block : ℕ) (sites : ℕ → Optio
 
   whole : operations_in plan block ≡ led.more ++ ends.more
   whole =
-      append_cancel_left old.operations.items (operations_in plan block) (led.more ++ ends.more)
-      (sym cut.operations ∙ (ends.adds ∙ (ap (λ (os : List Operation). os ++ ends.more) led.adds ∙ append_assoc old.operations.items led.more ends.more)))
+      cut
+      ∙ (ap (λ (os : List Operation). drop (length old.operations.items) os) (ends.adds ∙ (ap (λ (os : List Operation). os ++ ends.more) led.adds ∙ append_assoc old.operations.items led.more ends.more))
+      ∙ drop-append_seam old.operations.items (led.more ++ ends.more))
 
   pub block_led : AreLedUses scene sites (operations_in plan block)
   block_led =
       subst (λ (os : List Operation). AreLedUses scene sites os) (sym whole)
-      (all_append (λ (o : Operation). (r : Reach) → use_in o.form ≡ Some r → IsLedUse scene sites r) led.more ends.more led.each (unused_led ends.more ends.unused))
+      (all_append (λ (o : Operation). (r : Reach) → use_in o.form ≡ Some r → IsLeadersUse scene sites r) led.more ends.more led.each (unused_led ends.more ends.unused))
 
 pub blocks_charge_less : BlocksCharge
 blocks_charge_less scene plan block around cs old new end m stands along writes inside bare shares of cut ends =

@@ -1,10 +1,9 @@
 -- A block sees and sets registers as a plan asks.
-use Rattle.std.proofs.Common.{◌≡◌, ◌⊎◌, inl, inr, ◌<◌, ◌^◌, ℕ, zero, suc, List, Some, None, refl, ap, sym, ◌∙◌, subst, length}
-use Rattle.std.specs.Prelude.{Bool as Truth, true, false, [], ◌∷◌, ◌++◌, ◌==◌, ◌||◌, drop, replicate, slice_get, slice_index, slice_set, Option}
+use Rattle.std.proofs.Common.{◌≡◌, ◌⊎◌, inl, inr, ◌<◌, ℕ, zero, suc, List, Some, None, refl, ap, sym, ◌∙◌, subst, length}
+use Rattle.std.specs.Prelude.{Bool as Truth, true, false, [], ◌∷◌, ◌++◌, ◌==◌, drop, replicate, slice_get, slice_index, slice_set, Option}
 use Rattle.std.specs.List.{AllByRecursion}
 use Rattle.std.proofs.lemmas.Bool.{cases_Bool}
 use Rattle.dh_value.specs.declared.kinds.Kind.{Kind}
-use Rattle.dh_value.specs.declared.operators.Op.TheVariants.{Both}
 use Rattle.dh_tree.specs.declared.trees.counters.Counter.{Counter}
 use Rattle.dh_tree.specs.declared.trees.expressions.Ref.{Ref}
 use Rattle.dh_tree.specs.PlainTrees.{Term}
@@ -37,11 +36,10 @@ use Rattle.dh_commands.specs.Undone.{AreReady, NoneGiven, given_at}
 use Rattle.dh_laid.specs.BlockSites.{MadeEach}
 use Rattle.dh_laid.specs.LaidQuiet.{StandsIn}
 use Rattle.dh_laid.proofs.ValuesLogged.{logged_ready}
-use Rattle.dh_blocks.specs.BlockMade.{AreSoundBy, AreSoundHere, IsPut, set_made, sets_made}
+use Rattle.dh_blocks.specs.BlockMade.{AreSoundBy, IsPut, set_made, sets_made}
 use Rattle.dh_blocks.specs.NamedVariables.{IsNamedHere}
 use Rattle.dh_blocks.specs.SlotsOfScene.{slots_in}
 use Rattle.dh_blocks.specs.SoundCommands.{SoundAction}
-use Rattle.dh_blocks.specs.SoundTerms.{IsSound}
 use Rattle.dh_blocks.specs.TestMade.{IsSoundTest, flag_made}
 use Rattle.dh_blocks.proofs.SoundMapped.{action_mapped, term_mapped}
 use Rattle.dh_blocks.proofs.VariablesPlaced.{copy_path, register_slot, slot_is}

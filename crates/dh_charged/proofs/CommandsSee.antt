@@ -22,7 +22,6 @@ use Rattle.dh_plan.specs.declared.operations.OperationForm.TheVariants.{Compute,
 use Rattle.dh_expressions.specs.declared.drafts.Draft.{Draft}
 use Rattle.dh_expressions.specs.declared.paths.Level.{Level}
 use Rattle.dh_expressions.specs.declared.scenes.Around.{Around}
-use Rattle.dh_expressions.specs.declared.scenes.Lane.{Lane}
 use Rattle.dh_expressions.specs.declared.scenes.Scene.{Scene}
 use Rattle.dh_expressions.specs.Evaluated.{counter_of}
 use Rattle.dh_expressions.specs.Levels.{rank_number}
@@ -37,7 +36,7 @@ use Rattle.dh_commands.specs.Joined.{IsLeft}
 use Rattle.dh_commands.specs.LanesRun.{lane_of, paths_counted}
 use Rattle.dh_commands.specs.MadeCommands.{Commanding, FoldedWith, MadeActionForm, MadeActions, MadeArm, MadeArmGuard, MadeArmGuards, MadeAssigned, MadeBehind, MadeChoiceBy, MadeChoices, MadeCleared, MadeCommand, MadeGroups, MadeGuard, MadeIf, MadeJoined, MadeLanes, MadeOldOperand, MadeOperand, MadeOther, MadeOutcome, MadeReduced, MadeStored, MadeTests}
 use Rattle.dh_commands.specs.ShownVariables.{register_in}
-use Rattle.dh_commands.specs.Undone.{AreReady, EndsArm, HasRoom, Logs, first_left, left_at, lefts_of, undone}
+use Rattle.dh_commands.specs.Undone.{AreReady, Logs, first_left, left_at, lefts_of, undone}
 use Rattle.dh_commands.proofs.ArmsLeft.{AreSame, same_ready}
 use Rattle.dh_commands.proofs.ChangesBack.{logs_again, logs_none, logs_one}
 use Rattle.dh_commands.proofs.JoinedArms.{first_has}

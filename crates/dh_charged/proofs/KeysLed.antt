@@ -4,20 +4,18 @@ use Rattle.std.specs.Prelude.{cond, slice_index_or}
 use Rattle.std.specs.List.{filter, list_any}
 use Rattle.std.specs.Set.{distinct_count, is_member, unique_keys}
 use Rattle.std.proofs.lemmas.Bool.{cases_Bool, cases_lt, eq-eqb, eqb-true}
-use Rattle.std.proofs.lemmas.Bool.Decides.{nat_tests}
 use Rattle.std.proofs.lemmas.List.{ext_get_or, length-append}
 use Rattle.dh_meaning.specs.Paths.{Path, copies_in, paths_in, same_path}
 use Rattle.dh_meets.specs.Charges.{picked}
 use Rattle.dh_code.proofs.PathsInOrder.{length_path, length_paths}
-use Rattle.dh_sound.specs.SameKeys.{CopiesAgree}
 use Rattle.dh_sound.proofs.SameKeys.{picked_agree}
 use Rattle.dh_expressions.specs.declared.paths.Level.{Level}
 use Rattle.dh_expressions.specs.Copying.{leaders_at}
 use Rattle.dh_expressions.specs.Levels.{leader_number, path_at}
 use Rattle.dh_commands.specs.ShownVariables.{factors_of}
 use Rattle.dh_blocks.specs.PathsOfLevels.{AreSpread}
-use Rattle.dh_blocks.proofs.PathNumbers.{agree_leaders, leader_leads, leader_within, leaders_agree, leads, numbered}
-use Rattle.dh_charged.specs.LeadersCounted.{AllLeadersAreKeys, LeadersAreKeys, leads_below, paths_below}
+use Rattle.dh_blocks.proofs.PathNumbers.{agree_leaders, leader_leads, leaders_agree, leads, numbered}
+use Rattle.dh_charged.specs.LeadersCounted.{AllLeadersAreKeys, leads_below, paths_below}
 
 -- Keys.
 

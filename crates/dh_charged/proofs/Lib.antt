@@ -7,3 +7,4 @@ pub mod MeetsInRange
 pub mod UsesCharge
 pub mod SitesTold
 pub mod BlocksCharged
+pub mod MemoriesHad

@@ -1,17 +1,15 @@
 -- The accesses of commands that may meet are those of their numbers, each once, in order: by recursion on the command.
-use Rattle.std.proofs.Common.{◌≡◌, ◌↔◌, ◌⊎◌, inl, inr, ℕ, zero, suc, ◌+◌, ◌<◌, ◌≤◌, ◌^◌, refl, ap, sym, ◌∙◌, subst, arith}
+use Rattle.std.proofs.Common.{◌≡◌, ◌⊎◌, inl, inr, ℕ, zero, suc, ◌+◌, ◌<◌, ◌≤◌, sym, subst, arith}
 use Rattle.std.specs.Prelude.{Bool, true, false, ◌||◌, nat_lt}
 use Rattle.std.proofs.lemmas.Bool.{cases_lt}
-use Rattle.dh_tree.specs.Meets.{Meets, nothing, access, all, one, In, Distinct, Before}
-use Rattle.dh_tree.specs.PlainTrees.{Action, action, ActionForm, lets, lets_memory, views, assigns, stores, reduces, calls, blocks, decides, repeats, counts, MaybeAction, no_action, one_action, Actions, no_actions, action_then, Groups, no_groups, group_then, Program}
-use Rattle.dh_meaning.specs.AccessNumbers.{accesses_of, groups_accesses, inner_accesses, other_accesses, own_accesses, part_accesses, term_accesses}
-use Rattle.dh_meets.specs.MayMeet.{arms_meet, command_meets, groups_meet, meets, meets_in, other_meets, part_meets, row_of}
-use Rattle.dh_plan.specs.declared.plans.Meets.{Meets as Tree}
+use Rattle.dh_tree.specs.Meets.{Meets, nothing, access, all, one, In, Before}
+use Rattle.dh_tree.specs.PlainTrees.{Action, action, lets, lets_memory, views, assigns, stores, reduces, calls, blocks, decides, repeats, counts, MaybeAction, no_action, one_action, Actions, no_actions, action_then, Groups, no_groups, group_then, Program}
+use Rattle.dh_meaning.specs.AccessNumbers.{accesses_of, groups_accesses, other_accesses, own_accesses, part_accesses, term_accesses}
+use Rattle.dh_meets.specs.MayMeet.{arms_meet, groups_meet, meets, meets_in, other_meets, part_meets, row_of}
 use Rattle.dh_plan.specs.DoneProgram.{MeetsAs}
 use Rattle.dh_plan.specs.PlainPlans.{PlainPlan}
-use Rattle.dh_plan.specs.SeenPlans.{meets_seen}
-use Rattle.dh_accesses.specs.Met.{MeetsBody, SameMeets}
-use Rattle.dh_charged.specs.MetAccesses.{CommandsMeetInRange, PlanMeets, PlansMeet, StandInRange}
+use Rattle.dh_accesses.specs.Met.{SameMeets}
+use Rattle.dh_charged.specs.MetAccesses.{CommandsMeetInRange, PlansMeet, StandInRange}
 
 none_in : (n : ℕ) → StandInRange nothing n 0
 none_in n = record {

@@ -1,6 +1,6 @@
 -- The sites of a block, one beside the other with the accesses of the program: by recursion on commands, and along the
 -- trace.
-use Rattle.std.proofs.Common.{◌≡◌, ◌⊎◌, inl, inr, ℕ, zero, suc, ◌+◌, ◌-◌, ◌<◌, ◌≤◌, Bool, true, false, if◌then◌else◌, List, [], ◌∷◌, ◌++◌, length, map, replicate, Option, Some, None, refl, ap, sym, ◌∙◌, subst, arith, append_assoc}
+use Rattle.std.proofs.Common.{◌≡◌, ℕ, zero, suc, ◌+◌, ◌-◌, ◌≤◌, Bool, true, false, if◌then◌else◌, List, [], ◌∷◌, ◌++◌, length, replicate, Option, Some, None, refl, ap, sym, ◌∙◌, subst, arith, append_assoc}
 use Rattle.std.specs.Prelude.{nat_lt, slice_get}
 use Rattle.std.proofs.lemmas.Bool.Decides.{nat_tests}
 use Rattle.std.proofs.lemmas.List.{append-nil}
@@ -24,7 +24,7 @@ use Rattle.dh_meets.specs.SourceEvents.{Element, with_indices, in_row, SourceAcc
 use Rattle.dh_events.specs.Accesses.{element_in}
 use Rattle.dh_sound.specs.SimpleForms.{AreFolds, IsFold}
 use Rattle.dh_sound.specs.Straight.{AreNamedActions, AreNamedGroups, IsNamedAction, IsNamedForm, IsNamedOther, IsTarget}
-use Rattle.dh_sound.specs.Trails.{Follows, StandsBehind, count, of_located}
+use Rattle.dh_sound.specs.Trails.{Follows, count, of_located}
 use Rattle.dh_sound.proofs.EventCounts.{accesses_joined}
 use Rattle.dh_sound.proofs.Makes.{action_counted, other_counted}
 use Rattle.dh_sound.proofs.KnownReads.{count_joined}
@@ -44,10 +44,10 @@ use Rattle.dh_commands.specs.declared.choices.Left.{Left}
 use Rattle.dh_commands.specs.LanesRun.{paths_counted}
 use Rattle.dh_commands.specs.MadeCommands.{Commanding, MadeActionForm, MadeActions, MadeArm, MadeCommand, MadeGroups, MadeOther}
 use Rattle.dh_commands.specs.ShownVariables.{factors_of}
-use Rattle.dh_laid.specs.BlockSites.{MadeEach, action_sites, actions_sites, all_there, block_sites, command_sites, groups_sites, none_there, one_site, other_sites, places_from, site_or, sites_from, target_sites, term_sites, terms_sites, test_sites}
+use Rattle.dh_laid.specs.BlockSites.{MadeEach, action_sites, actions_sites, all_there, block_sites, command_sites, groups_sites, one_site, other_sites, places_from, site_or, sites_from, target_sites, term_sites, terms_sites}
 use Rattle.dh_laid.proofs.ValuesLogged.{arm_long, tests_same}
-use Rattle.dh_charged.specs.ChargedUses.{AreLevelsOf, AreSitesOf, IsOfMemory, IsSiteOf, TellsAccess}
-use Rattle.dh_charged.specs.TracedSites.{BlocksAreTraced, HaveMemories, StandsInLoops, TestSitesAreTraced}
+use Rattle.dh_charged.specs.ChargedUses.{AreLevelsOf, TellsAccess}
+use Rattle.dh_charged.specs.TracedSites.{BlocksAreTraced, StandsInLoops, TestSitesAreTraced}
 
 two : (whole a b m n : ℕ) → whole ≡ a + b → a ≡ m → b ≡ n → whole ≡ m + n
 two whole a b m n e h k = omega (arith, e, h, k)

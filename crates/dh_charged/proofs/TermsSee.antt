@@ -1,10 +1,8 @@
 -- What is put down for expressions sees registers of the names in them alone: by recursion on what was put down.
-use Rattle.std.proofs.Common.{◌≡◌, ◌⊎◌, inl, inr, ◌<◌, ◌≤◌, ◌^◌, ℕ, zero, suc, List, Some, None, ap, sym, ◌∙◌, subst, length, arith, append_assoc, refl}
+use Rattle.std.proofs.Common.{◌≡◌, ◌⊎◌, inl, inr, ◌≤◌, ℕ, List, Some, None, ap, sym, ◌∙◌, length, arith, append_assoc}
 use Rattle.std.specs.Prelude.{Bool as Truth, true, false, [], ◌∷◌, ◌++◌, Option}
 use Rattle.std.proofs.lemmas.List.{append-nil}
 use Rattle.dh_value.specs.declared.kinds.Kind.{Kind}
-use Rattle.dh_value.specs.declared.kinds.Kind.TheVariants as kind
-use Rattle.dh_value.specs.declared.operators.Op.{Op}
 use Rattle.dh_value.specs.Operations.{truth}
 use Rattle.dh_tree.specs.declared.trees.expressions.Ref.{Ref}
 use Rattle.dh_tree.specs.Indices.{form_of}

@@ -1,8 +1,8 @@
 -- A read or a write of a block charges a bank no more than its access does in the program: its place is the number of the
 -- leaders before it that reach the bank, and each leader has a key of its own.
-use Rattle.std.proofs.Common.{◌≡◌, ℕ, zero, suc, ◌+◌, ◌-◌, ◌<◌, ◌≤◌, ◌^◌, ◌==◌, ◌&&◌, Bool, true, false, if◌then◌else◌, List, [], ◌∷◌, length, map, Option, Some, None, refl, ap, sym, ◌∙◌, subst, arith}
-use Rattle.std.specs.Prelude.{max, min, option_map, pos, slice_get, slice_index_or, unsigned_abs, ◌+ℤ◌}
-use Rattle.std.specs.List.{AllByRecursion, filter}
+use Rattle.std.proofs.Common.{◌≡◌, ℕ, suc, ◌+◌, ◌<◌, ◌≤◌, ◌^◌, ◌==◌, ◌&&◌, Bool, true, false, if◌then◌else◌, List, [], ◌∷◌, map, Option, Some, None, refl, ap, sym, ◌∙◌, subst, arith}
+use Rattle.std.specs.Prelude.{max, option_map, pos, slice_index_or, unsigned_abs, ◌+ℤ◌}
+use Rattle.std.specs.List.{filter}
 use Rattle.std.specs.Option.{is_some}
 use Rattle.std.specs.Set.{distinct_count}
 use Rattle.std.proofs.lemmas.Bool.{eq-eqb, eqb-true}
@@ -12,34 +12,32 @@ use Rattle.dh_tree.specs.declared.trees.counters.Counter.{Counter}
 use Rattle.dh_tree.specs.Counters.{counters_of}
 use Rattle.dh_tree.specs.Elements.{bank_of, dims_at}
 use Rattle.dh_tree.specs.Indices.{IndexKind, constant, iterator, dynamic, index_kind}
-use Rattle.dh_tree.specs.Memories.{Memory, entry_of, memory_in, memories_of, number_in, same_entity, table_of}
-use Rattle.dh_tree.specs.PlainTrees.{Program, Term, term, TermForm, number, truth_value, named, accessed, in_bank, applied, converted, Terms, no_terms, term_then}
+use Rattle.dh_tree.specs.Memories.{Memory, memory_in, memories_of, number_in, same_entity, table_of}
+use Rattle.dh_tree.specs.PlainTrees.{Program, term, TermForm, number, truth_value, named, accessed, in_bank, applied, converted, Terms, no_terms, term_then}
 use Rattle.dh_tree.specs.Seen.{program_seen}
 use Rattle.dh_meaning.specs.Bindings.{bindings_of}
 use Rattle.dh_meaning.specs.CoreOf.{entity_number}
 use Rattle.dh_meaning.specs.Paths.{Path, copies_in, paths_in, same_path}
-use Rattle.dh_meets.specs.Charges as charges
-use Rattle.dh_meets.specs.Charges.{bank_reached, charge, charge_of, depends, index_in, indices_in, key_of, keys_reaching, level_of_loop, paths_of, picked, reaches, reaches_in}
+use Rattle.dh_meets.specs.Charges.{bank_reached, charge, charge_of, depends, index_in, indices_in, keys_reaching, level_of_loop, paths_of, picked, reaches, reaches_in}
 use Rattle.dh_meets.specs.Sharing.{shared}
-use Rattle.dh_meets.specs.SourceEvents.{SourceAccess, accesses_in, trace}
+use Rattle.dh_meets.specs.SourceEvents.{SourceAccess}
 use Rattle.dh_events.specs.Accesses.{element_in}
 use Rattle.dh_sound.proofs.BanksReached.{declared_dims}
-use Rattle.dh_plan.specs.declared.operations.Operation.{Operation}
 use Rattle.dh_plan.specs.declared.operations.Reach.{Reach}
-use Rattle.dh_plan.specs.SoundPlans.{operations_charge, place_charge, use_charge, use_in}
+use Rattle.dh_plan.specs.SoundPlans.{place_charge, use_charge, use_in}
 use Rattle.dh_expressions.specs.declared.paths.Level.{Level}
 use Rattle.dh_expressions.specs.declared.scenes.Scene.{Scene}
 use Rattle.dh_expressions.specs.Copying.{leaders_at}
-use Rattle.dh_expressions.specs.Levels.{copy_to, leader_number, path_at}
+use Rattle.dh_expressions.specs.Levels.{leader_number, path_at}
 use Rattle.dh_expressions.specs.Numbers.{narrowed}
 use Rattle.dh_expressions.specs.ReachedBanks.{bank_by, index_first, indices_first, level_with}
 use Rattle.dh_formed.specs.Formed.{Site}
 use Rattle.dh_commands.specs.ShownVariables.{factors_of}
-use Rattle.dh_laid.specs.LaidUses.{AreLedUses, IsLedUse}
+use Rattle.dh_laid.specs.LaidUses.{IsLeadersUse}
 use Rattle.dh_blocks.specs.PathsOfLevels.{AreSpread}
 use Rattle.dh_blocks.proofs.PathNumbers.{copy_in_path}
 use Rattle.dh_charged.specs.LeadersCounted.{LeadersAreKeys}
-use Rattle.dh_charged.specs.ChargedUses.{AreLevelsOf, AreSitesOf, HasShares, IsOfMemory, IsSiteOf, LedUsesCharge, OperationsCharge, TellsAccess}
+use Rattle.dh_charged.specs.ChargedUses.{AreLevelsOf, AreSitesAt, HasShares, IsSiteAt, LedUsesCharge}
 use Rattle.dh_charged.proofs.KeysLed.{all_leaders_are_keys}
 
 -- Memories.
@@ -141,11 +139,11 @@ both_true : (a b : Bool) → (a && b) ≡ true → (a ≡ true) × (b ≡ true)
 both_true true b e = (refl, e)
 both_true false b e = absurd (cc)
 
-module _ (scene : Scene) (levels : List Level) (sites : ℕ → Option Site) (spread : AreSpread levels) (shares : HasShares scene) (of : AreSitesOf scene levels sites) (r : Reach) (u : IsLedUse scene sites r) where
+module _ (scene : Scene) (levels : List Level) (sites : ℕ → Option Site) (spread : AreSpread levels) (shares : HasShares scene) (of : AreSitesAt scene levels sites) (r : Reach) (u : IsLeadersUse scene sites r) where
   abbrev p : Program
   p = program_seen scene.program.now
 
-  its : IsSiteOf scene levels r.access u.site
+  its : IsSiteAt scene levels r.access u.site
   its = of r.access u.site u.there
 
   abbrev a : SourceAccess

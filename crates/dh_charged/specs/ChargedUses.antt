@@ -1,6 +1,6 @@
 -- What reads and writes of a block charge: no more on a bank than their accesses do in the program. It is told of the
 -- sites of a block, each of which tells of an access of the program.
-use Rattle.std.specs.Prelude.{◌≡◌, ℕ, ◌<◌, ◌≤◌, ◌^◌, List, [], ◌∷◌, length, map, slice_get, Option, Some}
+use Rattle.std.specs.Prelude.{◌≡◌, ℕ, ◌<◌, ◌≤◌, ◌^◌, List, length, map, slice_get, Option, Some}
 use Rattle.dh_tree.specs.declared.trees.counters.Counter.{Counter}
 use Rattle.dh_tree.specs.Counters.{counters_of}
 use Rattle.dh_tree.specs.Memories.{Memory, memory_in, memories_of, number_in}
@@ -43,7 +43,7 @@ pub record TellsAccess (scene : Scene) (levels : List Level) (site : Site) (a : 
   pub loops : AreLevelsOf levels a.site.loops
 
 -- an access is of a memory that is declared; memories and banks are few
-pub record IsOfMemory (p : Program) (a : SourceAccess) : Type 0 where
+pub record IsOfSmallMemory (p : Program) (a : SourceAccess) : Type 0 where
   pub entity : ℕ
   pub memory : Memory
   pub number : ℕ
@@ -54,14 +54,14 @@ pub record IsOfMemory (p : Program) (a : SourceAccess) : Type 0 where
   pub few : (path : Path) → bank_reached (counters_of p) memory.shape.dims a path a.element < 2 ^ 32
 
 -- each site of a block is of an access of the program
-pub record IsSiteOf (scene : Scene) (levels : List Level) (number : ℕ) (site : Site) : Type 0 where
+pub record IsSiteAt (scene : Scene) (levels : List Level) (number : ℕ) (site : Site) : Type 0 where
   pub access : SourceAccess
   pub at : slice_get (accesses_in (trace (program_seen scene.program.now))) number ≡ Some access
   pub tells : TellsAccess scene levels site access
-  pub memory : IsOfMemory (program_seen scene.program.now) access
+  pub memory : IsOfSmallMemory (program_seen scene.program.now) access
 
-abbrev pub AreSitesOf : Scene → List Level → (sites : ℕ → Option Site) → Type 0
-AreSitesOf scene levels sites = (number : ℕ) (s : Site) → sites number ≡ Some s → IsSiteOf scene levels number s
+abbrev pub AreSitesAt : Scene → List Level → (sites : ℕ → Option Site) → Type 0
+AreSitesAt scene levels sites = (number : ℕ) (s : Site) → sites number ≡ Some s → IsSiteAt scene levels number s
 
 -- the scene tells each read that shares an earlier one
 abbrev pub HasShares : Scene → Type 0
@@ -77,4 +77,4 @@ OperationsCharge p os =
 abbrev pub LedUsesCharge : Type 0
 LedUsesCharge =
     (scene : Scene) (levels : List Level) (sites : ℕ → Option Site) (os : List Operation)
-    → AreSpread levels → HasShares scene → AreLedUses scene sites os → AreSitesOf scene levels sites → OperationsCharge (program_seen scene.program.now) os
+    → AreSpread levels → HasShares scene → AreLedUses scene sites os → AreSitesAt scene levels sites → OperationsCharge (program_seen scene.program.now) os

@@ -1,6 +1,9 @@
 -- The sites of a block are those of the program's accesses of their numbers: along the trace of the program.
-use Rattle.std.specs.Prelude.{◌≡◌, ℕ, List, [], ◌∷◌, ◌++◌, slice_get, Some}
+use Rattle.std.specs.Prelude.{◌≡◌, ℕ, ◌≤◌, ◌^◌, List, [], ◌∷◌, ◌++◌, length, slice_get, Some}
+use Rattle.dh_tree.specs.Elements.{banks_of, dims_at}
+use Rattle.dh_tree.specs.Memories.{table_of}
 use Rattle.dh_tree.specs.PlainTrees.{Program, Term}
+use Rattle.dh_tree.specs.Ready.{IsReady}
 use Rattle.dh_tree.specs.Seen.{program_seen}
 use Rattle.dh_meaning.specs.CoreOf.{form_of, test_of}
 use Rattle.dh_meaning.specs.Paths.{copies_in}
@@ -15,11 +18,15 @@ use Rattle.dh_commands.specs.declared.buildings.Building.{Building}
 use Rattle.dh_commands.specs.LanesRun.{paths_counted}
 use Rattle.dh_commands.specs.ShownVariables.{factors_of}
 use Rattle.dh_laid.specs.BlockSites.{MadeEach, block_sites, test_sites}
-use Rattle.dh_charged.specs.ChargedUses.{AreLevelsOf, AreSitesOf, IsOfMemory}
+use Rattle.dh_charged.specs.ChargedUses.{AreLevelsOf, AreSitesAt, IsOfSmallMemory}
 
 -- each access of a program is of a memory
 abbrev pub HaveMemories : Program → Type 0
-HaveMemories p = (number : ℕ) (a : SourceAccess) → slice_get (accesses_in (trace p)) number ≡ Some a → IsOfMemory p a
+HaveMemories p = (number : ℕ) (a : SourceAccess) → slice_get (accesses_in (trace p)) number ≡ Some a → IsOfSmallMemory p a
+
+-- it is of a ready one, of few memories with few banks
+abbrev pub ReadyHaveMemories : Type 0
+ReadyHaveMemories = (p : Program) → IsReady p → length (table_of p) ≤ 2 ^ 32 → ((memory : ℕ) → banks_of (dims_at (table_of p) memory) ≤ 2 ^ 32) → HaveMemories p
 
 -- what stands round a block are the paths of the unrolled loops of the source
 pub record StandsInLoops (around : Around) (round : sites.Around) : Type 0 where
@@ -31,11 +38,11 @@ abbrev pub BlocksAreTraced : Type 0
 BlocksAreTraced =
     (scene : Scene) (around : Around) (round : sites.Around) (done folds : List Located) (old new : Building) (m : MadeEach scene around (done ++ folds) old new)
     → StandsInLoops around round → HaveMemories (program_seen scene.program.now) → Follows round [] (trace (program_seen scene.program.now)) done → AreFolds folds
-    → AreSitesOf scene around.levels.now (block_sites scene around (done ++ folds) old new m)
+    → AreSitesAt scene around.levels.now (block_sites scene around (done ++ folds) old new m)
 
 -- of a test
 abbrev pub TestSitesAreTraced : Type 0
 TestSitesAreTraced =
     (scene : Scene) (around : Around) (tested : Located) (t : Term) → StandsInLoops around tested.around → HaveMemories (program_seen scene.program.now)
     → Follows tested.around [] (trace (program_seen scene.program.now)) (tested ∷ []) → test_of (form_of tested.command) ≡ Some t
-    → AreSitesOf scene around.levels.now (test_sites scene around tested.first t)
+    → AreSitesAt scene around.levels.now (test_sites scene around tested.first t)

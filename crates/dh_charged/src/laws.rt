@@ -5,7 +5,7 @@ ghost use Rattle.dh_charged.specs.ChargedUses.{LedUsesCharge};
 ghost use Rattle.dh_charged.specs.LeadersCounted.{AllLeadersAreKeys};
 ghost use Rattle.dh_charged.specs.MetAccesses.{CommandsMeetInRange, PlansMeet};
 ghost use Rattle.dh_charged.specs.TouchedBlocks.{StraightsTouch, TestsTouch};
-ghost use Rattle.dh_charged.specs.TracedSites.{BlocksAreTraced, TestSitesAreTraced};
+ghost use Rattle.dh_charged.specs.TracedSites.{BlocksAreTraced, ReadyHaveMemories, TestSitesAreTraced};
 
 /// A block sees registers of variables that it mentions, and counters of loops round it; it sets registers of what it
 /// assigns to, or the flag of its test.
@@ -35,6 +35,11 @@ pub fn led_uses_charge()
 pub fn sites_are_traced()
     ensures straight { BlocksAreTraced }
     ensures tests { TestSitesAreTraced }
+{}
+
+/// Each access of a ready program is of a memory, where memories and banks are few.
+pub fn accesses_have_memories()
+    ensures { ReadyHaveMemories }
 {}
 
 /// A block charges a bank no more than the program does, and so does a plan of such blocks.

@@ -11,15 +11,16 @@ use Rattle.dh_plan.specs.PlayedPlans.{program_run, WritesLast, PlaysItsProgram}
 use Rattle.dh_compile.specs.declared.compiling.CompileFault.{CompileFault}
 use Rattle.dh_compile.specs.declared.compiling.CompileFault.TheVariants as fault
 
--- A net of a program: valid, with its table, it plays the checked run from all fitting memories; its reads have data 0,
--- and a driver that writes is active only in the last clock of a step without fault.
-pub record PlaysProgram (p : Program) (net : Net) : Type 0 where
+-- A net of a program whose plan is within the limit: valid, with its table, it plays the checked run from all fitting
+-- memories; its reads have data 0, and a driver that writes is active only in the last clock of a step without fault.
+pub record IsNetOfProgram (p : Program) (net : Net) : Type 0 where
+  pub small : plan_size_of p ≤ most_plan
   pub plays : PlaysItsProgram p net
   pub zero_reads : HasReadsZero net
   pub writes : (start : List (List ℕ)) → Fits (table_of p) start → WritesLast net (program_run p start) start
 
--- there is a net only where the plan is within the limit; want of memory is free
+-- want of memory is free
 abbrev pub Compiles : Program → Result Net CompileFault → Type 0
-Compiles p (Ok net) = (plan_size_of p ≤ most_plan) × PlaysProgram p net
+Compiles p (Ok net) = IsNetOfProgram p net
 Compiles p (Err (fault.TooLarge size)) = IsTooLarge p size
 Compiles p (Err fault.NoMemory) = Unit {0}

@@ -11,7 +11,7 @@ ghost use Rattle.dh_plan.specs.SeenPlans.{plan_seen};
 ghost use Rattle.dh_backend.specs.NetParts.{times_seen};
 ghost use Rattle.dh_backend.specs.SuitedPlans.{IsCompiled};
 ghost use Rattle.dh_build.specs.BuiltPlans.{CanBuild};
-ghost use Rattle.dh_compile.specs.Compiled.{Compiles, PlaysProgram};
+ghost use Rattle.dh_compile.specs.Compiled.{Compiles, IsNetOfProgram};
 
 use dh_backend::{NetParts, parts_of};
 use dh_base::{Limit, NoMemory};
@@ -60,7 +60,7 @@ fn net_of_parts(alloc: Global, parts: &NetParts) -> Result<Net, NoMemory>
 fn net_of_plan(alloc: Global, plan: &Plan) -> Result<Net, NoMemory>
     requires { IsCompiled (plan_seen plan.now) }
     ensures { (p : Program) → IsToCompile p → IsPlanOf p (plan_seen plan.now)
-        → IfOk result (PlaysProgram p) }
+        → IfOk result (IsNetOfProgram p) }
 {
     let parts = parts_of(alloc, plan)?;
     net_of_parts(alloc, &parts)
@@ -69,7 +69,7 @@ fn net_of_plan(alloc: Global, plan: &Plan) -> Result<Net, NoMemory>
 /// The net of a program that is to be compiled.
 fn net_of(alloc: Global, program: &Typed) -> Result<Net, NoMemory>
     requires { IsToCompile (program_seen program.now) }
-    ensures { IfOk result (PlaysProgram (program_seen program.now)) }
+    ensures { IfOk result (IsNetOfProgram (program_seen program.now)) }
 {
     let plan = unroll(alloc, program)?;
     net_of_plan(alloc, &plan)

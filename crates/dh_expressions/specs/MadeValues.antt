@@ -18,7 +18,7 @@ use Rattle.dh_expressions.specs.declared.drafts.Draft.{Draft}
 use Rattle.dh_expressions.specs.declared.scenes.Lane.{Lane}
 use Rattle.dh_expressions.specs.declared.scenes.Scene.{Scene}
 use Rattle.dh_expressions.specs.Drafted.{Pushes}
-use Rattle.dh_expressions.specs.Evaluated.{counter_of}
+use Rattle.dh_expressions.specs.Evaluated.{GivesWhere, IsTurning, counter_of, iterator_shown}
 use Rattle.dh_expressions.specs.Shown.{is_kept, is_read_term, kind_written, register_at}
 
 -- nothing is added, and the value is one that stood there
@@ -156,9 +156,10 @@ MadeCurrent (Some (Some value)) register old new v = IsThere old new value v
 abbrev pub MadeShown : (current : List (Option ℕ)) → (register : ℕ) → (old new : Draft) → (v : ℕ) → Type 0
 MadeShown current register old new v = MadeCurrent (slice_get current register) register old new v
 
+-- an iterator, with what it then shows: the numbers that are put down for it are told by nothing else
 abbrev pub MadeBy : Option Counter → Held → Lane → (current : List (Option ℕ)) → Kind → (old new : Draft) → (v : ℕ) → Type 0
 MadeBy None held lane current kind old new v = MadeShown current (register_at held lane) old new v
-MadeBy (Some c) held lane current kind old new v = MadeIterator held kind old new v
+MadeBy (Some c) held lane current kind old new v = MadeIterator held kind old new v × GivesWhere old new v (λ x. IsTurning x c held kind) (λ x. iterator_shown x c held lane kind)
 
 -- what a variable holds at a path
 abbrev pub MadeVariable : Scene → Lane → (current : List (Option ℕ)) → (entity : ℕ) → Kind → (old new : Draft) → (v : ℕ) → Type 0

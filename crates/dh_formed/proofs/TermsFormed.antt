@@ -133,7 +133,7 @@ module _ (scene : Scene) (lane : Lane) (current : List (Option ℕ)) where
       term_value old new before after v (ShowsThere current (register_at held lane) old) _ (λ x. kind_at x.plan.registers (register_at held lane)) k same
       (shown_forms current (register_at held lane) old new v m) (λ x sc w. (w.there, λ value at. sc.given (register_at held lane) value at)) (λ x w. w.kind_is)
   variable_forms (Some c) held k old new before after v same m =
-      term_value old new before after v (λ x. IsInteger k × (held.first < length x.plan.registers)) _ (λ x. k) k same (iterator_forms k held old new v m) (λ x sc w. w) (λ x w. refl)
+      term_value old new before after v (λ x. IsInteger k × (held.first < length x.plan.registers)) _ (λ x. k) k same (iterator_forms k held old new v m.0) (λ x sc w. w) (λ x w. refl)
 
   abbrev Formed : plain.Term → Type 0
   Formed t = (old new : Draft) (before after : Accesses) (n next v : ℕ) → MadeTerm scene lane current t old new before after n next v → n + term_accesses t < 2 ^ 32

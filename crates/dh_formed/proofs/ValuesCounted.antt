@@ -151,7 +151,7 @@ module _ (Sees : ℕ → Type 0) (Probes Reads Writes : Reach → Type 0) where
 
   pub variable_counts : (c : Option Counter) (held : Held) (lane : Lane) (current : List (Option ℕ)) (k : Kind) → Sees (register_seen c held lane) → (old new : Draft) (v : ℕ) → MadeBy c held lane current k old new v → Still old new
   variable_counts None held lane current k sees old new v m = shown_counts current (register_at held lane) sees old new v m
-  variable_counts (Some c) held lane current k sees old new v m = iterator_counts k held sees old new v m
+  variable_counts (Some c) held lane current k sees old new v m = iterator_counts k held sees old new v m.0
 
   -- Guards of copies.
 

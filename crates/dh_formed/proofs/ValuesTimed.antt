@@ -311,4 +311,4 @@ shown_timed current register level old new v m = current_timed (slice_get curren
 pub variable_timed : (o : Option Counter) (held : Held) (lane : Lane) (current : List (Option ℕ)) (k : Kind) (level : Clocks → ℕ) (old new : Draft) (v : ℕ) → MadeBy o held lane current k old new v
     → TimesValue old new v (λ c. VariableAt c o held lane current (level c)) level
 variable_timed None held lane current k level old new v m = shown_timed current (register_at held lane) level old new v m
-variable_timed (Some counter) held lane current k level old new v m = timed_where old new v (λ c. Unit {0}) _ (λ c. 0) level (λ c w. tt) (λ c w. sym w) (iterator_timed k held old new v m)
+variable_timed (Some counter) held lane current k level old new v m = timed_where old new v (λ c. Unit {0}) _ (λ c. 0) level (λ c w. tt) (λ c w. sym w) (iterator_timed k held old new v m.0)

@@ -240,7 +240,7 @@ module _ (scene : Scene) (paths : Paths) (rounds : List Round) (inside : AreInsi
 
 -- Inside a loop.
 
-rounds_more : (levels : List Level) (count : ℕ) (rounds : List Round) (inner : List Level) (paths : ℕ) (r : Round) (entity : Option ℕ) → entity_number entity ≡ r.loop.iterator → AreWithin levels count rounds inner paths
+rounds_more : (levels : List Level) (count : ℕ) (rounds : List Round) (inner : List Level) (paths : ℕ) (r : Round) (entity : Option ℕ) → entity ≡ Some r.loop.iterator → AreWithin levels count rounds inner paths
     → AreWithin levels count (rounds ++ r ∷ []) (levels_inside inner entity r.loop.factor) (count_inside paths r.loop.factor)
 rounds_more levels count [] inner paths r entity is (a, b) = (entity, (is, (ap (λ (ls : List Level). levels_inside ls entity r.loop.factor) a, ap (λ (n : ℕ). count_inside n r.loop.factor) b)))
 rounds_more levels count (x ∷ rounds) inner paths r entity is (e, (i, h)) = (e, (i, rounds_more (levels_inside levels e x.loop.factor) (count_inside count x.loop.factor) rounds inner paths r entity is h))
@@ -266,7 +266,7 @@ some_inside paths factor some copies = by (nat_le factor 1)
     by true = some
     by false = least paths factor (2 ^ 64 - 1) some copies (omega arith)
 
-pub paths_inside : (rounds : List Round) (outer inner : Paths) (r : Round) (entity : Option ℕ) → entity_number entity ≡ r.loop.iterator → 0 < r.loop.factor → inner.levels.items ≡ levels_inside outer.levels.items entity r.loop.factor → inner.count ≡ count_inside outer.count r.loop.factor
+pub paths_inside : (rounds : List Round) (outer inner : Paths) (r : Round) (entity : Option ℕ) → entity ≡ Some r.loop.iterator → 0 < r.loop.factor → inner.levels.items ≡ levels_inside outer.levels.items entity r.loop.factor → inner.count ≡ count_inside outer.count r.loop.factor
     → ArePathsOf rounds outer.levels.items outer.count → ArePathsOf (rounds ++ r ∷ []) inner.levels.items inner.count
 paths_inside rounds outer inner r entity is copies levels count h = record {
   within = subst (λ (ls : List Level). AreWithin [] 1 (rounds ++ r ∷ []) ls inner.count) (sym levels)
@@ -297,9 +297,9 @@ module _ (scene : Scene) (paths within : Paths) (old now new : Made) (turn forms
   abbrev pub round_of : Round
   round_of = record { loop = turning_of (known_in scene) count (form_of loop.command); counter = (held_at scene.held.now (entity_number iterator.entity)).first }
 
-  pub inside_loop : (rounds : List Round) → 0 < factor.value → within.levels.items ≡ levels_inside paths.levels.items iterator.entity factor.value → within.count ≡ count_inside paths.count factor.value
+  pub inside_loop : (rounds : List Round) → 0 < factor.value → within.levels.items ≡ levels_inside paths.levels.items (Some (entity_number iterator.entity)) factor.value → within.count ≡ count_inside paths.count factor.value
       → AreInside scene rounds paths → AreInside scene (rounds ++ round_of ∷ []) within
-  inside_loop rounds copies levels counted h = record { told = h.told; inside = paths_inside rounds paths within round_of iterator.entity refl copies levels counted h.inside }
+  inside_loop rounds copies levels counted h = record { told = h.told; inside = paths_inside rounds paths within round_of (Some (entity_number iterator.entity)) refl copies levels counted h.inside }
 
   -- what stands in a turn stands in the loop
   pub turn_inside : (rounds : List Round) → (count == 0) ≡ false → (qs : List source.Phase) → AreInner (known_in scene) (program_seen scene.program.now) (loops_round rounds) (turn_phases loop count qs)
@@ -483,7 +483,7 @@ idle_of_code scene paths m forms first id place iterator declared low high facto
     is
 
 pub turns_of_code : (scene : Scene) (paths within : Paths) (old mid now new : Made) (xs ys turn forms : Forms) (first after id : ℕ) (place : Place) (iterator : Ref) (declared : Option Kind) (low high : Placed) (factor : Unrolled) (body : Action) (combine : MaybeAction) (combine_place : Place) (count : ℕ)
-    → count ≡ turn_count low.value high.value factor.value → (count ≡ 0 → ⊥) → within.levels.items ≡ levels_inside paths.levels.items iterator.entity factor.value → within.count ≡ count_inside paths.count factor.value
+    → count ≡ turn_count low.value high.value factor.value → (count ≡ 0 → ⊥) → within.levels.items ≡ levels_inside paths.levels.items (Some (entity_number iterator.entity)) factor.value → within.count ≡ count_inside paths.count factor.value
     → after ≡ behind first (accesses_of body) → GathersCommand scene within old mid xs first body → GathersOf scene within mid now ys after (other_accesses combine) (λ r n. other_phases r n combine) → turn ≡ folded_with xs ys
     → Counts scene within now new turn iterator count forms → GathersCommand scene paths old new forms first (action id place (counts iterator declared low high factor body combine combine_place))
 turns_of_code scene paths within old mid now new xs ys turn forms first after id place iterator declared low high factor body combine combine_place count counted some levels copies told h k folds makes r few rounds inside inside_it rest bare =

@@ -9,7 +9,7 @@ use Rattle.dh_value.specs.Operations.{binary_of}
 use Rattle.dh_tree.specs.PlainTrees as plain
 use Rattle.dh_meaning.specs.AccessNumbers.{accesses_of, term_accesses}
 use Rattle.dh_meaning.specs.Core.{CoreCommands, CoreTerm, Turning}
-use Rattle.dh_meaning.specs.CoreOf.{core_commands, core_test, entity_number, form_of, test_of}
+use Rattle.dh_meaning.specs.CoreOf.{core_commands, core_test, form_of, test_of}
 use Rattle.dh_meaning.specs.Phases.{Located, phases_of}
 use Rattle.dh_tree.specs.Seen.{program_seen}
 use Rattle.dh_code.specs.Slots.{held_at}
@@ -53,7 +53,7 @@ count_inside count factor = if nat_le factor 1 then count else min (count * fact
 abbrev pub AreWithin : List Level → (count : ℕ) → List Round → List Level → ℕ → Type 0
 AreWithin levels count [] inner paths = (inner ≡ levels) × (paths ≡ count)
 AreWithin levels count (r ∷ rs) inner paths =
-    (entity : Option ℕ) × ((entity_number entity ≡ r.loop.iterator) × AreWithin (levels_inside levels entity r.loop.factor) (count_inside count r.loop.factor) rs inner paths)
+    (entity : Option ℕ) × ((entity ≡ Some r.loop.iterator) × AreWithin (levels_inside levels entity r.loop.factor) (count_inside count r.loop.factor) rs inner paths)
 
 -- those of these loops, of which there is at least one path
 pub record ArePathsOf (rounds : List Round) (levels : List Level) (paths : ℕ) : Type 0 where

@@ -16,7 +16,7 @@ use crate::joining::{Loose, end_phase, fold, join, one_command};
 use crate::nodes::{choose, nodes_of, repeat, turns};
 use dh_accesses::{behind_command, behind_other, behind_term};
 use dh_base::NoMemory;
-use dh_expressions::{Paths, Scene, inside, turn_count};
+use dh_expressions::{Paths, Scene, entity_of, inside, turn_count};
 use dh_plan::Node;
 use dh_tree::{Command, CommandForm};
 use std::alloc::Global;
@@ -91,7 +91,8 @@ fn gather<'a>(
             if count == 0 {
                 return Ok((Vec::new(alloc), behind_command(first, command)));
             }
-            let within = inside(alloc, paths, iterator.entity, *factor)?;
+            let entity = entity_of(iterator);
+            let within = inside(alloc, paths, Some(entity), *factor)?;
             let (body, next) = gather(scene, made, &within, first, body)?;
             let (folds, next) = gather_other(scene, made, &within, next, combine)?;
             let turn = fold(alloc, body, folds)?;

@@ -238,7 +238,7 @@ converted_extends false to value old new v m = pushed_extends old new v None (Co
 
 pub variable_extends : (c : Option Counter) (held : Held) (lane : Lane) (current : List (Option ℕ)) (k : Kind) (old new : Draft) (v : ℕ) → MadeBy c held lane current k old new v → Extends old new
 variable_extends None held lane current k old new v m = (shown_forms current (register_at held lane) old new v m).extends
-variable_extends (Some c) held lane current k old new v m = (iterator_forms k held old new v m).extends
+variable_extends (Some c) held lane current k old new v m = (iterator_forms k held old new v m.0).extends
 
 pub same_extends : (old new : Draft) → new ≡ old → Extends old new
 same_extends old new same = subst (λ (d : Draft). Extends old d) (sym same) (extends_self old)

@@ -22,7 +22,7 @@ use Rattle.dh_laid.specs.BlockSites.{MadeEach, all_there, block_sites, command_s
 use Rattle.dh_laid.specs.LaidNumbers.{IsOutside, Numbers}
 use Rattle.dh_laid.specs.LaidProbes.{AddsProbes}
 use Rattle.dh_laid.specs.LaidQuiet.{StandsIn}
-use Rattle.dh_laid.specs.LaidUses.{AddsLedUses, AddsUses, AreAlong, AreUntouched, BlocksLead, BlocksProbe, BlocksUse, PathsLead, SharesInside, TestsLead, TestsProbe, TestsUse, WritesAlone, probed_by, used_by, used_to}
+use Rattle.dh_laid.specs.LaidUses.{AddsLedUses, AddsUses, AreAlong, HaveNoOperations, BlocksLead, BlocksProbe, BlocksUse, PathsLead, SharesInside, TestsLead, TestsProbe, TestsUse, WritesAlone, probed_by, used_by, used_to}
 use Rattle.dh_laid.proofs.CommandsNumbered.{command_reached}
 use Rattle.dh_laid.proofs.CommandsProbe as probe
 use Rattle.dh_laid.proofs.CommandsProbe.{often, probes_again, tests_probed}
@@ -203,13 +203,13 @@ module _ (scene : Scene) (around : Around) (stands : StandsIn scene around) (lea
               omega (arith, k, g)
           by e reader t at low share (inr far) = one.given e reader t at far low share
 
-untouched_led : (sites : ℕ → Option Site) (a : Accesses) → AreUntouched sites a → AreLed sites a
+untouched_led : (sites : ℕ → Option Site) (a : Accesses) → HaveNoOperations sites a → AreLed sites a
 untouched_led sites a h = record { led = λ number t s at is. absurd (lost t (sym (h.bare number s at) ∙ is)); there = h.there; none = h.none }
   where
     lost : (t : Touched) → None ≡ Some t → ⊥
     lost t e = cc
 
-none_given : (sites : ℕ → Option Site) (a : Accesses) → AreUntouched sites a → (m : ℕ) (s : Site) → sites m ≡ Some s → given_at_paths a m ≡ 0
+none_given : (sites : ℕ → Option Site) (a : Accesses) → HaveNoOperations sites a → (m : ℕ) (s : Site) → sites m ≡ Some s → given_at_paths a m ≡ 0
 none_given sites a h m s at = ap length_given (h.bare m s at)
 
 never_less : (e : ℕ) → e < 0 → ⊥

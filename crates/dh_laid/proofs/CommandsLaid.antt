@@ -57,7 +57,7 @@ lefts_later x old new (l ∷ ls) e all = (λ value is. kind_later x old new _ va
 -- An arm.
 
 module _ (scene : Scene) (Inner : Commanding) (around : Around) (holds : Truth) (tests : List ℕ) (old new : Building) (first next : ℕ) (lefts : List Left) (m : MadeArm Inner around holds tests old new first next lefts) (Where : Block → Type 0) (inner : FormsCommand scene m.arm m.begin m.inside Where) where
-  guards_made : FormsGuards old.draft m.begin.draft around.guards.now tests m.arm.guards.now
+  pub guards_made : FormsGuards old.draft m.begin.draft around.guards.now tests m.arm.guards.now
   guards_made =
       subst (λ (d : Draft). FormsGuards old.draft d around.guards.now tests m.arm.guards.now) (sym m.begin_draft)
       (arm_guards_form holds around.guards.now tests (length tests) old.draft m.guarded m.arm.guards.now m.guards)
@@ -71,7 +71,7 @@ module _ (scene : Scene) (Inner : Commanding) (around : Around) (holds : Truth) 
       (subst (λ (v : Values). AreLogged v m.inside.values) m.begin_values (inner.logs (subst (λ (v : Values). AreReady v) (sym m.begin_values) ready))) m.ends
 
   -- what stands round the arm
-  round_arm : (x : Block) → StandsRound x old.draft scene around → AreGuardsThere x m.begin.draft m.arm.guards.now → length tests ≡ paths_counted around → StandsRound x m.begin.draft scene m.arm
+  pub round_arm : (x : Block) → StandsRound x old.draft scene around → AreGuardsThere x m.begin.draft m.arm.guards.now → length tests ≡ paths_counted around → StandsRound x m.begin.draft scene m.arm
   round_arm x round guards many = record {
     guards = guards;
     scopes = round.scopes;
@@ -79,12 +79,12 @@ module _ (scene : Scene) (Inner : Commanding) (around : Around) (holds : Truth) 
     few = subst (λ (n : ℕ). n < 2 ^ 64) (sym (arm_long holds around.guards.now tests (length tests) old.draft m.guarded m.arm.guards.now m.guards ∙ many)) round.few;
   }
 
-  begun_held : (x : Block) → StandsHeld x old.draft old.values → StandsHeld x m.begin.draft m.begin.values
+  pub begun_held : (x : Block) → StandsHeld x old.draft old.values → StandsHeld x m.begin.draft m.begin.values
   begun_held x h =
       subst (λ (v : Values). StandsHeld x m.begin.draft v) (sym m.begin_values)
       (record { held = held_later x old.draft m.begin.draft old.values guards_made.extends h.held; ready = h.ready; long = h.long })
 
-  begun_noted : (x : Block) → IsNoted x old.draft old.accesses → IsNoted x m.begin.draft m.begin.accesses
+  pub begun_noted : (x : Block) → IsNoted x old.draft old.accesses → IsNoted x m.begin.draft m.begin.accesses
   begun_noted x noted = subst (λ (k : Accesses). IsNoted x m.begin.draft k) (sym m.begin_accesses) (noted_later x old.draft m.begin.draft old.accesses guards_made.extends noted)
 
   -- what is formed as the arm ends
@@ -132,7 +132,7 @@ none_forms scene around tests old new first next lefts m = record {
 
 -- An `if`.
 
-tests_extend : (scene : Scene) (around : Around) (first : ℕ) (t : Term) (count : ℕ) (old new : Building) (next : ℕ) (tests : List ℕ) → AreFewIn first t → MadeTests scene around first t count old new next tests → Extends old.draft new.draft
+pub tests_extend : (scene : Scene) (around : Around) (first : ℕ) (t : Term) (count : ℕ) (old new : Building) (next : ℕ) (tests : List ℕ) → AreFewIn first t → MadeTests scene around first t count old new next tests → Extends old.draft new.draft
 tests_extend scene around first t zero old new next tests few m = extends_same old new m.0
 tests_extend scene around first t (suc n) old new next tests few m =
     extends_again old.draft (m.0).draft new.draft (tests_extend scene around first t n old m.0 m.1.0 m.1.1.0 few m.1.1.1.1.0) (one m.0 m.1.1.1.0 m.1.1.1.1.1.0)
@@ -143,7 +143,7 @@ tests_extend scene around first t (suc n) old new next tests few m =
         formed scene (lane_of around n) b.values.current.items t b.draft new.draft b.accesses new.accesses first next v is.term few in
         term.part.extends
 
-held_moved : (x : Block) (d e : Draft) (v w : Values) → StandsHeld x d v → AreHeld x e w → AreSame v w → StandsHeld x e w
+pub held_moved : (x : Block) (d e : Draft) (v w : Values) → StandsHeld x d v → AreHeld x e w → AreSame v w → StandsHeld x e w
 held_moved x d e v w h held same = record { held = held; ready = same_ready v w same h.ready; long = subst (λ (os : List (Option ℕ)). length os ≤ length x.plan.registers) (sym same.current) h.long }
 
 module _ (scene : Scene) (Chosen Other : Around → (tests : List ℕ) → (old new : Building) → (first next : ℕ) → (lefts : List Left) → Type 0) (t : Term) (around : Around) (old new : Building) (first next : ℕ) (m : MadeIf scene Chosen Other t around old new first next) (few : AreFewIn first t) (A B : Block → Type 0) (chosen : FormsArm scene around m.tests m.tested m.after_chosen m.chosen_left A) (other : FormsArm scene around m.tests m.after_chosen m.after_other m.other_left B) where
@@ -314,14 +314,14 @@ module _ (scene : Scene) where
     action_forms (repeats test body) around old new first next m few = still_forms scene around old new m.still
     action_forms (counts iterator declared low high factor body combine combine_place) around old new first next m few = still_forms scene around old new m.still
 
-    other_forms : (other : MaybeAction) (around : Around) (tests : List ℕ) (old new : Building) (first next : ℕ) (lefts : List Left) (m : MadeOther scene other around tests old new first next lefts)
+    pub other_forms : (other : MaybeAction) (around : Around) (tests : List ℕ) (old new : Building) (first next : ℕ) (lefts : List Left) (m : MadeOther scene other around tests old new first next lefts)
         → AreFewOther scene other around tests old new first next lefts m → FormsArm scene around tests old new lefts (λ x. OtherSuits x scene other around tests old new first next lefts m)
     other_forms no_action around tests old new first next lefts m few = none_forms scene around tests old new first next lefts m
     other_forms (one_action a) around tests old new first next lefts m few =
         arm_forms scene (MadeCommand scene a) around false tests old new first next lefts m (λ x. CommandSuits x scene a m.arm m.begin m.inside first next m.command)
         (command_forms a m.arm m.begin m.inside first next m.command few)
 
-    actions_form : (part : Actions) (around : Around) (old new : Building) (first next : ℕ) (m : MadeActions scene part around old new first next) → AreFewActions scene part around old new first next m
+    pub actions_form : (part : Actions) (around : Around) (old new : Building) (first next : ℕ) (m : MadeActions scene part around old new first next) → AreFewActions scene part around old new first next m
         → FormsCommand scene around old new (λ x. ActionsSuit x scene part around old new first next m)
     actions_form no_actions around old new first next m few = still_forms scene around old new m.still
     actions_form (action_then a rest) around old new first next m few =

@@ -34,7 +34,7 @@ use Rattle.dh_formed.proofs.ReadsCounted.{given_here, given_past, notes_other, n
 use Rattle.dh_formed.proofs.ValuesCounted.{copies_counts}
 use Rattle.dh_commands.specs.LanesRun.{paths_counted}
 use Rattle.dh_laid.specs.LaidQuiet.{StandsIn}
-use Rattle.dh_laid.specs.LaidUses.{AddsLedUses, IsLedUse, IsUnshared, PathsLead}
+use Rattle.dh_laid.specs.LaidUses.{AddsLedUses, IsLeadersUse, IsUnshared, PathsLead}
 use Rattle.dh_laid.proofs.UsesAdded.{AddsNone, any_reach, any_register, no_reach, none_again, none_none, none_pushed, none_same, none_then_uses, use_pushed, uses_counted, uses_same}
 
 -- The leaders of accesses.
@@ -103,8 +103,8 @@ notes_led sites before after number path value h k = record {
 
 -- One path.
 
-led_reach : (scene : Scene) (sites : ℕ → Option Site) (q r : Reach) → IsLedUse scene sites q → Some q ≡ Some r → IsLedUse scene sites r
-led_reach scene sites q r led e = subst (λ (u : Reach). IsLedUse scene sites u) (the q r e) led
+led_reach : (scene : Scene) (sites : ℕ → Option Site) (q r : Reach) → IsLeadersUse scene sites q → Some q ≡ Some r → IsLeadersUse scene sites r
+led_reach scene sites q r led e = subst (λ (u : Reach). IsLeadersUse scene sites u) (the q r e) led
   where
     the : (x y : Reach) → Some x ≡ Some y → x ≡ y
     the x y e = cc
@@ -148,7 +148,7 @@ module _ (scene : Scene) (sites : ℕ → Option Site) (lane : Lane) (stands : S
   -- a read or a write at this path, where it leads
   led_use : (writes : Truth) (a : Accesses) (u : Touched) → touched_in a aim.number ≡ Some u → IsLed (stood writes) u → sites aim.number ≡ Some (site writes) → (stood writes).leader lane.number ≡ lane.number
       → ((earlier : ℕ) → slice_get scene.shares.now aim.number ≡ Some (Some earlier) → ⊥)
-      → IsLedUse scene sites (reach_told memory aim (Some ((copied_in a aim.number lane.number).bank, (copied_in a aim.number lane.number).place)))
+      → IsLeadersUse scene sites (reach_told memory aim (Some ((copied_in a aim.number lane.number).bank, (copied_in a aim.number lane.number).place)))
   led_use writes a u is led at leads alone = record {
     site = site writes;
     there = at;
@@ -189,7 +189,7 @@ module _ (scene : Scene) (sites : ℕ → Option Site) (lane : Lane) (stands : S
   find_none : (d e : Draft) (copy : AccessAt) (v n : ℕ) (found : Option ℕ) → found ≡ Some n → uses_here aim.number ≡ 0 → Finds d e memory aim copy found v → AddsLedUses scene sites d e own_use
   find_none d e copy v n found is none h = uses_same scene sites d e _ own_use (λ k. none_used k none) (none_none scene sites d e (subst (λ (o : Option ℕ). Finds d e memory aim copy o v) is h).0)
 
-  find_one : (d e : Draft) (copy : AccessAt) (v : ℕ) (found : Option ℕ) → found ≡ None → uses_here aim.number ≡ 1 → IsLedUse scene sites (reach_told memory aim (Some (copy.bank, copy.place))) → Finds d e memory aim copy found v
+  find_one : (d e : Draft) (copy : AccessAt) (v : ℕ) (found : Option ℕ) → found ≡ None → uses_here aim.number ≡ 1 → IsLeadersUse scene sites (reach_told memory aim (Some (copy.bank, copy.place))) → Finds d e memory aim copy found v
       → AddsLedUses scene sites d e own_use
   find_one d e copy v found is one led h =
       use_pushed scene sites d e v copy.guard (Read (reach_told memory aim (Some (copy.bank, copy.place)))) own_use (subst (λ (o : Option ℕ). Finds d e memory aim copy o v) is h) (λ k. one_used k one)

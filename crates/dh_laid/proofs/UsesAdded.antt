@@ -34,7 +34,7 @@ use Rattle.dh_formed.proofs.ValuesCounted.{held_counts, shown_counts}
 use Rattle.dh_commands.specs.declared.assignments.Values.{Values}
 use Rattle.dh_commands.specs.declared.choices.Choice.{Choice}
 use Rattle.dh_commands.specs.MadeCommands.{FoldedWith, MadeArmGuard, MadeArmGuards, MadeBehind, MadeChoiceBy, MadeChoices, MadeGuard, MadeOldOperand, MadeOperand, MadeOutcome}
-use Rattle.dh_laid.specs.LaidUses.{AddsLedUses, AreLedUses, IsLedUse, used_by}
+use Rattle.dh_laid.specs.LaidUses.{AddsLedUses, AreLedUses, IsLeadersUse, used_by}
 
 abbrev pub any_register : ℕ → Type 0
 any_register register = Unit {0}
@@ -75,7 +75,7 @@ module _ (scene : Scene) (sites : ℕ → Option Site) where
     more = one.more ++ two.more;
     adds = two.adds ∙ (ap (λ (os : List Operation). os ++ two.more) one.adds ∙ append_assoc a.operations.items one.more two.more);
     uses_are = λ access. let e = uses_append access one.more two.more in let l = one.uses_are access in let r = two.uses_are access in let w = sum access in omega (arith, e, l, r, w);
-    each = all_append (λ (o : Operation). (r : Reach) → use_in o.form ≡ Some r → IsLedUse scene sites r) one.more two.more one.each two.each;
+    each = all_append (λ (o : Operation). (r : Reach) → use_in o.form ≡ Some r → IsLeadersUse scene sites r) one.more two.more one.each two.each;
   }
 
   -- the same, told otherwise
@@ -102,7 +102,7 @@ module _ (scene : Scene) (sites : ℕ → Option Site) where
   none_then_uses a b c f h k = uses_again a b c nothing f f (nothing_plus f) h k
 
   pub use_pushed : (old new : Draft) (n : ℕ) (guard : Option ℕ) (form : OperationForm) (f : ℕ → ℕ) → Pushes old new n guard form → ((access : ℕ) → counts_use access (use_in form) ≡ f access)
-      → ((r : Reach) → use_in form ≡ Some r → IsLedUse scene sites r) → AddsLedUses scene sites old new f
+      → ((r : Reach) → use_in form ≡ Some r → IsLeadersUse scene sites r) → AddsLedUses scene sites old new f
   use_pushed old new n guard form f p is led = record {
     more = record { guard = guard; form = form } ∷ [];
     adds = p.operations;
@@ -126,7 +126,7 @@ module _ (scene : Scene) (sites : ℕ → Option Site) where
   pub uses_counted : (old new : Draft) (p : ℕ) (f u : ℕ → ℕ) → Counts old new (FormIs any_register any_reach no_reach no_reach) p f u → AddsLedUses scene sites old new u
   uses_counted old new p f u c = record { more = c.more; adds = c.adds; uses_are = c.uses_are; each = all_none c.more c.each }
     where
-      none : (form : OperationForm) → FormIs any_register any_reach no_reach no_reach form → (r : Reach) → use_in form ≡ Some r → IsLedUse scene sites r
+      none : (form : OperationForm) → FormIs any_register any_reach no_reach no_reach form → (r : Reach) → use_in form ≡ Some r → IsLeadersUse scene sites r
       none (Constant word) h r e = absurd (cc)
       none (Old register) h r e = absurd (cc)
       none (Compute op left right) h r e = absurd (cc)

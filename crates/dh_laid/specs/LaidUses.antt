@@ -40,7 +40,7 @@ pub record AddsUses (old new : Draft) (uses : (access : ℕ) → ℕ) : Type 0 w
 
 -- A read or a write of an access that has a site in the block: it is done for a path that leads, on the bank of that
 -- path behind the leaders before it, and the access shares no earlier one.
-pub record IsLedUse (scene : Scene) (sites : ℕ → Option Site) (r : Reach) : Type 0 where
+pub record IsLeadersUse (scene : Scene) (sites : ℕ → Option Site) (r : Reach) : Type 0 where
   pub site : Site
   pub there : sites r.access ≡ Some site
   pub memory_is : r.memory ≡ narrowed site.memory
@@ -52,7 +52,7 @@ pub record IsLedUse (scene : Scene) (sites : ℕ → Option Site) (r : Reach) : 
 
 -- so is each of these that reads or writes
 abbrev pub AreLedUses : Scene → (sites : ℕ → Option Site) → List Operation → Type 0
-AreLedUses scene sites os = AllByRecursion (λ o. (r : Reach) → use_in o.form ≡ Some r → IsLedUse scene sites r) os
+AreLedUses scene sites os = AllByRecursion (λ o. (r : Reach) → use_in o.form ≡ Some r → IsLeadersUse scene sites r) os
 
 -- so many were added, and each is so
 pub record AddsLedUses (scene : Scene) (sites : ℕ → Option Site) (old new : Draft) (uses : (access : ℕ) → ℕ) : Type 0 where
@@ -93,7 +93,7 @@ pub record IsUnshared (scene : Scene) (number : ℕ) : Type 0 where
   pub other : (reader : ℕ) → slice_get scene.shares.now reader ≡ Some (Some number) → ⊥
 
 -- none of the accesses of a block has operations as it begins, and no bank is counted
-pub record AreUntouched (sites : ℕ → Option Site) (a : Accesses) : Type 0 where
+pub record HaveNoOperations (sites : ℕ → Option Site) (a : Accesses) : Type 0 where
   pub none : AreNone a.counts.items
   pub there : (number : ℕ) (s : Site) → sites number ≡ Some s → number < length a.touched.items
   pub bare : (number : ℕ) (s : Site) → sites number ≡ Some s → touched_in a number ≡ None
@@ -150,14 +150,14 @@ WritesAlone scene (c ∷ cs) = EachWrite (λ number. IsUnshared scene number) c.
 abbrev pub BlocksUse : Type 0
 BlocksUse =
     (scene : Scene) (around : Around) (cs : List Located) (old new : Building) (m : MadeEach scene around cs old new) → StandsIn scene around → PathsLead around → 0 < paths_counted around
-    → AreAlong 0 cs → WritesAlone scene cs → SharesInside scene (block_sites scene around cs old new m) → AreUntouched (block_sites scene around cs old new m) old.accesses
+    → AreAlong 0 cs → WritesAlone scene cs → SharesInside scene (block_sites scene around cs old new m) → HaveNoOperations (block_sites scene around cs old new m) old.accesses
     → AddsUses old.draft new.draft (used_to scene (block_sites scene around cs old new m) (paths_counted around))
 
 -- and each read or write is for a path that leads
 abbrev pub BlocksLead : Type 0
 BlocksLead =
     (scene : Scene) (around : Around) (cs : List Located) (old new : Building) (m : MadeEach scene around cs old new) → StandsIn scene around → PathsLead around → 0 < paths_counted around
-    → AreAlong 0 cs → WritesAlone scene cs → SharesInside scene (block_sites scene around cs old new m) → AreUntouched (block_sites scene around cs old new m) old.accesses
+    → AreAlong 0 cs → WritesAlone scene cs → SharesInside scene (block_sites scene around cs old new m) → HaveNoOperations (block_sites scene around cs old new m) old.accesses
     → AddsLedUses scene (block_sites scene around cs old new m) old.draft new.draft (used_to scene (block_sites scene around cs old new m) (paths_counted around))
 
 -- and probed at all of them
@@ -170,13 +170,13 @@ BlocksProbe =
 abbrev pub TestsUse : Type 0
 TestsUse =
     (scene : Scene) (around : Around) (first : ℕ) (t : Term) (old new : Building) (next : ℕ) (tests : List ℕ) → MadeTests scene around first t (paths_counted around) old new next tests
-    → StandsIn scene around → first + term_accesses t < 2 ^ 32 → SharesInside scene (test_sites scene around first t) → AreUntouched (test_sites scene around first t) old.accesses
+    → StandsIn scene around → first + term_accesses t < 2 ^ 32 → SharesInside scene (test_sites scene around first t) → HaveNoOperations (test_sites scene around first t) old.accesses
     → AddsUses old.draft new.draft (used_to scene (test_sites scene around first t) (paths_counted around))
 
 abbrev pub TestsLead : Type 0
 TestsLead =
     (scene : Scene) (around : Around) (first : ℕ) (t : Term) (old new : Building) (next : ℕ) (tests : List ℕ) → MadeTests scene around first t (paths_counted around) old new next tests
-    → StandsIn scene around → first + term_accesses t < 2 ^ 32 → SharesInside scene (test_sites scene around first t) → AreUntouched (test_sites scene around first t) old.accesses
+    → StandsIn scene around → first + term_accesses t < 2 ^ 32 → SharesInside scene (test_sites scene around first t) → HaveNoOperations (test_sites scene around first t) old.accesses
     → AddsLedUses scene (test_sites scene around first t) old.draft new.draft (used_to scene (test_sites scene around first t) (paths_counted around))
 
 abbrev pub TestsProbe : Type 0

@@ -3,3 +3,8 @@ pub mod PhaseLoops
 pub mod CopiesSome
 pub mod LoopsAscend
 pub mod LoopsCounted
+pub mod RoundsTop
+pub mod ReachingPhases
+pub mod SlotsTold
+pub mod BlocksMade
+pub mod PhasesDone

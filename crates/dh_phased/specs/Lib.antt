@@ -1,1 +1,4 @@
 pub mod ProgramLoops
+pub mod TopPaths
+pub mod ToldScenes
+pub mod DonePhases

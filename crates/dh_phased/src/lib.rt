@@ -4,4 +4,4 @@
 
 mod laws;
 
-pub use laws::loops_are_own;
+pub use laws::{loops_are_own, phases_are_done, ready_scenes_are_told, rounds_are_top};

@@ -1,7 +1,7 @@
 -- Each block of a ready program is that of straight commands of which something holds in their loops, and behind them
 -- reducers of which something else holds, or the test of such a command; for whatever holds of the body, and of the
 -- commands inside a command of which it holds. What is found stands along the trace, as all laws on blocks ask.
-use Rattle.std.proofs.Common.{◌≡◌, ◌⊎◌, inl, inr, ℕ, Option, List, [], ◌∷◌, ◌∙◌, ap, subst}
+use Rattle.std.proofs.Common.{◌≡◌, ◌⊎◌, inl, inr, ℕ, Option, List, [], ◌∷◌, ◌++◌, refl, ◌∙◌, ap, subst}
 use Rattle.dh_base.specs.declared.places.Place.{Place}
 use Rattle.dh_value.specs.declared.kinds.Kind.{Kind}
 use Rattle.dh_tree.specs.declared.trees.expressions.Ref.{Ref}
@@ -62,40 +62,42 @@ module _ (p : Program) (P : List Turning → Action → Type 0) (F : List Turnin
 
       -- straight commands that stand in these loops, split so
       pub straight_of : (loops : List Turning) (block : Block) (cs : List Located) → block ≡ commands (core_commands (known_of p) cs) → HasStraight (phases_of p) cs → EachInside (known_of p) (unrolled loops) cs
-          → (split : IsSplit (known_of p) P F loops cs) → StraightHolds loops block
+          → (split : IsSplit (known_of p) P F loops cs) → (f : StraightHolds loops block) × (cs ≡ f.of.done ++ f.of.folds)
       straight_of loops block cs is has matched split =
           let w = same_loops (known_of p) [] (trace p) (unrolled loops) cs (straight_along [] (trace p) nothing_around (phases_of p) cs tops has) matched in
-          let same : factors loops ≡ factors_of w.0.loops = match_factors (known_of p) loops w.0.loops w.1.1 in
-          record {
-            of = record {
-              done = split.done;
-              folds = split.folds;
-              quiet = are_folds loops split.folds split.quiet;
-              is = is ∙ ap (λ (x : List Located). commands (core_commands (known_of p) x)) split.is;
-              has = subst (λ (x : List Located). HasStraight (phases_of p) x) split.is has;
-              round = w.0;
-              follows = follows_less w.0 [] (trace p) split.done split.folds (subst (λ (x : List Located). Follows w.0 [] (trace p) x) split.is w.1.0);
-              inside = same;
-              paths = ap paths_in same;
-            };
-            holds = split.holds;
-            quiet = split.quiet;
-          }
+          let same : factors loops ≡ factors_of w.0.loops = match_factors (known_of p) loops w.0.loops w.1.1 in (
+            record {
+              of = record {
+                done = split.done;
+                folds = split.folds;
+                quiet = are_folds loops split.folds split.quiet;
+                is = is ∙ ap (λ (x : List Located). commands (core_commands (known_of p) x)) split.is;
+                has = subst (λ (x : List Located). HasStraight (phases_of p) x) split.is has;
+                round = w.0;
+                follows = follows_less w.0 [] (trace p) split.done split.folds (subst (λ (x : List Located). Follows w.0 [] (trace p) x) split.is w.1.0);
+                inside = same;
+                paths = ap paths_in same;
+              };
+              holds = split.holds;
+              quiet = split.quiet;
+            },
+            split.is,
+          )
 
       -- and a command whose test is evaluated
-      pub tested_of : (loops : List Turning) (block : Block) (c : Located) → block ≡ tests (core_test (known_of p) c) → HasTest (phases_of p) c → EachMatches (known_of p) (unrolled loops) c.around.loops → P loops c.command → TestHolds loops block
+      pub tested_of : (loops : List Turning) (block : Block) (c : Located) → block ≡ tests (core_test (known_of p) c) → HasTest (phases_of p) c → EachMatches (known_of p) (unrolled loops) c.around.loops → P loops c.command → (f : TestHolds loops block) × (f.of.tested ≡ c)
       tested_of loops block c is has matched h =
           let f = own_around [] (trace p) c (tested_along [] (trace p) nothing_around (phases_of p) c tops has) in
           let same : factors loops ≡ factors_of c.around.loops = match_factors (known_of p) loops c.around.loops matched in
-          record { of = record { tested = c; is = is; has = has; follows = f; inside = same; paths = ap paths_in same }; holds = h }
+          (record { of = record { tested = c; is = is; has = has; follows = f; inside = same; paths = ap paths_in same }; holds = h }, refl)
 
       -- each block is one of these
       pub block_holds : (loops : List Turning) (block : Block) → StandsIn [] (core_of p).phases loops block → StraightHolds loops block ⊎ TestHolds loops block
       block_holds loops block s = by (body_holds (known_of p) P F of_blocks of_choices of_repeats of_counts p.body loops block (ready_named p ready) holds s)
         where
           by : Holding (known_of p) P F of_blocks of_choices of_repeats of_counts (HasStraight (phases_of p)) (HasTest (phases_of p)) loops block → StraightHolds loops block ⊎ TestHolds loops block
-          by (inl (cs, (is, (has, (matched, split))))) = inl (straight_of loops block cs is has matched split)
-          by (inr (c, (is, (has, (matched, h))))) = inr (tested_of loops block c is has matched h)
+          by (inl (cs, (is, (has, (matched, split))))) = inl (straight_of loops block cs is has matched split).0
+          by (inr (c, (is, (has, (matched, h))))) = inr (tested_of loops block c is has matched h).0
 
       -- the phases of the body, as they are split, and the loops that stand round their commands in the source
       pub program_split : ListSplit (known_of p) P F [] (phases_of p)

@@ -1,5 +1,5 @@
 -- The blocks of a ready program are sound, where the scene and the plan are of it.
-use Rattle.std.proofs.Common.{◌≡◌, inl, inr, ℕ, ◌≤◌, Bool, true, false, List, [], ◌∷◌, ◌++◌, length, Some, sym, subst}
+use Rattle.std.proofs.Common.{◌≡◌, inl, inr, ℕ, ◌≤◌, Bool, true, false, List, [], ◌∷◌, ◌++◌, length, Some, refl, sym, subst}
 use Rattle.std.specs.List.{AllByRecursion}
 use Rattle.dh_value.specs.declared.kinds.Kind.{Kind}
 use Rattle.dh_tree.specs.declared.tables.MemEntry.{MemEntry}
@@ -48,7 +48,7 @@ use Rattle.dh_typed_blocks.proofs.MemoriesFew.{ready_few}
 use Rattle.dh_typed_blocks.proofs.NamesHere.{named_here}
 use Rattle.dh_typed_blocks.proofs.PhasesHolding.{EachOf}
 
-ready_assigns : (p : Program) → IsReady p → AssignsInside (known_of p) 0 p.body
+pub ready_assigns : (p : Program) → IsReady p → AssignsInside (known_of p) 0 p.body
 ready_assigns p r = assigns_inside p r (record { names = r.names; entities = r.entities; kinds = r.kinds; suits = r.suits; widths = r.of_text.widths })
 
 -- commands that spare the iterators of loops with others behind them spare them without
@@ -86,18 +86,21 @@ module _ (scene : Scene) (around : Around) (plan : PlainPlan) (rounds : List Rou
     same_table : plan.table ≡ table_in (known_in scene)
     same_table = place.table
 
-    straight_sound : StraightHolds p (SimpleFits (known_of p) places) (JoinFits (known_of p) places) (loops_of rounds) block → StraightSound scene around plan rounds block
-    straight_sound f = record {
-      of = f.of;
-      simple = all_simple (known_of p) places (loops_of rounds) f.of.done f.holds;
-      typed = all_typed (known_of p) places (loops_of rounds) f.of.done f.of.folds f.holds f.quiet;
-      sound = record {
-        first = subst (λ (table : List MemEntry). AllByRecursion (λ (c : Located). SoundAction scene around.levels.now table (IsNamedHere scene around.levels.now plan.registers rounds touched) (IsSeen scene around.levels.now) c.command) f.of.done)
-            (sym same_table) (all_here scene around.levels.now rounds place.tells place.top.factors_are plan.registers touched names f.of.done f.holds);
-        then_folds = subst (λ (table : List MemEntry). AllByRecursion (λ (c : Located). SoundAction scene around.levels.now table (IsNamedHere scene around.levels.now plan.registers rounds (λ entity. true)) (IsSeen scene around.levels.now) c.command) f.of.folds)
-            (sym same_table) (folds_here scene around.levels.now rounds place.tells place.top.factors_are plan.registers f.of.folds f.quiet);
-      };
-    }
+    pub straight_sound : (f : StraightHolds p (SimpleFits (known_of p) places) (JoinFits (known_of p) places) (loops_of rounds) block) → (s : StraightSound scene around plan rounds block) × (s.of ≡ f.of)
+    straight_sound f = (
+      record {
+        of = f.of;
+        simple = all_simple (known_of p) places (loops_of rounds) f.of.done f.holds;
+        typed = all_typed (known_of p) places (loops_of rounds) f.of.done f.of.folds f.holds f.quiet;
+        sound = record {
+          first = subst (λ (table : List MemEntry). AllByRecursion (λ (c : Located). SoundAction scene around.levels.now table (IsNamedHere scene around.levels.now plan.registers rounds touched) (IsSeen scene around.levels.now) c.command) f.of.done)
+              (sym same_table) (all_here scene around.levels.now rounds place.tells place.top.factors_are plan.registers touched names f.of.done f.holds);
+          then_folds = subst (λ (table : List MemEntry). AllByRecursion (λ (c : Located). SoundAction scene around.levels.now table (IsNamedHere scene around.levels.now plan.registers rounds (λ entity. true)) (IsSeen scene around.levels.now) c.command) f.of.folds)
+              (sym same_table) (folds_here scene around.levels.now rounds place.tells place.top.factors_are plan.registers f.of.folds f.quiet);
+        };
+      },
+      refl,
+    )
       where
         touched : ℕ → Bool
         touched entity = any_assigns entity (core_commands (known_in scene) f.of.done)
@@ -114,18 +117,21 @@ module _ (scene : Scene) (around : Around) (plan : PlainPlan) (rounds : List Rou
         names : (r : Ref) (k : Kind) → IsNamedIn (known_in scene) places (loops_of rounds) r k → IsNamedHere scene around.levels.now plan.registers rounds touched r k
         names = named_here scene around.levels.now rounds place.tells place.top.factors_are plan.registers place.told touched spared inside
 
-    test_sound : TestHolds p (SimpleFits (known_of p) places) (JoinFits (known_of p) places) (loops_of rounds) block → TestSound scene around plan rounds block
-    test_sound f = record {
-      of = f.of;
-      typed = λ t e. (test_fits (known_of p) places (loops_of rounds) f.of.tested.command t e f.holds.1).0.1;
-      sound = λ t e.
-          let fits = test_fits (known_of p) places (loops_of rounds) f.of.tested.command t e f.holds.1 in
-          record {
-            sound = subst (λ (table : List MemEntry). IsSound (known_in scene) table (IsNamedHere scene around.levels.now plan.registers rounds (λ entity. false)) t) (sym same_table)
-                (term_mapped (known_in scene) (table_in (known_in scene)) (IsNamedIn (known_in scene) places (loops_of rounds)) (IsNamedHere scene around.levels.now plan.registers rounds (λ entity. false)) names t fits.0.0);
-            kind_is = fits.1;
-          };
-    }
+    pub test_sound : (f : TestHolds p (SimpleFits (known_of p) places) (JoinFits (known_of p) places) (loops_of rounds) block) → (s : TestSound scene around plan rounds block) × (s.of ≡ f.of)
+    test_sound f = (
+      record {
+        of = f.of;
+        typed = λ t e. (test_fits (known_of p) places (loops_of rounds) f.of.tested.command t e f.holds.1).0.1;
+        sound = λ t e.
+            let fits = test_fits (known_of p) places (loops_of rounds) f.of.tested.command t e f.holds.1 in
+            record {
+              sound = subst (λ (table : List MemEntry). IsSound (known_in scene) table (IsNamedHere scene around.levels.now plan.registers rounds (λ entity. false)) t) (sym same_table)
+                  (term_mapped (known_in scene) (table_in (known_in scene)) (IsNamedIn (known_in scene) places (loops_of rounds)) (IsNamedHere scene around.levels.now plan.registers rounds (λ entity. false)) names t fits.0.0);
+              kind_is = fits.1;
+            };
+      },
+      refl,
+    )
       where
         names : (r : Ref) (k : Kind) → IsNamedIn (known_in scene) places (loops_of rounds) r k → IsNamedHere scene around.levels.now plan.registers rounds (λ entity. false) r k
         names = named_here scene around.levels.now rounds place.tells place.top.factors_are plan.registers place.told (λ entity. false) (spared_test (loops_of rounds)) (λ entity t. absurd cc)
@@ -133,6 +139,6 @@ module _ (scene : Scene) (around : Around) (plan : PlainPlan) (rounds : List Rou
   pub blocks_sound : ReadyBlocksAreSound scene around plan rounds
   blocks_sound ready place block stands =
       elim (block_fits p ready (ready_few p ready) (ready_assigns p ready) (ready_plain p ready) (loops_of rounds) block stands) [
-        | inl f ↦ inl (straight_sound ready place block stands f)
-        | inr f ↦ inr (test_sound ready place block stands f)
+        | inl f ↦ inl (straight_sound ready place block stands f).0
+        | inr f ↦ inr (test_sound ready place block stands f).0
       ]

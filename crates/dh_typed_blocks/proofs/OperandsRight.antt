@@ -3,7 +3,7 @@ use Rattle.std.proofs.Common.{◌≡◌, ℕ, Bool, true, false, if◌then◌els
 use Rattle.dh_value.specs.declared.kinds.Kind.{Kind}
 use Rattle.dh_value.specs.declared.kinds.Kind.TheVariants as kind
 use Rattle.dh_value.specs.declared.operators.Op.{Op}
-use Rattle.dh_tree.specs.Kinds.{Facts, for_numbers, is_shift, keeps_bare, found, left_want, right_want, typed_term}
+use Rattle.dh_tree.specs.Kinds.{Facts, is_shift, keeps_bare, found, left_want, right_want, typed_term}
 use Rattle.dh_tree.specs.PlainTrees.{Term}
 use Rattle.dh_tree.specs.Widths.{IsSized}
 use Rattle.dh_meaning.specs.CoreOf.{Known}

@@ -1,17 +1,15 @@
 -- The body of a ready program fits: where it begins, no loop is round it, and the names that are visible are known.
-use Rattle.std.proofs.Common.{◌≡◌, ℕ, ◌≤◌, List, [], ◌++◌, length, None, refl, ap, sym, arith}
+use Rattle.std.proofs.Common.{◌≡◌, ℕ, ◌≤◌, List, [], length, None, refl, ap, sym, arith}
 use Rattle.std.proofs.lemmas.List.{append-nil}
-use Rattle.dh_base.specs.declared.limits.Limit.TheVariants as limit
 use Rattle.dh_tree.specs.declared.trees.counters.Counter.{Counter}
 use Rattle.dh_tree.specs.Breaches.{breaches, items_breaches, functions_breaches}
 use Rattle.dh_tree.specs.Counters.{counters_of}
-use Rattle.dh_tree.specs.Elements.{banks_of}
-use Rattle.dh_tree.specs.Excesses.{copies_excess, first_above}
+use Rattle.dh_tree.specs.Excesses.{copies_excess}
 use Rattle.dh_tree.specs.Forms.{unbuilt_functions}
 use Rattle.dh_tree.specs.Indices.{action_index_breaches, decls_shape_breaches}
 use Rattle.dh_tree.specs.KindBreaches.{action_kind_breaches, functions_kind_breaches}
 use Rattle.dh_tree.specs.Kinds.{Facts, first_facts, body_facts, typed_action, typed_action_form}
-use Rattle.dh_tree.specs.Memories.{Memory, memories_of}
+use Rattle.dh_tree.specs.Memories.{memories_of}
 use Rattle.dh_tree.specs.PlainTrees.{Action, action, Program}
 use Rattle.dh_tree.specs.Resolved.{resolved_action, resolved_form}
 use Rattle.dh_tree.specs.Scopes.{Scope, items_of, first_scope, body_scope, last_scope}
@@ -24,14 +22,12 @@ use Rattle.dh_tree.specs.UncheckedForms.{unchecked_action}
 use Rattle.dh_sound.proofs.FactsGrow.{InStep}
 use Rattle.dh_sound.proofs.KindsOfPrograms.{body_in_step}
 use Rattle.dh_code.specs.Declarations.{declarations, placing_of}
-use Rattle.dh_runnable.specs.ReadyRuns.{TellsEnough}
 use Rattle.dh_code.specs.Slots.{Placing}
 use Rattle.dh_runnable.proofs.DeclarationsFound.{ArePlaced, placed}
 use Rattle.dh_runnable.proofs.MemoriesFound.{Declares, finds}
 use Rattle.dh_runnable.proofs.NamesKnown.{Knows}
 use Rattle.dh_runnable.proofs.ProgramsRun.{body_known, body_sees, resolved_body, typed_body}
 use Rattle.dh_runnable.proofs.TermsSuited.{indexed}
-use Rattle.dh_runnable.proofs.TurnsCounted.{first_within, second_within}
 use Rattle.dh_runnable.proofs.VariablesPlaced.{all_same}
 use Rattle.dh_sound.specs.AssignsInside.{AssignsInside}
 use Rattle.dh_sound.specs.NamesInScope.{IsScoped}

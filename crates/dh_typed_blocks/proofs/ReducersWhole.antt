@@ -1,7 +1,7 @@
 -- What a reducer puts together in a block that joins copies is a variable that is declared inside all the unrolled loops
 -- round the copies, as it is numbered behind the iterator of their loop. By two walks over the body, beside those of
 -- dh_sound, which tell what each visible name stands for.
-use Rattle.std.proofs.Common.{◌≡◌, ℕ, ◌<◌, ◌≤◌, ◌&&◌, not, nat_lt, Bool, true, false, if◌then◌else◌, List, [], ◌∷◌, ◌++◌, length, map, Option, Some, None, refl, ap, sym, ◌∙◌, subst, arith, length-append}
+use Rattle.std.proofs.Common.{◌≡◌, ℕ, ◌≤◌, ◌&&◌, not, nat_lt, Bool, true, false, if◌then◌else◌, List, [], ◌∷◌, ◌++◌, length, map, Option, Some, None, refl, ap, sym, ◌∙◌, subst, arith, length-append}
 use Rattle.std.proofs.lemmas.Bool.Decides.{nat_tests}
 use Rattle.std.specs.Prelude.{slice_get}
 use Rattle.std.proofs.lemmas.List.{append-nil}
@@ -14,14 +14,14 @@ use Rattle.dh_tree.specs.declared.trees.programs.Sort.TheVariants as sort
 use Rattle.dh_tree.specs.Breaches.{unknown, twice, term_breaches, breaches, form_breaches, other_breaches, actions_breaches, groups_breaches, items_breaches, functions_breaches}
 use Rattle.dh_tree.specs.Forms.{unbuilt_functions}
 use Rattle.dh_tree.specs.KindBreaches.{term_kind_breaches, assigned_breaches, condition_breaches, target_breaches, reducer_breaches, iterator_breaches, low_breaches, high_breaches, action_kind_breaches, action_form_kind_breaches, other_kind_breaches, actions_kind_breaches, groups_kind_breaches, functions_kind_breaches}
-use Rattle.dh_tree.specs.Kinds.{Fact, Facts, of_iterator, of_memory, of_variable, of_function, fact_at, fact_of, found, place_of, target_kind, iterator_kind, value_breaches, when, first_facts, body_facts, facts_after, facts_after_form, facts_after_actions}
+use Rattle.dh_tree.specs.Kinds.{Fact, Facts, of_iterator, of_memory, of_variable, of_function, fact_at, fact_of, found, place_of, target_kind, iterator_kind, value_breaches, when, first_facts, body_facts, facts_after, facts_after_actions}
 use Rattle.dh_tree.specs.LeastBreach.{breach}
 use Rattle.dh_tree.specs.Memories.{Memory, memories_of, locals, form_locals, other_locals, part_locals, groups_locals, outside_memory}
 use Rattle.dh_tree.specs.Placements as placed
 use Rattle.dh_tree.specs.Placements.{Context, nothing_round, branched, in_body, in_combine, first_inside, names_variable, is_from_inside, is_folded, is_folded_into, folded_breaches, joined_breaches, action_placement_breaches, form_placement_breaches, other_placement_breaches, actions_placement_breaches, groups_placement_breaches, decls_placement_breaches}
 use Rattle.dh_tree.specs.PlainTrees.{Term, term, number, truth_value, named, accessed, in_bank, applied, converted, Action, action, ActionForm, lets, lets_memory, views, assigns, stores, reduces, calls, blocks, decides, repeats, counts, MaybeAction, no_action, one_action, Actions, no_actions, action_then, Groups, no_groups, group_then, Program}
 use Rattle.dh_tree.specs.Ready.{IsReady}
-use Rattle.dh_tree.specs.Resolved.{used, resolved_term, resolved_action, resolved_form, resolved_other, resolved_actions, resolved_groups}
+use Rattle.dh_tree.specs.Resolved.{resolved_term, resolved_action, resolved_form, resolved_other, resolved_actions, resolved_groups}
 use Rattle.dh_tree.specs.Scopes as scopes
 use Rattle.dh_tree.specs.Scopes.{entity_of, bind, Scope, declare, leave, past, at_end, form_at_end, other_at_end, actions_at_end, groups_at_end, items_of, first_scope, body_scope}
 use Rattle.dh_tree.proofs.UncheckedBuilt.{first_none, second_none, not_none}
@@ -31,16 +31,15 @@ use Rattle.dh_meaning.specs.Sites.{nothing_around}
 use Rattle.dh_sound.specs.IndexValues.{IsTypedProgram}
 use Rattle.dh_sound.specs.OuterWrites.{outer_breaches, outer_form_breaches, outer_other_breaches, outer_part_breaches, outer_groups_breaches}
 use Rattle.dh_sound.specs.SimpleForms.{FoldsOnly, FormFoldsOnly, GroupsFoldOnly, PartFoldsOnly, IsSimple, FormSimple, OtherSimple, GroupsSimple, PartSimple, JoinsFolds}
-use Rattle.dh_sound.specs.Straight.{Stands}
 use Rattle.dh_sound.proofs.DepthsNamed.{size, Deep, FormDeep, OtherDeep, GroupsDeep, PartDeep, deep}
-use Rattle.dh_sound.proofs.FactsGrow.{appended, grows, form_grows, other_grows, part_grows, InStep, next_in_step, past_in_step, in_step, form_in_step, part_in_step}
+use Rattle.dh_sound.proofs.FactsGrow.{appended, grows, part_grows, InStep, next_in_step, past_in_step, in_step, part_in_step}
 use Rattle.dh_sound.proofs.IteratorsNamed.{none_when, on_long, past_on, goes_on, part_on}
 use Rattle.dh_sound.proofs.JoinsKept.{simple_kept}
 use Rattle.dh_sound.proofs.KindsOfPrograms.{body_in_step, resolved_body}
 use Rattle.dh_sound.proofs.NamedPrograms.{used_stands}
 use Rattle.dh_sound.proofs.Pigeons.{Has, has_left, has_right}
 use Rattle.dh_sound.proofs.PlacementsSplit.{folds_none, outer_none}
-use Rattle.dh_sound.proofs.SortsOfCommands.{CommandTold, told}
+use Rattle.dh_sound.proofs.SortsOfCommands.{told}
 use Rattle.dh_sound.proofs.SortsOfNames.{IsDeepFrom, IsSorted, memory_is, variable_is, iterator_is, function_is, AreSorted, later_sorted, all_later, inner_sorted, bind_sorted, next_fact, past_sorted}
 use Rattle.dh_code.specs.Declarations.{placing_of}
 use Rattle.dh_runnable.proofs.NamesKnown.{IsGood}

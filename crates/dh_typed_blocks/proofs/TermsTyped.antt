@@ -1,7 +1,7 @@
 -- An expression of a typed program that breaks no rule on names, kinds or indices is typed as blocks ask: its operands suit
 -- their operators, and its indices are numbers, as many as the memory has dimensions. By recursion beside that of
 -- dh_runnable.
-use Rattle.std.proofs.Common.{◌≡◌, ℕ, ◌==◌, Bool, true, false, if◌then◌else◌, List, [], length, map, Option, Some, None, refl, ap, sym, ◌∙◌, subst, arith}
+use Rattle.std.proofs.Common.{◌≡◌, ℕ, ◌==◌, true, List, [], length, map, Option, Some, None, ap, sym, ◌∙◌, subst, arith}
 use Rattle.std.proofs.lemmas.Bool.Decides.{nat_tests}
 use Rattle.std.specs.Prelude.{slice_get}
 use Rattle.dh_base.specs.declared.places.Place.{Place}
@@ -30,11 +30,11 @@ use Rattle.dh_meaning.specs.CoreOf.{Known, memory_of}
 use Rattle.dh_runnable.specs.ActionsRun.{table_in}
 use Rattle.dh_runnable.proofs.ElementsFound.{number_found}
 use Rattle.dh_runnable.proofs.NamesKnown.{IsGood, Knows, name_known, fact_is}
-use Rattle.dh_runnable.proofs.TermsSuited.{indexed, is_index, one_count, IsReady, AreReady, IsKnown, AreKnown, term_known, terms_known}
+use Rattle.dh_runnable.proofs.TermsSuited.{indexed, is_index, one_count, IsReady, AreReady, IsKnown, term_known, terms_known}
 use Rattle.dh_runnable.proofs.TypedParts.{for_numbers_sized, typed_parts}
 use Rattle.dh_code.specs.Slots.{Placing}
 use Rattle.dh_expressions.specs.Shown.{kind_written}
-use Rattle.dh_typed_blocks.specs.TypedTerms.{AreOperands, HasIndices, IsTyped, AreTyped}
+use Rattle.dh_typed_blocks.specs.TypedTerms.{AreOperands, IsTyped, AreTyped}
 use Rattle.dh_typed_blocks.proofs.KindsGiven.{written_is, applied_known}
 use Rattle.dh_typed_blocks.proofs.OperandsRight.{operands_right}
 

@@ -1,17 +1,17 @@
 -- That the blocks of a ready program are sound, as the laws on made blocks ask, where the scene and the plan are of it.
-use Rattle.std.specs.Prelude.{◌≡◌, ◌⊎◌, ℕ, ◌≤◌, List, [], ◌++◌, length, map, Some}
+use Rattle.std.specs.Prelude.{◌≡◌, ◌⊎◌, List, [], ◌++◌, map, Some}
 use Rattle.std.specs.List.{AllByRecursion}
-use Rattle.dh_tree.specs.PlainTrees.{Term, term, number, truth_value, named, accessed, in_bank, applied, converted, ActionForm, lets, lets_memory, views, assigns, stores, reduces, calls, blocks, decides, repeats, counts}
+use Rattle.dh_tree.specs.PlainTrees.{Term}
 use Rattle.dh_tree.specs.Memories.{table_of}
 use Rattle.dh_tree.specs.Ready.{IsReady}
 use Rattle.dh_tree.specs.Seen.{program_seen}
 use Rattle.dh_meaning.specs.Core.{Turning}
-use Rattle.dh_meaning.specs.CoreOf.{Known, core_of, depth_of, form_of, test_of}
+use Rattle.dh_meaning.specs.CoreOf.{core_of, form_of, test_of}
 use Rattle.dh_meaning.specs.Effects.{Block}
 use Rattle.dh_meaning.specs.Phases.{Located}
 use Rattle.dh_plan.specs.Correspondence.{Round}
 use Rattle.dh_plan.specs.PlainPlans.{PlainPlan}
-use Rattle.dh_sound.specs.Blocks.{factors, StandsIn}
+use Rattle.dh_sound.specs.Blocks.{StandsIn}
 use Rattle.dh_sound.specs.BlocksOfPhases.{OfStraight, OfTest}
 use Rattle.dh_sound.specs.SimpleForms.{IsSimple}
 use Rattle.dh_expressions.specs.declared.scenes.Around.{Around}
@@ -19,7 +19,6 @@ use Rattle.dh_expressions.specs.declared.scenes.Scene.{Scene}
 use Rattle.dh_expressions.specs.Evaluated.{known_in}
 use Rattle.dh_blocks.specs.BlockMade.{AreSoundHere, IsTop}
 use Rattle.dh_blocks.specs.TestMade.{IsSoundTest}
-use Rattle.dh_typed_blocks.specs.PlainPrograms.{IsPlainTarget}
 use Rattle.dh_typed_blocks.specs.ScenesTold.{TellsScene, AreRoundsTold}
 use Rattle.dh_typed_blocks.specs.TypedTerms.{ActionTyped, IsTyped}
 

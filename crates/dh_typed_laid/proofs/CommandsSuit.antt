@@ -1,7 +1,6 @@
 -- Commands that are sound and typed suit what was put down for them, where the sites of the block tell where their
 -- accesses stand: by recursion on the command and on what was put down.
-use Rattle.std.proofs.Common.{◌≡◌, ℕ, ◌+◌, ◌<◌, ◌^◌, Bool as Truth, true, false, List, [], ◌∷◌, ◌++◌, length, Option, Some, None, refl, ap, sym, ◌∙◌, subst, arith, length-append}
-use Rattle.dh_base.specs.declared.places.Place.{Place}
+use Rattle.std.proofs.Common.{◌≡◌, ℕ, ◌+◌, ◌<◌, ◌^◌, Bool as Truth, true, false, List, ◌++◌, length, Option, Some, None, refl, ap, sym, ◌∙◌, subst, arith, length-append}
 use Rattle.dh_value.specs.declared.kinds.Kind.{Kind}
 use Rattle.dh_value.specs.Words.{IsKind}
 use Rattle.dh_tree.specs.declared.tables.MemEntry.{MemEntry}
@@ -27,20 +26,20 @@ use Rattle.dh_formed.specs.Formed.{Block, Site, TermSuits}
 use Rattle.dh_commands.specs.declared.buildings.Building.{Building}
 use Rattle.dh_commands.specs.declared.choices.Left.{Left}
 use Rattle.dh_commands.specs.LanesRun.{lane_of, paths_counted}
-use Rattle.dh_commands.specs.MadeCommands.{Commanding, MadeActions, MadeArm, MadeCommand, MadeGroups, MadeOther}
+use Rattle.dh_commands.specs.MadeCommands.{MadeActions, MadeCommand, MadeGroups, MadeOther}
 use Rattle.dh_commands.specs.ShownVariables.{IsSeen, factors_of}
 use Rattle.dh_blocks.specs.NamedVariables.{IsNamedHere}
 use Rattle.dh_blocks.specs.PathsOfLevels.{AreSpread}
 use Rattle.dh_blocks.specs.SoundCommands.{CanHold, SoundAction, SoundGroups, SoundOther, SoundPart, kind_aimed}
 use Rattle.dh_blocks.specs.SoundTerms.{IsSound, IsSoundTarget}
-use Rattle.dh_laid.specs.BlockSites.{actions_sites, all_there, command_sites, groups_sites, none_there, other_sites, target_sites, term_sites, terms_sites, write_site}
+use Rattle.dh_laid.specs.BlockSites.{actions_sites, all_there, command_sites, groups_sites, other_sites, target_sites, term_sites, terms_sites, write_site}
 use Rattle.dh_laid.specs.Laid.{AimingSuits, StoringSuits}
 use Rattle.dh_laid.specs.LaidCommands.{ActionsSuit, CommandSuits, GroupsSuit, OtherSuits, StoreSuits}
 use Rattle.dh_laid.specs.LaidNumbers.{IsAccessForm, StoresReach, StoresReachGroups, StoresReachOther, StoresReachPart}
-use Rattle.dh_laid.proofs.CommandsNumbered.{actions_reached, command_reached, some_arm, tests_number}
+use Rattle.dh_laid.proofs.CommandsNumbered.{actions_reached, command_reached, tests_number}
 use Rattle.dh_laid.proofs.ValuesLogged.{arm_long, tests_same}
 use Rattle.dh_typed_blocks.specs.TypedTerms.{ActionTyped, GroupsTyped, IsTyped, OtherTyped, PartTyped}
-use Rattle.dh_typed_laid.specs.SuitingBlocks.{HasPlaces, HasSites, NamedHere, StandsSo}
+use Rattle.dh_typed_laid.specs.SuitingBlocks.{HasPlaces, HasSites, StandsSo}
 use Rattle.dh_typed_laid.proofs.MemoriesSuit.{bank_below, dims_there}
 use Rattle.dh_typed_laid.proofs.NamesSuit.{fits_register, register_there}
 use Rattle.dh_typed_laid.proofs.PlacesOfSites.{all_long, none_long, places_behind, places_front, places_there, sites_behind, sites_front, sites_last, target_long, term_long, terms_long}

@@ -1,15 +1,11 @@
 -- Banks of memories of a program's table, and kinds of their elements.
-use Rattle.std.proofs.Common.{◌≡◌, ℕ, zero, suc, ◌+◌, ◌*◌, ◌%◌, ◌<◌, ◌≤◌, ◌^◌, ◌-◌, List, [], ◌∷◌, length, Option, Some, None, refl, ap, sym, ◌∙◌, subst, arith}
+use Rattle.std.proofs.Common.{ℕ, zero, suc, ◌+◌, ◌*◌, ◌%◌, ◌<◌, ◌≤◌, List, [], ◌∷◌, arith}
 use Rattle.std.proofs.Math.Nat.{mod-lt}
-use Rattle.std.specs.Prelude.{min, slice_get}
 use Rattle.std.specs.List.{AllByRecursion}
-use Rattle.dh_value.specs.Words.{IsKind}
 use Rattle.dh_tree.specs.declared.tables.Dim.{Dim}
 use Rattle.dh_tree.specs.declared.tables.MemEntry.{MemEntry}
 use Rattle.dh_tree.specs.Elements.{bank_of, banks_of, dims_at}
 use Rattle.dh_tree.specs.Shapes.{IsDim, IsMemory}
-use Rattle.dh_meaning.specs.Effects.{kind_in}
-use Rattle.dh_code.proofs.ValuesOfTerms.{sized_at}
 use Rattle.dh_expressions.specs.Numbers.{narrowed}
 
 -- a remainder and a quotient below their factors give one number below the product

@@ -1,6 +1,5 @@
 -- Variables that are seen have registers of their kinds at each path, and iterators of loops round a block have theirs.
-use Rattle.std.proofs.Common.{◌≡◌, inl, inr, ℕ, zero, suc, ◌<◌, ◌≤◌, Bool, List, [], ◌∷◌, length, Option, Some, None, refl, ap, sym, ◌∙◌, subst, arith}
-use Rattle.std.specs.Prelude.{slice_index_or}
+use Rattle.std.proofs.Common.{◌≡◌, inl, inr, ℕ, zero, suc, ◌<◌, ◌≤◌, Bool, List, [], ◌∷◌, length, Option, ap, sym, ◌∙◌, subst, arith}
 use Rattle.dh_value.specs.declared.kinds.Kind.{Kind}
 use Rattle.dh_value.specs.declared.kinds.Kind.TheVariants as kind
 use Rattle.dh_tree.specs.declared.trees.counters.Counter.{Counter}
@@ -17,8 +16,7 @@ use Rattle.dh_expressions.specs.Shown.{register_at}
 use Rattle.dh_formed.specs.Formed.{Block, RegisterSuits, VariableSuits}
 use Rattle.dh_commands.specs.LanesRun.{lane_of, paths_counted}
 use Rattle.dh_commands.specs.ShownVariables.{IsSeen, register_in, seen_path}
-use Rattle.dh_blocks.specs.NamedVariables.{IsOfRound, IsPlain}
-use Rattle.dh_blocks.specs.SlotsOfScene.{placing_in, slots_in}
+use Rattle.dh_blocks.specs.SlotsOfScene.{placing_in}
 use Rattle.dh_blocks.proofs.VariablesPlaced.{copy_path, register_slot, register_small, slot_is}
 use Rattle.dh_laid.specs.Laid.{FitsRegister}
 use Rattle.dh_typed_laid.specs.SuitingBlocks.{NamedHere, StandsSo}

@@ -1,6 +1,6 @@
 -- Sites by the numbers of accesses: those of parts that stand one behind the other, and how many there are.
-use Rattle.std.proofs.Common.{◌≡◌, ℕ, zero, suc, ◌+◌, List, [], ◌∷◌, ◌++◌, length, Option, Some, None, refl, ap, sym, ◌∙◌, subst, arith, length-append}
-use Rattle.std.specs.Prelude.{map, replicate, slice_get}
+use Rattle.std.proofs.Common.{◌≡◌, ℕ, zero, suc, ◌+◌, List, [], ◌∷◌, ◌++◌, length, Option, Some, refl, ap, ◌∙◌, arith, length-append}
+use Rattle.std.specs.Prelude.{slice_get}
 use Rattle.dh_base.specs.declared.places.Place.{Place}
 use Rattle.dh_tree.specs.Indices.{form_of}
 use Rattle.dh_tree.specs.PlainTrees as plain

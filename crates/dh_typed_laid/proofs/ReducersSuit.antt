@@ -9,7 +9,6 @@ use Rattle.dh_value.specs.Words.{IsInteger, IsKind}
 use Rattle.dh_tree.specs.Meaning.{wider}
 use Rattle.dh_tree.specs.PlainTrees.{Term}
 use Rattle.dh_tree.specs.TextNumbers.{Reduces}
-use Rattle.dh_expressions.specs.Shown.{kind_written}
 use Rattle.dh_formed.specs.Formed.{HeldSuits}
 use Rattle.dh_blocks.specs.SoundCommands.{CanHold}
 use Rattle.dh_laid.specs.Laid.{ReducerSuits}

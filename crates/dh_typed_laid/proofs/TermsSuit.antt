@@ -1,5 +1,5 @@
 -- An expression that is sound and typed suits at each path of a block whose sites tell where its accesses stand.
-use Rattle.std.proofs.Common.{◌≡◌, ℕ, suc, ◌+◌, ◌<◌, ◌^◌, Bool as Truth, false, List, [], length, Option, Some, refl, ap, sym, ◌∙◌, subst, arith}
+use Rattle.std.proofs.Common.{◌≡◌, ℕ, ◌+◌, ◌<◌, ◌^◌, Bool as Truth, false, List, length, Some, refl, ap, sym, ◌∙◌, subst, arith}
 use Rattle.dh_base.specs.declared.places.Place.{Place}
 use Rattle.dh_value.specs.declared.kinds.Kind.{Kind}
 use Rattle.dh_value.specs.declared.operators.Op.{Op}
@@ -21,7 +21,7 @@ use Rattle.dh_expressions.specs.Numbers.{narrowed}
 use Rattle.dh_expressions.specs.ReachedBanks.{bank_by}
 use Rattle.dh_expressions.specs.Shown.{kind_written}
 use Rattle.dh_expressions.specs.Standings.{standing_at}
-use Rattle.dh_formed.specs.Formed.{AccessSuits, AreNumbers, Block, FormSuits, OperandsSuit, ReadSuits, Site, TermSuits, TermsSuit, count_of}
+use Rattle.dh_formed.specs.Formed.{AccessSuits, AreNumbers, Block, FormSuits, OperandsSuit, ReadSuits, TermSuits, TermsSuit, count_of}
 use Rattle.dh_formed.proofs.OperandsTyped.{typed_operands_suit}
 use Rattle.dh_commands.specs.LanesRun.{lane_of, paths_counted}
 use Rattle.dh_blocks.specs.SoundTerms.{AreSound, IsSound, IsSoundForm}

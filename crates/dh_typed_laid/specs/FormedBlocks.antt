@@ -1,28 +1,16 @@
 -- What is put down for the commands of a block, one after the other, is formed, and the block with it.
-use Rattle.std.specs.Prelude.{◌≡◌, ℕ, ◌+◌, ◌<◌, ◌≤◌, ◌^◌, Bool, List, [], ◌∷◌, ◌++◌, length, slice_get, Option, Some, None}
+use Rattle.std.specs.Prelude.{◌≡◌, ℕ, List}
 use Rattle.std.specs.List.{AllByRecursion}
-use Rattle.dh_tree.specs.PlainTrees.{Term}
-use Rattle.dh_tree.specs.Memories.{table_of}
-use Rattle.dh_tree.specs.Seen.{program_seen}
-use Rattle.dh_meaning.specs.AccessNumbers.{accesses_of, term_accesses}
 use Rattle.dh_meaning.specs.Phases.{Located}
 use Rattle.dh_plan.specs.Correspondence.{Round}
-use Rattle.dh_plan.specs.PlainPlans.{PlainPlan}
-use Rattle.dh_plan.specs.PlanKinds.{IsFormedBlock}
 use Rattle.dh_expressions.specs.declared.scenes.Around.{Around}
 use Rattle.dh_expressions.specs.declared.scenes.Scene.{Scene}
-use Rattle.dh_expressions.specs.Evaluated.{known_in}
-use Rattle.dh_formed.specs.Formed.{Agrees, Block, IsNoted, Started, TermSuits}
-use Rattle.dh_formed.specs.WholeBlocks.{IsCut, block_of}
+use Rattle.dh_formed.specs.Formed.{Block}
 use Rattle.dh_commands.specs.declared.buildings.Building.{Building}
-use Rattle.dh_commands.specs.LanesRun.{lane_of, paths_counted}
 use Rattle.dh_laid.specs.BareCommands.{AreRising}
-use Rattle.dh_blocks.specs.SoundTerms.{IsSound}
-use Rattle.dh_laid.specs.BlockSites.{MadeEach, block_sites, test_sites}
-use Rattle.dh_laid.specs.Laid.{StandsRound}
-use Rattle.dh_laid.specs.LaidCommands.{FormsCommand, StandsHeld}
-use Rattle.dh_typed_blocks.specs.TypedTerms.{IsTyped}
-use Rattle.dh_typed_laid.specs.SuitingBlocks.{EachFew, EachSuits, FitsBlock, NamedHere, StandsSo}
+use Rattle.dh_laid.specs.BlockSites.{MadeEach, block_sites}
+use Rattle.dh_laid.specs.LaidCommands.{FormsCommand}
+use Rattle.dh_typed_laid.specs.SuitingBlocks.{EachFew, EachSuits, FitsBlock, StandsSo}
 
 -- commands one after the other form what they add
 abbrev pub EachForms : Type 0

@@ -1,15 +1,13 @@
 -- What is put down for the commands of a ready program's block suits, as what is asked of it by kinds: names have
 -- registers of their kinds, operands suit, accesses have their sites. Stated for a block whose sites tell where the
 -- accesses of its commands stand.
-use Rattle.std.specs.Prelude.{◌≡◌, ℕ, ◌+◌, ◌<◌, Bool, List, [], ◌∷◌, length, slice_get, Option, Some, None}
-use Rattle.std.specs.List.{AllByRecursion}
+use Rattle.std.specs.Prelude.{◌≡◌, ℕ, ◌+◌, ◌<◌, Bool, List, [], ◌∷◌, slice_get, Option, Some}
 use Rattle.dh_value.specs.declared.kinds.Kind.{Kind}
 use Rattle.dh_tree.specs.declared.trees.expressions.Ref.{Ref}
 use Rattle.dh_tree.specs.Memories.{table_of}
 use Rattle.dh_tree.specs.PlainTrees.{Term}
 use Rattle.dh_tree.specs.Seen.{program_seen}
 use Rattle.dh_tree.specs.Shapes.{IsProgramTable}
-use Rattle.dh_meaning.specs.AccessNumbers.{accesses_of}
 use Rattle.dh_meaning.specs.Bindings.{binding_in, kind_bound}
 use Rattle.dh_meaning.specs.Paths.{copies_in}
 use Rattle.dh_meaning.specs.Phases.{Located}
@@ -27,8 +25,8 @@ use Rattle.dh_blocks.specs.PathsOfLevels.{AreSpread}
 use Rattle.dh_blocks.specs.SlotsOfScene.{HoldsVariables}
 use Rattle.dh_blocks.specs.SoundCommands.{SoundAction}
 use Rattle.dh_blocks.specs.SoundTerms.{IsSound}
-use Rattle.dh_laid.specs.BlockSites.{MadeEach, command_sites, term_sites}
-use Rattle.dh_laid.specs.LaidCommands.{AreFew, CommandSuits, TestSuits}
+use Rattle.dh_laid.specs.BlockSites.{MadeEach, term_sites}
+use Rattle.dh_laid.specs.LaidCommands.{AreFew, CommandSuits}
 use Rattle.dh_typed_blocks.specs.TypedTerms.{ActionTyped, IsTyped}
 
 -- Sites.

@@ -1,4 +1,4 @@
--- What `unroll` makes of a program that is to be compiled.
+-- What the pass promises of the plan of a program that is to be compiled.
 use Rattle.std.specs.Prelude.{◌≡◌, []}
 use Rattle.std.specs.List.{AllByRecursion}
 use Rattle.dh_value.specs.Words.{IsKind}
@@ -6,7 +6,7 @@ use Rattle.dh_tree.specs.PlainTrees.{Program}
 use Rattle.dh_plan.specs.DoneProgram.{IsPlanOf}
 use Rattle.dh_plan.specs.PlainPlans.{PlainPlan}
 
--- its plan; no access of it goes through a view, and each register has from 1 to 64 bits
+-- it is a plan of the program, and suits a net: no access goes through a view, and registers have from 1 to 64 bits
 pub record IsUnrolled (p : Program) (plan : PlainPlan) : Type 0 where
   pub is_plan : IsPlanOf p plan
   pub views : plan.views ≡ []

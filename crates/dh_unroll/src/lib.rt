@@ -1,7 +1,10 @@
 //! The plan of a program: its phases as nodes and blocks of operations, with one read or write for each distinct key of
-//! copies, and a probe for each path of an access. Takes a program that is to be compiled.
+//! copies, and a probe for each path of an access. Takes a program that is to be compiled. Puts together what the
+//! crates below make: `dh_gathering` (nodes and blocks), `dh_code` (registers of variables), `dh_events` and
+//! `dh_lengths` (scopes and shared reads), `dh_accesses` (which accesses may meet). Linear in the program and its plan.
 #![tactic(auto)]
 
+mod sharing;
 mod unrolling;
 
 pub use unrolling::unroll;

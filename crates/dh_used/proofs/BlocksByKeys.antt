@@ -1,17 +1,16 @@
 -- Blocks use their accesses by keys: the paths that lead are as many as the keys, and each access of the source that the
 -- block makes has a site.
-use Rattle.std.proofs.Common.{◌≡◌, ◌⊎◌, inl, inr, ◌<◌, ◌≤◌, ◌+◌, ◌^◌, ◌==◌, ◌||◌, ℕ, zero, suc, List, Some, None, ap, sym, ◌∙◌, subst, length, arith, refl, append_assoc}
-use Rattle.std.specs.Prelude.{Bool as Truth, true, false, if◌then◌else◌, [], ◌∷◌, ◌++◌, map, Option, slice_get}
+use Rattle.std.proofs.Common.{◌≡◌, inl, inr, ◌<◌, ◌+◌, ◌==◌, ◌||◌, ℕ, zero, suc, List, Some, None, ap, sym, ◌∙◌, subst, length, arith, refl, append_assoc}
+use Rattle.std.specs.Prelude.{Bool as Truth, true, false, if◌then◌else◌, [], ◌∷◌, ◌++◌, drop, map, Option, slice_get}
 use Rattle.std.specs.List.{AllByRecursion}
 use Rattle.std.specs.Option.{is_some}
 use Rattle.std.specs.Set.{distinct_count}
-use Rattle.std.proofs.lemmas.List.{append_cancel_left}
-use Rattle.dh_tree.specs.PlainTrees.{Program, Term}
+use Rattle.std.proofs.Math.Seq.{drop-append_seam}
+use Rattle.dh_tree.specs.PlainTrees.{Program}
 use Rattle.dh_tree.specs.Seen.{program_seen}
-use Rattle.dh_meaning.specs.AccessNumbers.{accesses_of, term_accesses}
+use Rattle.dh_meaning.specs.AccessNumbers.{accesses_of}
 use Rattle.dh_meaning.specs.Bindings.{bindings_of}
-use Rattle.dh_meaning.specs.CoreOf.{form_of, test_of}
-use Rattle.dh_meaning.specs.OnePhase.{any_makes, in_one_phase, test_makes}
+use Rattle.dh_meaning.specs.OnePhase.{any_makes, test_makes}
 use Rattle.dh_meaning.specs.Paths.{Path, copies_in, paths_in, same_path}
 use Rattle.dh_meaning.specs.Phases.{Located, idle_phases_of, phases_of}
 use Rattle.dh_meets.specs.Charges as charges
@@ -35,27 +34,23 @@ use Rattle.dh_expressions.specs.declared.scenes.Around.{Around}
 use Rattle.dh_expressions.specs.declared.scenes.Scene.{Scene}
 use Rattle.dh_expressions.specs.Levels.{leader_number, path_at}
 use Rattle.dh_expressions.proofs.ListPlaces.{place_within}
-use Rattle.dh_formed.specs.Counted.{use_led, use_shared}
 use Rattle.dh_formed.specs.Formed.{Site}
-use Rattle.dh_formed.specs.WholeBlocks.{IsCut}
 use Rattle.dh_formed.proofs.PartsCounted.{uses_append}
-use Rattle.dh_commands.specs.declared.buildings.Building.{Building}
 use Rattle.dh_commands.specs.LanesRun.{paths_counted}
-use Rattle.dh_commands.specs.MadeCommands.{MadeTests}
 use Rattle.dh_commands.specs.ShownVariables.{factors_of}
 use Rattle.dh_blocks.specs.PathsOfLevels.{AreSpread}
 use Rattle.dh_blocks.proofs.PathNumbers.{kept, leader_within, leads, number_is, some_copies}
-use Rattle.dh_laid.specs.BlockSites.{MadeEach, block_sites, test_sites}
+use Rattle.dh_laid.specs.BlockSites.{block_sites, test_sites}
 use Rattle.dh_laid.specs.LaidNumbers.{StoresReach}
 use Rattle.dh_laid.specs.LaidProbes.{AddsProbes}
-use Rattle.dh_laid.specs.LaidUses.{AddsUses, AreAlong, AreUntouched, PathsLead, probed_by, used_by, used_to}
+use Rattle.dh_laid.specs.LaidUses.{AddsUses, AreAlong, PathsLead, probed_by, used_by, used_to}
 use Rattle.dh_laid.proofs.BlocksUsed.{blocks_probe, blocks_use, tests_probe, tests_use}
 use Rattle.dh_laid.proofs.CommandsProbe.{append_probes}
 use Rattle.dh_laid.proofs.UsesAdded.{used_nowhere}
 use Rattle.dh_charged.specs.LeadersCounted.{leads_below}
 use Rattle.dh_charged.proofs.KeysLed.{all_leaders_are_keys}
 use Rattle.dh_used.specs.SourceSites.{AllStand, AreSited, IsSiteOf}
-use Rattle.dh_used.specs.UsedBlocks.{EndsQuietly, IsInLoops, StraightsUseAsMade, TestsUseAsMade, UsesAsMade}
+use Rattle.dh_used.specs.UsedBlocks.{EndsQuietly, IsInLoops, IsOwn, StraightsUseAsMade, TestsUseAsMade, UsesAsMade}
 use Rattle.dh_used.proofs.SharesOfProgram.{any_below, as_many, shares_inside, test_below, writes_alone}
 use Rattle.dh_used.proofs.SitesOfSource.{blocks_are_sited, tests_are_sited}
 
@@ -144,7 +139,7 @@ module _ (scene : Scene) (around : Around) (spread : AreSpread around.levels.now
 
     -- of a block, whose operations are these and quiet ones behind
     block_as_made : (plan : PlainPlan) (block : ℕ) (old new end : Draft) → AddsUses old new (used_to scene sites (paths_counted around)) → AddsProbes old new (λ number. probed_by (sites number) (paths_counted around))
-        → IsCut plan block old end → EndsQuietly new end → UsesAsMade p plan block makes
+        → IsOwn plan block old end → EndsQuietly new end → UsesAsMade p plan block makes
     block_as_made plan block old new end uses probes cut ends = record {
       uses = λ number a at. ap (λ (os : List Operation). operations_using number os) (are uses.more uses.adds)
           ∙ (uses_append number uses.more ends.more ∙ (plus_none _ _ (ends.no_use number) ∙ (uses.uses_are number ∙ used_as_made number a at)));
@@ -154,15 +149,16 @@ module _ (scene : Scene) (around : Around) (spread : AreSpread around.levels.now
       where
         are : (more : List Operation) → new.operations.items ≡ old.operations.items ++ more → operations_in plan block ≡ more ++ ends.more
         are more adds =
-            append_cancel_left old.operations.items (operations_in plan block) (more ++ ends.more)
-            (sym cut.operations ∙ (ends.adds ∙ (ap (λ (os : List Operation). os ++ ends.more) adds ∙ append_assoc old.operations.items more ends.more)))
+            cut
+            ∙ (ap (λ (os : List Operation). drop (length old.operations.items) os) (ends.adds ∙ (ap (λ (os : List Operation). os ++ ends.more) adds ∙ append_assoc old.operations.items more ends.more))
+            ∙ drop-append_seam old.operations.items (more ++ ends.more))
 
         plus_none : (a b : ℕ) → b ≡ 0 → a + b ≡ a
         plus_none a b e = omega (arith, e)
 
 -- Blocks.
 
-each_of : (P : Located → Type 0) (cs : List Located) → ((c : Located) → Has c cs → P c) → AllByRecursion P cs
+pub each_of : (P : Located → Type 0) (cs : List Located) → ((c : Located) → Has c cs → P c) → AllByRecursion P cs
 each_of P [] h = tt
 each_of P (c ∷ cs) h = (h c (inl refl), each_of P cs (λ d g. h d (inr g)))
 

@@ -1,7 +1,7 @@
 -- What the sharing table of a program tells of the accesses of a block: a read shares an earlier read of the block, and a
 -- write shares none and is shared by none.
-use Rattle.std.proofs.Common.{◌≡◌, ◌⊎◌, inl, inr, ◌<◌, ◌≤◌, ◌+◌, ◌-◌, ◌&&◌, ◌||◌, not, ℕ, zero, suc, List, Some, None, ap, sym, ◌∙◌, subst, length, arith, refl}
-use Rattle.std.specs.Prelude.{Bool as Truth, true, false, if◌then◌else◌, [], ◌∷◌, ◌++◌, Option, slice_get}
+use Rattle.std.proofs.Common.{◌≡◌, ◌<◌, ◌≤◌, ◌+◌, ◌-◌, ◌&&◌, ◌||◌, not, ℕ, zero, suc, List, Some, None, ap, sym, ◌∙◌, subst, length, arith, refl}
+use Rattle.std.specs.Prelude.{Bool as Truth, true, false, [], ◌∷◌, ◌++◌, Option, slice_get}
 use Rattle.std.specs.List.{AllByRecursion}
 use Rattle.std.specs.Option.{is_some}
 use Rattle.dh_tree.specs.Indices as indices
@@ -13,9 +13,9 @@ use Rattle.dh_meaning.specs.OnePhase.{any_makes, in_one_phase, makes, test_makes
 use Rattle.dh_meaning.specs.Phases.{Located}
 use Rattle.dh_meaning.specs.Sites as source
 use Rattle.dh_meaning.specs.Sites.{in_arm, nothing_around}
-use Rattle.dh_meets.specs.Sharing.{shared, shares_with}
+use Rattle.dh_meets.specs.Sharing.{shared}
 use Rattle.dh_meets.specs.SourceEvents.{with_indices, SourceAccess, SourceEvent, accesses, assigned, accesses_in, events, groups_events, other_events, part_events, site_of, term_events, terms_events, trace, write_events}
-use Rattle.dh_bridge.proofs.SharedReads.{shared_before, shared_there}
+use Rattle.dh_used.proofs.SharedReads.{shared_before, shared_there}
 use Rattle.dh_sound.specs.PhaseFacts.{StandsAmong}
 use Rattle.dh_sound.specs.ToldEvents.{access_at}
 use Rattle.dh_sound.specs.Trails.{count}
@@ -23,7 +23,7 @@ use Rattle.dh_sound.proofs.EventCounts.{accesses_joined, events_counted, part_co
 use Rattle.dh_sound.proofs.KnownReads.{Shares, shared_found}
 use Rattle.dh_sound.proofs.LocatedSites.{test_first}
 use Rattle.dh_sound.proofs.Makes.{makes_within}
-use Rattle.dh_lengths.specs.SharedReads.{TellsShares, share_told, told}
+use Rattle.dh_lengths.specs.SharedReads.{TellsShares, share_told}
 use Rattle.dh_expressions.specs.declared.scenes.Scene.{Scene}
 use Rattle.dh_expressions.proofs.ListPlaces.{place_within, there}
 use Rattle.dh_formed.specs.Formed.{Site}

@@ -1,7 +1,7 @@
 -- The sites of commands are those of their accesses in the source, and stand at the numbers of those that are made: by
 -- recursion on what was put down.
-use Rattle.std.proofs.Common.{◌≡◌, ◌⊎◌, inl, inr, ◌<◌, ◌≤◌, ◌+◌, ◌-◌, ◌&&◌, ◌||◌, ℕ, zero, suc, List, Some, None, ap, sym, ◌∙◌, subst, length, arith, refl}
-use Rattle.std.specs.Prelude.{nat_le, nat_lt, Bool as Truth, true, false, if◌then◌else◌, [], ◌∷◌, ◌++◌, map, replicate, Option, slice_get}
+use Rattle.std.proofs.Common.{◌≡◌, ◌⊎◌, inl, inr, ◌<◌, ◌≤◌, ◌+◌, ◌-◌, ◌||◌, ℕ, zero, suc, List, Some, None, ap, sym, ◌∙◌, subst, length, arith, refl}
+use Rattle.std.specs.Prelude.{nat_lt, Bool as Truth, true, false, if◌then◌else◌, [], ◌∷◌, ◌++◌, Option, slice_get}
 use Rattle.std.specs.List.{AllByRecursion}
 use Rattle.std.specs.Option.{is_some}
 use Rattle.std.proofs.lemmas.Bool.{cases_lt}
@@ -13,9 +13,9 @@ use Rattle.dh_tree.specs.Indices as indices
 use Rattle.dh_tree.specs.PlainTrees as plain
 use Rattle.dh_tree.specs.PlainTrees.{Program, Term, Action, action, ActionForm, lets, lets_memory, views, assigns, stores, reduces, calls, blocks, decides, repeats, counts, MaybeAction, no_action, one_action, Actions, no_actions, action_then, Groups, no_groups, group_then}
 use Rattle.dh_tree.specs.Seen.{program_seen}
-use Rattle.dh_meaning.specs.AccessNumbers.{accesses_of, groups_accesses, inner_accesses, other_accesses, own_accesses, part_accesses, term_accesses}
+use Rattle.dh_meaning.specs.AccessNumbers.{accesses_of, other_accesses, part_accesses, term_accesses}
 use Rattle.dh_meaning.specs.CoreOf.{form_of, memory_of, test_of}
-use Rattle.dh_meaning.specs.OnePhase.{any_makes, form_makes, groups_make, is_within, makes, other_makes, part_makes, test_makes, tests_make}
+use Rattle.dh_meaning.specs.OnePhase.{any_makes, groups_make, is_within, makes, other_makes, part_makes, test_makes, tests_make}
 use Rattle.dh_meaning.specs.Phases.{Located}
 use Rattle.dh_meaning.specs.Sites as source
 use Rattle.dh_meaning.specs.Sites.{in_arm}
@@ -24,8 +24,7 @@ use Rattle.dh_meets.specs.SourceEvents as events
 use Rattle.dh_events.specs.Accesses.{element_in}
 use Rattle.dh_sound.specs.PhaseFacts.{StandsAmong}
 use Rattle.dh_sound.specs.ToldEvents.{access_at}
-use Rattle.dh_sound.proofs.EventCounts.{accesses_joined, command_counted, count_in, events_counted, term_counted}
-use Rattle.dh_sound.proofs.Makes.{is_within_so, not_within}
+use Rattle.dh_sound.proofs.EventCounts.{accesses_joined, command_counted, events_counted, term_counted}
 use Rattle.dh_expressions.specs.declared.paths.Level.{Level}
 use Rattle.dh_expressions.specs.declared.scenes.Around.{Around}
 use Rattle.dh_expressions.specs.declared.scenes.Scene.{Scene}
@@ -35,12 +34,13 @@ use Rattle.dh_commands.specs.declared.buildings.Building.{Building}
 use Rattle.dh_commands.specs.declared.choices.Left.{Left}
 use Rattle.dh_commands.specs.LanesRun.{paths_counted}
 use Rattle.dh_commands.specs.MadeCommands.{Commanding, MadeActions, MadeArm, MadeCommand, MadeGroups, MadeOther}
-use Rattle.dh_laid.specs.BlockSites.{MadeEach, actions_sites, all_there, block_sites, command_sites, groups_sites, none_there, one_site, other_sites, places_from, read_site, site_or, sites_from, target_sites, term_sites, terms_sites, test_sites, write_site}
+use Rattle.dh_laid.specs.BlockSites.{MadeEach, actions_sites, all_there, block_sites, command_sites, groups_sites, none_there, one_site, other_sites, places_from, read_site, site_or, target_sites, term_sites, terms_sites, test_sites, write_site}
 use Rattle.dh_laid.specs.LaidNumbers.{IsAccessForm, StoresReach, StoresReachGroups, StoresReachOther, StoresReachPart}
+use Rattle.dh_laid.specs.LaidUses.{AreAlong}
 use Rattle.dh_laid.proofs.BlocksUsed.{test_places}
-use Rattle.dh_laid.proofs.SitesLaid.{actions_sites_long, command_sites_long, places_low, places_own, places_past, store_places_long, test_places_long}
+use Rattle.dh_laid.proofs.SitesLaid.{actions_sites_long, command_sites_long, places_low, places_past, store_places_long, test_places_long}
 use Rattle.dh_laid.proofs.ValuesLogged.{arm_long, tests_same}
-use Rattle.dh_used.specs.SourceSites.{AllStand, AreSited, AreSitesOf, BlocksAreSited, IsSiteOf, IsSiteOrNone, TestsAreSited}
+use Rattle.dh_used.specs.SourceSites.{AllStand, AreSitesOf, BlocksAreSited, IsSiteOf, TestsAreSited}
 
 module _ (scene : Scene) (levels : List Level) (paths : ℕ) where
   abbrev SitesAre : List (Option Site) → List SourceAccess → Type 0
@@ -493,3 +493,17 @@ tests_are_sited scene around tested t has stand = record {
   made = λ number. test_placed scene around tested t has stand number;
   told = λ number s a e at. test_told scene around tested t has stand number s a e at;
 }
+
+-- What has a site is made.
+
+pub blocks_placed : (scene : Scene) (around : Around) (cs : List Located) (old new : Building) (m : MadeEach scene around cs old new) → AreAlong 0 cs → (number : ℕ) (s : Site) → block_sites scene around cs old new m number ≡ Some s → any_makes number cs ≡ true
+blocks_placed scene around cs old new m h number s at = sym (block_placed scene around number cs old new m (reach 0 cs h)) ∙ ap is_some at
+  where
+    reach : (from : ℕ) (ds : List Located) → AreAlong from ds → AllByRecursion (λ (c : Located). StoresReach c.command) ds
+    reach from [] h = tt
+    reach from (c ∷ ds) h = (h.0.reaches, reach (c.first + accesses_of c.command) ds h.1)
+
+pub test_placed_all : (scene : Scene) (around : Around) (first : ℕ) (t : Term) (number : ℕ) (s : Site) → test_sites scene around first t number ≡ Some s → (first ≤ number) × (number < first + term_accesses t)
+test_placed_all scene around first t number s at =
+    let p = place_of first (all_there (term_sites scene around t)) number s (sym (test_places first (term_sites scene around t) number) ∙ at) in
+    (p.0, subst (λ (n : ℕ). number < first + n) (test_places_long scene around t) p.1.0)

@@ -2,3 +2,7 @@
 pub mod SourceSites
 -- how often blocks use them
 pub mod UsedBlocks
+-- how often plans use them
+pub mod UsedPlans
+-- plans as they are made
+pub mod MadePlans

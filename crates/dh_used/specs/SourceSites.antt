@@ -1,12 +1,11 @@
 -- The site of an access of a block is that of the access in the source: it has the same element, and reads or writes as
 -- that does. And those accesses have sites that the commands of the block make.
-use Rattle.std.specs.Prelude.{◌≡◌, ℕ, ◌<◌, Bool, List, [], ◌∷◌, Option, Some, None}
+use Rattle.std.specs.Prelude.{◌≡◌, ℕ, Bool, List, [], ◌∷◌, Option, Some, None}
 use Rattle.std.specs.List.{AllByRecursion}
 use Rattle.std.specs.Option.{is_some}
 use Rattle.dh_tree.specs.declared.trees.expressions.Ref.{Ref}
 use Rattle.dh_tree.specs.PlainTrees.{Term, TermForm}
 use Rattle.dh_tree.specs.Seen.{program_seen}
-use Rattle.dh_meaning.specs.AccessNumbers.{term_accesses}
 use Rattle.dh_meaning.specs.CoreOf.{form_of, memory_of, test_of}
 use Rattle.dh_meaning.specs.OnePhase.{any_makes, test_makes}
 use Rattle.dh_meaning.specs.Phases.{Located}

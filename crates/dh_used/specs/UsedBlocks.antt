@@ -1,7 +1,6 @@
 -- How often a block of a plan reads, writes and probes each access of the program: with each of its keys once and at
 -- each of its paths, where the block makes it; not at all, where it does not.
-use Rattle.std.specs.Prelude.{◌≡◌, ℕ, ◌+◌, ◌<◌, ◌^◌, Bool, true, if◌then◌else◌, List, ◌++◌, length, Some}
-use Rattle.std.specs.List.{AllByRecursion}
+use Rattle.std.specs.Prelude.{◌≡◌, ℕ, ◌+◌, ◌<◌, ◌^◌, Bool, true, if◌then◌else◌, List, ◌++◌, drop, length, Some}
 use Rattle.dh_tree.specs.PlainTrees.{Program, Term}
 use Rattle.dh_tree.specs.Seen.{program_seen}
 use Rattle.dh_meaning.specs.AccessNumbers.{term_accesses}
@@ -21,7 +20,6 @@ use Rattle.dh_lengths.specs.SharedReads.{TellsShares}
 use Rattle.dh_expressions.specs.declared.drafts.Draft.{Draft}
 use Rattle.dh_expressions.specs.declared.scenes.Around.{Around}
 use Rattle.dh_expressions.specs.declared.scenes.Scene.{Scene}
-use Rattle.dh_formed.specs.WholeBlocks.{IsCut}
 use Rattle.dh_commands.specs.declared.buildings.Building.{Building}
 use Rattle.dh_commands.specs.LanesRun.{paths_counted}
 use Rattle.dh_commands.specs.MadeCommands.{MadeTests}
@@ -29,7 +27,7 @@ use Rattle.dh_commands.specs.ShownVariables.{factors_of}
 use Rattle.dh_blocks.specs.PathsOfLevels.{AreSpread}
 use Rattle.dh_laid.specs.BlockSites.{MadeEach, block_sites, test_sites}
 use Rattle.dh_laid.specs.LaidQuiet.{StandsIn}
-use Rattle.dh_laid.specs.LaidUses.{AreAlong, AreUntouched}
+use Rattle.dh_laid.specs.LaidUses.{AreAlong, HaveNoOperations}
 
 -- a block makes the accesses of these numbers, each as often as is wanted
 pub record UsesAsMade (p : Program) (plan : PlainPlan) (block : ℕ) (makes : ℕ → Bool) : Type 0 where
@@ -50,12 +48,16 @@ pub record EndsQuietly (d e : Draft) : Type 0 where
   pub no_use : (number : ℕ) → operations_using number more ≡ 0
   pub no_probe : (number : ℕ) → probes_among number more ≡ 0
 
+-- the operations of a block are those that were added to a draft
+abbrev pub IsOwn : PlainPlan → (block : ℕ) → (old end : Draft) → Type 0
+IsOwn plan block old end = operations_in plan block ≡ drop (length old.operations.items) end.operations.items
+
 -- the block of straight commands of a phase, whose operations end so
 abbrev pub StraightsUseAsMade : Type 0
 StraightsUseAsMade =
     (scene : Scene) (plan : PlainPlan) (block : ℕ) (around : Around) (cs : List Located) (old new : Building) (end : Draft) (m : MadeEach scene around cs old new)
     → IsInLoops scene around (λ number. any_makes number cs) → AreAlong 0 cs → HasStraight (phases_of (program_seen scene.program.now)) cs → TellsShares (program_seen scene.program.now) scene.shares.now
-    → AreUntouched (block_sites scene around cs old new m) old.accesses → IsCut plan block old.draft end → EndsQuietly new.draft end
+    → HaveNoOperations (block_sites scene around cs old new m) old.accesses → IsOwn plan block old.draft end → EndsQuietly new.draft end
     → UsesAsMade (program_seen scene.program.now) plan block (λ number. any_makes number cs)
 
 -- the block of the test of a command
@@ -64,5 +66,5 @@ TestsUseAsMade =
     (scene : Scene) (plan : PlainPlan) (block : ℕ) (around : Around) (tested : Located) (t : Term) (old new : Building) (end : Draft) (next : ℕ) (tests : List ℕ)
     → MadeTests scene around tested.first t (paths_counted around) old new next tests → test_of (form_of tested.command) ≡ Some t
     → IsInLoops scene around (λ number. test_makes number tested) → tested.first + term_accesses t < 2 ^ 32 → HasTest (phases_of (program_seen scene.program.now)) tested → TellsShares (program_seen scene.program.now) scene.shares.now
-    → AreUntouched (test_sites scene around tested.first t) old.accesses → IsCut plan block old.draft end → EndsQuietly new.draft end
+    → HaveNoOperations (test_sites scene around tested.first t) old.accesses → IsOwn plan block old.draft end → EndsQuietly new.draft end
     → UsesAsMade (program_seen scene.program.now) plan block (λ number. test_makes number tested)

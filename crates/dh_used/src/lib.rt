@@ -5,4 +5,6 @@
 
 mod laws;
 
-pub use laws::{blocks_use_as_made, sites_are_of_the_source};
+pub use laws::{
+    blocks_use_as_made, made_plans_use_by_keys, plans_use_by_keys, sites_are_of_the_source,
+};

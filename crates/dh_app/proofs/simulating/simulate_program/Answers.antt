@@ -7,10 +7,10 @@ use Rattle.dh_app.specs.Parts.{DataRead}
 use Rattle.dh_app.proofs.simulating.simulate_program.Goals as goal
 
 pub read_memories-requires : goal.read_memories-requires
-read_memories-requires g c = c.in-Ok.ensures.played.plays.valid.table
+read_memories-requires g c = c.in-Ok.ensures.plays.valid.table
 
 pub report_run-requires : goal.report_run-requires
-report_run-requires g c = record { valid = c.in-Ok.ensures.played.plays.valid; fits = c.in-Ok-read_memories.ensures.fits }
+report_run-requires g c = record { valid = c.in-Ok.ensures.plays.valid; fits = c.in-Ok-read_memories.ensures.fits }
 
 pub returns-in-Err-clause-comes : goal.returns-in-Err-clause-comes
 returns-in-Err-clause-comes g c = λ first begun. inl (record { read = begun.read; idle = refl }, c.in-Err.ensures)
@@ -20,12 +20,12 @@ returns-in-Ok-read_memories-clause-comes g c =
     λ first begun.
     let is = c.in-Ok.ensures in
     let P : List MemEntry → Type 0 = λ t. DataRead first (g.F.Files.seen c.read_memories.new.files) c.args.data_.now t (Ok c.in-Ok-read_memories.memories) in
-    let read = subst P is.played.plays.table (c.in-Ok-read_memories.ensures.read first begun) in
-    inr (c.in-Ok.net, (is, inr (c.in-Ok-read_memories.memories, (read.0, (read.1, c.report_run.ensures (program_seen c.args.accepted.now) is.played)))))
+    let read = subst P is.plays.table (c.in-Ok-read_memories.ensures.read first begun) in
+    inr (c.in-Ok.net, (is, inr (c.in-Ok-read_memories.memories, (read.0, (read.1, c.report_run.ensures (program_seen c.args.accepted.now) is)))))
 
 pub returns-clause-comes : goal.returns-clause-comes
 returns-clause-comes g c =
     λ first begun.
     let is = c.in-Ok.ensures in
     let P : List MemEntry → Type 0 = λ t. DataRead first (g.F.Files.seen c.read_memories.new.files) c.args.data_.now t (Err c.in-Err-read_memories.reply) in
-    inr (c.in-Ok.net, (is, inl (subst P is.played.plays.table (c.in-Err-read_memories.ensures.read first begun), refl)))
+    inr (c.in-Ok.net, (is, inl (subst P is.plays.table (c.in-Err-read_memories.ensures.read first begun), refl)))

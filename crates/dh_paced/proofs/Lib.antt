@@ -1,0 +1,15 @@
+pub mod CoreAppended
+pub mod LevelsOfCommands
+pub mod AssignmentsLogged
+pub mod AssigningPaced
+pub mod LeavesPaced
+pub mod LanesPaced
+pub mod StoresPaced
+pub mod TestsPaced
+pub mod ChoicesPaced
+pub mod AssignedCore
+pub mod ArmsPaced
+pub mod CommandsPaced
+pub mod OwnsCommands
+pub mod ReadsHaveSites
+pub mod EachPaced

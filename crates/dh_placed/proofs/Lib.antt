@@ -1,0 +1,4 @@
+pub mod BlocksBegin
+pub mod BlocksFormed
+pub mod PhasesHeld
+pub mod BlocksPlaced

@@ -1,0 +1,2 @@
+pub mod MadeFormed
+pub mod PlacedSound

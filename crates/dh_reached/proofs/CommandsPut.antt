@@ -1,0 +1,256 @@
+-- What is put down for a whole command, by recursion on it and on what was put down for it.
+use Rattle.std.proofs.Common.{◌≡◌, ◌⊎◌, inl, inr, ℕ, zero, suc, ◌+◌, ◌-◌, ◌^◌, ◌<◌, ◌≤◌, List, Some, None, refl, sym, ap, ◌∙◌, subst, arith, length}
+use Rattle.std.specs.Prelude.{Bool as Truth, true, false, [], ◌∷◌, ◌++◌, slice_get, Option}
+use Rattle.std.proofs.lemmas.Bool.{cases_lt}
+use Rattle.dh_base.specs.declared.places.Place.{Place}
+use Rattle.dh_value.specs.declared.kinds.Kind.{Kind}
+use Rattle.dh_value.specs.declared.operators.Op.TheVariants.{Both}
+use Rattle.dh_value.specs.Operations.{truth}
+use Rattle.dh_tree.specs.Indices.{form_of}
+use Rattle.dh_tree.specs.Memories.{table_of}
+use Rattle.dh_tree.specs.PlainTrees as plain
+use Rattle.dh_tree.specs.PlainTrees.{Term, Action, action, ActionForm, lets, lets_memory, views, assigns, stores, reduces, calls, blocks, decides, repeats, counts, MaybeAction, no_action, one_action, Actions, no_actions, action_then, Groups, no_groups, group_then}
+use Rattle.dh_tree.specs.Seen.{program_seen}
+use Rattle.dh_meaning.specs.AccessNumbers.{accesses_of, form_accesses, groups_accesses, inner_accesses, other_accesses, own_accesses, part_accesses, term_accesses}
+use Rattle.dh_meaning.specs.CoreOf.{entity_number}
+use Rattle.dh_meaning.specs.Paths.{copies_in}
+use Rattle.dh_plan.specs.declared.operations.OperationForm.TheVariants.{Compute, Constant, Select}
+use Rattle.dh_expressions.specs.declared.accesses.Accesses.{Accesses}
+use Rattle.dh_expressions.specs.declared.drafts.Draft.{Draft}
+use Rattle.dh_expressions.specs.declared.paths.Level.{Level}
+use Rattle.dh_expressions.specs.declared.scenes.Around.{Around}
+use Rattle.dh_expressions.specs.declared.scenes.Scene.{Scene}
+use Rattle.dh_expressions.specs.Drafted.{Begun, Extends, Fits, Step}
+use Rattle.dh_expressions.specs.Shown.{guard_of}
+use Rattle.dh_expressions.proofs.ListPlaces.{there}
+use Rattle.dh_expressions.proofs.Pushing.{begun_later, extends_again, fits_before}
+use Rattle.dh_formed.specs.Counted.{AreNext, given_at_paths}
+use Rattle.dh_formed.specs.Formed.{Site}
+use Rattle.dh_formed.proofs.ValuesCounted.{shown_counts}
+use Rattle.dh_commands.specs.declared.assignments.Values.{Values}
+use Rattle.dh_commands.specs.declared.buildings.Building.{Building}
+use Rattle.dh_commands.specs.declared.choices.Choice.{Choice}
+use Rattle.dh_commands.specs.declared.choices.Left.{Left}
+use Rattle.dh_commands.specs.LanesRun.{lane_of, paths_counted}
+use Rattle.dh_commands.specs.MadeCommands.{Commanding, MadeActionForm, MadeActions, MadeArm, MadeArmGuard, MadeArmGuards, MadeAssigned, MadeBehind, MadeChoiceBy, MadeChoices, MadeCleared, MadeCommand, MadeGroups, MadeGuard, MadeLanes, MadeOther, MadeOutcome, MadeReduced, MadeStored, MadeTested, MadeTests}
+use Rattle.dh_commands.specs.ShownVariables.{factors_of}
+use Rattle.dh_blocks.specs.PathsOfLevels.{AreSpread}
+use Rattle.dh_laid.specs.BlockSites.{action_sites, actions_sites, all_there, command_sites, groups_sites, other_sites, target_sites, term_sites}
+use Rattle.dh_laid.specs.Laid.{aim_accesses}
+use Rattle.dh_laid.specs.LaidNumbers.{IsAccessForm, StoresReach, StoresReachForm, StoresReachGroups, StoresReachOther, StoresReachPart}
+use Rattle.dh_laid.proofs.AccessesLaid.{actions_lays, assigned_lays, cleared_lays, command_lays, groups_lays, other_lays, reduced_lays, stored_lays, term_lays, tests_lay}
+use Rattle.dh_laid.proofs.ArmsLaid.{arm_guards_form}
+use Rattle.dh_laid.proofs.ChoicesLaid.{choices_form}
+use Rattle.dh_laid.proofs.CommandsNumbered.{actions_reached, command_reached, some_arm, tests_number}
+use Rattle.dh_laid.proofs.CommandsQuiet.{stands_arm}
+use Rattle.dh_laid.proofs.ValuesLogged.{arm_long, tests_same}
+use Rattle.dh_reached.specs.IndicesKept.{ActionKeeps, ActionsKeep, CommandKeeps, FormKeeps, GroupsKeep, OtherKeeps, TermKeeps}
+use Rattle.dh_reached.specs.Puts.{AreSited, EachUse, IsUse, Put, PutsAt, PutsDown, is_write}
+use Rattle.dh_reached.specs.ReadsTold.{ActionReads, ActionsRead, BlockShares, CommandReads, GroupsRead, NoneReads, OtherReads}
+use Rattle.dh_reached.proofs.LanesPut.{AllLanes, Behind, LaneDone, all_lanes, assigned_lane, cleared_lane, reduced_lane, tested_lane}
+use Rattle.dh_reached.proofs.NoUses.{AddsNone, before_none, behind_none, down_then, none_again, none_counted, none_pushed, none_still, puts_added}
+use Rattle.dh_reached.proofs.PlacesOf.{PlacesAt, actions_long, places_back, places_front, places_long, places_there}
+use Rattle.dh_reached.specs.ReachedBlocks.{StandsSpread}
+use Rattle.dh_reached.proofs.StoresPut.{IsLast, stored_lane}
+use Rattle.dh_reached.proofs.TermsPut.{SitesAt, sites_long}
+
+-- Parts that use nothing.
+
+outcome_none : (holds : Truth) (test : ℕ) (old new : Draft) (v : ℕ) → MadeOutcome holds test old new v → AddsNone old new
+outcome_none true test old new v m = none_still old new m.0
+outcome_none false test old new v m =
+    none_again old m.first new (none_pushed old m.first m.no_value None (Constant (truth false)) m.no_made tt)
+    (none_again m.first m.second new (none_pushed m.first m.second m.yes_value None (Constant (truth true)) m.yes_made tt) (none_pushed m.second new v None (Select test m.no_value m.yes_value) m.pushes tt))
+
+guard_none : (guard : Option ℕ) (t : ℕ) (old new : Draft) (v : ℕ) → MadeGuard guard t old new v → AddsNone old new
+guard_none None t old new v m = none_still old new m.0
+guard_none (Some g) t old new v m = none_pushed old new v None (Compute Both g t) m tt
+
+pub guards_none : (holds : Truth) (guards : List (Option ℕ)) (tests : List ℕ) (count : ℕ) (old new : Draft) (arm : List (Option ℕ)) → MadeArmGuards holds guards tests count old new arm → AddsNone old new
+guards_none holds guards tests zero old new arm m = none_still old new m.0
+guards_none holds guards tests (suc n) old new arm m = none_again old m.0 new (guards_none holds guards tests n old m.0 m.1.0 m.1.1.1.1.0) (one m.0 m.1.1.0 m.1.1.1.0 m.1.1.1.1.1.1.0)
+  where
+    one : (d : Draft) (test v : ℕ) → MadeArmGuard holds (guard_of guards n) test d new v → AddsNone d new
+    one d test v g = none_again d g.middle new (outcome_none holds test d g.middle g.outcome g.comes_out) (guard_none (guard_of guards n) g.outcome g.middle new v g.joins)
+
+behind_shows : (current : List (Option ℕ)) (register : ℕ) (o : Option ℕ) (old new : Draft) (v : ℕ) → MadeBehind current register o old new v → AddsNone old new
+behind_shows current register None old new v m = none_counted old new 0 _ _ (shown_counts (λ r. Unit {0}) (λ r. Unit {0}) (λ r. ⊥) (λ r. ⊥) current register tt old new v m)
+behind_shows current register (Some value) old new v m = none_still old new m.0
+
+choice_none : (o : Option ℕ) (c : Choice) (old new : Draft) (before after : Values) → MadeChoiceBy o c old new before after → AddsNone old new
+choice_none None c old new before after m = none_still old new m.0
+choice_none (Some test) c old new before after m =
+    none_again old m.first new (behind_shows before.current.items c.register c.chosen old m.first m.yes_value m.chosen)
+    (none_again m.first m.second new (behind_shows before.current.items c.register c.other m.first m.second m.no_value m.other) (none_pushed m.second new m.value None (Select test m.yes_value m.no_value) m.pushes tt))
+
+pub choices_none : (tests : List ℕ) (choices : List Choice) (count : ℕ) (old new : Draft) (before after : Values) → MadeChoices tests choices count old new before after → AddsNone old new
+choices_none tests choices zero old new before after m = none_still old new m.0
+choices_none tests choices (suc n) old new before after m =
+    none_again old m.0 new (choices_none tests choices n old m.0 before m.1.0 m.1.1.1.0) (choice_none (slice_get tests (m.1.1.0).path) m.1.1.0 m.0 new m.1.0 after m.1.1.1.1.1)
+
+-- tests as what is done at paths
+tests_lanes : (scene : Scene) (around : Around) (first : ℕ) (t : Term) (count : ℕ) (old new : Building) (next : ℕ) (tests : List ℕ) → MadeTests scene around first t count old new next tests
+    → MadeLanes (λ n b d k. (v : ℕ) × MadeTested scene (lane_of around n) first t b d k v) count first old new next
+tests_lanes scene around first t zero old new next tests m = (m.0, m.1.0)
+tests_lanes scene around first t (suc n) old new next tests m = (m.0, (m.1.0, (tests_lanes scene around first t n old m.0 m.1.0 m.1.1.0 m.1.1.1.1.0, (m.1.1.1.0, m.1.1.1.1.1.0))))
+
+pub spread_arm : (scene : Scene) (Inner : Commanding) (around : Around) (holds : Truth) (tests : List ℕ) (old new : Building) (first next : ℕ) (lefts : List Left) (m : MadeArm Inner around holds tests old new first next lefts)
+    → StandsSpread scene around → length tests ≡ paths_counted around → StandsSpread scene m.arm
+spread_arm scene Inner around holds tests old new first next lefts m s many = record {
+  stands = stands_arm scene Inner around holds tests old new first next lefts m s.stands many;
+  some = subst (λ (n : ℕ). 0 < n) (sym (paths_same Inner around holds tests old new first next lefts m many)) s.some;
+  few = subst (λ (n : ℕ). n < 2 ^ 32) (sym (paths_same Inner around holds tests old new first next lefts m many)) s.few;
+  spread = subst (λ (ls : List Level). AreSpread ls) (sym m.levels) s.spread;
+  counted = paths_same Inner around holds tests old new first next lefts m many ∙ (s.counted ∙ ap (λ (ls : List Level). copies_in (factors_of ls)) (sym m.levels));
+}
+  where
+    paths_same : (Inner : Commanding) (around : Around) (holds : Truth) (tests : List ℕ) (old new : Building) (first next : ℕ) (lefts : List Left) (m : MadeArm Inner around holds tests old new first next lefts)
+        → length tests ≡ paths_counted around → paths_counted m.arm ≡ paths_counted around
+    paths_same Inner around holds tests old new first next lefts m many = arm_long holds around.guards.now tests (length tests) old.draft m.guarded m.arm.guards.now m.guards ∙ many
+
+pub arm_paths : (Inner : Commanding) (around : Around) (holds : Truth) (tests : List ℕ) (old new : Building) (first next : ℕ) (lefts : List Left) (m : MadeArm Inner around holds tests old new first next lefts)
+    → length tests ≡ paths_counted around → paths_counted m.arm ≡ paths_counted around
+arm_paths Inner around holds tests old new first next lefts m many = arm_long holds around.guards.now tests (length tests) old.draft m.guarded m.arm.guards.now m.guards ∙ many
+
+-- Whole commands.
+
+module _ (x : Step) (sites : ℕ → Option Site) where
+  each_any : (us : List Put) → EachUse (λ u r. Unit {0}) us
+  each_any [] = tt
+  each_any (u ∷ us) = (λ r at. tt, each_any us)
+
+  each_written : (us : List Put) → EachUse (λ u r. is_write u → Unit {0}) us
+  each_written [] = tt
+  each_written (u ∷ us) = (λ r at w. tt, each_written us)
+
+  loose : (first count : ℕ) (old new : Draft) → PutsDown x sites first count old new → PutsAt x sites first count (λ n. Unit {0}) (λ n. Unit {0}) old new
+  loose first count old new h = record { down = h; at = each_any h.puts; written = each_written h.puts }
+
+  down_none : (first : ℕ) (old new : Draft) → AddsNone old new → PutsDown x sites first 0 old new
+  down_none first old new h = (puts_added x sites first 0 (λ n. Unit {0}) (λ n. Unit {0}) old new h).down
+
+  pub down_behind : (first count : ℕ) (a b c : Draft) → AddsNone a b → PutsDown x sites first count b c → PutsDown x sites first count a c
+  down_behind first count a b c h k = (behind_none x sites first count (λ n. Unit {0}) (λ n. Unit {0}) a b c h (loose first count b c k)).down
+
+  pub down_before : (first count : ℕ) (a b c : Draft) → PutsDown x sites first count a b → AddsNone b c → PutsDown x sites first count a c
+  down_before first count a b c h k = (before_none x sites first count (λ n. Unit {0}) (λ n. Unit {0}) a b c (loose first count a b h) k).down
+
+module _ (x : Step) (sites : ℕ → Option Site) (scene : Scene) (table : x.start.table ≡ table_of (program_seen scene.program.now)) (IsRead : ℕ → Type 0) (paths : ℕ) (some : 0 < paths) (shares : BlockShares IsRead scene sites) where
+  abbrev pub Stood : Accesses → (upto : ℕ) → Type 0
+  Stood a upto = Behind x sites scene table IsRead paths a upto
+
+  -- what is put down for accesses from a first one on, so many
+  pub record CommandPut (first count : ℕ) (old new : Building) : Type 0 where
+    pub down : PutsDown x sites first count old.draft new.draft
+    pub behind : Stood new.accesses (first + count)
+
+  pub put_as : (first a b : ℕ) (old new : Building) → a ≡ b → CommandPut first a old new → CommandPut first b old new
+  put_as first a b old new same h = subst (λ (c : ℕ). CommandPut first c old new) same h
+
+  pub put_then : (first a b : ℕ) (old mid new : Building) → CommandPut first a old mid → CommandPut (first + a) b mid new → CommandPut first (a + b) old new
+  put_then first a b old mid new h k = record {
+    down = down_then x sites first a b old.draft mid.draft new.draft h.down k.down;
+    behind = subst (λ (n : ℕ). Stood new.accesses n) (let e : first + a + b ≡ first + (a + b) = omega arith in e) k.behind;
+  }
+
+  -- a loop that has no turn, with accesses that have no operations; or nothing at all
+  pub put_idle : (first count : ℕ) (old new : Building) → new ≡ old → NoneReads IsRead first count → Stood old.accesses first → CommandPut first count old new
+  put_idle first count old new still none h = record {
+    down = (puts_added x sites first count (λ n. Unit {0}) (λ n. Unit {0}) old.draft new.draft (none_still old.draft new.draft (ap (λ (b : Building). b.draft) still))).down;
+    behind = subst (λ (b : Building). Stood b.accesses (first + count)) (sym still) (record {
+      sited = h.sited;
+      given = λ e is below. by e is below (cases_lt e first);
+      fresh = λ m s at more. h.fresh m s at (omega (arith, more));
+    });
+  }
+    where
+      by : (e : ℕ) → IsRead e → e < first + count → (e < first) ⊎ (first ≤ e) → paths ≤ given_at_paths old.accesses e
+      by e is below (inl less) = h.given e is less
+      by e is below (inr from) = absurd (none e from below is)
+
+  pub put_none : (first : ℕ) (old new : Building) → new ≡ old → Stood old.accesses first → CommandPut first 0 old new
+  put_none first old new still h = put_idle first 0 old new still (λ e from below is. absurd (never e from below)) h
+    where
+      never : (e : ℕ) → first ≤ e → e < first + 0 → ⊥
+      never e from below = omega (arith, from, below)
+
+  -- Commands without arms.
+
+  module _ (around : Around) (stands : StandsSpread scene around) (same : paths_counted around ≡ paths) (first : ℕ) (old new : Building) (f : Fits x new.draft) (b : Begun x old.draft) (h : Stood old.accesses first) where
+    -- at each of so many numbers a site is
+    sites_are : (ss : List Site) (count : ℕ) → count ≤ length ss → SitesAt sites first ss → (m : ℕ) → first ≤ m → m < first + count → (s : Site) × (sites m ≡ Some s)
+    sites_are ss count few at m from below =
+        let s = there ss (m - first) (omega (arith, few, from, below)) in
+        (s.0, ap sites (let e : m ≡ first + (m - first) = omega (arith, from) in e) ∙ at (m - first) s.0 s.1)
+
+    nothing_one : (i j : ℕ) → ⊥ → ⊥ → i ≡ j
+    nothing_one i j w v = absurd w
+
+    no_rest : (count : ℕ) (e : ℕ) → first + count ≤ e → e < first + count → IsRead e → ⊥
+    no_rest count e more below is = omega (arith, more, below)
+
+    term_put : (t : Term) (One : ℕ → (b d : Building) → ℕ → Type 0) → ((n : ℕ) (b d : Building) (k : ℕ) → One n b d k → Extends b.draft d.draft)
+        → ((n : ℕ) (b d : Building) (k : ℕ) → n < paths_counted around → One n b d k → Fits x d.draft → Begun x b.draft → AreSited x sites b.accesses → AreNext scene (lane_of around n) b.accesses first (term_accesses t)
+        → LaneDone x sites scene table IsRead paths around n first (term_accesses t) (term_accesses t) (λ i. ⊥) b d)
+        → SitesAt sites first (term_sites scene around t) → (next : ℕ) → MadeLanes One (paths_counted around) first old new next → CommandPut first (term_accesses t) old new
+    term_put t One extends step at next m =
+        let l = all_lanes x sites scene table IsRead paths around same shares first (term_accesses t) (term_accesses t) (omega arith) (λ i. ⊥) nothing_one One extends step old h
+        (sites_are (term_sites scene around t) (term_accesses t) (let e = sites_long scene around t in omega (arith, e)) at) b new next m f (no_rest (term_accesses t)) in
+        record { down = l.down; behind = l.behind }
+
+    pub assigned_put : (entity : ℕ) (t : Term) (next : ℕ) → MadeLanes (λ n b d k. MadeAssigned scene (lane_of around n) first entity t b d k) (paths_counted around) first old new next
+        → first + term_accesses t < 2 ^ 32 → SitesAt sites first (term_sites scene around t) → TermKeeps x scene around.levels.now t → CommandPut first (term_accesses t) old new
+    assigned_put entity t next m few at keeps =
+        term_put t (λ n b d k. MadeAssigned scene (lane_of around n) first entity t b d k) (λ n b d k one. (assigned_lays scene (lane_of around n) stands.stands first entity t b d k one).extends)
+        (λ n b d k less one fd bd sited next. assigned_lane x sites scene table IsRead paths around stands n less first entity t b d k one few at keeps fd bd sited next) at next m
+
+    pub reduced_put : (entity : ℕ) (op : _) (t : Term) (next : ℕ) → MadeLanes (λ n b d k. MadeReduced scene (lane_of around n) first entity op t b d k) (paths_counted around) first old new next
+        → first + term_accesses t < 2 ^ 32 → SitesAt sites first (term_sites scene around t) → TermKeeps x scene around.levels.now t → CommandPut first (term_accesses t) old new
+    reduced_put entity op t next m few at keeps =
+        term_put t (λ n b d k. MadeReduced scene (lane_of around n) first entity op t b d k) (λ n b d k one. (reduced_lays scene (lane_of around n) stands.stands first entity op t b d k one).extends)
+        (λ n b d k less one fd bd sited next. reduced_lane x sites scene table IsRead paths around stands n less first entity op t b d k one few at keeps fd bd sited next) at next m
+
+    pub tests_put : (t : Term) (next : ℕ) (tests : List ℕ) → MadeTests scene around first t (paths_counted around) old new next tests
+        → first + term_accesses t < 2 ^ 32 → SitesAt sites first (term_sites scene around t) → TermKeeps x scene around.levels.now t → CommandPut first (term_accesses t) old new
+    tests_put t next tests m few at keeps =
+        term_put t (λ n b d k. (v : ℕ) × MadeTested scene (lane_of around n) first t b d k v)
+        (λ n b d k one. (term_lays scene (lane_of around n) stands.stands b.values.current.items t b.draft d.draft b.accesses d.accesses first k one.0 (one.1).term).extends)
+        (λ n b d k less one fd bd sited next. tested_lane x sites scene table IsRead paths around stands n less first t b d k one.0 one.1 few at keeps fd bd sited next) at next
+        (tests_lanes scene around first t (paths_counted around) old new next tests m)
+
+    pub cleared_put : (entity : ℕ) (next : ℕ) → MadeLanes (λ n b d k. MadeCleared scene (lane_of around n) entity b d × (k ≡ first)) (paths_counted around) first old new next → CommandPut first 0 old new
+    cleared_put entity next m =
+        let l = all_lanes x sites scene table IsRead paths around same shares first 0 0 (omega arith) (λ i. ⊥) nothing_one (λ n b d k. MadeCleared scene (lane_of around n) entity b d × (k ≡ first))
+        (λ n b d k one. (cleared_lays scene (lane_of around n) stands.stands entity b d one.0).extends)
+        (λ n b d k less one fd bd sited next. cleared_lane x sites scene table IsRead paths around stands n less first entity b d one.0 sited) old h
+        (λ m from below. absurd (never m from below)) b new next m f (no_rest 0) in
+        record { down = l.down; behind = l.behind }
+      where
+        never : (m : ℕ) → first ≤ m → m < first + 0 → ⊥
+        never m from below = omega (arith, from, below)
+
+    pub stored_put : (place : Place) (j : Option Kind) (form : plain.TermForm) (t : Term) (next : ℕ) → MadeLanes (λ n b d k. MadeStored scene (lane_of around n) first (plain.term place j form) t b d k) (paths_counted around) first old new next
+        → IsAccessForm form → first + (term_accesses t + form_accesses form) < 2 ^ 32 → SitesAt sites first (term_sites scene around t ++ target_sites scene around (plain.term place j form))
+        → TermKeeps x scene around.levels.now t → FormKeeps x scene around.levels.now form → (IsRead (first + (term_accesses t + aim_accesses form)) → ⊥)
+        → length (term_sites scene around t ++ target_sites scene around (plain.term place j form)) ≡ term_accesses t + form_accesses form → aim_accesses form + 1 ≡ form_accesses form
+        → CommandPut first (term_accesses t + form_accesses form) old new
+    stored_put place j form t next m is few at keeps target_keeps written long aims =
+        put_as first (term_accesses t + aim_accesses form + 1) (term_accesses t + form_accesses form) old new (omega (arith, aims)) (record { down = l.down; behind = l.behind })
+      where
+        reads : ℕ
+        reads = term_accesses t + aim_accesses form
+
+        one_last : (i k : ℕ) → IsLast first (term_accesses t + aim_accesses form) i → IsLast first (term_accesses t + aim_accesses form) k → i ≡ k
+        one_last i k p q = p ∙ sym q
+
+        rest : (e : ℕ) → first + (term_accesses t + aim_accesses form) ≤ e → e < first + (term_accesses t + aim_accesses form + 1) → IsRead e → ⊥
+        rest e more below is_read = written (subst (λ (i : ℕ). IsRead i) (let s : e ≡ first + (term_accesses t + aim_accesses form) = omega (arith, more, below) in s) is_read)
+
+        l : AllLanes x sites scene table IsRead paths around same shares first (term_accesses t + aim_accesses form + 1) (term_accesses t + aim_accesses form) (omega arith) (IsLast first (term_accesses t + aim_accesses form)) one_last
+            (λ n b d k. MadeStored scene (lane_of around n) first (plain.term place j form) t b d k) (λ n b d k one. (stored_lays scene (lane_of around n) stands.stands first (plain.term place j form) t b d k one).extends)
+            (λ n b d k less one fd bd sited next. stored_lane x sites scene table IsRead paths around stands n less t first b d place j form k is one few at keeps target_keeps fd bd sited next) old h
+            (sites_are (term_sites scene around t ++ target_sites scene around (plain.term place j form)) (term_accesses t + aim_accesses form) (omega (arith, long, aims)) at) b new
+        l = all_lanes x sites scene table IsRead paths around same shares first (term_accesses t + aim_accesses form + 1) (term_accesses t + aim_accesses form) (omega arith) (IsLast first (term_accesses t + aim_accesses form)) one_last
+            (λ n b d k. MadeStored scene (lane_of around n) first (plain.term place j form) t b d k) (λ n b d k one. (stored_lays scene (lane_of around n) stands.stands first (plain.term place j form) t b d k one).extends)
+            (λ n b d k less one fd bd sited next. stored_lane x sites scene table IsRead paths around stands n less t first b d place j form k is one few at keeps target_keeps fd bd sited next) old h
+            (sites_are (term_sites scene around t ++ target_sites scene around (plain.term place j form)) (term_accesses t + aim_accesses form) (omega (arith, long, aims)) at) b new next m f rest

@@ -1,0 +1,12 @@
+pub mod PutLists
+pub mod NoUses
+pub mod IndicesReach
+pub mod ReadsPut
+pub mod TermsPut
+pub mod LanesPut
+pub mod StoresPut
+pub mod PlacesOf
+pub mod CommandsPut
+pub mod CommandsDown
+pub mod BlocksPut
+pub mod StepKeeps

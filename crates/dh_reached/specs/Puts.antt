@@ -1,0 +1,88 @@
+-- What is put down for a block, in order, each operation for a path: which accesses it reads and writes, where these
+-- stand, on which bank and with which place. It is told of one step in which the block is done.
+use Rattle.std.specs.Prelude.{◌≡◌, ◌⊎◌, ℕ, ◌+◌, ◌<◌, ◌≤◌, ◌^◌, List, [], ◌∷◌, ◌++◌, length, map, Option, Some}
+use Rattle.std.specs.List.{AllByRecursion}
+use Rattle.dh_tree.specs.Elements.{Spot}
+use Rattle.dh_plan.specs.declared.operations.Operation.{Operation}
+use Rattle.dh_plan.specs.declared.operations.Reach.{Reach}
+use Rattle.dh_plan.specs.Blocks.{spot_of_reach}
+use Rattle.dh_plan.specs.SoundPlans.{use_in, writes_memory}
+use Rattle.dh_expressions.specs.declared.accesses.Accesses.{Accesses}
+use Rattle.dh_expressions.specs.declared.accesses.Touched.{Touched}
+use Rattle.dh_expressions.specs.declared.drafts.Draft.{Draft}
+use Rattle.dh_expressions.specs.Copying.{AreNone, DoneBy, leaders_at}
+use Rattle.dh_expressions.specs.Drafted.{Step, holds}
+use Rattle.dh_expressions.specs.Noted.{touched_in}
+use Rattle.dh_expressions.specs.Numbers.{narrowed}
+use Rattle.dh_expressions.specs.Standings.{IsTouched}
+use Rattle.dh_formed.specs.Formed.{Site}
+
+-- an operation, and the path for which it was put down
+pub record Put : Type 0 where
+  pub operation : Operation
+  pub path : ℕ
+
+abbrev pub used : Put → Option Reach
+used u = use_in u.operation.form
+
+abbrev pub is_write : Put → Type 0
+is_write u = writes_memory u.operation.form
+
+abbrev pub operations_of : List Put → List Operation
+operations_of us = map (λ (u : Put). u.operation) us
+
+-- so of all that read or write
+abbrev pub EachUse : (Put → Reach → Type 0) → List Put → Type 0
+EachUse P us = AllByRecursion (λ u. (r : Reach) → used u ≡ Some r → P u r) us
+
+-- Uses.
+
+-- A read or a write, in a step: of an access that stands in the block, by a path that leads, on the bank of that path
+-- behind the leaders before it. Where its guard holds that of a path does which it leads, and where it is in range it
+-- reaches the bank that it lists.
+pub record IsUse (x : Step) (sites : ℕ → Option Site) (u : Put) (r : Reach) : Type 0 where
+  pub site : Site
+  pub there : sites r.access ≡ Some site
+  pub memory_is : r.memory ≡ narrowed site.memory
+  pub within : u.path < length site.standing.guards
+  pub few : length site.standing.guards < 2 ^ 32
+  pub leads : site.standing.leader u.path ≡ u.path
+  pub banks_are : r.banks ≡ (site.standing.bank u.path, narrowed (leaders_at site.standing.leader site.standing.bank (site.standing.bank u.path) u.path)) ∷ []
+  pub done : holds x u.operation.guard → DoneBy x site.standing.leader site.standing.guards (length site.standing.guards) u.path
+  pub reached : (spot : Spot) → spot_of_reach x.start x.first x.words r ≡ Some spot → spot.bank ≡ site.standing.bank u.path
+
+-- Order.
+
+-- of two uses of one access the earlier is for an earlier path; of two writes it is of an earlier access, or that
+pub record GoesBefore (a b : Put) (r t : Reach) : Type 0 where
+  pub rises : r.access ≡ t.access → a.path < b.path
+  pub writes : is_write a → is_write b → (r.access < t.access) ⊎ ((r.access ≡ t.access) × (a.path < b.path))
+
+abbrev pub Goes : Put → Put → Type 0
+Goes a b = (r t : Reach) → used a ≡ Some r → used b ≡ Some t → GoesBefore a b r t
+
+abbrev pub AreInOrder : List Put → Type 0
+AreInOrder [] = Unit {0}
+AreInOrder (u ∷ us) = AllByRecursion (Goes u) us × AreInOrder us
+
+-- Parts of a block.
+
+-- what was added uses accesses from a first one on, so many, in order
+pub record PutsDown (x : Step) (sites : ℕ → Option Site) (first count : ℕ) (old new : Draft) : Type 0 where
+  pub puts : List Put
+  pub adds : new.operations.items ≡ old.operations.items ++ operations_of puts
+  pub uses : EachUse (IsUse x sites) puts
+  pub within : EachUse (λ u r. (first ≤ r.access) × (r.access < first + count)) puts
+  pub order : AreInOrder puts
+
+-- the same at the paths before one, or at one alone; the accesses that are written are told
+pub record PutsAt (x : Step) (sites : ℕ → Option Site) (first count : ℕ) (IsAt : (path : ℕ) → Type 0) (IsWritten : (access : ℕ) → Type 0) (old new : Draft) : Type 0 where
+  pub down : PutsDown x sites first count old new
+  pub at : EachUse (λ u r. IsAt u.path) down.puts
+  pub written : EachUse (λ u r. is_write u → IsWritten r.access) down.puts
+
+-- Accesses with operations are as they stand, in this step.
+pub record AreSited (x : Step) (sites : ℕ → Option Site) (a : Accesses) : Type 0 where
+  pub touched : (number : ℕ) (t : Touched) (s : Site) → touched_in a number ≡ Some t → sites number ≡ Some s → IsTouched x s.standing t
+  pub there : (number : ℕ) (s : Site) → sites number ≡ Some s → number < length a.touched.items
+  pub none : AreNone a.counts.items

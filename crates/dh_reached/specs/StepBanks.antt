@@ -1,0 +1,36 @@
+-- In a step that does a block each operation reaches the bank that it lists, and no two reach one with one place; accesses
+-- that never meet do not both reach one; and writes stand in order.
+use Rattle.std.specs.Prelude.{◌≡◌, ℕ, ◌<◌, ◌^◌, List, [], ◌∷◌, length, Option, Some}
+use Rattle.dh_tree.specs.Meets.{Apart, Before, In, Meets}
+use Rattle.dh_plan.specs.PlainPlans.{PlainPlan, operations_in}
+use Rattle.dh_plan.specs.PlanRuns.{start_at}
+use Rattle.dh_plan.specs.SoundPlans.{KeepsBanks}
+use Rattle.dh_expressions.specs.Copying.{DoneBy}
+use Rattle.dh_expressions.specs.Drafted.{Step}
+use Rattle.dh_formed.specs.Formed.{Site}
+use Rattle.dh_blocks.specs.BlockMade.{step_of}
+use Rattle.dh_reached.specs.Puts.{AreInOrder, EachUse, IsUse, Put, operations_of}
+
+-- What a block reads and writes in a step, whole.
+pub record BlockUses (plan : PlainPlan) (block : ℕ) (x : Step) (sites : ℕ → Option Site) : Type 0 where
+  pub puts : List Put
+  pub all : operations_in plan block ≡ operations_of puts
+  pub uses : EachUse (IsUse x sites) puts
+  pub order : AreInOrder puts
+
+-- accesses in a tree stand in the order of their numbers
+abbrev pub StandInOrder : Meets → Type 0
+StandInOrder t = (a b : ℕ) → In a t → In b t → a < b → Before t a b
+
+-- of two accesses that never meet one at most is done
+abbrev pub NeverBoth : Meets → Step → (sites : ℕ → Option Site) → Type 0
+NeverBoth meets x sites =
+    (j k m n : ℕ) (s t : Site) → sites j ≡ Some s → sites k ≡ Some t → Apart meets j k
+    → DoneBy x s.standing.leader s.standing.guards (length s.standing.guards) m → DoneBy x t.standing.leader t.standing.guards (length t.standing.guards) n → ⊥
+
+-- so such a step keeps the banks; each access of the block is one of those of the plan
+abbrev pub BlocksKeepBanks : Type 0
+BlocksKeepBanks =
+    (plan : PlainPlan) (block : ℕ) (registers : List ℕ) (memories : List (List ℕ)) (sites : ℕ → Option Site)
+    → BlockUses plan block (step_of plan block registers memories) sites → StandInOrder plan.meets → ((number : ℕ) (s : Site) → sites number ≡ Some s → In number plan.meets)
+    → NeverBoth plan.meets (step_of plan block registers memories) sites → KeepsBanks plan (start_at plan registers memories) (block ∷ [])

@@ -1,0 +1,3 @@
+pub mod LevelsOfLoops
+pub mod SitesOfPlan
+pub mod NodesCharge

@@ -1,0 +1,2 @@
+-- charges of a plan
+pub mod SpentPlans
