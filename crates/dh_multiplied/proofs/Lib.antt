@@ -1,3 +1,2 @@
-pub mod TestsMultiply
 pub mod StraightsMultiply
 pub mod NodesMultiply

@@ -1,6 +1,7 @@
 -- The multiplications of the commands of a block: those of the program's core, and what was put down for them.
 use Rattle.std.proofs.Common.{◌≡◌, ℕ, ◌+◌, ◌*◌, ◌≤◌, List, [], ◌∷◌, ◌++◌, Some, None, refl, ap, sym, ◌∙◌, subst, arith}
 use Rattle.std.specs.List.{AllByRecursion}
+use Rattle.std.proofs.Math.Nat.{add-mul}
 use Rattle.std.proofs.lemmas.List.{append-nil}
 use Rattle.dh_tree.specs.PlainTrees.{Action, action, lets, lets_memory, views, assigns, stores, reduces, calls, blocks, decides, repeats, counts, MaybeAction, no_action, one_action, Actions, no_actions, action_then, Groups, no_groups, group_then}
 use Rattle.dh_meaning.specs.AccessNumbers.{accesses_of, part_accesses, term_accesses}
@@ -17,9 +18,8 @@ use Rattle.dh_laid.specs.BlockSites.{MadeEach}
 use Rattle.dh_laid.specs.LaidNumbers.{StoresReach, StoresReachGroups, StoresReachOther, StoresReachPart}
 use Rattle.dh_laid.specs.LaidProducts.{AddsProducts, action_products, groups_products, other_products, part_products, products_in}
 use Rattle.dh_laid.specs.LaidQuiet.{StandsIn}
-use Rattle.dh_laid.proofs.CommandsMultiply.{commands_have_products}
+use Rattle.dh_laid.proofs.CommandsMultiply.{commands_have_products, products_again}
 use Rattle.dh_laid.proofs.ProductsOfCore.{commands_multiply, terms_multiply}
-use Rattle.dh_multiplied.proofs.TestsMultiply.{products_again}
 
 -- Loops without phases in a command are none of its core, and nothing is put down for them.
 
