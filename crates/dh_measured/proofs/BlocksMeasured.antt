@@ -151,11 +151,13 @@ module _ (x : Block) (scene : Scene) (around : Around) (rounds : List Round) whe
             free (inr b) g = b
 
         by : (b : Truth) → term_mentions e (core_term (known_in scene) first t) ≡ b → AssignsTo scene around e first t
-        by true m =
-            (seen.no_counter, inl (own e (record {
-          seen = seen;
-          full = term_names scene (table_of (program_seen scene.program.now)) (Names touched) (λ (d : ℕ). counter_of scene d ≡ None → length around.levels.now ≤ depth_in scene d) full first t sound e m seen.no_counter;
-        })))
+        by true m = (
+          seen.no_counter,
+          inl (own e (record {
+            seen = seen;
+            full = term_names scene (table_of (program_seen scene.program.now)) (Names touched) (λ (d : ℕ). counter_of scene d ≡ None → length around.levels.now ≤ depth_in scene d) full first t sound e m seen.no_counter;
+          })),
+        )
         by false m = (seen.no_counter, inr m)
 
     command_own : (c : Located) → FitsAlone x scene around rounds c → AssignsOwn scene around c.first c.command
@@ -206,25 +208,25 @@ given_none (o ∷ os) none register value e = never (given_at (o ∷ os) registe
 pub made_straights_are_long : MadeStraightsAreLong
 made_straights_are_long scene plan count final rounds ls block shared m s =
     straights_are_long plan block scene m.around count shared ls m.before m.between m.after.draft m.made (record {
-  whole = record { cut = s.cut; ordered = (made_straights_are_formed scene plan count final rounds ls block m s.cut s.registers s.stands fits).ordered; extends = sets_extend m.between m.after m.sets; unread = sets_unread m.between m.after m.sets };
-  begins = record {
-    some = s.stands.some;
-    round = round_begins x m.before.draft scene m.around m.round.paths m.round.guards m.stands_in;
-    free = λ path guard e. none_at m.round.paths path guard (ap (λ (gs : List (Option ℕ)). slice_get gs path) (sym m.round.guards) ∙ e);
-    noted = noted_begins x m.before.draft m.before.accesses (bare_sites scene m.around ls m.before m.between m.made m.before.accesses reaches m.bare) m.counts;
-    held = held_begins x m.before.draft m.before.values m.stands.clear (registers_within plan final _ s.registers m.stands.variables);
-    given = given_none m.before.values.current.items m.stands.clear.none;
-    long = m.stands.variables ∙ sym s.counted;
-    bare = λ number t e. (bare_sites scene m.around ls m.before m.between m.made m.before.accesses reaches m.bare number t e).1;
-  };
-  bare = bare_each m.before.accesses ls m.bare;
-  suits = each_suits x scene m.around ls m.before m.between m.made (made_commands_suit x scene count m.around rounds ls m.before m.between m.made refl s.stands fits m.rising).1;
-  reaches = reaches;
-  rising = m.rising;
-  assigns_own = each_own x scene m.around rounds count s.stands m.stands_in ls s.fits;
-  variables = have_registers x scene m.around rounds count s.stands m.stands_in (λ e. commands_mention e (core_commands (known_in scene) ls) ≡ true) (each_seen x scene m.around rounds ls fits);
-  shares = s.shares;
-})
+      whole = record { cut = s.cut; ordered = (made_straights_are_formed scene plan count final rounds ls block m s.cut s.registers s.stands fits).ordered; extends = sets_extend m.between m.after m.sets; unread = sets_unread m.between m.after m.sets };
+      begins = record {
+        some = s.stands.some;
+        round = round_begins x m.before.draft scene m.around m.round.paths m.round.guards m.stands_in;
+        free = λ path guard e. none_at m.round.paths path guard (ap (λ (gs : List (Option ℕ)). slice_get gs path) (sym m.round.guards) ∙ e);
+        noted = noted_begins x m.before.draft m.before.accesses (bare_sites scene m.around ls m.before m.between m.made m.before.accesses reaches m.bare) m.counts;
+        held = held_begins x m.before.draft m.before.values m.stands.clear (registers_within plan final _ s.registers m.stands.variables);
+        given = given_none m.before.values.current.items m.stands.clear.none;
+        long = m.stands.variables ∙ sym s.counted;
+        bare = λ number t e. (bare_sites scene m.around ls m.before m.between m.made m.before.accesses reaches m.bare number t e).1;
+      };
+      bare = bare_each m.before.accesses ls m.bare;
+      suits = each_suits x scene m.around ls m.before m.between m.made (made_commands_suit x scene count m.around rounds ls m.before m.between m.made refl s.stands fits m.rising).1;
+      reaches = reaches;
+      rising = m.rising;
+      assigns_own = each_own x scene m.around rounds count s.stands m.stands_in ls s.fits;
+      variables = have_registers x scene m.around rounds count s.stands m.stands_in (λ e. commands_mention e (core_commands (known_in scene) ls) ≡ true) (each_seen x scene m.around rounds ls fits);
+      shares = s.shares;
+    })
   where
     x : Block
     x = block_of plan block (block_sites scene m.around ls m.before m.between m.made)
@@ -240,32 +242,32 @@ made_straights_are_long scene plan count final rounds ls block shared m s =
 pub made_tests_are_long : MadeTestsAreLong
 made_tests_are_long scene plan count final rounds n t flag block shared m s =
     tests_are_long plan block scene m.around count shared n t m.before m.between m.after.draft m.next m.tests (record {
-  made = m.made;
-  whole = record {
-    cut = s.cut;
-    ordered = (made_tests_are_formed scene plan count final rounds s.touched n t flag block m s.cut s.registers s.stands s.sound s.typed s.truth).ordered;
-    extends = flag_extends (is_read_term t) m.between.draft m.after.draft m.value flag m.adds;
-    unread = flag_unread (is_read_term t) m.between.draft m.after.draft m.value flag m.adds;
-  };
-  begins = record {
-    some = s.stands.some;
-    round = round_begins x m.before.draft scene m.around m.round.paths m.round.guards m.stands_in;
-    free = λ path guard e. none_at m.round.paths path guard (ap (λ (gs : List (Option ℕ)). slice_get gs path) (sym m.round.guards) ∙ e);
-    noted = noted_begins x m.before.draft m.before.accesses (bare_test scene m.around n t m.before.accesses m.bare) m.counts;
-    held = held_begins x m.before.draft m.before.values m.stands.clear (registers_within plan final _ s.registers m.stands.variables);
-    given = given_none m.before.values.current.items m.stands.clear.none;
-    long = m.stands.variables ∙ sym s.counted;
-    bare = λ number q e. (bare_test scene m.around n t m.before.accesses m.bare number q e).1;
-  };
-  bare = λ number among. bare_in m.before.accesses n (term_accesses t) number m.bare among;
-  suits = (
-    s.truth,
-    λ i l. term_suits x scene count m.around rounds s.touched s.stands t n s.sound s.typed (test_has (test_sites scene m.around n t) n (term_sites scene m.around t) (λ number. refl)) i l,
-  );
-  few = m.few;
-  variables = have_registers x scene m.around rounds count s.stands m.stands_in (λ e. term_mentions e (core_term (known_in scene) n t) ≡ true) (term_seen x scene m.around rounds s.touched n t s.sound);
-  shares = s.shares;
-})
+      made = m.made;
+      whole = record {
+        cut = s.cut;
+        ordered = (made_tests_are_formed scene plan count final rounds s.touched n t flag block m s.cut s.registers s.stands s.sound s.typed s.truth).ordered;
+        extends = flag_extends (is_read_term t) m.between.draft m.after.draft m.value flag m.adds;
+        unread = flag_unread (is_read_term t) m.between.draft m.after.draft m.value flag m.adds;
+      };
+      begins = record {
+        some = s.stands.some;
+        round = round_begins x m.before.draft scene m.around m.round.paths m.round.guards m.stands_in;
+        free = λ path guard e. none_at m.round.paths path guard (ap (λ (gs : List (Option ℕ)). slice_get gs path) (sym m.round.guards) ∙ e);
+        noted = noted_begins x m.before.draft m.before.accesses (bare_test scene m.around n t m.before.accesses m.bare) m.counts;
+        held = held_begins x m.before.draft m.before.values m.stands.clear (registers_within plan final _ s.registers m.stands.variables);
+        given = given_none m.before.values.current.items m.stands.clear.none;
+        long = m.stands.variables ∙ sym s.counted;
+        bare = λ number q e. (bare_test scene m.around n t m.before.accesses m.bare number q e).1;
+      };
+      bare = λ number among. bare_in m.before.accesses n (term_accesses t) number m.bare among;
+      suits = (
+        s.truth,
+        λ i l. term_suits x scene count m.around rounds s.touched s.stands t n s.sound s.typed (test_has (test_sites scene m.around n t) n (term_sites scene m.around t) (λ number. refl)) i l,
+      );
+      few = m.few;
+      variables = have_registers x scene m.around rounds count s.stands m.stands_in (λ e. term_mentions e (core_term (known_in scene) n t) ≡ true) (term_seen x scene m.around rounds s.touched n t s.sound);
+      shares = s.shares;
+    })
   where
     x : Block
     x = block_of plan block (test_sites scene m.around n t)

@@ -13,4 +13,8 @@ pub mod GuardsIn
 pub mod OppositeArms
 pub mod SitesMade
 pub mod NeverMeet
+pub mod PlanAccesses
+pub mod StepsOfNodes
+pub mod MeetsInOrder
 pub mod StepKeeps
+pub mod ReachedPlans

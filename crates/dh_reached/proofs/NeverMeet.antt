@@ -128,7 +128,7 @@ module _ (scene : Scene) (around : Around) (j : ℕ) (s : Site) where
       by (inr later) more = more later
 
   -- a site of a block, with the access that stands there along the trace
-  abbrev Pair : SourceAccess → (done folds : List Located) → (old new : Building) → MadeEach scene around (done ++ folds) old new → Type 0
+  abbrev pub Pair : SourceAccess → (done folds : List Located) → (old new : Building) → MadeEach scene around (done ++ folds) old new → Type 0
   Pair a [] folds old new m = ⊥
   Pair a (c ∷ cs) folds old new (mid, (next, (one, rest))) =
       ((places_from c.first (command_sites scene c.command around old mid c.first next one) j ≡ Some s) × At c.first j (of_located c) a) ⊎ Pair a cs folds mid new rest
@@ -142,7 +142,7 @@ module _ (scene : Scene) (around : Around) (j : ℕ) (s : Site) where
     counted = let f = s.first in omega (arith, f);
   }
 
-  pair_of : (r : stood.Around) (before part : List SourceEvent) (done folds : List Located) (old new : Building) (m : MadeEach scene around (done ++ folds) old new) → Follows r before part done → AreFolds folds
+  pub pair_of : (r : stood.Around) (before part : List SourceEvent) (done folds : List Located) (old new : Building) (m : MadeEach scene around (done ++ folds) old new) → Follows r before part done → AreFolds folds
       → AllByRecursion (λ (c : Located). StoresReach c.command) (done ++ folds) → block_sites scene around (done ++ folds) old new m j ≡ Some s → (a : SourceAccess) × ((slice_get (accesses_in (before ++ part)) j ≡ Some a) × Pair a done folds old new m)
   pair_of r before part [] folds old new m follows quiet is e = absurd (folds_none folds old new m quiet is e)
   pair_of r before part (c ∷ cs) folds old new (mid, (next, (one, rest_made))) (gap, (rest, (all, (s_behind, follows)))) quiet is e =
@@ -337,7 +337,7 @@ straight_never scene around plan count block done folds old new made more reads 
 
 -- Tests.
 
-tests_within : (a : Action) (t : Term) (j n : ℕ) → test_of (form_of a) ≡ Some t → n ≤ j → j < n + term_accesses t → tests_make j n a ≡ true
+pub tests_within : (a : Action) (t : Term) (j n : ℕ) → test_of (form_of a) ≡ Some t → n ≤ j → j < n + term_accesses t → tests_make j n a ≡ true
 tests_within (action id place (decides test chosen other)) t j n e l u = within_is j n (term_accesses test) l (subst (λ (q : Term). j < n + term_accesses q) (sym (some_same test t e)) u)
 tests_within (action id place (repeats test body)) t j n e l u = within_is j n (term_accesses test) l (subst (λ (q : Term). j < n + term_accesses q) (sym (some_same test t e)) u)
 tests_within (action id place (lets name declared value)) t j n e l u = absurd (cc)

@@ -10,3 +10,7 @@ pub mod ReadsTold
 pub mod ReachedBlocks
 -- accesses that never meet
 pub mod NeverMeet
+-- steps by nodes
+pub mod StepsOfNodes
+-- plans whose blocks are put down in a scene
+pub mod ReachedPlans
