@@ -11,11 +11,13 @@ use Rattle.dh_tree.specs.Seen.{program_seen}
 use Rattle.dh_meaning.specs.AccessNumbers.{accesses_of, term_accesses}
 use Rattle.dh_meaning.specs.CoreOf.{core_action, core_commands, core_term, entity_number}
 use Rattle.dh_meaning.specs.Core.{no_commands}
+use Rattle.dh_meaning.specs.OnePhase.{any_makes, makes}
 use Rattle.dh_meaning.specs.Phases.{Located}
 use Rattle.dh_plan.specs.Correspondence.{Round}
 use Rattle.dh_plan.specs.PlainPlans.{PlainPlan}
 use Rattle.dh_plan.specs.PlanPhases.{commands_mention, term_mentions}
 use Rattle.dh_sound.specs.SimpleForms.{IsSimple}
+use Rattle.dh_sound.proofs.Makes.{makes_within}
 use Rattle.dh_expressions.specs.declared.accesses.Accesses.{Accesses}
 use Rattle.dh_expressions.specs.declared.scenes.Around.{Around}
 use Rattle.dh_expressions.specs.declared.scenes.Scene.{Scene}
@@ -29,7 +31,7 @@ use Rattle.dh_commands.specs.LanesRun.{paths_counted}
 use Rattle.dh_commands.specs.ShownVariables.{ArePlaced, IsSeen, depth_in, register_in}
 use Rattle.dh_commands.specs.Undone.{given_at}
 use Rattle.dh_blocks.specs.BlockGround.{IsGround}
-use Rattle.dh_blocks.specs.SoundCommands.{IsOwnOf, SoundAction}
+use Rattle.dh_blocks.specs.SoundCommands.{IsOwnOf}
 use Rattle.dh_blocks.specs.SoundTerms.{IsSound}
 use Rattle.dh_blocks.proofs.CommandsFollow.{is_own}
 use Rattle.dh_blocks.proofs.VariablesPlaced.{are_placed, register_small}
@@ -37,21 +39,20 @@ use Rattle.dh_laid.specs.BareCommands.{IsBare, IsBareFrom}
 use Rattle.dh_laid.specs.BlockSites.{MadeEach, block_sites, sites_from, term_sites, test_sites}
 use Rattle.dh_laid.specs.LaidNumbers.{StoresReach}
 use Rattle.dh_laid.specs.LaidQuiet.{StandsIn}
-use Rattle.dh_paced.specs.BlockLengths.{AssignsOwn, AssignsTo, BlockBegins, EachSuits, HaveRegisters, IsWholeBut}
-use Rattle.dh_paced.specs.Paced.{IsIn, IsOfEach}
+use Rattle.dh_paced.specs.BlockLengths.{AssignsOwn, AssignsTo, EachSuits, HaveRegisters}
+use Rattle.dh_paced.specs.Paced.{IsIn}
 use Rattle.dh_paced.proofs.BlocksPaced.{straights_are_long, tests_are_long}
 use Rattle.dh_paced.proofs.CoreAppended.{action_then_mentions}
-use Rattle.dh_typed_laid.specs.SuitingBlocks.{EachSuits as TypedEachSuits, EachFew, FitsBlock, HasSites, NamedHere, StandsSo}
+use Rattle.dh_typed_laid.specs.SuitingBlocks.{EachSuits as TypedEachSuits, FitsBlock, HasSites, NamedHere, StandsSo}
 use Rattle.dh_typed_laid.proofs.CommandsSuit.{sound_reaches}
 use Rattle.dh_typed_laid.proofs.EachFormed.{made_commands_suit}
 use Rattle.dh_typed_laid.proofs.TermsSuit.{term_suits}
 use Rattle.dh_gathering.specs.declared.blocks.Made.{Made}
 use Rattle.dh_gathering.specs.Growing.{registers_given}
-use Rattle.dh_gathering.specs.MadeBlocks.{MadeStraight, MadeTest}
 use Rattle.dh_placed.specs.MadeFormed.{HasRegisters}
-use Rattle.dh_placed.proofs.BlocksBegin.{bare_sites, bare_test, held_begins, held_of, noted_begins, round_begins}
+use Rattle.dh_placed.proofs.BlocksBegin.{bare_sites, bare_test, held_begins, noted_begins, round_begins}
 use Rattle.dh_placed.proofs.BlocksFormed.{made_straights_are_formed, made_tests_are_formed}
-use Rattle.dh_measured.specs.MeasuredBlocks.{FitsAlone, MadeStraightsAreLong, MadeTestsAreLong, StandsStraight, StandsTest}
+use Rattle.dh_measured.specs.MeasuredBlocks.{FitsAlone, MadeStraightsAreLong, MadeTestsAreLong}
 use Rattle.dh_measured.proofs.BlocksUnread.{flag_extends, flag_unread, none_at, sets_extend, sets_unread}
 use Rattle.dh_measured.proofs.NamesMentioned.{action_names, assigns_own, simple_sound, term_names}
 
@@ -65,10 +66,13 @@ bare_in a first count number h among =
     together : (m n : ℕ) → m ≤ n → m + (n - m) ≡ n
     together m n l = omega (arith, l)
 
-bare_each : (a : Accesses) (cs : List Located) → AllByRecursion (IsBare a) cs → (number : ℕ) → IsOfEach cs number → touched_in a number ≡ None
-bare_each a [] h number among = absurd among
-bare_each a (c ∷ cs) h number (inl among) = bare_in a c.first (accesses_of c.command) number h.0 among
-bare_each a (c ∷ cs) h number (inr among) = bare_each a cs h.1 number among
+bare_each : (a : Accesses) (cs : List Located) → AllByRecursion (IsBare a) cs → (number : ℕ) → any_makes number cs ≡ true → touched_in a number ≡ None
+bare_each a [] h number m = absurd cc
+bare_each a (c ∷ cs) h number m = by (makes number c.first c.command) refl m (λ g. bare_each a cs h.1 number g)
+  where
+    by : (b : Truth) → makes number c.first c.command ≡ b → (b || any_makes number cs) ≡ true → (any_makes number cs ≡ true → touched_in a number ≡ None) → touched_in a number ≡ None
+    by true e g later = bare_in a c.first (accesses_of c.command) number h.0 (makes_within number c.first c.command e)
+    by false e g later = later g
 
 -- Suits.
 
@@ -146,11 +150,13 @@ module _ (x : Block) (scene : Scene) (around : Around) (rounds : List Round) whe
             free (inr b) g = b
 
         by : (b : Truth) → term_mentions e (core_term (known_in scene) first t) ≡ b → AssignsTo scene around e first t
-        by true m =
-            (seen.no_counter, inl (own e (record {
-          seen = seen;
-          full = term_names scene (table_of (program_seen scene.program.now)) (Names touched) (λ (d : ℕ). counter_of scene d ≡ None → length around.levels.now ≤ depth_in scene d) full first t sound e m seen.no_counter;
-        })))
+        by true m = (
+          seen.no_counter,
+          inl (own e (record {
+            seen = seen;
+            full = term_names scene (table_of (program_seen scene.program.now)) (Names touched) (λ (d : ℕ). counter_of scene d ≡ None → length around.levels.now ≤ depth_in scene d) full first t sound e m seen.no_counter;
+          })),
+        )
         by false m = (seen.no_counter, inr m)
 
     command_own : (c : Located) → FitsAlone x scene around rounds c → AssignsOwn scene around c.first c.command
@@ -201,25 +207,25 @@ given_none (o ∷ os) none register value e = never (given_at (o ∷ os) registe
 pub made_straights_are_long : MadeStraightsAreLong
 made_straights_are_long scene plan count final rounds ls block shared m s =
     straights_are_long plan block scene m.around count shared ls m.before m.between m.after.draft m.made (record {
-  whole = record { cut = s.cut; ordered = (made_straights_are_formed scene plan count final rounds ls block m s.cut s.registers s.stands fits).ordered; extends = sets_extend m.between m.after m.sets; unread = sets_unread m.between m.after m.sets };
-  begins = record {
-    some = s.stands.some;
-    round = round_begins x m.before.draft scene m.around m.round.paths m.round.guards m.stands_in;
-    free = λ path guard e. none_at m.round.paths path guard (ap (λ (gs : List (Option ℕ)). slice_get gs path) (sym m.round.guards) ∙ e);
-    noted = noted_begins x m.before.draft m.before.accesses (bare_sites scene m.around ls m.before m.between m.made m.before.accesses reaches m.bare) m.counts;
-    held = held_begins x m.before.draft m.before.values m.stands.clear (registers_within plan final _ s.registers m.stands.variables);
-    given = given_none m.before.values.current.items m.stands.clear.none;
-    long = m.stands.variables ∙ sym s.counted;
-    bare = λ number t e. (bare_sites scene m.around ls m.before m.between m.made m.before.accesses reaches m.bare number t e).1;
-  };
-  bare = bare_each m.before.accesses ls m.bare;
-  suits = each_suits x scene m.around ls m.before m.between m.made (made_commands_suit x scene count m.around rounds ls m.before m.between m.made refl s.stands fits m.rising).1;
-  reaches = reaches;
-  rising = m.rising;
-  assigns_own = each_own x scene m.around rounds count s.stands m.stands_in ls s.fits;
-  variables = have_registers x scene m.around rounds count s.stands m.stands_in (λ e. commands_mention e (core_commands (known_in scene) ls) ≡ true) (each_seen x scene m.around rounds ls fits);
-  shares = s.shares;
-})
+      whole = record { cut = s.cut; ordered = (made_straights_are_formed scene plan count final rounds ls block m s.cut s.registers s.stands fits).ordered; extends = sets_extend m.between m.after m.sets; unread = sets_unread m.between m.after m.sets };
+      begins = record {
+        some = s.stands.some;
+        round = round_begins x m.before.draft scene m.around m.round.paths m.round.guards m.stands_in;
+        free = λ path guard e. none_at m.round.paths path guard (ap (λ (gs : List (Option ℕ)). slice_get gs path) (sym m.round.guards) ∙ e);
+        noted = noted_begins x m.before.draft m.before.accesses (bare_sites scene m.around ls m.before m.between m.made m.before.accesses reaches m.bare) m.counts;
+        held = held_begins x m.before.draft m.before.values m.stands.clear (registers_within plan final _ s.registers m.stands.variables);
+        given = given_none m.before.values.current.items m.stands.clear.none;
+        long = m.stands.variables ∙ sym s.counted;
+        bare = λ number t e. (bare_sites scene m.around ls m.before m.between m.made m.before.accesses reaches m.bare number t e).1;
+      };
+      bare = bare_each m.before.accesses ls m.bare;
+      suits = each_suits x scene m.around ls m.before m.between m.made (made_commands_suit x scene count m.around rounds ls m.before m.between m.made refl s.stands fits m.rising).1;
+      reaches = reaches;
+      rising = m.rising;
+      assigns_own = each_own x scene m.around rounds count s.stands m.stands_in ls s.fits;
+      variables = have_registers x scene m.around rounds count s.stands m.stands_in (λ e. commands_mention e (core_commands (known_in scene) ls) ≡ true) (each_seen x scene m.around rounds ls fits);
+      shares = s.shares;
+    })
   where
     x : Block
     x = block_of plan block (block_sites scene m.around ls m.before m.between m.made)
@@ -235,32 +241,32 @@ made_straights_are_long scene plan count final rounds ls block shared m s =
 pub made_tests_are_long : MadeTestsAreLong
 made_tests_are_long scene plan count final rounds n t flag block shared m s =
     tests_are_long plan block scene m.around count shared n t m.before m.between m.after.draft m.next m.tests (record {
-  made = m.made;
-  whole = record {
-    cut = s.cut;
-    ordered = (made_tests_are_formed scene plan count final rounds s.touched n t flag block m s.cut s.registers s.stands s.sound s.typed s.truth).ordered;
-    extends = flag_extends (is_read_term t) m.between.draft m.after.draft m.value flag m.adds;
-    unread = flag_unread (is_read_term t) m.between.draft m.after.draft m.value flag m.adds;
-  };
-  begins = record {
-    some = s.stands.some;
-    round = round_begins x m.before.draft scene m.around m.round.paths m.round.guards m.stands_in;
-    free = λ path guard e. none_at m.round.paths path guard (ap (λ (gs : List (Option ℕ)). slice_get gs path) (sym m.round.guards) ∙ e);
-    noted = noted_begins x m.before.draft m.before.accesses (bare_test scene m.around n t m.before.accesses m.bare) m.counts;
-    held = held_begins x m.before.draft m.before.values m.stands.clear (registers_within plan final _ s.registers m.stands.variables);
-    given = given_none m.before.values.current.items m.stands.clear.none;
-    long = m.stands.variables ∙ sym s.counted;
-    bare = λ number q e. (bare_test scene m.around n t m.before.accesses m.bare number q e).1;
-  };
-  bare = λ number among. bare_in m.before.accesses n (term_accesses t) number m.bare among;
-  suits = (
-    s.truth,
-    λ i l. term_suits x scene count m.around rounds s.touched s.stands t n s.sound s.typed (test_has (test_sites scene m.around n t) n (term_sites scene m.around t) (λ number. refl)) i l,
-  );
-  few = m.few;
-  variables = have_registers x scene m.around rounds count s.stands m.stands_in (λ e. term_mentions e (core_term (known_in scene) n t) ≡ true) (term_seen x scene m.around rounds s.touched n t s.sound);
-  shares = s.shares;
-})
+      made = m.made;
+      whole = record {
+        cut = s.cut;
+        ordered = (made_tests_are_formed scene plan count final rounds s.touched n t flag block m s.cut s.registers s.stands s.sound s.typed s.truth).ordered;
+        extends = flag_extends (is_read_term t) m.between.draft m.after.draft m.value flag m.adds;
+        unread = flag_unread (is_read_term t) m.between.draft m.after.draft m.value flag m.adds;
+      };
+      begins = record {
+        some = s.stands.some;
+        round = round_begins x m.before.draft scene m.around m.round.paths m.round.guards m.stands_in;
+        free = λ path guard e. none_at m.round.paths path guard (ap (λ (gs : List (Option ℕ)). slice_get gs path) (sym m.round.guards) ∙ e);
+        noted = noted_begins x m.before.draft m.before.accesses (bare_test scene m.around n t m.before.accesses m.bare) m.counts;
+        held = held_begins x m.before.draft m.before.values m.stands.clear (registers_within plan final _ s.registers m.stands.variables);
+        given = given_none m.before.values.current.items m.stands.clear.none;
+        long = m.stands.variables ∙ sym s.counted;
+        bare = λ number q e. (bare_test scene m.around n t m.before.accesses m.bare number q e).1;
+      };
+      bare = λ number among. bare_in m.before.accesses n (term_accesses t) number m.bare among;
+      suits = (
+        s.truth,
+        λ i l. term_suits x scene count m.around rounds s.touched s.stands t n s.sound s.typed (test_has (test_sites scene m.around n t) n (term_sites scene m.around t) (λ number. refl)) i l,
+      );
+      few = m.few;
+      variables = have_registers x scene m.around rounds count s.stands m.stands_in (λ e. term_mentions e (core_term (known_in scene) n t) ≡ true) (term_seen x scene m.around rounds s.touched n t s.sound);
+      shares = s.shares;
+    })
   where
     x : Block
     x = block_of plan block (test_sites scene m.around n t)
