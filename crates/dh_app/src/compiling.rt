@@ -7,8 +7,8 @@ use crate::lines::too_large_line;
 use crate::replies::{Reply, reply_with};
 use dh_base::{Excess, Limit, Status};
 use dh_check::Accepted;
-use dh_net::Net;
 use dh_compile::{CompileFault, compile};
+use dh_net::Net;
 use std::alloc::Global;
 
 /// Compiles an accepted program; or the line that it is too large.

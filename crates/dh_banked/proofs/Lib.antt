@@ -1,0 +1,2 @@
+pub mod LevelsOfRounds
+pub mod NamesTurn
