@@ -1,2 +1,3 @@
 pub mod LevelsOfRounds
 pub mod NamesTurn
+pub mod BlocksStand
