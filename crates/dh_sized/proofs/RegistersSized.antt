@@ -1,5 +1,5 @@
 -- Each register is one of a variable, a counter, or a flag.
-use Rattle.std.proofs.Common.{◌≡◌, ◌⊎◌, inl, inr, ℕ, zero, suc, ◌<◌, ◌≤◌, List, [], ◌∷◌, length, Option, Some, None, refl, ap, sym, ◌∙◌, subst, arith}
+use Rattle.std.proofs.Common.{◌≡◌, ◌⊎◌, inl, inr, ℕ, zero, suc, ◌+◌, ◌<◌, ◌≤◌, List, [], ◌∷◌, length, Option, Some, None, refl, ap, sym, ◌∙◌, subst, arith}
 use Rattle.std.specs.Prelude.{slice_get}
 use Rattle.std.specs.List.{AllByRecursion}
 use Rattle.std.proofs.lemmas.Bool.{cases_lt}
@@ -12,7 +12,8 @@ use Rattle.dh_tree.specs.PlainTrees.{Action}
 use Rattle.dh_tree.specs.Ready.{IsReady}
 use Rattle.dh_tree.specs.Seen.{program_seen}
 use Rattle.dh_code.specs.declared.places.Held.{Held}
-use Rattle.dh_code.specs.Declarations.{Declaration, all_held, declarations}
+use Rattle.dh_code.specs.Declarations.{Declaration, all_held, declaration_in, declarations, factors_of}
+use Rattle.dh_code.specs.Ranks.{copies_in}
 use Rattle.dh_code.specs.Slots.{held_at}
 use Rattle.dh_expressions.specs.declared.scenes.Scene.{Scene}
 use Rattle.dh_gathering.specs.declared.making.Phased.{Phased}
@@ -51,7 +52,7 @@ all_behind (h ∷ held) n = all_behind held n
 
 held_long : (ds : List Declaration) (count from n : ℕ) → length (all_held ds count from n) ≡ n
 held_long ds count from zero = refl
-held_long ds count from (suc n) = ap suc (held_long ds _ (suc from) n)
+held_long ds count from (suc n) = ap suc (held_long ds (count + copies_in (factors_of (declaration_in ds from))) (suc from) n)
 
 -- by the places of a list
 all_at : (P : Kind → Type 0) (xs : List Kind) → ((i : ℕ) (k : Kind) → slice_get xs i ≡ Some k → P k) → AllByRecursion P xs

@@ -208,7 +208,7 @@ variables_are_sized scene count ready order e within none = by (declaration_in (
     q = program_seen scene.program.now
 
     fits : Fits (known_of q) (placing_of q) [] q.body
-    fits = ready_fits q ready (ready_few q ready) (assigns_inside q (record { names = ready.names; entities = ready.entities; kinds = ready.kinds; suits = ready.suits; widths = ready.of_text.widths })) (ready_plain q ready)
+    fits = ready_fits q ready (ready_few q ready) (assigns_inside q ready (record { names = ready.names; entities = ready.entities; kinds = ready.kinds; suits = ready.suits; widths = ready.of_text.widths })) (ready_plain q ready)
 
     all : AllByRecursion (IsSizedOrLoop (known_of q) (placing_of q) (counters_of q)) (declarations [] q.body)
     all = action_sized (known_of q) (placing_of q) (counters_of q) q.body [] [] fits (among_self (counters_of q))
