@@ -42,6 +42,7 @@ use Rattle.dh_reached.specs.NeverMeet.{StandsAlong}
 use Rattle.dh_reached.specs.ReachedBlocks.{AreUnused, ReadBy, StandsSpread, StraightStands}
 use Rattle.dh_reached.specs.ReadsTold.{ActionsRead, BlockReads, BlockShares, CommandReads, GroupsRead, OtherReads}
 use Rattle.dh_told.specs.PlansTold.{IsOfReady}
+use Rattle.dh_banked.specs.ReadsOfBlocks.{is_read_of, reads_in}
 use Rattle.dh_told.proofs.BlocksTold.{straight_all, straight_found, straight_reach, straight_sound, straight_told}
 
 never : false ≡ true → ⊥
@@ -66,14 +67,6 @@ past : (a b : ℕ) → a ≤ b → b < a → ⊥
 past a b l m = omega (arith, l, m)
 
 -- Reads.
-
-abbrev pub reads_at : Option SourceAccess → Bool
-reads_at None = false
-reads_at (Some a) = not a.writes
-
--- the accesses that a block makes and that are no writes
-abbrev pub reads_in : Scene → (makes : ℕ → Bool) → ℕ → Bool
-reads_in scene made number = made number && reads_at (access_at (program_seen scene.program.now) number)
 
 -- Where each read is made, and no write is a read, only what is made of a command is a read.
 module _ (IsRead : ℕ → Type 0) where
@@ -186,8 +179,8 @@ module _ (scene : Scene) (made : ℕ → Bool) where
   -- a write is no read
   not_read : (number : ℕ) (a : SourceAccess) → access_at (program_seen scene.program.now) number ≡ Some a → a.writes ≡ true → ReadBy (reads_in scene made) number → ⊥
   not_read number a at writes r =
-      let own : reads_at (access_at (program_seen scene.program.now) number) ≡ true = (and_split _ _ r).1 in
-      differ a.writes writes (sym (ap reads_at at) ∙ own)
+      let own : is_read_of (access_at (program_seen scene.program.now) number) ≡ true = (and_split _ _ r).1 in
+      differ a.writes writes (sym (ap is_read_of at) ∙ own)
     where
       differ : (w : Bool) → w ≡ true → not w ≡ true → ⊥
       differ true e h = never h
@@ -219,7 +212,7 @@ module _ (scene : Scene) (count : ℕ) (plan : PlainPlan) (final : Made) (h : Is
       let there = shared_there (program_seen scene.program.now) e number is in (
         shared_before (program_seen scene.program.now) e number is,
         and_both _ _ (straight_has_both (program_seen scene.program.now) s.located e number (straight_found scene count plan final h rounds cs block s counting) m there.phase)
-            (ap reads_at there.there ∙ ap not there.reads),
+            (ap is_read_of there.there ∙ ap not there.reads),
       )
 
   pub straight_stands : StandsSpread scene s.made.around → AreUnused (sets_made s.made.between.values.log.items s.made.between.values.current.items)
