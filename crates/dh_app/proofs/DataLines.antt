@@ -1,5 +1,5 @@
 -- What bytes mean for a table, or the line of their fault.
-use Rattle.std.proofs.Common.{◌≡◌, ℕ, List, Result, Ok, Err, IfOk, Vec, subst, sym}
+use Rattle.std.proofs.Common.{◌≡◌, ℕ, List, Result, Ok, Err, IfOk, Vec}
 use Rattle.std.specs.declared.alloc.Global.{Global}
 use Rattle.dh_base.specs.declared.lists.NoMemory.{NoMemory}
 use Rattle.dh_base.specs.declared.statuses.Status.TheVariants as status

@@ -1,13 +1,13 @@
 -- How a call ends, by what its words came to and what was written; and what follows of it for every call.
 use Rattle.std.proofs.Common.{◌≡◌, ℕ, ◌<◌, ◌⊎◌, List, Option, refl, sym, ap, ◌∙◌, arith, subst, inl, inr}
-use Rattle.dh_base.specs.Outside.{FilesSeen, SinkSeen, Rose, Grew, GrewByPart}
+use Rattle.dh_base.specs.Outside.{SinkSeen, Rose, Grew}
 use Rattle.dh_base.specs.declared.statuses.Status.{Status}
 use Rattle.dh_base.specs.declared.statuses.Status.TheVariants as status
 use Rattle.dh_app.specs.Ends.{WritesAll, Ends}
 use Rattle.dh_app.specs.Inputs.{InputsSeen}
 use Rattle.dh_app.specs.Jobs.{Comes}
 use Rattle.dh_app.specs.Parts.{Written}
-use Rattle.dh_app.specs.Promises.{CountsFaults, Touches, NoFaults, IsTold, IsThere, FilesAre, AnswersWhole, MayDiffer, IsOnly, Succeeds, HasOneAnswer}
+use Rattle.dh_app.specs.Promises.{CountsFaults, Touches, NoFaults, IsThere, FilesAre, AnswersWhole, MayDiffer, Succeeds, HasOneAnswer}
 use Rattle.dh_app.specs.Replies.{ReplySeen, replied, unread, no_memory}
 use Rattle.dh_app.specs.Words.{job_of}
 use Rattle.dh_app.specs.declared.replies.Answer.{Answer}

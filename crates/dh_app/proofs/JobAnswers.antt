@@ -1,8 +1,7 @@
 -- Where it is told what the files of a job hold, and no fault of reading was counted, two replies to the
 -- same words agree; and where the files are there, none of them is that a file could not be read.
-use Rattle.std.proofs.Common.{◌≡◌, ℕ, ◌⊎◌, Bool, List, [], ◌∷◌, Option, Some, None, refl, sym, ap, ◌∙◌, subst, inl, inr}
+use Rattle.std.proofs.Common.{◌≡◌, ℕ, ◌⊎◌, List, [], ◌∷◌, Option, Some, None, refl, sym, ap, ◌∙◌, arith, inl, inr}
 use Rattle.dh_base.specs.Outside.{Told, Untold, Absent, Holds, FilesSeen, Rose, IsAbsent}
-use Rattle.dh_base.specs.declared.limits.Limit.{Limit}
 use Rattle.dh_base.specs.declared.limits.Limit.TheVariants as limit
 use Rattle.dh_base.specs.declared.statuses.Status.{Status}
 use Rattle.dh_base.specs.declared.statuses.Status.TheVariants as status
@@ -18,15 +17,15 @@ use Rattle.dh_app.specs.CheckJob.{IsOk}
 use Rattle.dh_app.specs.Engines.{EngineSeen}
 use Rattle.dh_app.specs.Inputs.{InputsSeen, HasRead, OnlyReads}
 use Rattle.dh_app.specs.InterpretJob.{IsStandingReport, InterpretsData}
-use Rattle.dh_app.specs.Jobs.{IsUsage, JobComes, ComesFor}
+use Rattle.dh_app.specs.Jobs.{IsUsage, ComesFor}
 use Rattle.dh_app.specs.Lines.{ok_line, usage_line, too_large_line}
 use Rattle.dh_app.specs.LowerJob.{IsNetText, LowersProgram}
 use Rattle.dh_app.specs.NetStage.{SaysTooLarge, NoNetOf, NetStage}
-use Rattle.dh_app.specs.Promises.{IsTold, IsThere, DataIs, FilesAre, MayDiffer}
+use Rattle.dh_app.specs.Promises.{IsTold, IsThere, FilesAre, MayDiffer}
 use Rattle.dh_app.specs.Replies.{ReplySeen, replied, unread, no_memory, Says}
 use Rattle.dh_app.specs.Reporting.{status_of}
-use Rattle.dh_app.specs.SimulateJob.{ending_of, IsReport, RunsNet, SimulatesData, SimulatesProgram}
-use Rattle.dh_app.specs.Sources.{FailsToRead, NoFile, ProgramStage, DataStage}
+use Rattle.dh_app.specs.SimulateJob.{ending_of, RunsNet, SimulatesData, SimulatesProgram}
+use Rattle.dh_app.specs.Sources.{FailsToRead, ProgramStage, DataStage}
 use Rattle.dh_app.specs.declared.engine.Finish.{Finish}
 use Rattle.dh_app.specs.declared.words.Job.{Job}
 use Rattle.dh_app.specs.declared.words.Job.TheVariants.{Check, Lower, Interpret, Simulate}

@@ -1,7 +1,7 @@
 -- Of a file whose contents are told one thing is so, where no fault of reading was counted: it is absent,
 -- it is too long, or its bytes have a meaning, of which there is one. Each stage of a job is answered by
 -- what is so of its file, so two replies of a stage agree as those of the rest do.
-use Rattle.std.proofs.Common.{◌≡◌, ℕ, ◌+◌, ◌≤◌, ◌⊎◌, List, length, Result, Ok, Err, is_ok, true≢false, Option, Some, refl, sym, ap, ◌∙◌, arith, subst, inl, inr}
+use Rattle.std.proofs.Common.{◌≡◌, ℕ, ◌+◌, ◌≤◌, ◌⊎◌, List, length, Result, Ok, Err, refl, sym, ap, ◌∙◌, arith, subst, inl, inr}
 use Rattle.dh_base.specs.Limits.{greatest_of}
 use Rattle.dh_base.specs.Outside.{Told, Untold, Absent, Holds, FilesSeen, Rose, MayBe, IsAbsent, MayExceed}
 use Rattle.dh_base.specs.declared.limits.Limit.{Limit}
@@ -14,11 +14,11 @@ use Rattle.dh_check.specs.Verdicts.{Asked, Verdict, accepts, refuses, exceeds, I
 use Rattle.dh_data.specs.DataFiles as data_files
 use Rattle.dh_data.specs.DataFiles.{Means}
 use Rattle.dh_data.specs.declared.data_files.DataFault.{DataFault}
-use Rattle.dh_app.specs.Inputs.{InputsSeen, IsIdle}
+use Rattle.dh_app.specs.Inputs.{InputsSeen}
 use Rattle.dh_app.specs.Lines.{too_large_line, bad_data_line}
 use Rattle.dh_app.specs.Promises.{IsTold}
 use Rattle.dh_app.specs.Replies.{ReplySeen, replied, unread, no_memory}
-use Rattle.dh_app.specs.Sources.{MayRead, IsTooLong, FailsToRead, NoFile, NoProgram, IsProgram, ProgramStage, NoData, IsData, DataStage, IsRefusal, verdict_status, verdict_line}
+use Rattle.dh_app.specs.Sources.{MayRead, FailsToRead, NoFile, ProgramStage, DataStage, IsRefusal, verdict_status, verdict_line}
 
 -- ---- one file
 

@@ -1,11 +1,10 @@
 -- From the bytes of a file to a program or to memories. What is known of the second file is known since
 -- the call began: contents stay, and no count falls.
-use Rattle.std.proofs.Common.{◌≡◌, ℕ, ◌+◌, ◌≤◌, List, Result, Ok, Err, ap, ◌∙◌, arith, subst, inl, inr}
+use Rattle.std.proofs.Common.{◌≡◌, ℕ, ◌≤◌, List, Result, Ok, Err, ap, ◌∙◌, arith, subst, inl, inr}
 use Rattle.dh_base.specs.Limits.{greatest_of}
 use Rattle.dh_base.specs.Outside.{Told, FilesSeen, KeepsFiles, Rose, RoseBy, MayBe, IsAbsent, MayExceed, risen}
 use Rattle.dh_base.specs.declared.limits.Limit.{Limit}
 use Rattle.dh_base.specs.declared.limits.Limit.TheVariants as limit
-use Rattle.dh_base.specs.declared.lists.NoMemory.{NoMemory}
 use Rattle.dh_base.specs.declared.statuses.Status.TheVariants as status
 use Rattle.dh_tree.specs.declared.tables.MemEntry.{MemEntry}
 use Rattle.dh_tree.specs.declared.trees.typed.Typed.{Typed}
@@ -15,7 +14,7 @@ use Rattle.dh_check.specs.declared.checking.CheckFault.{CheckFault}
 use Rattle.dh_check.specs.declared.checking.CheckFault.TheVariants as check_fault
 use Rattle.dh_app.specs.Inputs.{HasRead, HasBegun}
 use Rattle.dh_app.specs.Lines.{refused_line, too_large_line}
-use Rattle.dh_app.specs.Parts.{Line, SaysFault, FileRead, RefusesText, ProgramOf, TypedOf, ProgramRead, TypedRead, BadBytes, DataOf, DataRead}
+use Rattle.dh_app.specs.Parts.{Line, SaysFault, RefusesText, ProgramOf, TypedOf, ProgramRead, TypedRead, BadBytes, DataOf, DataRead}
 use Rattle.dh_app.specs.Replies.{ReplySeen, replied, unread, no_memory, reply_seen, Says}
 use Rattle.dh_app.specs.Sources.{MayRead, IsTooLong, FailsToRead, NoFile, NotAccepted, NotTaken}
 use Rattle.dh_app.specs.declared.replies.Reply.{Reply}

@@ -1,6 +1,6 @@
 -- What each job leaves of the counts and of the engine, stage by stage, and that a text comes with a
 -- status of texts.
-use Rattle.std.proofs.Common.{◌≡◌, ℕ, ◌⊎◌, Bool, List, Option, Some, None, refl, sym, ap, ◌∙◌, subst, inl, inr}
+use Rattle.std.proofs.Common.{◌≡◌, ℕ, ◌⊎◌, Bool, List, Option, Some, None, refl, sym, ap, subst, inl, inr}
 use Rattle.dh_base.specs.Outside.{FilesSeen, risen}
 use Rattle.dh_base.specs.declared.limits.Limit.{Limit}
 use Rattle.dh_base.specs.declared.limits.Limit.TheVariants as limit
@@ -15,16 +15,16 @@ use Rattle.dh_check.specs.Verdicts.{Asked, Verdict, accepts, refuses, exceeds}
 use Rattle.dh_app.specs.Asking.{checked, interpreted, asked_by, file_at, data_at, word_at}
 use Rattle.dh_app.specs.CheckJob.{IsOk, ChecksFile}
 use Rattle.dh_app.specs.Engines.{EngineSeen, Asks}
-use Rattle.dh_app.specs.Inputs.{InputsSeen, HasRead, IsIdle, OnlyReads}
-use Rattle.dh_app.specs.InterpretJob.{stands_after, IsStandingReport, InterpretsData, InterpretsFiles}
+use Rattle.dh_app.specs.Inputs.{InputsSeen, HasRead}
+use Rattle.dh_app.specs.InterpretJob.{stands_after, IsStandingReport, InterpretsFiles}
 use Rattle.dh_app.specs.Jobs.{IsUsage, JobComes, ComesFor}
 use Rattle.dh_app.specs.NetStage.{NoNetOf}
-use Rattle.dh_app.specs.LowerJob.{IsNetText, LowersProgram, LowersFile}
+use Rattle.dh_app.specs.LowerJob.{IsNetText, LowersFile}
 use Rattle.dh_app.specs.Promises.{ReadsSecond, ReadsFor, AsksFor}
 use Rattle.dh_app.specs.Replies.{ReplySeen, replied, unread, no_memory, Says}
 use Rattle.dh_app.specs.Reporting.{status_of}
-use Rattle.dh_app.specs.SimulateJob.{RunsNet, SimulatesData, SimulatesProgram, SimulatesFiles}
-use Rattle.dh_app.specs.Sources.{NoFile, NotAccepted, NoProgram, IsProgram, NotTaken, NoData, IsData, verdict_status}
+use Rattle.dh_app.specs.SimulateJob.{RunsNet, SimulatesFiles}
+use Rattle.dh_app.specs.Sources.{NoFile, NoProgram, IsProgram, NoData, verdict_status}
 use Rattle.dh_app.specs.declared.words.Job.{Job}
 use Rattle.dh_app.specs.declared.words.Job.TheVariants.{Check, Lower, Interpret, Simulate}
 

@@ -26,7 +26,7 @@ use Rattle.dh_app.specs.Asking.{interpreted}
 use Rattle.dh_app.specs.Engines.{EngineSeen}
 use Rattle.dh_app.specs.Inputs.{HasRead, HasBegun}
 use Rattle.dh_app.specs.Lines.{refused_line, too_large_line, bad_data_line}
-use Rattle.dh_app.specs.Replies.{ReplySeen, replied, unread, no_memory, reply_seen, Says}
+use Rattle.dh_app.specs.Replies.{ReplySeen, no_memory, reply_seen, Says}
 use Rattle.dh_app.specs.Sources.{MayRead, NoFile, IsProgram, NoProgram, verdict_line, verdict_status, IsRefusal, IsData, NoData}
 use Rattle.dh_app.specs.Reporting.{IsEndingReport}
 use Rattle.dh_app.specs.SimulateJob.{ending_of, RunsNet}

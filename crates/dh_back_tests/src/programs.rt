@@ -39,3 +39,16 @@ pub fn zeros(alloc: Global, count: u64) -> Result<String, AllocError> {
     text.push_str("}")?;
     Ok(text)
 }
+
+/// A program of 256 copies of so many assignments to a variable: its plan has the size 514 + 512 * count.
+pub fn copied(alloc: Global, count: u64) -> Result<String, AllocError> {
+    let mut text = String::from_str(
+        alloc,
+        "for (let i = 0..256) unroll 256 { let v: ubit<32> = 0;",
+    )?;
+    for _ in 0..count {
+        text.push_str(" v := v + 1;")?;
+    }
+    text.push_str(" }")?;
+    Ok(text)
+}

@@ -1,7 +1,7 @@
 //! The top call over files and an output in memory.
 
 use crate::engines::Idle;
-use crate::programs::{OUTSIDE, PROGRAM, READ_AND_WRITTEN, ZERO, ZEROS, stores, zeros};
+use crate::programs::{OUTSIDE, PROGRAM, READ_AND_WRITTEN, ZERO, ZEROS, copied, stores, zeros};
 use dh_app::{Engine, NetEngine, run};
 use dh_base::{MemFiles, MemSink, Status};
 use std::alloc::{AllocError, Global};
@@ -55,6 +55,8 @@ const LOWER: &[&str] = &["lower", "a"];
 
 const SIMULATE: &[&str] = &["simulate", "a", "b"];
 
+const TWO_CLOCKS: &[&str] = &["simulate", "a", "b", "--clocks", "2"];
+
 const INTERPRET: &[&str] = &["interpret", "a", "b"];
 
 const UNCHECKED: &[&str] = &["interpret", "a", "b", "--steps", "5", "--unchecked"];
@@ -67,6 +69,12 @@ fn each_job_ends_with_its_line(rt: HostRuntime) -> Result<(), Fail> {
         "\"clocks\":3,",
         ("[7]", "[8]"),
         "\"outcome\":\"done\",\"steps\":2",
+    )?;
+    let going = report_of(
+        alloc,
+        "\"clocks\":2,",
+        ("[7]", "[0]"),
+        "\"outcome\":\"going\",\"steps\":1",
     )?;
     let interpreted = report_of(
         alloc,
@@ -107,6 +115,7 @@ fn each_job_ends_with_its_line(rt: HostRuntime) -> Result<(), Fail> {
             "bad data Missing \"B\"\n",
         ),
         (SIMULATE, PROGRAM, ZEROS, Status::Done, simulated.as_str()),
+        (TWO_CLOCKS, PROGRAM, ZEROS, Status::Going, going.as_str()),
         (
             INTERPRET,
             PROGRAM,
@@ -169,6 +178,25 @@ fn the_report_is_the_engines_answer(rt: HostRuntime) -> Result<(), Fail> {
         "\"outcome\":\"going\",\"steps\":0",
     )?;
     assert_eq!(rt; out.bytes(), want.as_bytes());
+    Ok(())
+}
+
+/// The check has no limit on plans; the jobs that compile come to it before they read their data.
+#[test]
+fn a_plan_is_too_large_to_compile(rt: HostRuntime) -> Result<(), Fail> {
+    let alloc = rt.alloc();
+    let large = copied(alloc, 390)?;
+    for (words, status, want) in [
+        (CHECK, Status::Done, "ok\n"),
+        (LOWER, Status::TooLarge, "too large Plan 200194\n"),
+        (SIMULATE, Status::TooLarge, "too large Plan 200194\n"),
+    ] {
+        let mut engine = NetEngine::new(alloc);
+        let contents = (large.as_str(), "");
+        let (ended, out) = call(alloc, words, contents, (&[], &[]), &mut engine)?;
+        assert_eq!(rt; ended, status, "{words:?}");
+        assert_eq!(rt; out.bytes(), want.as_bytes(), "{words:?}");
+    }
     Ok(())
 }
 

@@ -1,5 +1,5 @@
 -- Of a program's plan, and of what its net is made of, to the program.
-use Rattle.std.proofs.Common.{◌≡◌, ℕ, ◌<◌, ◌≤◌, List, sym, ap, subst, ◌∙◌, arith}
+use Rattle.std.proofs.Common.{◌≡◌, ℕ, ◌<◌, ◌≤◌, List, sym, subst, ◌∙◌, arith}
 use Rattle.std.specs.Prelude.{[], min, Result, Ok, Err, IfOk}
 use Rattle.std.specs.List.{AllByRecursion}
 use Rattle.dh_tree.specs.declared.tables.MemEntry.{MemEntry}
@@ -10,7 +10,6 @@ use Rattle.dh_meaning.specs.CoreOf.{core_of}
 use Rattle.dh_net.specs.declared.nets.Net.{Net}
 use Rattle.dh_net.specs.Plays.{Run}
 use Rattle.dh_net.specs.Valid.{HasReadsZero}
-use Rattle.dh_plan.specs.BoundPorts.{Uses}
 use Rattle.dh_plan.specs.DoneProgram.{IsPlanOf, IsAddressingOf}
 use Rattle.dh_plan.specs.LegalSchedules.{Timing, IsLeastSchedule}
 use Rattle.dh_plan.specs.Passes.{IsToCompile, IsTooLarge, uses_seen}

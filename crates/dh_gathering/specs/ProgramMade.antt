@@ -30,6 +30,8 @@ pub record Begins (registers : List Kind) (count : ℕ) (m : Made) : Type 0 wher
   pub registers_are : m.registers ≡ registers
   pub given : registers_given m ≡ length registers
   pub starts : m.starts.items ≡ []
+  pub faults : m.building.draft.faults ≡ []
+  pub accesses : length m.building.accesses.touched.items ≡ count
 
 -- What was made in the end has a node for each phase of the core, and the blocks are cut out of it.
 pub record IsPhased (scene : Scene) (count : ℕ) (body : Action) (p : Phased) : Type 0 where
@@ -41,6 +43,8 @@ pub record IsPhased (scene : Scene) (count : ℕ) (body : Action) (p : Phased) :
   pub blocks : AreBlocksOf final.building.draft.operations.items final.starts.items p.blocks
   pub registers : p.registers ≡ final.registers
   pub faults : p.faults ≡ final.building.draft.faults
+  -- no more than there are accesses
+  pub few_faults : length p.faults ≤ length scene.shares.now
   -- the first registers are those of variables, so many, each of its kind, and behind them stand flags
   pub flags : (register : ℕ) (k : Kind) → count ≤ register → slice_get p.registers register ≡ Some k → k ≡ kind.Bool
   pub given : registers_given final ≡ count

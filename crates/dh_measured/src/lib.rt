@@ -3,4 +3,4 @@
 
 mod laws;
 
-pub use laws::made_blocks_are_as_long_as_their_phases;
+pub use laws::{made_blocks_are_as_long_as_their_phases, made_plans_are_as_long_as_their_phases};

@@ -10,6 +10,7 @@ use Rattle.dh_meaning.specs.AccessNumbers.{term_accesses}
 use Rattle.dh_meaning.specs.CoreOf.{core_commands, core_term}
 use Rattle.dh_meaning.specs.Effects.{commands}
 use Rattle.dh_meaning.specs.Levels.{Leveled, Levels, block_length, level_ground}
+use Rattle.dh_meaning.specs.OnePhase.{any_makes}
 use Rattle.dh_meaning.specs.Phases.{Located}
 use Rattle.dh_code.specs.Slots.{held_at}
 use Rattle.dh_plan.specs.declared.operations.Operation.{Operation}
@@ -40,7 +41,7 @@ use Rattle.dh_commands.specs.ShownVariables.{register_in}
 use Rattle.dh_laid.specs.BlockSites.{MadeEach, block_sites, test_sites}
 use Rattle.dh_laid.proofs.PathsLaid.{tests_form}
 use Rattle.dh_paced.specs.BlockLengths.{BlockBegins, HaveRegisters, IsStraightPaced, IsTestPaced, IsWholeBut, ShareWithin, StraightsAreLong, TestsAreLong}
-use Rattle.dh_paced.specs.Paced.{IsIn, IsOfEach, IsReadOfEach, each_levels, outer_each}
+use Rattle.dh_paced.specs.Paced.{IsIn, IsReadOfEach, each_levels, outer_each}
 use Rattle.dh_paced.specs.Standing.{IsGround, OwnsTerm, Paces, StandsFor}
 use Rattle.dh_paced.proofs.CoreAppended.{each_leveled}
 use Rattle.dh_paced.proofs.EachPaced.{EachPaced, each_below, each_go, each_paced, end_of, read_of_each}
@@ -217,11 +218,14 @@ module _ (plan : PlainPlan) (block : ℕ) (scene : Scene) (around : Around) (spa
   abbrev clocks_here : Clocks
   clocks_here = clocks_of plan block sites_here levels_here.reads outer_here
 
+  abbrev Made : ℕ → Type 0
+  Made number = any_makes number cs ≡ true
+
   abbrev Mentioned : ℕ → Type 0
   Mentioned e = commands_mention e (core_commands (known_in scene) cs) ≡ true
 
-  ground_here : IsGround clocks_here scene around spaces shared Mentioned (IsReadOfEach cs) (IsOfEach cs)
-  ground_here = ground_of clocks_here scene around spaces shared Mentioned (IsReadOfEach cs) (IsOfEach cs) old h.begins h.variables h.shares
+  ground_here : IsGround clocks_here scene around spaces shared Mentioned (IsReadOfEach cs) Made
+  ground_here = ground_of clocks_here scene around spaces shared Mentioned (IsReadOfEach cs) Made old h.begins h.variables h.shares
 
   agree_end : AgreeInTime clocks_here end
   agree_end = (blocks_agree_in_time plan block sites_here levels_here.reads outer_here old.draft end h.whole.cut h.whole.ordered).0
@@ -232,18 +236,18 @@ module _ (plan : PlainPlan) (block : ℕ) (scene : Scene) (around : Around) (spa
   least_from : (e : ℕ) → 0 ≤ e
   least_from e = omega arith
 
-  begun_here : StandsFor clocks_here scene around spaces shared Mentioned (IsReadOfEach cs) (IsOfEach cs) around old 0 0 level_ground
+  begun_here : StandsFor clocks_here scene around spaces shared Mentioned (IsReadOfEach cs) Made around old 0 0 level_ground
   begun_here =
-      stands_begun clocks_here scene around spaces shared Mentioned (IsReadOfEach cs) (IsOfEach cs) old h.begins 0 (let e = h.whole.cut.first in omega (arith, e)) (λ e read. least_from e) h.bare
+      stands_begun clocks_here scene around spaces shared Mentioned (IsReadOfEach cs) Made old h.begins 0 (let e = h.whole.cut.first in omega (arith, e)) (λ e read. least_from e) h.bare
 
-  all_paced : EachPaced clocks_here scene around spaces shared Mentioned (IsReadOfEach cs) (IsOfEach cs) ground_here old new levels_here (end_of 0 cs)
+  all_paced : EachPaced clocks_here scene around spaces shared Mentioned (IsReadOfEach cs) Made ground_here old new levels_here (end_of 0 cs)
   all_paced =
-      each_paced clocks_here scene around spaces shared Mentioned (IsReadOfEach cs) (IsOfEach cs) ground_here cs 0 old new m level_ground h.reaches h.rising h.suits h.assigns_own begun_here (λ x i. i) (λ x from. refl) (λ e read from. read) (λ e mentioned. mentioned)
+      each_paced clocks_here scene around spaces shared Mentioned (IsReadOfEach cs) Made ground_here cs 0 old new m level_ground h.reaches h.rising h.suits h.assigns_own begun_here (λ x i. i) (λ x from. refl) (λ e read from. read) (λ e mentioned. mentioned)
       (λ x s at. refl) agrees_new (agree_before clocks_here new.draft end h.whole.extends agree_end)
 
   straight_length : block_clocks plan block ≡ block_length shared (commands (core_commands (known_in scene) cs))
   straight_length =
-      length_is plan block scene around spaces shared Mentioned (IsReadOfEach cs) (IsOfEach cs) sites_here levels_here.reads outer_here old new end h.whole h.begins.some levels_here (end_of 0 cs) all_paced.paces all_paced.noted agree_end
+      length_is plan block scene around spaces shared Mentioned (IsReadOfEach cs) Made sites_here levels_here.reads outer_here old new end h.whole h.begins.some levels_here (end_of 0 cs) all_paced.paces all_paced.noted agree_end
       (λ i read. (each_below 0 cs h.rising i (read_of_each cs h.reaches i read), (each_read_site scene around cs old new m h.reaches i read, refl)))
       (λ k reads. (each_go scene shared cs 0 level_ground h.reaches h.rising).least k (omega arith) reads)
       ∙ ap (λ (l : Levels). suc l.most) (each_leveled (known_in scene) shared cs level_ground)

@@ -6,6 +6,7 @@ use Rattle.dh_meaning.specs.AccessNumbers.{accesses_of}
 use Rattle.dh_meaning.specs.Core.{no_commands}
 use Rattle.dh_meaning.specs.CoreOf.{core_action, core_commands}
 use Rattle.dh_meaning.specs.Levels.{Levels}
+use Rattle.dh_meaning.specs.OnePhase.{any_makes, makes}
 use Rattle.dh_meaning.specs.Phases.{Located}
 use Rattle.dh_plan.specs.PlanPhases.{commands_mention}
 use Rattle.dh_expressions.specs.declared.accesses.Accesses.{Accesses}
@@ -132,7 +133,7 @@ module _ (c : Clocks) (scene : Scene) (top : Around) (spaces : ℕ) (shared : �
 
   pub each_paced : (cs : List Located) (from : ℕ) (old new : Building) (m : MadeEach scene top cs old new) (l : Levels) → AllByRecursion (λ (d : Located). StoresReach d.command) cs → AreRising from cs → EachSuits c.block scene top cs old new m
       → AllByRecursion (λ (d : Located). AssignsOwn scene top d.first d.command) cs → StandsFor c scene top spaces shared Variable Read Own top old 0 from l
-      → ((x : ℕ) → IsOfEach cs x → Own x) → ((x : ℕ) → from ≤ x → c.outer x ≡ outer_each (known_in scene) shared cs l x) → ((e : ℕ) → Read e → from ≤ e → IsReadOfEach cs e)
+      → ((x : ℕ) → any_makes x cs ≡ true → Own x) → ((x : ℕ) → from ≤ x → c.outer x ≡ outer_each (known_in scene) shared cs l x) → ((e : ℕ) → Read e → from ≤ e → IsReadOfEach cs e)
       → ((e : ℕ) → commands_mention e (core_commands (known_in scene) cs) ≡ true → Variable e)
       → ((x : ℕ) (s : Site) → c.block.sites x ≡ Some s → (each_levels (known_in scene) shared cs l).reads x ≡ c.reads x) → Agrees c.block new.draft → AgreeInTime c new.draft
       → EachPaced old new (each_levels (known_in scene) shared cs l) (end_of from cs)
@@ -155,9 +156,9 @@ module _ (c : Clocks) (scene : Scene) (top : Around) (spaces : ℕ) (shared : �
       let agrees_mid : Agrees c.block mid.draft = agrees_before c.block mid.draft new.draft more agrees in
       let here : StandsFor c scene top spaces shared Variable Read Own top old 0 d.first l = stands_gap old from d.first l rising.0 (λ e read more. each_first e (reads e read more)) s in
       let mention = λ (e : ℕ). action_then_mentions (known_in scene) d.first d.command (core_commands (known_in scene) cs) e in
-      let known : Knows c scene top spaces shared Variable Read Own d.first (accesses_of d.command) (λ x. outer_in (known_in scene) shared 0 d.first d.command l x) (IsReadIn d.first d.command) (core_action (known_in scene) d.first d.command no_commands) =
+      let known : Knows c scene top spaces shared Variable Read Own d.first (accesses_of d.command) (λ x. outer_in (known_in scene) shared 0 d.first d.command l x) (IsReadIn d.first d.command) (λ x. makes x d.first d.command) (core_action (known_in scene) d.first d.command no_commands) =
       record {
-        own = λ x i. own x (inl i);
+        own = λ x i. own x (left_of (makes x d.first d.command) (any_makes x cs) i);
         outer_is = λ x i. outers x (let r = rising.0 in let a = i.0 in omega (arith, r, a)) ∙ pick_low x k (outer_in (known_in scene) shared 0 d.first d.command l x) (outer_each (known_in scene) shared cs la x) i.1;
         reads = λ e read i. read_here e i (reads e read (let r = rising.0 in let a = i.0 in omega (arith, r, a)));
         names = λ e mentioned. names e (mention e ∙ left_of (commands_mention e (core_action (known_in scene) d.first d.command no_commands)) (commands_mention e (core_commands (known_in scene) cs)) mentioned);
@@ -168,7 +169,7 @@ module _ (c : Clocks) (scene : Scene) (top : Around) (spaces : ℕ) (shared : �
       let behind : StandsFor c scene top spaces shared Variable Read Own top mid 0 k la =
       stands_then c scene top spaces shared Variable Read Own g top old mid 0 d.first k l la (λ x. CommandSuits x scene d.command top old mid d.first next m) here f agrees_mid suits.0 one_go.bounded one_go.more p in
       let q : EachPaced mid new (each_levels (known_in scene) shared cs la) (end_of k cs) =
-      each_paced cs k mid new rest la reach.1 rising.1.1 suits.1 assign.1 behind (λ x i. own x (inr i))
+      each_paced cs k mid new rest la reach.1 rising.1.1 suits.1 assign.1 behind (λ x i. own x (right_of (makes x d.first d.command) (any_makes x cs) i))
       (λ x from_k. outers x (let r = rising.0 in omega (arith, r, from_k)) ∙ pick_high x k (outer_in (known_in scene) shared 0 d.first d.command l x) (outer_each (known_in scene) shared cs la x) from_k)
       (λ e read from_k. read_behind e from_k (reads e read (let r = rising.0 in omega (arith, r, from_k))))
       (λ e mentioned. names e (mention e ∙ right_of (commands_mention e (core_action (known_in scene) d.first d.command no_commands)) (commands_mention e (core_commands (known_in scene) cs)) mentioned)) told agrees agree in

@@ -7,11 +7,10 @@ use Rattle.dh_tree.specs.declared.trees.expressions.Ref.{Ref}
 use Rattle.dh_tree.specs.Counters.{counter_in, counters, counters_of, form_counters, groups_counters, other_counters, part_counters}
 use Rattle.dh_tree.specs.Memories.{same_entity}
 use Rattle.dh_tree.specs.PlainTrees.{Action, action, ActionForm, lets, lets_memory, views, assigns, stores, reduces, calls, blocks, decides, repeats, counts, MaybeAction, no_action, one_action, Actions, no_actions, action_then, Groups, no_groups, group_then, Program}
-use Rattle.dh_tree.specs.Ready.{IsReady}
 use Rattle.dh_tree.specs.Resolved.{HasEntities}
-use Rattle.dh_tree.specs.Scopes.{body_scope, last_scope}
+use Rattle.dh_tree.specs.Scopes.{body_scope}
 use Rattle.dh_tree.specs.Seen.{program_seen}
-use Rattle.dh_meaning.specs.Bindings.{Binding, binding_in, bindings, bindings_of, depth_inside, kind_bound}
+use Rattle.dh_meaning.specs.Bindings.{Binding, binding_in, bindings_of, depth_inside, kind_bound}
 use Rattle.dh_meaning.specs.CoreOf.{entity_number}
 use Rattle.dh_code.specs.declared.places.Held.{Held}
 use Rattle.dh_code.specs.Declarations.{Declaration, all_held, declaration_in, declarations, factors_of}
@@ -21,10 +20,7 @@ use Rattle.dh_code.proofs.KindsHeld.{kinds_held}
 use Rattle.dh_sound.specs.LoopsDeclared.{IsFoundWith}
 use Rattle.dh_sound.specs.SameKeys.{IsNoIterator}
 use Rattle.dh_sound.proofs.DepthsNamed.{AllBelow, Deep, FormDeep, GroupsDeep, OtherDeep, PartDeep, all_below, all_more, deep, is_absent}
-use Rattle.dh_expressions.specs.declared.scenes.Scene.{Scene}
-use Rattle.dh_expressions.specs.Evaluated.{counter_of}
-use Rattle.dh_typed_blocks.specs.ScenesTold.{TellsScene}
-use Rattle.dh_told.specs.ScenesKnown.{AreInOrder, ReadyScenesTell}
+use Rattle.dh_told.specs.ScenesKnown.{ReadyScenesTell}
 
 -- Kinds.
 

@@ -1,13 +1,11 @@
 -- What is told of the loops round a block of a program that can be run: a register of the plan counts each, and its
 -- iterator is held with its depth.
-use Rattle.std.proofs.Common.{◌≡◌, ◌⊎◌, inl, inr, ℕ, zero, suc, ◌<◌, ◌≤◌, List, [], ◌∷◌, ◌++◌, length, map, take, Option, Some, None, refl, ap, sym, ◌∙◌, subst, arith, append_assoc}
+use Rattle.std.proofs.Common.{◌≡◌, inl, inr, ℕ, zero, suc, ◌≤◌, List, [], ◌∷◌, ◌++◌, length, map, take, Option, Some, None, ap, sym, ◌∙◌, subst, arith, append_assoc}
 use Rattle.std.specs.Prelude.{slice_get}
 use Rattle.std.specs.List.{AllByRecursion}
-use Rattle.dh_value.specs.declared.kinds.Kind.{Kind}
 use Rattle.dh_value.specs.declared.kinds.Kind.TheVariants.{Unsigned}
 use Rattle.dh_tree.specs.declared.tables.MemEntry.{MemEntry}
 use Rattle.dh_tree.specs.declared.trees.counters.Counter.{Counter}
-use Rattle.dh_tree.specs.PlainTrees.{Program}
 use Rattle.dh_tree.specs.Ready.{IsReady}
 use Rattle.dh_tree.specs.Seen.{program_seen}
 use Rattle.dh_meaning.specs.Core.{CorePhase, straightly, turning, looping, choosing, CorePhases, no_core_phases, phase_and, Turning}
@@ -26,11 +24,11 @@ use Rattle.dh_plan.specs.PlainPlans.{PlainPlan}
 use Rattle.dh_runnable.proofs.ProgramsRun.{ready_runs}
 use Rattle.dh_expressions.specs.declared.scenes.Scene.{Scene}
 use Rattle.dh_blocks.specs.SlotsOfScene.{placing_in}
-use Rattle.dh_typed_blocks.specs.ScenesTold.{AreRoundsTold, IsRoundTold}
+use Rattle.dh_typed_blocks.specs.ScenesTold.{AreRoundsTold}
 use Rattle.dh_typed_blocks.specs.SoundBlocks.{loops_of}
 use Rattle.dh_gathering.specs.LoopCounters.{AreCounting, IsCounting}
 use Rattle.dh_gathering.specs.MadeBlocks.{counter_in}
-use Rattle.dh_gathering.specs.Registers.{IsRegisterKind, first_among}
+use Rattle.dh_gathering.specs.Registers.{IsRegisterKind}
 use Rattle.dh_gathering.proofs.KindsOfRegisters.{first_at, first_before}
 use Rattle.dh_told.specs.ScenesKnown.{AreInOrder, HaveTheirKinds}
 use Rattle.dh_told.proofs.VariablesKept.{kind_there}
@@ -65,7 +63,7 @@ module _ (table : List MemEntry) (p : Placing) where
 
 -- Loops one by one.
 
-some_or : {A : Type 0} → A → Option A → A
+abbrev some_or : {A : Type 0} → A → Option A → A
 some_or d None = d
 some_or d (Some x) = x
 

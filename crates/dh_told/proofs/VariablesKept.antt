@@ -1,12 +1,10 @@
 -- Each variable has its registers in the plan, of its kind, and no other has these.
-use Rattle.std.proofs.Common.{◌≡◌, ◌⊎◌, inl, inr, ℕ, zero, suc, ◌+◌, ◌*◌, ◌-◌, ◌<◌, ◌≤◌, ◌^◌, Bool, true, false, if◌then◌else◌, List, [], ◌∷◌, length, Option, Some, None, refl, ap, sym, ◌∙◌, subst, arith}
+use Rattle.std.proofs.Common.{◌≡◌, ◌⊎◌, inl, inr, ℕ, zero, suc, ◌+◌, ◌*◌, ◌<◌, ◌≤◌, ◌^◌, Bool, true, false, if◌then◌else◌, List, [], ◌∷◌, length, Option, Some, refl, ap, sym, ◌∙◌, subst, arith}
 use Rattle.std.specs.Prelude.{slice_get}
-use Rattle.std.specs.List.{AllByRecursion}
 use Rattle.std.proofs.lemmas.Bool.{cases_lt}
 use Rattle.std.proofs.lemmas.Option.{slice_get_within}
 use Rattle.dh_value.specs.declared.kinds.Kind.{Kind}
 use Rattle.dh_tree.specs.declared.trees.counters.Counter.{Counter}
-use Rattle.dh_tree.specs.Counters.{counter_in, counters_of}
 use Rattle.dh_tree.specs.Memories.{same_entity}
 use Rattle.dh_tree.specs.PlainTrees.{Program}
 use Rattle.dh_tree.specs.Seen.{program_seen}
@@ -20,14 +18,12 @@ use Rattle.dh_code.proofs.KindsHeld.{length_held}
 use Rattle.dh_sem.specs.Runnable.{IsRunnable}
 use Rattle.dh_sem.proofs.FirstRun.{placed_apart}
 use Rattle.dh_plan.specs.Blocks.{kind_at}
-use Rattle.dh_plan.specs.PlainPlans.{PlainPlan}
 use Rattle.dh_runnable.proofs.ProgramsRun.{ready_runs}
 use Rattle.dh_expressions.specs.declared.scenes.Scene.{Scene}
-use Rattle.dh_expressions.specs.Evaluated.{counter_of}
 use Rattle.dh_blocks.specs.SlotsOfScene.{placing_in, slots_in}
 use Rattle.dh_blocks.proofs.PathNumbers.{rank_small}
 use Rattle.dh_blocks.proofs.VariablesPlaced.{slot_facts}
-use Rattle.dh_gathering.specs.Registers.{HasKind, IsRegisterKind, first_among}
+use Rattle.dh_gathering.specs.Registers.{IsRegisterKind, first_among}
 use Rattle.dh_gathering.proofs.KindsOfRegisters.{first_at}
 use Rattle.dh_told.specs.ScenesKnown.{AreInOrder, HaveTheirKinds, ReadyScenesHold}
 

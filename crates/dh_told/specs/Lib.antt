@@ -1,2 +1,3 @@
 pub mod ScenesKnown
 pub mod PlansTold
+pub mod FormedPlans

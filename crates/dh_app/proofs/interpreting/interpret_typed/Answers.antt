@@ -1,6 +1,5 @@
 -- The reply is that of the data, or of the run. The data is read by the program's table.
 use Rattle.std.proofs.Common.{List, Ok, Err, refl, sym, subst, inl, inr}
-use Rattle.dh_tree.specs.Tables.{Fits}
 use Rattle.dh_tree.specs.declared.tables.MemEntry.{MemEntry}
 use Rattle.dh_tree.specs.Seen.{program_seen}
 use Rattle.dh_tree.specs.Shapes.{IsProgramTable}

@@ -1,5 +1,5 @@
 -- The count is the limit and one.
-use Rattle.std.proofs.Common.{◌+◌, ◌∙◌, ap}
+use Rattle.std.proofs.Common.{◌+◌}
 use Rattle.dh_base.specs.Limits.{greatest_of}
 use Rattle.dh_base.specs.declared.statuses.Status.TheVariants as status
 use Rattle.dh_app.specs.Lines.{too_large_line}

@@ -1,5 +1,5 @@
 -- Words name a job, or none.
-use Rattle.std.proofs.Common.{◌∙◌, Option, None, Some, map, string_bytes, refl, sym, ap, subst}
+use Rattle.std.proofs.Common.{◌∙◌, Option, map, string_bytes, refl, sym, subst}
 use Rattle.dh_app.specs.Inputs.{inputs_of}
 use Rattle.dh_app.specs.Jobs.{ComesFor}
 use Rattle.dh_app.specs.Replies.{reply_seen}

@@ -1,5 +1,4 @@
 -- The engine is asked once, and its one answer is reported.
-use Rattle.std.proofs.Common.{refl, inl, inr}
 use Rattle.dh_app.specs.Replies.{reply_seen}
 use Rattle.dh_app.proofs.Reported.{run_reported, only_answer}
 use Rattle.dh_app.proofs.simulating.report_run.Goals as goal

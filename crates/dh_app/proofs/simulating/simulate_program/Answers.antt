@@ -27,5 +27,5 @@ pub returns-clause-comes : goal.returns-clause-comes
 returns-clause-comes g c =
     λ first begun.
     let is = c.in-Ok.ensures in
-    let P : List MemEntry → Type 0 = λ t. DataRead first (g.F.Files.seen c.read_memories.new.files) c.args.data_.now t (Err c.in-Err.reply) in
-    inr (c.in-Ok.net, (is, inl (subst P is.plays.table (c.in-Err.ensures.read first begun), refl)))
+    let P : List MemEntry → Type 0 = λ t. DataRead first (g.F.Files.seen c.read_memories.new.files) c.args.data_.now t (Err c.in-Err-read_memories.reply) in
+    inr (c.in-Ok.net, (is, inl (subst P is.plays.table (c.in-Err-read_memories.ensures.read first begun), refl)))

@@ -5,6 +5,6 @@ use Rattle.dh_app.specs.Replies.{reply_seen}
 use Rattle.dh_app.proofs.Reading.{fault_refuses}
 use Rattle.dh_app.proofs.sources.program_of.Goals as goal
 
-pub returns-in-Err-clause-program : goal.returns-in-Err-clause-program
-returns-in-Err-clause-program c =
-    fault_refuses (asked_of c.args.forms true) c.args.text.now c.in-Err.fault (reply_seen c.fault_line.result) c.in-Err.ensures.verdict c.fault_line.ensures
+pub returns-in-Err : goal.returns-in-Err
+returns-in-Err c =
+    record { program = fault_refuses (asked_of c.args.forms true) c.args.text.now c.in-Err.fault (reply_seen c.fault_line.result) c.in-Err.ensures.verdict c.fault_line.ensures }

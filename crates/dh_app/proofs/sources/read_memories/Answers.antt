@@ -1,8 +1,5 @@
 -- The bytes that were read hold the memories that are answered, or have the fault.
-use Rattle.dh_base.specs.declared.limits.Limit.TheVariants as limit
-use Rattle.dh_app.specs.Replies.{reply_seen}
-use Rattle.std.proofs.Common.{inl}
-use Rattle.dh_app.proofs.Reading.{data_read, no_file_since}
+use Rattle.dh_app.proofs.Reading.{data_read}
 use Rattle.dh_app.proofs.sources.read_memories.Goals as goal
 
 pub returns-clause-read : goal.returns-clause-read
