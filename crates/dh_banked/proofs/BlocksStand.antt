@@ -1,27 +1,24 @@
 -- Blocks of straight commands that were made of a ready program stand as what is told of their banks asks: which of their
 -- accesses are reads, that a read shares an earlier one of the block, and that they follow the trace.
-use Rattle.std.proofs.Common.{◌≡◌, ◌⊎◌, inl, inr, ◌<◌, ◌≤◌, ◌+◌, ◌^◌, ◌&&◌, ◌||◌, not, ℕ, Bool, true, false, List, [], ◌∷◌, ◌++◌, length, Option, Some, None, refl, ap, sym, ◌∙◌, subst, arith}
-use Rattle.std.specs.Prelude.{slice_get}
+use Rattle.std.proofs.Common.{◌≡◌, ◌⊎◌, inl, inr, ◌<◌, ◌≤◌, ◌+◌, ◌&&◌, ◌||◌, not, ℕ, Bool, true, false, List, [], ◌∷◌, Some, refl, ap, sym, ◌∙◌, subst, arith}
 use Rattle.std.specs.List.{AllByRecursion}
 use Rattle.std.specs.Option.{is_some}
 use Rattle.dh_tree.specs.Indices.{form_of}
-use Rattle.dh_tree.specs.PlainTrees.{Program, Action, action, ActionForm, lets, lets_memory, views, assigns, stores, reduces, calls, blocks, decides, repeats, counts, MaybeAction, no_action, one_action, Actions, no_actions, action_then, Groups, no_groups, group_then}
+use Rattle.dh_tree.specs.PlainTrees.{Action, action, lets, lets_memory, views, assigns, stores, reduces, calls, blocks, decides, repeats, counts, MaybeAction, no_action, one_action, Actions, no_actions, action_then, Groups, no_groups, group_then}
 use Rattle.dh_tree.specs.Seen.{program_seen}
 use Rattle.dh_meaning.specs.AccessNumbers.{accesses_of, groups_accesses, other_accesses, part_accesses, term_accesses}
 use Rattle.dh_meaning.specs.Core.{CoreCommands}
 use Rattle.dh_meaning.specs.OnePhase.{any_makes, groups_make, is_within, makes, other_makes, part_makes}
 use Rattle.dh_meaning.specs.Phases.{Located}
 use Rattle.dh_meets.specs.Sharing.{shared}
-use Rattle.dh_meets.specs.SourceEvents.{SourceAccess, accesses_in, trace}
+use Rattle.dh_meets.specs.SourceEvents.{SourceAccess, trace}
 use Rattle.dh_lengths.specs.SharedReads.{share_told}
 use Rattle.dh_sound.specs.ToldEvents.{access_at}
 use Rattle.dh_sound.proofs.Makes.{groups_within, makes_within, other_within, part_within, within_is}
 use Rattle.dh_sound.proofs.SamePhase.{straight_has_both}
-use Rattle.dh_plan.specs.declared.operations.Operation.{Operation}
 use Rattle.dh_plan.specs.Correspondence.{Round}
 use Rattle.dh_plan.specs.PlainPlans.{PlainPlan}
 use Rattle.dh_expressions.specs.declared.scenes.Scene.{Scene}
-use Rattle.dh_formed.specs.Formed.{Site}
 use Rattle.dh_blocks.specs.BlockMade.{sets_made}
 use Rattle.dh_blocks.specs.SlotsOfScene.{placing_in}
 use Rattle.dh_laid.specs.BareCommands.{AreRising}
@@ -40,7 +37,7 @@ use Rattle.dh_used.proofs.SitesOfSource.{blocks_are_sited}
 use Rattle.dh_phased.proofs.RoundsTop.{rounds_are_top}
 use Rattle.dh_reached.specs.NeverMeet.{StandsAlong}
 use Rattle.dh_reached.specs.ReachedBlocks.{AreUnused, ReadBy, StandsSpread, StraightStands}
-use Rattle.dh_reached.specs.ReadsTold.{ActionsRead, BlockReads, BlockShares, CommandReads, GroupsRead, OtherReads}
+use Rattle.dh_reached.specs.ReadsTold.{ActionsRead, BlockReads, CommandReads, GroupsRead, OtherReads}
 use Rattle.dh_told.specs.PlansTold.{IsOfReady}
 use Rattle.dh_banked.specs.ReadsOfBlocks.{is_read_of, reads_in}
 use Rattle.dh_told.proofs.BlocksTold.{straight_all, straight_found, straight_reach, straight_sound, straight_told}

@@ -1,17 +1,15 @@
 -- The accesses of commands and tests of a ready program keep the rules on indices, in each step that does them.
-use Rattle.std.proofs.Common.{◌≡◌, ℕ, zero, suc, ◌+◌, ◌<◌, ◌≤◌, ◌^◌, List, length, Option, Some, None, refl, sym, ap, ◌∙◌, subst}
+use Rattle.std.proofs.Common.{◌≡◌, ℕ, suc, ◌+◌, ◌<◌, ◌≤◌, ◌^◌, List, Option, Some, None, refl, sym, subst}
 use Rattle.std.specs.Prelude.{true, false, [], ◌∷◌, ◌++◌, slice_get}
 use Rattle.std.specs.List.{AllByRecursion}
 use Rattle.dh_value.specs.declared.kinds.Kind.{Kind}
-use Rattle.dh_base.specs.declared.places.Place.{Place}
-use Rattle.dh_tree.specs.declared.breaches.Breach.{Breach}
 use Rattle.dh_tree.specs.declared.tables.Dim.{Dim}
 use Rattle.dh_tree.specs.declared.tables.MemEntry.{MemEntry}
 use Rattle.dh_tree.specs.declared.trees.expressions.Ref.{Ref}
 use Rattle.dh_tree.specs.Counters.{counters_of}
 use Rattle.dh_tree.specs.Elements.{banks_of, dims_at}
 use Rattle.dh_tree.specs.Indices.{form_of, indices_breaches}
-use Rattle.dh_tree.specs.Memories.{Memory, memories_of, memory_in, number_in, table_of}
+use Rattle.dh_tree.specs.Memories.{memories_of, memory_in, number_in, table_of}
 use Rattle.dh_tree.specs.PlainTrees as plain
 use Rattle.dh_tree.specs.PlainTrees.{Action, action, ActionForm, lets, lets_memory, views, assigns, stores, reduces, calls, blocks, decides, repeats, counts, MaybeAction, no_action, one_action, Actions, no_actions, action_then, Groups, no_groups, group_then}
 use Rattle.dh_tree.specs.Ready.{IsReady}
@@ -21,7 +19,7 @@ use Rattle.dh_meaning.specs.CoreOf.{entity_number}
 use Rattle.dh_meaning.specs.Phases.{Located}
 use Rattle.dh_meaning.specs.Sites as source
 use Rattle.dh_meaning.specs.Sites.{in_arm}
-use Rattle.dh_meets.specs.SourceEvents.{Element, Site, SourceAccess, SourceEvent, accesses, accesses_in, assigned, events, form_events, groups_events, in_row, one_access, other_events, part_events, site_of, term_events, terms_events, trace, with_indices, write_events}
+use Rattle.dh_meets.specs.SourceEvents.{Element, Site, SourceAccess, SourceEvent, accesses, accesses_in, assigned, events, groups_events, in_row, one_access, other_events, part_events, site_of, term_events, terms_events, trace, with_indices, write_events}
 use Rattle.dh_sound.specs.BlockTold.{IsOfMemory}
 use Rattle.dh_sound.specs.IndexValues.{AllHaveIndexKinds, HasElementKinds, element_breaches}
 use Rattle.dh_sound.specs.Trails.{EachAccess}
@@ -31,17 +29,15 @@ use Rattle.dh_sound.proofs.KindsOfPrograms.{indices_have_kinds}
 use Rattle.dh_sound.proofs.PortsKept.{typed_program}
 use Rattle.dh_sound.proofs.SortsOfPrograms.{accesses_declared}
 use Rattle.dh_expressions.specs.declared.paths.Level.{Level}
-use Rattle.dh_expressions.specs.declared.scenes.Around.{Around}
 use Rattle.dh_expressions.specs.declared.scenes.Scene.{Scene}
 use Rattle.dh_expressions.specs.Drafted.{Step}
 use Rattle.dh_expressions.specs.Evaluated.{known_in}
-use Rattle.dh_blocks.specs.SoundCommands.{SoundAction, SoundForm, SoundGroups, SoundOther, SoundPart}
-use Rattle.dh_blocks.specs.SoundTerms.{AreSound, IsSound, IsSoundForm, IsSoundTarget}
+use Rattle.dh_blocks.specs.SoundCommands.{SoundAction, SoundGroups, SoundOther, SoundPart}
+use Rattle.dh_blocks.specs.SoundTerms.{AreSound, IsSound, IsSoundTarget}
 use Rattle.dh_typed_blocks.proofs.MemoriesFew.{ready_few}
-use Rattle.dh_used.specs.SourceSites.{AllStand}
 use Rattle.dh_used.proofs.SharesOfProgram.{access_among}
 use Rattle.dh_sound.specs.PhaseFacts.{StandsAmong}
-use Rattle.dh_reached.specs.IndicesKept.{ActionKeeps, ActionsKeep, AllTurn, CommandKeeps, CommandsKeep, FormKeeps, GroupsKeep, IndexTurns, IndicesKeep, NameTurns, OperandTurns, OtherKeeps, TermKeeps, TermsKeep}
+use Rattle.dh_reached.specs.IndicesKept.{ActionsKeep, AllTurn, CommandKeeps, GroupsKeep, IndexTurns, IndicesKeep, NameTurns, OperandTurns, OtherKeeps, TermKeeps, TermsKeep}
 use Rattle.dh_reached.proofs.OppositeArms.{each_back, each_front}
 
 -- Accesses.

@@ -1,15 +1,13 @@
 -- The loops round a block, with their copies: each unrolled one has a level of its own, in their order, and is found there
 -- by its iterator.
-use Rattle.std.proofs.Common.{◌≡◌, ℕ, zero, suc, ◌+◌, ◌<◌, ◌≤◌, List, length, map, Option, Some, None, refl, sym, ap, ◌∙◌, subst, arith, append_assoc, append-nil}
-use Rattle.std.specs.Prelude.{Bool, true, false, if◌then◌else◌, [], ◌∷◌, ◌++◌, ◌==◌, nat_le, nat_lt, slice_get, take}
+use Rattle.std.proofs.Common.{◌≡◌, ℕ, zero, suc, ◌+◌, ◌<◌, List, length, map, Option, Some, refl, sym, ap, ◌∙◌, subst, arith, append_assoc, append-nil}
+use Rattle.std.specs.Prelude.{Bool, true, false, if◌then◌else◌, [], ◌∷◌, ◌++◌, nat_le, nat_lt, slice_get, take}
 use Rattle.std.proofs.lemmas.Bool.Decides.{nat_tests}
 use Rattle.dh_value.specs.declared.kinds.Kind.{Kind}
 use Rattle.dh_tree.specs.Memories.{same_entity}
-use Rattle.dh_meaning.specs.Core.{Turning}
 use Rattle.dh_sound.specs.Blocks.{factors}
 use Rattle.dh_plan.specs.Correspondence.{Round}
 use Rattle.dh_code.specs.Slots.{held_at}
-use Rattle.dh_code.specs.declared.places.Held.{Held}
 use Rattle.dh_expressions.specs.declared.paths.Level.{Level}
 use Rattle.dh_expressions.specs.declared.scenes.Scene.{Scene}
 use Rattle.dh_expressions.specs.Levels.{levels_inside, spread_level}

@@ -1,14 +1,8 @@
 -- A plan that was made of a ready program is put down in its scene, block by block; so its steps keep the banks.
-use Rattle.std.proofs.Common.{◌≡◌, ℕ, ◌+◌, ◌<◌, ◌≤◌, List, Some, refl, sym, ap, ◌∙◌, subst, arith}
+use Rattle.std.proofs.Common.{◌≡◌, ℕ, List, Some, sym, subst, arith}
 use Rattle.std.specs.Prelude.{Bool, true, false, [], ◌∷◌, ◌++◌, slice_index, length}
-use Rattle.std.specs.List.{AllByRecursion}
-use Rattle.dh_value.specs.declared.kinds.Kind.{Kind}
-use Rattle.dh_tree.specs.declared.trees.expressions.Ref.{Ref}
-use Rattle.dh_tree.specs.Meets.{In}
 use Rattle.dh_tree.specs.PlainTrees.{Action, Term, action, assigns, blocks, calls, counts, decides, lets, lets_memory, reduces, repeats, stores, views}
 use Rattle.dh_tree.specs.Seen.{program_seen}
-use Rattle.dh_tree.specs.Tables.{Fits}
-use Rattle.dh_meaning.specs.AccessNumbers.{accesses_of}
 use Rattle.dh_meaning.specs.Core.{CoreCommands, CorePhase, CorePhases, CoreTerm, choosing, looping, no_core_phases, phase_and, straightly, turning}
 use Rattle.dh_meaning.specs.CoreOf.{core_commands, core_of, core_test, form_of, test_of}
 use Rattle.dh_meaning.specs.Effects.{commands, tests}
@@ -17,16 +11,13 @@ use Rattle.dh_meaning.specs.Phases.{Located, phases_of}
 use Rattle.dh_meaning.specs.Sites as source
 use Rattle.dh_meaning.specs.Sites.{in_arm}
 use Rattle.dh_meets.specs.SourceEvents.{Site, events, other_events, site_of, term_events, trace}
-use Rattle.dh_plan.specs.declared.operations.Operation.{Operation}
-use Rattle.dh_plan.specs.Correspondence.{FitKinds, Round}
+use Rattle.dh_plan.specs.Correspondence.{Round}
 use Rattle.dh_plan.specs.PlainPlans.{Node, Nodes, PlainPlan, block_node, choice_node, loop_node, no_nodes, node_then, threads_node, turns_node}
 use Rattle.dh_plan.specs.PlanPhases.{AreNodesOf, IsNodeOf}
 use Rattle.dh_sound.specs.PhaseFacts.{StandsAmong}
 use Rattle.dh_sound.specs.Trails.{EachAccess}
 use Rattle.dh_sound.proofs.AccessBanks.{loops_have_copies}
-use Rattle.dh_expressions.specs.declared.scenes.Around.{Around}
 use Rattle.dh_expressions.specs.declared.scenes.Scene.{Scene}
-use Rattle.dh_expressions.specs.Drafted.{Step}
 use Rattle.dh_expressions.specs.Evaluated.{known_in}
 use Rattle.dh_expressions.specs.Shown.{is_read_term}
 use Rattle.dh_expressions.proofs.ListPlaces.{some_same}
@@ -43,15 +34,13 @@ use Rattle.dh_gathering.specs.PlacedPhases.{loops_round}
 use Rattle.dh_phased.proofs.LoopsCounted.{loops_are_own}
 use Rattle.dh_typed_blocks.specs.SoundBlocks.{IsPlaceTold, loops_of}
 use Rattle.dh_used.specs.SourceSites.{AllStand}
-use Rattle.dh_placed.specs.PlacedSound.{SoundStraight}
 use Rattle.dh_placed.proofs.PhasesHeld.{straight_run, test_run}
-use Rattle.dh_told.specs.FormedPlans.{IsWholePlan}
 use Rattle.dh_told.specs.PlansTold.{IsOfReady}
 use Rattle.dh_told.proofs.BlocksTold.{both_all, first_all, place, straight_all, straight_sound, test_sound, test_stand, then_all}
 use Rattle.dh_told.proofs.VariablesKept.{long}
-use Rattle.dh_reached.specs.IndicesKept.{CommandsKeep, CommandKeeps, NameTurns, TermKeeps}
+use Rattle.dh_reached.specs.IndicesKept.{CommandsKeep, CommandKeeps, TermKeeps}
 use Rattle.dh_reached.specs.ReachedBlocks.{StraightStands}
-use Rattle.dh_reached.specs.ReachedPlans.{ReachedBlock, ReachedPlan, ReachedTest, reached_tie}
+use Rattle.dh_reached.specs.ReachedPlans.{ReachedBlock, ReachedTest, reached_tie}
 use Rattle.dh_reached.specs.StepsOfNodes.{InTurns}
 use Rattle.dh_reached.proofs.OppositeArms.{each_front}
 use Rattle.dh_reached.proofs.ReachedPlans.{reached_keep_banks}
@@ -112,12 +101,14 @@ module _ (scene : Scene) (count : ℕ) (plan : PlainPlan) (final : Made) (h : Is
     reached_block =
         let k = straight_sound scene count plan final h rounds cs block s counting in
         let pair : (m : MadeEach scene s.made.around (k.of.done ++ k.of.folds) s.made.before s.made.between)
-            × StraightStands scene s.made.around plan count block (k.of.done ++ k.of.folds) s.made.before s.made.between m (sets_made s.made.between.values.log.items s.made.between.values.current.items) (reads_in scene (λ n. any_makes n s.located)) =
+        × StraightStands scene s.made.around plan count block (k.of.done ++ k.of.folds) s.made.before s.made.between m (sets_made s.made.between.values.log.items s.made.between.values.current.items) (reads_in scene (λ n. any_makes n s.located)) =
         subst (λ (ls : List Located). (m : MadeEach scene s.made.around ls s.made.before s.made.between)
-        × StraightStands scene s.made.around plan count block ls s.made.before s.made.between m (sets_made s.made.between.values.log.items s.made.between.values.current.items) (reads_in scene (λ n. any_makes n s.located))) k.are
-        (s.made.made, straight_stands scene count plan final h rounds cs block s counting
-        (stands_spread scene rounds s.made.around s.made.round s.made.stands_in (straight_stands_few (known_in scene) (program_seen scene.program.now) h.ready.limits (loops_round rounds) s.located s.placed))
-        (sets_unused s.made.between.values.log.items s.made.between.values.current.items)) in
+        × StraightStands scene s.made.around plan count block ls s.made.before s.made.between m (sets_made s.made.between.values.log.items s.made.between.values.current.items) (reads_in scene (λ n. any_makes n s.located))) k.are (
+          s.made.made,
+          straight_stands scene count plan final h rounds cs block s counting
+              (stands_spread scene rounds s.made.around s.made.round s.made.stands_in (straight_stands_few (known_in scene) (program_seen scene.program.now) h.ready.limits (loops_round rounds) s.located s.placed))
+              (sets_unused s.made.between.values.log.items s.made.between.values.current.items),
+        ) in
         let all : AllStand scene (k.of.done ++ k.of.folds) = subst (λ (ls : List Located). AllStand scene ls) k.are (straight_all scene count plan final h rounds cs block s counting) in
         record {
           around = s.made.around;

@@ -1,9 +1,8 @@
 -- A name in an expression of a block that is the iterator of a loop is in a turn of it, as its counter tells.
-use Rattle.std.proofs.Common.{◌≡◌, ◌⊎◌, inl, inr, ℕ, zero, suc, ◌<◌, ◌≤◌, List, Option, Some, None, refl, sym, ap, ◌∙◌, subst}
+use Rattle.std.proofs.Common.{◌≡◌, inl, inr, ℕ, zero, suc, ◌<◌, List, Option, Some, None, sym, ap, ◌∙◌, subst}
 use Rattle.std.specs.Prelude.{Bool, true, false, if◌then◌else◌, [], ◌∷◌, nat_lt, slice_get, slice_index}
 use Rattle.std.specs.List.{AllByRecursion}
 use Rattle.dh_value.specs.declared.kinds.Kind.{Kind}
-use Rattle.dh_value.specs.declared.kinds.Kind.TheVariants.{Unsigned}
 use Rattle.dh_tree.specs.declared.trees.counters.Counter.{Counter}
 use Rattle.dh_tree.specs.declared.trees.expressions.Ref.{Ref}
 use Rattle.dh_tree.specs.Counters.{counter_in, counters_of}
@@ -14,24 +13,20 @@ use Rattle.dh_meaning.specs.Phases.{turn_count}
 use Rattle.dh_plan.specs.Blocks.{kind_at}
 use Rattle.dh_plan.specs.Correspondence.{Round}
 use Rattle.dh_plan.specs.PlainPlans.{PlainPlan}
-use Rattle.dh_code.specs.declared.places.Held.{Held}
 use Rattle.dh_code.specs.Slots.{held_at}
 use Rattle.dh_sound.specs.IndexValues.{HasCopy}
 use Rattle.dh_sound.proofs.TurnsOfIndices.{counter_entity}
 use Rattle.dh_expressions.specs.declared.paths.Level.{Level}
-use Rattle.dh_expressions.specs.declared.scenes.Around.{Around}
 use Rattle.dh_expressions.specs.declared.scenes.Scene.{Scene}
-use Rattle.dh_expressions.specs.Drafted.{Step}
 use Rattle.dh_expressions.specs.Evaluated.{counter_of}
 use Rattle.dh_expressions.specs.ReachedBanks.{level_with}
 use Rattle.dh_expressions.proofs.ListPlaces.{some_same}
 use Rattle.dh_blocks.specs.BlockMade.{step_of}
-use Rattle.dh_blocks.specs.NamedVariables.{IsNamedHere, IsOfRound, IsPlain}
+use Rattle.dh_blocks.specs.NamedVariables.{IsNamedHere, IsOfRound}
 use Rattle.dh_gathering.specs.MadeBlocks.{AreWithin}
 use Rattle.dh_typed_blocks.specs.ScenesTold.{AreRoundsTold, TellsScene}
 use Rattle.dh_reached.specs.IndicesKept.{CounterTurns, NameTurns}
 use Rattle.dh_reached.specs.StepsOfNodes.{InTurns}
-use Rattle.dh_reached.proofs.PutLists.{all_at}
 use Rattle.dh_banked.proofs.LevelsOfRounds.{level_of}
 
 in_turn : (registers : List ℕ) (rounds : List Round) (index : ℕ) (r : Round) → InTurns registers rounds → slice_get rounds index ≡ Some r → slice_index registers r.counter < r.loop.count

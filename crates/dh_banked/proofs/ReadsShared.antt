@@ -1,13 +1,12 @@
 -- An access of a block that shares another shares a read of the block that comes before it.
-use Rattle.std.proofs.Common.{◌≡◌, ℕ, ◌<◌, ◌&&◌, not, Bool, true, false, List, length, Option, Some, None, refl, ap, sym, ◌∙◌, subst}
+use Rattle.std.proofs.Common.{◌≡◌, ℕ, ◌<◌, ◌&&◌, not, Bool, true, false, length, Option, Some, refl, ap, sym, ◌∙◌, subst}
 use Rattle.std.specs.Prelude.{slice_get}
 use Rattle.std.specs.Option.{is_some}
 use Rattle.dh_tree.specs.Seen.{program_seen}
-use Rattle.dh_meaning.specs.AccessNumbers.{accesses_of}
 use Rattle.dh_meaning.specs.OnePhase.{in_one_phase}
 use Rattle.dh_meaning.specs.Sites.{nothing_around}
 use Rattle.dh_meets.specs.Sharing.{shared}
-use Rattle.dh_meets.specs.SourceEvents.{SourceAccess, accesses_in, trace}
+use Rattle.dh_meets.specs.SourceEvents.{accesses_in, trace}
 use Rattle.dh_lengths.specs.SharedReads.{TellsShares, share_told}
 use Rattle.dh_sound.proofs.EventCounts.{events_counted}
 use Rattle.dh_expressions.specs.declared.scenes.Around.{Around}

@@ -1,11 +1,11 @@
 -- The block of a test that was made of a ready program stands as its accesses are asked.
-use Rattle.std.proofs.Common.{◌≡◌, ℕ, ◌<◌, ◌≤◌, ◌&&◌, Bool, true, false, List, [], length, Option, Some, None, refl, ap, sym, ◌∙◌, subst, arith}
+use Rattle.std.proofs.Common.{◌≡◌, ℕ, ◌<◌, ◌≤◌, Bool, true, false, List, [], length, None, arith}
 use Rattle.std.specs.Prelude.{slice_get, slice_index}
 use Rattle.dh_tree.specs.PlainTrees as plain
 use Rattle.dh_tree.specs.Seen.{program_seen}
 use Rattle.dh_meaning.specs.Core.{CoreTerm}
 use Rattle.dh_meaning.specs.OnePhase.{test_makes}
-use Rattle.dh_meaning.specs.Phases.{Located, phases_of}
+use Rattle.dh_meaning.specs.Phases.{phases_of}
 use Rattle.dh_meets.specs.SourceEvents.{SourceAccess, accesses_in, trace, with_indices}
 use Rattle.dh_sound.specs.PhaseFacts.{HasTest}
 use Rattle.dh_sound.proofs.LocatedSites.{test_first}

@@ -1,11 +1,10 @@
 -- What is put down for a block: its commands one behind the other, and what sets registers behind them.
-use Rattle.std.proofs.Common.{◌≡◌, ◌⊎◌, inl, inr, ℕ, zero, suc, ◌+◌, ◌-◌, ◌^◌, ◌<◌, ◌≤◌, List, Some, None, refl, sym, ap, ◌∙◌, subst, arith, length, drop}
+use Rattle.std.proofs.Common.{◌≡◌, ◌⊎◌, inl, inr, ℕ, ◌+◌, ◌-◌, ◌<◌, ◌≤◌, List, Some, None, refl, sym, ap, ◌∙◌, subst, arith, length, drop}
 use Rattle.std.specs.Prelude.{Bool, true, false, if◌then◌else◌, nat_lt, [], ◌∷◌, ◌++◌, slice_get, Option}
 use Rattle.std.specs.List.{AllByRecursion}
 use Rattle.std.proofs.lemmas.Bool.{cases_lt}
 use Rattle.std.proofs.lemmas.Bool.Decides.{nat_tests}
 use Rattle.dh_tree.specs.Memories.{table_of}
-use Rattle.dh_tree.specs.PlainTrees.{Term}
 use Rattle.dh_tree.specs.Seen.{program_seen}
 use Rattle.dh_meaning.specs.AccessNumbers.{accesses_of, term_accesses}
 use Rattle.dh_meaning.specs.Phases.{Located}
@@ -18,7 +17,7 @@ use Rattle.dh_expressions.specs.declared.accesses.Touched.{Touched}
 use Rattle.dh_expressions.specs.declared.drafts.Draft.{Draft}
 use Rattle.dh_expressions.specs.declared.scenes.Around.{Around}
 use Rattle.dh_expressions.specs.declared.scenes.Scene.{Scene}
-use Rattle.dh_expressions.specs.Drafted.{Begun, Extends, Fits, Step}
+use Rattle.dh_expressions.specs.Drafted.{Begun, Fits, Step}
 use Rattle.dh_expressions.specs.Noted.{touched_in}
 use Rattle.dh_expressions.proofs.ListPlaces.{place_within}
 use Rattle.dh_expressions.proofs.Pushing.{begun_later, fits_before}
@@ -26,24 +25,23 @@ use Rattle.dh_formed.specs.Counted.{given_at_paths, length_given}
 use Rattle.dh_formed.specs.Formed.{Site}
 use Rattle.dh_commands.specs.declared.buildings.Building.{Building}
 use Rattle.dh_commands.specs.LanesRun.{paths_counted}
-use Rattle.dh_commands.specs.MadeCommands.{MadeCommand, MadeTests}
-use Rattle.dh_blocks.specs.BlockMade.{AreRising, IsBare, IsPut, step_of}
+use Rattle.dh_blocks.specs.BlockMade.{AreRising, IsBare, step_of}
 use Rattle.dh_blocks.proofs.BlockBegins.{begun_here, fits_here}
-use Rattle.dh_laid.specs.BlockSites.{MadeEach, block_sites, command_sites, one_site, places_from, site_or, sites_from, term_sites, test_sites}
+use Rattle.dh_laid.specs.BlockSites.{MadeEach, block_sites, command_sites, one_site, places_from, site_or, term_sites, test_sites}
 use Rattle.dh_laid.specs.LaidNumbers.{StoresReach}
 use Rattle.dh_laid.proofs.AccessesLaid.{command_lays, each_lays}
-use Rattle.dh_reached.specs.IndicesKept.{BlockKeeps, CommandKeeps, TermKeeps}
-use Rattle.dh_reached.specs.Puts.{AreInOrder, AreSited, EachUse, Goes, GoesBefore, IsUse, Put, PutsDown, operations_of, used}
-use Rattle.dh_reached.specs.ReachedBlocks.{AreUnused, ReadBy, StandsSpread, StraightReaches, StraightStands, TestReaches, TestStands}
-use Rattle.dh_reached.specs.ReadsTold.{BlockReads, BlockShares, CommandReads}
+use Rattle.dh_reached.specs.IndicesKept.{CommandKeeps}
+use Rattle.dh_reached.specs.Puts.{AreInOrder, EachUse, Goes, IsUse, Put, PutsDown, operations_of}
+use Rattle.dh_reached.specs.ReachedBlocks.{AreUnused, ReadBy, StandsSpread, StraightReaches, TestReaches}
+use Rattle.dh_reached.specs.ReadsTold.{BlockReads, BlockShares}
 use Rattle.dh_reached.specs.StepBanks.{BlockUses}
 use Rattle.dh_reached.proofs.CommandsDown.{command_put}
 use Rattle.dh_reached.proofs.CommandsPut.{CommandPut, tests_put}
 use Rattle.dh_reached.proofs.LanesPut.{Behind}
-use Rattle.dh_reached.proofs.NoUses.{AddsNone, down_then, down_wider, none_still, puts_added, puts_wider}
+use Rattle.dh_reached.proofs.NoUses.{down_then, down_wider, none_still, puts_added}
 use Rattle.dh_reached.proofs.PlacesOf.{PlacesAt, place_by, place_past, places_long, site_by, site_told}
 use Rattle.dh_reached.proofs.PutLists.{GoAll, each_both, operations_both, order_both}
-use Rattle.dh_reached.proofs.TermsPut.{SitesAt, sites_long}
+use Rattle.dh_reached.proofs.TermsPut.{sites_long}
 
 -- What is behind a block.
 

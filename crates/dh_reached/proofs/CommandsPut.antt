@@ -1,18 +1,16 @@
 -- What is put down for a whole command, by recursion on it and on what was put down for it.
-use Rattle.std.proofs.Common.{◌≡◌, ◌⊎◌, inl, inr, ℕ, zero, suc, ◌+◌, ◌-◌, ◌^◌, ◌<◌, ◌≤◌, List, Some, None, refl, sym, ap, ◌∙◌, subst, arith, length}
+use Rattle.std.proofs.Common.{◌≡◌, ◌⊎◌, inl, inr, ℕ, zero, suc, ◌+◌, ◌-◌, ◌^◌, ◌<◌, ◌≤◌, List, Some, None, sym, ap, ◌∙◌, subst, arith, length}
 use Rattle.std.specs.Prelude.{Bool as Truth, true, false, [], ◌∷◌, ◌++◌, slice_get, Option}
 use Rattle.std.proofs.lemmas.Bool.{cases_lt}
 use Rattle.dh_base.specs.declared.places.Place.{Place}
 use Rattle.dh_value.specs.declared.kinds.Kind.{Kind}
 use Rattle.dh_value.specs.declared.operators.Op.TheVariants.{Both}
 use Rattle.dh_value.specs.Operations.{truth}
-use Rattle.dh_tree.specs.Indices.{form_of}
 use Rattle.dh_tree.specs.Memories.{table_of}
 use Rattle.dh_tree.specs.PlainTrees as plain
 use Rattle.dh_tree.specs.PlainTrees.{Term, Action, action, ActionForm, lets, lets_memory, views, assigns, stores, reduces, calls, blocks, decides, repeats, counts, MaybeAction, no_action, one_action, Actions, no_actions, action_then, Groups, no_groups, group_then}
 use Rattle.dh_tree.specs.Seen.{program_seen}
-use Rattle.dh_meaning.specs.AccessNumbers.{accesses_of, form_accesses, groups_accesses, inner_accesses, other_accesses, own_accesses, part_accesses, term_accesses}
-use Rattle.dh_meaning.specs.CoreOf.{entity_number}
+use Rattle.dh_meaning.specs.AccessNumbers.{form_accesses, term_accesses}
 use Rattle.dh_meaning.specs.Paths.{copies_in}
 use Rattle.dh_plan.specs.declared.operations.OperationForm.TheVariants.{Compute, Constant, Select}
 use Rattle.dh_expressions.specs.declared.accesses.Accesses.{Accesses}
@@ -23,7 +21,6 @@ use Rattle.dh_expressions.specs.declared.scenes.Scene.{Scene}
 use Rattle.dh_expressions.specs.Drafted.{Begun, Extends, Fits, Step}
 use Rattle.dh_expressions.specs.Shown.{guard_of}
 use Rattle.dh_expressions.proofs.ListPlaces.{there}
-use Rattle.dh_expressions.proofs.Pushing.{begun_later, extends_again, fits_before}
 use Rattle.dh_formed.specs.Counted.{AreNext, given_at_paths}
 use Rattle.dh_formed.specs.Formed.{Site}
 use Rattle.dh_formed.proofs.ValuesCounted.{shown_counts}
@@ -32,24 +29,20 @@ use Rattle.dh_commands.specs.declared.buildings.Building.{Building}
 use Rattle.dh_commands.specs.declared.choices.Choice.{Choice}
 use Rattle.dh_commands.specs.declared.choices.Left.{Left}
 use Rattle.dh_commands.specs.LanesRun.{lane_of, paths_counted}
-use Rattle.dh_commands.specs.MadeCommands.{Commanding, MadeActionForm, MadeActions, MadeArm, MadeArmGuard, MadeArmGuards, MadeAssigned, MadeBehind, MadeChoiceBy, MadeChoices, MadeCleared, MadeCommand, MadeGroups, MadeGuard, MadeLanes, MadeOther, MadeOutcome, MadeReduced, MadeStored, MadeTested, MadeTests}
+use Rattle.dh_commands.specs.MadeCommands.{Commanding, MadeArm, MadeArmGuard, MadeArmGuards, MadeAssigned, MadeBehind, MadeChoiceBy, MadeChoices, MadeCleared, MadeGuard, MadeLanes, MadeOutcome, MadeReduced, MadeStored, MadeTested, MadeTests}
 use Rattle.dh_commands.specs.ShownVariables.{factors_of}
 use Rattle.dh_blocks.specs.PathsOfLevels.{AreSpread}
-use Rattle.dh_laid.specs.BlockSites.{action_sites, actions_sites, all_there, command_sites, groups_sites, other_sites, target_sites, term_sites}
+use Rattle.dh_laid.specs.BlockSites.{target_sites, term_sites}
 use Rattle.dh_laid.specs.Laid.{aim_accesses}
-use Rattle.dh_laid.specs.LaidNumbers.{IsAccessForm, StoresReach, StoresReachForm, StoresReachGroups, StoresReachOther, StoresReachPart}
-use Rattle.dh_laid.proofs.AccessesLaid.{actions_lays, assigned_lays, cleared_lays, command_lays, groups_lays, other_lays, reduced_lays, stored_lays, term_lays, tests_lay}
-use Rattle.dh_laid.proofs.ArmsLaid.{arm_guards_form}
-use Rattle.dh_laid.proofs.ChoicesLaid.{choices_form}
-use Rattle.dh_laid.proofs.CommandsNumbered.{actions_reached, command_reached, some_arm, tests_number}
+use Rattle.dh_laid.specs.LaidNumbers.{IsAccessForm}
+use Rattle.dh_laid.proofs.AccessesLaid.{assigned_lays, cleared_lays, reduced_lays, stored_lays, term_lays}
 use Rattle.dh_laid.proofs.CommandsQuiet.{stands_arm}
-use Rattle.dh_laid.proofs.ValuesLogged.{arm_long, tests_same}
-use Rattle.dh_reached.specs.IndicesKept.{ActionKeeps, ActionsKeep, CommandKeeps, FormKeeps, GroupsKeep, OtherKeeps, TermKeeps}
-use Rattle.dh_reached.specs.Puts.{AreSited, EachUse, IsUse, Put, PutsAt, PutsDown, is_write}
-use Rattle.dh_reached.specs.ReadsTold.{ActionReads, ActionsRead, BlockShares, CommandReads, GroupsRead, NoneReads, OtherReads}
+use Rattle.dh_laid.proofs.ValuesLogged.{arm_long}
+use Rattle.dh_reached.specs.IndicesKept.{FormKeeps, TermKeeps}
+use Rattle.dh_reached.specs.Puts.{AreSited, EachUse, Put, PutsAt, PutsDown, is_write}
+use Rattle.dh_reached.specs.ReadsTold.{BlockShares, NoneReads}
 use Rattle.dh_reached.proofs.LanesPut.{AllLanes, Behind, LaneDone, all_lanes, assigned_lane, cleared_lane, reduced_lane, tested_lane}
 use Rattle.dh_reached.proofs.NoUses.{AddsNone, before_none, behind_none, down_then, none_again, none_counted, none_pushed, none_still, puts_added}
-use Rattle.dh_reached.proofs.PlacesOf.{PlacesAt, actions_long, places_back, places_front, places_long, places_there}
 use Rattle.dh_reached.specs.ReachedBlocks.{StandsSpread}
 use Rattle.dh_reached.proofs.StoresPut.{IsLast, stored_lane}
 use Rattle.dh_reached.proofs.TermsPut.{SitesAt, sites_long}

@@ -1,9 +1,8 @@
 -- The guards of accesses in arms: where that of an access holds, so does that of the arm; and the arms of an `if` exclude
 -- each other at each path.
-use Rattle.std.proofs.Common.{◌≡◌, ◌⊎◌, inl, inr, ℕ, zero, suc, ◌+◌, ◌-◌, ◌^◌, ◌<◌, ◌≤◌, List, Some, None, refl, sym, ap, ◌∙◌, subst, arith, length}
-use Rattle.std.specs.Prelude.{Bool as Truth, true, false, not, if◌then◌else◌, ◌&&◌, nat_lt, [], ◌∷◌, ◌++◌, map, replicate, slice_get, Option}
+use Rattle.std.proofs.Common.{◌≡◌, ℕ, zero, suc, ◌+◌, ◌<◌, List, Some, None, refl, sym, ap, ◌∙◌, subst, length}
+use Rattle.std.specs.Prelude.{Bool as Truth, true, false, not, ◌&&◌, [], ◌∷◌, ◌++◌, slice_get, Option}
 use Rattle.std.specs.List.{AllByRecursion}
-use Rattle.dh_base.specs.declared.places.Place.{Place}
 use Rattle.dh_value.specs.declared.operators.Op.TheVariants.{Both}
 use Rattle.dh_value.specs.Operations.{is_true, truth}
 use Rattle.dh_tree.specs.PlainTrees as plain
@@ -14,7 +13,7 @@ use Rattle.dh_plan.specs.declared.operations.OperationForm.TheVariants.{Compute,
 use Rattle.dh_expressions.specs.declared.drafts.Draft.{Draft}
 use Rattle.dh_expressions.specs.declared.scenes.Around.{Around}
 use Rattle.dh_expressions.specs.declared.scenes.Scene.{Scene}
-use Rattle.dh_expressions.specs.Drafted.{Begun, Extends, Fits, Gives, Step, holds, shown}
+use Rattle.dh_expressions.specs.Drafted.{Begun, Fits, Gives, Step, holds, shown}
 use Rattle.dh_expressions.specs.Shown.{guard_of}
 use Rattle.dh_expressions.proofs.ListPlaces.{there}
 use Rattle.dh_expressions.proofs.Pushing.{begun_later, computes, fits_before}
@@ -33,7 +32,6 @@ use Rattle.dh_laid.proofs.ChoicesLaid.{choices_form}
 use Rattle.dh_laid.proofs.ValuesLogged.{tests_same}
 use Rattle.dh_reached.specs.ReachedBlocks.{StandsSpread}
 use Rattle.dh_reached.proofs.CommandsPut.{arm_paths, spread_arm}
-use Rattle.dh_reached.proofs.PutLists.{all_at}
 
 -- Guards of arms, by what was put down for them.
 

@@ -1,6 +1,6 @@
 -- The bank that indices reach in a step is the one that is told of their path, whatever the turns of the loops: an index on
 -- which the bank depends is a number, or an iterator with a number, and shows what the program has there.
-use Rattle.std.proofs.Common.{◌≡◌, ℕ, zero, suc, ◌+◌, ◌-◌, ◌*◌, ◌/◌, ◌%◌, ◌^◌, ◌<◌, ◌≤◌, ◌⊎◌, inl, inr, List, Some, None, refl, sym, ap, ◌∙◌, subst, arith, length, add-one}
+use Rattle.std.proofs.Common.{◌≡◌, ℕ, zero, suc, ◌+◌, ◌-◌, ◌*◌, ◌/◌, ◌%◌, ◌^◌, ◌<◌, ◌≤◌, List, Some, None, refl, sym, ap, ◌∙◌, subst, arith, add-one}
 use Rattle.std.specs.Prelude.{Bool, true, false, if◌then◌else◌, ◌==◌, ◌&&◌, ◌||◌, not, nat_le, nat_lt, [], ◌∷◌, ◌++◌, map, take, slice_get, slice_index, slice_index_or, Option, ℤ, pos, neg_ℤ, ◌+ℤ◌, unsigned_abs}
 use Rattle.std.specs.List.{AllByRecursion}
 use Rattle.std.proofs.Math.Nat.{mod-lt}
@@ -30,9 +30,8 @@ use Rattle.dh_tree.specs.Shapes.{IsDim}
 use Rattle.dh_tree.proofs.BankElements.{place_below}
 use Rattle.dh_meaning.specs.AccessNumbers.{term_accesses}
 use Rattle.dh_meaning.specs.Bindings.{kind_or_first}
-use Rattle.dh_meaning.specs.CoreOf.{core_term, depth_of, entity_number, operation_of}
-use Rattle.dh_meaning.specs.Effects as meaning
-use Rattle.dh_meaning.specs.Effects.{Variables, bits_of, spot_by_indices, value_of}
+use Rattle.dh_meaning.specs.CoreOf.{core_term, depth_of, entity_number}
+use Rattle.dh_meaning.specs.Effects.{Variables, spot_by_indices, value_of}
 use Rattle.dh_meaning.specs.Paths.{Path}
 use Rattle.dh_meets.specs.Charges.{index_in, level_of_loop}
 use Rattle.dh_code.specs.Extended.{extension_of}
@@ -41,7 +40,7 @@ use Rattle.dh_code.specs.declared.places.Held.{Held}
 use Rattle.dh_code.specs.Slots.{held_at}
 use Rattle.dh_plan.specs.Blocks.{numbers_at, spot_in_row, spot_of_reach}
 use Rattle.dh_plan.specs.declared.operations.OperationForm.TheVariants.{Compute, Constant, Convert}
-use Rattle.dh_sound.specs.IndexValues.{AllHaveIndexKinds, AnyLoop, AreOperands, FormInTurn, HasIndexKinds, HasIntegerKind, IsInTurn, IsIndexValue, IsUnrolled, NameInTurn, OperandInTurn, copy_at}
+use Rattle.dh_sound.specs.IndexValues.{AllHaveIndexKinds, AnyLoop, AreOperands, FormInTurn, HasIndexKinds, HasIntegerKind, IsInTurn, IsIndexValue, NameInTurn, copy_at}
 use Rattle.dh_sound.proofs.BanksReached.{index_bank, spot_indices, spot_row}
 use Rattle.dh_sound.proofs.ValuesOfIndices.{index_value}
 use Rattle.dh_expressions.specs.declared.accesses.Accesses.{Accesses}
@@ -50,23 +49,23 @@ use Rattle.dh_expressions.specs.declared.elements.Aim.{Aim}
 use Rattle.dh_expressions.specs.declared.paths.Level.{Level}
 use Rattle.dh_expressions.specs.declared.scenes.Lane.{Lane}
 use Rattle.dh_expressions.specs.declared.scenes.Scene.{Scene}
-use Rattle.dh_expressions.specs.Drafted.{Begun, Extends, Fits, Pushes, Step, form_shown, shown}
-use Rattle.dh_expressions.specs.Evaluated.{IsTurning, begun_of, copy_in_turn, counter_of, iterator_shown, known_in, lane_path}
+use Rattle.dh_expressions.specs.Drafted.{Begun, Extends, Fits, Step, shown}
+use Rattle.dh_expressions.specs.Evaluated.{IsTurning, begun_of, copy_in_turn, counter_of, known_in, lane_path}
 use Rattle.dh_expressions.specs.Levels.{copy_number, copy_to, last_number, path_at}
 use Rattle.dh_expressions.specs.MadeTerms.{MadeTerm, MadeTerms}
-use Rattle.dh_expressions.specs.MadeValues.{MadeBy, MadeConverted, MadeExtended, MadeNumber, MadeOperation}
+use Rattle.dh_expressions.specs.MadeValues.{MadeBy, MadeConverted, MadeExtended, MadeOperation}
 use Rattle.dh_expressions.specs.Numbers.{narrowed}
-use Rattle.dh_expressions.specs.ReachedBanks.{bank_by, index_first, indices_first, level_with, term_first}
+use Rattle.dh_expressions.specs.ReachedBanks.{bank_by, index_first, indices_first, level_with}
 use Rattle.dh_expressions.specs.Reaching.{reach_told}
-use Rattle.dh_expressions.specs.Shown.{converted_shown, extended_shown, is_kept, is_read_term, kind_written}
+use Rattle.dh_expressions.specs.Shown.{extended_shown, is_kept, is_read_term, kind_written}
 use Rattle.dh_expressions.proofs.Evaluating.{extended_same, extended_word, operation_value}
 use Rattle.dh_expressions.proofs.ListPlaces.{some_same}
-use Rattle.dh_expressions.proofs.Pushing.{begun_later, computes, extends_again, fits_before, pushed_extends}
+use Rattle.dh_expressions.proofs.Pushing.{begun_later, computes, fits_before, pushed_extends}
 use Rattle.dh_formed.proofs.ValuesFormed.{operation_forms}
 use Rattle.dh_blocks.proofs.KindsOfValues.{IsWordOf, bits_small, kinds_same, of_word}
 use Rattle.dh_laid.specs.LaidQuiet.{StandsIn}
 use Rattle.dh_laid.proofs.AccessesLaid.{converted_extends, same_extends, term_lays, terms_lay}
-use Rattle.dh_reached.specs.IndicesKept.{AllTurn, CounterTurns, IndexTurns, IndicesKeep, NameTurns, OperandTurns}
+use Rattle.dh_reached.specs.IndicesKept.{AllTurn, CounterTurns, IndexTurns, IndicesKeep, NameTurns}
 
 -- Levels as loops.
 

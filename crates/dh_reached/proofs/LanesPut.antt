@@ -1,18 +1,14 @@
 -- What is put down for a command without arms, at all its paths, one after the other.
-use Rattle.std.proofs.Common.{◌≡◌, ◌⊎◌, inl, inr, ⊎_elim, ℕ, zero, suc, ◌+◌, ◌-◌, ◌^◌, ◌<◌, ◌≤◌, List, Some, None, refl, sym, ap, ◌∙◌, subst, arith, length, add-one}
-use Rattle.std.specs.Prelude.{Bool as Truth, true, false, [], ◌∷◌, ◌++◌, slice_get, Option}
+use Rattle.std.proofs.Common.{◌≡◌, ◌⊎◌, inl, inr, ℕ, zero, suc, ◌+◌, ◌^◌, ◌<◌, ◌≤◌, List, Some, None, refl, sym, ap, ◌∙◌, subst, arith, add-one}
+use Rattle.std.specs.Prelude.{false, Option}
 use Rattle.std.proofs.lemmas.Bool.{cases_lt}
 use Rattle.dh_value.specs.declared.kinds.Kind.{Kind}
 use Rattle.dh_value.specs.declared.kinds.Kind.TheVariants as kind
 use Rattle.dh_value.specs.declared.operators.Op.{Op}
-use Rattle.dh_tree.specs.Indices.{form_of}
 use Rattle.dh_tree.specs.Memories.{table_of}
-use Rattle.dh_tree.specs.PlainTrees as plain
 use Rattle.dh_tree.specs.PlainTrees.{Term}
 use Rattle.dh_tree.specs.Seen.{program_seen}
-use Rattle.dh_base.specs.declared.places.Place.{Place}
-use Rattle.dh_meaning.specs.AccessNumbers.{form_accesses, term_accesses, terms_accesses}
-use Rattle.dh_meaning.specs.CoreOf.{memory_of}
+use Rattle.dh_meaning.specs.AccessNumbers.{term_accesses}
 use Rattle.dh_code.specs.Extended.{extension_of}
 use Rattle.dh_code.specs.Made.{same_kind}
 use Rattle.dh_code.specs.declared.places.Held.{Held}
@@ -20,38 +16,30 @@ use Rattle.dh_code.specs.Slots.{held_at}
 use Rattle.dh_plan.specs.declared.operations.OperationForm.TheVariants.{Compute}
 use Rattle.dh_expressions.specs.declared.accesses.Accesses.{Accesses}
 use Rattle.dh_expressions.specs.declared.drafts.Draft.{Draft}
-use Rattle.dh_expressions.specs.declared.elements.Aim.{Aim}
 use Rattle.dh_expressions.specs.declared.scenes.Around.{Around}
 use Rattle.dh_expressions.specs.declared.scenes.Lane.{Lane}
 use Rattle.dh_expressions.specs.declared.scenes.Scene.{Scene}
 use Rattle.dh_expressions.specs.Drafted.{Begun, Extends, Fits, Step}
-use Rattle.dh_expressions.specs.Evaluated.{known_in}
-use Rattle.dh_expressions.specs.MadeTerms.{MadeTerm, MadeWrite}
+use Rattle.dh_expressions.specs.MadeTerms.{MadeTerm}
 use Rattle.dh_expressions.specs.MadeValues.{MadeHeld}
 use Rattle.dh_expressions.specs.Shown.{kind_written, register_at}
-use Rattle.dh_expressions.specs.Standings.{standing_at}
-use Rattle.dh_expressions.proofs.Pushing.{begun_later, extends_again, fits_before, pushed_extends}
+use Rattle.dh_expressions.proofs.Pushing.{begun_later, extends_again, fits_before}
 use Rattle.dh_formed.specs.Counted.{AreNext, HaveGiven, given_at_paths}
 use Rattle.dh_formed.specs.Formed.{Site}
-use Rattle.dh_formed.proofs.TermsCounted.{given_again, given_none, next_first, next_second}
-use Rattle.dh_formed.proofs.TermsFormed.{all_numbered, numbered}
+use Rattle.dh_formed.proofs.TermsCounted.{given_none}
 use Rattle.dh_formed.proofs.ValuesCounted.{held_counts, number_counts, shown_counts}
 use Rattle.dh_formed.proofs.ValuesFormed.{held_forms}
 use Rattle.dh_commands.specs.declared.buildings.Building.{Building}
 use Rattle.dh_commands.specs.LanesRun.{lane_of, paths_counted}
-use Rattle.dh_commands.specs.MadeCommands.{FoldedWith, MadeAim, MadeAssigned, MadeCleared, MadeLanes, MadeOldOperand, MadeOperand, MadeReduced, MadeStored, MadeStoring, MadeTested, MadeTests}
-use Rattle.dh_laid.specs.BlockSites.{target_sites, term_sites, terms_sites, write_site}
-use Rattle.dh_laid.specs.Laid.{aim_accesses}
-use Rattle.dh_laid.specs.LaidNumbers.{IsAccessForm}
-use Rattle.dh_laid.proofs.AccessesLaid.{aim_lays, folded_extends, storing_lays, term_lays, terms_lay, write_lays}
+use Rattle.dh_commands.specs.MadeCommands.{FoldedWith, MadeAssigned, MadeCleared, MadeLanes, MadeOldOperand, MadeOperand, MadeReduced, MadeTested}
+use Rattle.dh_laid.specs.BlockSites.{term_sites}
+use Rattle.dh_laid.proofs.AccessesLaid.{folded_extends}
 use Rattle.dh_reached.specs.IndicesKept.{TermKeeps}
 use Rattle.dh_reached.specs.Puts.{AreSited, PutsAt, PutsDown}
 use Rattle.dh_reached.specs.ReadsTold.{BlockShares}
-use Rattle.dh_reached.proofs.IndicesReach.{indices_reach, row_reaches}
-use Rattle.dh_reached.proofs.NoUses.{AddsNone, at_then, before_none, behind_none, none_again, none_counted, none_pushed, none_same, none_still, paths_then, puts_added, puts_wider}
+use Rattle.dh_reached.proofs.NoUses.{AddsNone, none_again, none_counted, none_pushed, none_still, paths_then, puts_added}
 use Rattle.dh_reached.specs.ReachedBlocks.{StandsSpread}
-use Rattle.dh_reached.proofs.ReadsPut.{PutsHere, write_given, write_puts}
-use Rattle.dh_reached.proofs.TermsPut.{Done, SitesAt, converted_none, done_before, done_none, done_then, site_one, sites_back, sites_front, sites_long, all_sites_long, term_done, terms_done}
+use Rattle.dh_reached.proofs.TermsPut.{Done, SitesAt, converted_none, done_before, term_done}
 
 -- Values that use nothing.
 

@@ -1,7 +1,7 @@
 -- The accesses of a program stand in the order of their numbers, in the tree of those that may meet.
-use Rattle.std.proofs.Common.{◌≡◌, ◌⊎◌, inl, inr, ℕ, zero, suc, ◌+◌, ◌<◌, ◌≤◌, refl, sym, ap, ◌∙◌, subst, arith}
+use Rattle.std.proofs.Common.{◌⊎◌, inl, inr, ℕ, zero, suc, ◌+◌, ◌<◌, ◌≤◌, arith}
 use Rattle.std.specs.Prelude.{Bool, true, false, ◌||◌, nat_lt}
-use Rattle.dh_tree.specs.Meets.{Before, In, Meets, access, all, nothing, one}
+use Rattle.dh_tree.specs.Meets.{In, Meets, access, all, one}
 use Rattle.dh_tree.specs.PlainTrees.{Action, action, ActionForm, lets, lets_memory, views, assigns, stores, reduces, calls, blocks, decides, repeats, counts, MaybeAction, no_action, one_action, Actions, no_actions, action_then, Groups, no_groups, group_then, Program}
 use Rattle.dh_meaning.specs.AccessNumbers.{accesses_of, own_accesses, other_accesses, part_accesses, term_accesses}
 use Rattle.dh_meets.specs.MayMeet.{arms_meet, command_meets, groups_meet, meets, meets_in, other_meets, part_meets, row_of}

@@ -1,62 +1,52 @@
 -- Of two accesses of a block that never meet one at most is done: they stand in opposite arms of one `if`, which stands in
 -- no unrolled loop; so there is one path, and of the guards of the two one holds there.
-use Rattle.std.proofs.Common.{◌≡◌, ◌⊎◌, inl, inr, ⊎_elim, ℕ, zero, suc, ◌+◌, ◌-◌, ◌<◌, ◌≤◌, List, Some, None, refl, sym, ap, ◌∙◌, subst, arith, length, append_assoc}
-use Rattle.std.specs.Prelude.{Bool as Truth, true, false, not, [], ◌∷◌, ◌++◌, slice_get, Option}
+use Rattle.std.proofs.Common.{◌≡◌, ◌⊎◌, inl, inr, ℕ, ◌+◌, ◌<◌, ◌≤◌, List, Some, refl, sym, ap, ◌∙◌, subst, arith, append_assoc}
+use Rattle.std.specs.Prelude.{Bool as Truth, true, false, not, [], ◌∷◌, ◌++◌, slice_get}
 use Rattle.std.specs.List.{AllByRecursion}
-use Rattle.std.proofs.lemmas.List.{append-nil, length-append}
 use Rattle.dh_tree.specs.declared.trees.counters.Counter.{Counter}
-use Rattle.dh_tree.specs.Meets.{Apart, In}
-use Rattle.dh_tree.specs.Numbers.{IsNumbered, commands_in}
+use Rattle.dh_tree.specs.Numbers.{commands_in}
 use Rattle.dh_tree.specs.PlainTrees as plain
 use Rattle.dh_tree.specs.PlainTrees.{Term, Action, action, ActionForm, lets, lets_memory, views, assigns, stores, reduces, calls, blocks, decides, repeats, counts}
 use Rattle.dh_tree.specs.Seen.{program_seen}
 use Rattle.dh_meaning.specs.AccessNumbers.{accesses_of, term_accesses}
 use Rattle.dh_meaning.specs.CoreOf.{form_of, test_of}
-use Rattle.dh_meaning.specs.OnePhase.{any_makes, test_makes, tests_make}
+use Rattle.dh_meaning.specs.OnePhase.{test_makes, tests_make}
 use Rattle.dh_meaning.specs.Paths.{copies_in}
-use Rattle.dh_meaning.specs.Phases.{Located, phases_of}
+use Rattle.dh_meaning.specs.Phases.{Located}
 use Rattle.dh_meaning.specs.Sites as stood
 use Rattle.dh_meaning.specs.Sites.{Arm}
 use Rattle.dh_meets.specs.Charges as charged
-use Rattle.dh_meets.specs.MayMeet.{meets_in}
-use Rattle.dh_meets.specs.SourceEvents.{SourceAccess, SourceEvent, accesses_in, events, trace}
-use Rattle.dh_plan.specs.declared.operations.Operation.{Operation}
-use Rattle.dh_plan.specs.DoneProgram.{MeetsAs}
-use Rattle.dh_plan.specs.PlainPlans.{PlainPlan}
+use Rattle.dh_meets.specs.SourceEvents.{SourceAccess, SourceEvent, accesses_in, trace}
 use Rattle.dh_expressions.specs.declared.scenes.Around.{Around}
 use Rattle.dh_expressions.specs.declared.scenes.Scene.{Scene}
-use Rattle.dh_expressions.specs.Copying.{DoneBy}
 use Rattle.dh_expressions.specs.Drafted.{Begun, Fits, Step, holds}
 use Rattle.dh_expressions.specs.Shown.{guard_of}
-use Rattle.dh_expressions.proofs.ListPlaces.{place_within, some_same, there}
+use Rattle.dh_expressions.proofs.ListPlaces.{some_same, there}
 use Rattle.dh_expressions.proofs.Pushing.{begun_later, fits_before}
 use Rattle.dh_formed.specs.Formed.{Site}
 use Rattle.dh_commands.specs.declared.buildings.Building.{Building}
 use Rattle.dh_commands.specs.LanesRun.{paths_counted}
-use Rattle.dh_commands.specs.MadeCommands.{MadeCommand}
-use Rattle.dh_commands.specs.ShownVariables.{factors_of}
 use Rattle.dh_blocks.specs.BlockMade.{step_of}
 use Rattle.dh_blocks.proofs.BlockBegins.{begun_here, fits_here}
-use Rattle.dh_laid.specs.BlockSites.{MadeEach, block_sites, command_sites, places_from, sites_from, term_sites, test_sites}
+use Rattle.dh_laid.specs.BlockSites.{MadeEach, block_sites, command_sites, places_from, term_sites, test_sites}
 use Rattle.dh_laid.specs.LaidNumbers.{StoresReach}
 use Rattle.dh_laid.proofs.AccessesLaid.{command_lays, each_lays}
 use Rattle.dh_sound.specs.OneArm.{HasOneOfEach}
-use Rattle.dh_sound.specs.PhaseFacts.{AreOpposite, HasArm, HasStraight, HasTest, InOppositeArms, StandsAmong, arm_of}
+use Rattle.dh_sound.specs.PhaseFacts.{AreOpposite, HasArm, InOppositeArms, StandsAmong, arm_of}
 use Rattle.dh_sound.specs.SimpleForms.{AreFolds, IsFold, IsVariable}
-use Rattle.dh_sound.specs.Trails.{AllBelow, ArmsWithin, Below, EachAccess, Follows, StandsBehind, of_located}
+use Rattle.dh_sound.specs.Trails.{AllBelow, ArmsWithin, Below, Follows, StandsBehind, of_located}
 use Rattle.dh_sound.proofs.ArmsOnce.{arms_once}
-use Rattle.dh_sound.proofs.EventCounts.{accesses_joined, count_in, count_joined, events_counted}
+use Rattle.dh_sound.proofs.EventCounts.{count_in, count_joined, events_counted}
 use Rattle.dh_sound.proofs.LocatedSites.{located_at}
 use Rattle.dh_sound.proofs.Opposite.{apart_first, apart_opposite, apart_second}
 use Rattle.dh_sound.proofs.Sited.{At}
 use Rattle.dh_sound.proofs.Sites.{StandsWithin, action_stands}
 use Rattle.dh_sound.proofs.TestsMeet.{test_together}
-use Rattle.dh_reached.specs.NeverMeet.{StandsAlong, StraightNever, TestNever}
-use Rattle.dh_reached.specs.ReachedBlocks.{StandsSpread, StraightStands}
-use Rattle.dh_reached.specs.StepBanks.{NeverBoth}
+use Rattle.dh_reached.specs.NeverMeet.{StraightNever, TestNever}
+use Rattle.dh_reached.specs.ReachedBlocks.{StandsSpread}
 use Rattle.dh_reached.proofs.BlocksPut.{place_told, site_cases}
-use Rattle.dh_reached.proofs.GuardsIn.{EachPlace, IsGuardedIn, command_guarded}
-use Rattle.dh_reached.proofs.OppositeArms.{arms_apart, at_each, command_excludes, each_back, each_front, has_either, place_each}
+use Rattle.dh_reached.proofs.GuardsIn.{IsGuardedIn, command_guarded}
+use Rattle.dh_reached.proofs.OppositeArms.{arms_apart, at_each, command_excludes, each_back, each_front, place_each}
 use Rattle.dh_reached.proofs.PlacesOf.{places_long, site_told}
 use Rattle.dh_reached.proofs.SitesMade.{block_makes, within_is}
 use Rattle.dh_reached.proofs.TermsPut.{sites_long}

@@ -1,5 +1,5 @@
 -- Operations that read and write nothing, as they were put down.
-use Rattle.std.proofs.Common.{◌≡◌, ℕ, ◌+◌, ◌^◌, ◌<◌, ◌≤◌, ◌⊎◌, inl, inr, List, Some, None, refl, sym, ap, ◌∙◌, subst, arith, length, append_assoc}
+use Rattle.std.proofs.Common.{◌≡◌, ℕ, ◌+◌, ◌<◌, ◌≤◌, inl, inr, List, Some, refl, sym, ap, ◌∙◌, arith, append_assoc}
 use Rattle.std.specs.Prelude.{[], ◌∷◌, ◌++◌, Option}
 use Rattle.std.specs.List.{AllByRecursion}
 use Rattle.std.proofs.lemmas.List.{append-nil}
@@ -13,8 +13,8 @@ use Rattle.dh_expressions.specs.Drafted.{Pushes, Step}
 use Rattle.dh_formed.specs.Counted.{Counts, FormIs}
 use Rattle.dh_formed.specs.Formed.{Site}
 use Rattle.dh_formed.proofs.ElementsFormed.{all_append}
-use Rattle.dh_reached.specs.Puts.{AreInOrder, EachUse, Goes, GoesBefore, IsUse, Put, PutsAt, PutsDown, is_write, operations_of, used}
-use Rattle.dh_reached.proofs.PutLists.{GoAll, each_both, each_two, each_weaker, go_by, operations_both, order_both}
+use Rattle.dh_reached.specs.Puts.{AreInOrder, EachUse, Goes, GoesBefore, IsUse, Put, PutsAt, PutsDown, is_write, operations_of}
+use Rattle.dh_reached.proofs.PutLists.{each_both, each_two, each_weaker, go_by, operations_both, order_both}
 
 abbrev pub UsesNone : OperationForm → Type 0
 UsesNone form = FormIs (λ register. Unit {0}) (λ r. Unit {0}) (λ r. ⊥) (λ r. ⊥) form

@@ -1,20 +1,18 @@
 -- Two accesses of a command that stand in opposite arms of one `if` are not both done at a path. By recursion on the command
 -- and on what was put down for it: in the arms of one `if` the guards exclude each other, and in different parts no arms
 -- are opposite, since the numbers of commands tell them apart.
-use Rattle.std.proofs.Common.{◌≡◌, ◌⊎◌, inl, inr, ⊎_elim, ℕ, zero, suc, ◌+◌, ◌-◌, ◌^◌, ◌<◌, ◌≤◌, List, Some, None, refl, sym, ap, ◌∙◌, subst, arith, length}
+use Rattle.std.proofs.Common.{◌≡◌, ◌⊎◌, inl, inr, ⊎_elim, ℕ, zero, suc, ◌+◌, ◌-◌, ◌<◌, ◌≤◌, List, Some, None, refl, sym, ap, ◌∙◌, subst, arith, length}
 use Rattle.std.specs.Prelude.{Bool as Truth, true, false, not, if◌then◌else◌, nat_lt, [], ◌∷◌, ◌++◌, slice_get, Option}
-use Rattle.std.specs.List.{AllByRecursion}
 use Rattle.std.proofs.lemmas.Bool.{cases_lt}
 use Rattle.std.proofs.lemmas.Bool.Decides.{nat_tests}
 use Rattle.dh_base.specs.declared.places.Place.{Place}
 use Rattle.dh_value.specs.Operations.{is_true}
-use Rattle.dh_tree.specs.Numbers.{AreNumbered, AreNumberedGroups, IsNumbered, IsNumberedInside, IsNumberedOther, commands_in, commands_in_groups, commands_in_other, commands_in_part}
-use Rattle.dh_tree.specs.PlainTrees as plain
-use Rattle.dh_tree.specs.PlainTrees.{Term, Action, action, ActionForm, lets, lets_memory, views, assigns, stores, reduces, calls, blocks, decides, repeats, counts, MaybeAction, no_action, one_action, Actions, no_actions, action_then, Groups, no_groups, group_then}
-use Rattle.dh_meaning.specs.AccessNumbers.{accesses_of, groups_accesses, other_accesses, part_accesses, term_accesses}
+use Rattle.dh_tree.specs.Numbers.{AreNumbered, AreNumberedGroups, IsNumbered, IsNumberedInside, IsNumberedOther, commands_in, commands_in_groups, commands_in_part}
+use Rattle.dh_tree.specs.PlainTrees.{Action, action, ActionForm, lets, lets_memory, views, assigns, stores, reduces, calls, blocks, decides, repeats, counts, MaybeAction, no_action, one_action, Actions, no_actions, action_then, Groups, no_groups, group_then}
+use Rattle.dh_meaning.specs.AccessNumbers.{accesses_of, other_accesses, term_accesses}
 use Rattle.dh_meaning.specs.Sites as stood
 use Rattle.dh_meaning.specs.Sites.{Arm, in_arm}
-use Rattle.dh_meets.specs.SourceEvents.{SourceAccess, SourceEvent, accesses, accesses_in, assigned, command_events, events, groups_events, maybe_events, other_events, part_events, site_of, term_events, write_events}
+use Rattle.dh_meets.specs.SourceEvents.{SourceAccess, SourceEvent, accesses, assigned, command_events, events, groups_events, other_events, part_events, site_of, term_events, write_events}
 use Rattle.dh_expressions.specs.declared.drafts.Draft.{Draft}
 use Rattle.dh_expressions.specs.declared.scenes.Around.{Around}
 use Rattle.dh_expressions.specs.declared.scenes.Scene.{Scene}
@@ -35,14 +33,14 @@ use Rattle.dh_laid.proofs.ValuesLogged.{tests_same}
 use Rattle.dh_sound.specs.OneArm.{HasOneOfEach}
 use Rattle.dh_sound.specs.PhaseFacts.{HasArm, arm_of}
 use Rattle.dh_sound.specs.Trails.{ArmsWithin, Below, EachAccess}
-use Rattle.dh_sound.proofs.EventCounts.{count_in, events_counted, groups_counted, other_counted, part_counted, term_counted}
+use Rattle.dh_sound.proofs.EventCounts.{count_in, events_counted, part_counted, term_counted}
 use Rattle.dh_sound.proofs.Sited.{At, at_left, at_right}
 use Rattle.dh_sound.proofs.Sites.{StandsWithin, action_stands, each_both, groups_stand, part_stands, term_stands, write_stands}
 use Rattle.dh_sound.proofs.Trails.{below_up}
 use Rattle.dh_reached.specs.ReachedBlocks.{StandsSpread}
 use Rattle.dh_reached.proofs.CommandsPut.{arm_paths, spread_arm}
 use Rattle.dh_reached.proofs.GuardsIn.{EachPlace, IsGuardedIn, arm_on, arm_started, command_guarded, guards_fit}
-use Rattle.dh_reached.proofs.PlacesOf.{actions_long, groups_long, other_long, places_long, there_long}
+use Rattle.dh_reached.proofs.PlacesOf.{actions_long, places_long, there_long}
 use Rattle.dh_reached.proofs.TermsPut.{sites_long}
 
 -- Arms.

@@ -1,6 +1,6 @@
 -- Places of the accesses of commands: as many as they have accesses, and each by its number.
-use Rattle.std.proofs.Common.{◌≡◌, ℕ, zero, suc, ◌+◌, ◌-◌, ◌<◌, ◌≤◌, List, Some, None, refl, sym, ap, ◌∙◌, subst, arith, length, add-one}
-use Rattle.std.specs.Prelude.{Bool, true, false, if◌then◌else◌, nat_lt, [], ◌∷◌, ◌++◌, map, replicate, slice_get, Option}
+use Rattle.std.proofs.Common.{◌≡◌, ℕ, zero, suc, ◌+◌, ◌-◌, ◌<◌, ◌≤◌, List, Some, None, refl, ap, ◌∙◌, arith, length, add-one}
+use Rattle.std.specs.Prelude.{Bool, true, false, if◌then◌else◌, nat_lt, [], ◌∷◌, ◌++◌, slice_get, Option}
 use Rattle.std.proofs.lemmas.Bool.Decides.{nat_tests}
 use Rattle.std.proofs.lemmas.List.{length-append}
 use Rattle.dh_base.specs.declared.places.Place.{Place}
@@ -16,7 +16,7 @@ use Rattle.dh_formed.specs.Formed.{Site}
 use Rattle.dh_commands.specs.declared.buildings.Building.{Building}
 use Rattle.dh_commands.specs.declared.choices.Left.{Left}
 use Rattle.dh_commands.specs.MadeCommands.{MadeActionForm, MadeActions, MadeCommand, MadeGroups, MadeOther}
-use Rattle.dh_laid.specs.BlockSites.{action_sites, actions_sites, all_there, command_sites, groups_sites, none_there, one_site, other_sites, places_from, site_or, sites_from, target_sites, term_sites, terms_sites}
+use Rattle.dh_laid.specs.BlockSites.{action_sites, actions_sites, all_there, command_sites, groups_sites, none_there, one_site, other_sites, places_from, sites_from, target_sites, term_sites, terms_sites}
 use Rattle.dh_laid.specs.LaidNumbers.{IsAccessForm, StoresReach, StoresReachForm, StoresReachGroups, StoresReachOther, StoresReachPart}
 use Rattle.dh_reached.proofs.TermsPut.{SitesAt, all_sites_long, sites_long}
 

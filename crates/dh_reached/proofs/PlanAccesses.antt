@@ -1,19 +1,18 @@
 -- Accesses of blocks are accesses of their program, so of a plan that has the same of them.
-use Rattle.std.proofs.Common.{◌≡◌, ◌⊎◌, inl, inr, ℕ, ◌+◌, ◌<◌, ◌≤◌, List, Some, refl, sym, ap, ◌∙◌, subst, arith, length}
-use Rattle.std.specs.Prelude.{[], ◌∷◌, ◌++◌, slice_get}
+use Rattle.std.proofs.Common.{◌≡◌, inl, ℕ, ◌+◌, ◌<◌, ◌≤◌, List, Some, ap, ◌∙◌, subst, arith}
+use Rattle.std.specs.Prelude.{[], ◌++◌}
 use Rattle.dh_tree.specs.PlainTrees.{Action, Term, action, assigns, blocks, calls, counts, decides, lets, lets_memory, reduces, repeats, stores, views}
 use Rattle.dh_tree.specs.Seen.{program_seen}
 use Rattle.dh_meaning.specs.AccessNumbers.{accesses_of, term_accesses}
 use Rattle.dh_meaning.specs.CoreOf.{form_of, test_of}
 use Rattle.dh_meaning.specs.Phases.{Located, idle_phases_of, phases_of}
 use Rattle.dh_meaning.specs.Sites.{nothing_around}
-use Rattle.dh_meets.specs.SourceEvents.{SourceAccess, accesses_in, events, trace}
+use Rattle.dh_meets.specs.SourceEvents.{accesses_in, events, trace}
 use Rattle.dh_expressions.specs.declared.scenes.Around.{Around}
 use Rattle.dh_expressions.specs.declared.scenes.Scene.{Scene}
 use Rattle.dh_expressions.proofs.ListPlaces.{place_within, some_same}
 use Rattle.dh_formed.specs.Formed.{Site}
 use Rattle.dh_commands.specs.declared.buildings.Building.{Building}
-use Rattle.dh_blocks.specs.BlockMade.{step_of}
 use Rattle.dh_laid.specs.BlockSites.{MadeEach, block_sites, term_sites, test_sites}
 use Rattle.dh_laid.specs.LaidNumbers.{StoresReach}
 use Rattle.std.specs.List.{AllByRecursion}
@@ -21,7 +20,7 @@ use Rattle.dh_sound.specs.PhaseFacts.{HasTest, StandsAmong}
 use Rattle.dh_sound.proofs.EventCounts.{count_in, count_joined, events_counted}
 use Rattle.dh_sound.proofs.Slices.{test_either, test_stands}
 use Rattle.dh_reached.specs.NeverMeet.{StandsAlong}
-use Rattle.dh_reached.proofs.NeverMeet.{Pair, pair_of}
+use Rattle.dh_reached.proofs.NeverMeet.{pair_of}
 use Rattle.dh_reached.proofs.PlacesOf.{site_told}
 use Rattle.dh_reached.proofs.TermsPut.{sites_long}
 

@@ -1,15 +1,11 @@
 -- Lists of what was put down: what holds of each, and of any two in their order, holds where one stands behind the other.
-use Rattle.std.proofs.Common.{◌≡◌, ℕ, zero, suc, ◌+◌, ◌<◌, ◌≤◌, ◌⊎◌, inl, inr, List, Some, None, refl, sym, ap, ◌∙◌, subst, arith, length, append_assoc}
-use Rattle.std.specs.Prelude.{[], ◌∷◌, ◌++◌, slice_get, map, Option}
+use Rattle.std.proofs.Common.{◌≡◌, ℕ, zero, suc, ◌<◌, List, Some, refl, ap, subst, arith}
+use Rattle.std.specs.Prelude.{[], ◌∷◌, ◌++◌, slice_get}
 use Rattle.std.specs.List.{AllByRecursion}
-use Rattle.std.proofs.lemmas.List.{append-nil}
 use Rattle.dh_plan.specs.declared.operations.Operation.{Operation}
 use Rattle.dh_plan.specs.declared.operations.Reach.{Reach}
-use Rattle.dh_expressions.specs.declared.drafts.Draft.{Draft}
-use Rattle.dh_expressions.specs.Drafted.{Step}
-use Rattle.dh_formed.specs.Formed.{Site}
 use Rattle.dh_formed.proofs.ElementsFormed.{all_append, all_weaker}
-use Rattle.dh_reached.specs.Puts.{AreInOrder, EachUse, Goes, GoesBefore, IsUse, Put, PutsAt, PutsDown, is_write, operations_of, used}
+use Rattle.dh_reached.specs.Puts.{AreInOrder, EachUse, Goes, GoesBefore, Put, operations_of, used}
 
 pub all_at : {A : Type 0} (P : A → Type 0) (xs : List A) (i : ℕ) (x : A) → AllByRecursion P xs → slice_get xs i ≡ Some x → P x
 all_at {A = A} P [] i x all at = absurd (none i at)

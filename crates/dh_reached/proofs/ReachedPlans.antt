@@ -1,5 +1,5 @@
 -- The steps of a plan whose blocks are put down in a scene: block by block, then by its nodes.
-use Rattle.std.proofs.Common.{◌≡◌, ℕ, ◌<◌, List, Some, refl, sym, ap, ◌∙◌}
+use Rattle.std.proofs.Common.{ℕ, List}
 use Rattle.std.specs.Prelude.{[], ◌∷◌, ◌++◌}
 use Rattle.dh_tree.specs.Seen.{program_seen}
 use Rattle.dh_meaning.specs.Core.{CorePhase, CorePhases, choosing, looping, no_core_phases, phase_and, straightly, turning}
@@ -7,9 +7,7 @@ use Rattle.dh_plan.specs.Correspondence.{Round}
 use Rattle.dh_plan.specs.PlainPlans.{Node, Nodes, PlainPlan, block_node, choice_node, loop_node, no_nodes, node_then, threads_node, turns_node}
 use Rattle.dh_plan.specs.PlanPhases.{AreNodesOf, IsNodeOf}
 use Rattle.dh_expressions.specs.declared.scenes.Scene.{Scene}
-use Rattle.dh_formed.specs.Formed.{Site}
 use Rattle.dh_laid.specs.BlockSites.{block_sites, test_sites}
-use Rattle.dh_blocks.specs.BlockMade.{step_of}
 use Rattle.dh_reached.specs.ReachedPlans.{ReachedBlock, ReachedPlan, ReachedPlansKeepBanks, ReachedTest, reached_tie}
 use Rattle.dh_reached.specs.StepBanks.{StandInOrder}
 use Rattle.dh_reached.specs.StepsOfNodes.{KeepsIn, keeps_tie}

@@ -1,6 +1,6 @@
 -- A read or a write that is put down at a path: it is of an access as that stands, by a path that leads.
-use Rattle.std.proofs.Common.{◌≡◌, ℕ, zero, suc, ◌+◌, ◌^◌, ◌<◌, ◌≤◌, ◌⊎◌, inl, inr, ⊎_elim, true, false, List, Some, None, refl, sym, ap, ◌∙◌, subst, arith, length}
-use Rattle.std.specs.Prelude.{Bool as Truth, [], ◌∷◌, ◌++◌, ◌||◌, if◌then◌else◌, slice_get, Option}
+use Rattle.std.proofs.Common.{◌≡◌, ℕ, ◌+◌, ◌<◌, ◌≤◌, ◌⊎◌, inl, inr, ⊎_elim, true, false, List, Some, None, refl, sym, ap, ◌∙◌, subst, arith, length}
+use Rattle.std.specs.Prelude.{Bool as Truth, [], ◌∷◌, if◌then◌else◌, slice_get, Option}
 use Rattle.std.proofs.lemmas.Bool.{cases_eq}
 use Rattle.dh_base.specs.declared.outcomes.FaultKind.TheVariants.{OutOfRange}
 use Rattle.dh_tree.specs.Elements.{Spot}
@@ -8,9 +8,8 @@ use Rattle.dh_tree.specs.Indices.{form_of}
 use Rattle.dh_tree.specs.PlainTrees as plain
 use Rattle.dh_meaning.specs.Paths.{Path, copies_in}
 use Rattle.dh_plan.specs.Blocks.{spot_of_reach}
-use Rattle.dh_plan.specs.declared.operations.OperationForm.TheVariants.{Probe, Read, Write}
+use Rattle.dh_plan.specs.declared.operations.OperationForm.TheVariants.{Read, Write}
 use Rattle.dh_plan.specs.declared.operations.Reach.{Reach}
-use Rattle.dh_plan.specs.SoundPlans.{use_in}
 use Rattle.dh_expressions.specs.declared.accesses.Accesses.{Accesses}
 use Rattle.dh_expressions.specs.declared.accesses.Touched.{Touched}
 use Rattle.dh_expressions.specs.declared.copies.AccessAt.{AccessAt}
@@ -25,27 +24,24 @@ use Rattle.dh_expressions.specs.Drafted.{Begun, Extends, Fits, Pushes, Step, hol
 use Rattle.dh_expressions.specs.Evaluated.{lane_guard, source_at}
 use Rattle.dh_expressions.specs.Levels.{leader_number, path_at}
 use Rattle.dh_expressions.specs.MadeTerms.{MadeRead, MadeWrite}
-use Rattle.dh_expressions.specs.Noted.{Notes, copied_in, copied_of, copy_or_alone, fault_in, given_by, given_in, noted_in, touched_in}
+use Rattle.dh_expressions.specs.Noted.{Notes, copied_in, copied_of, copy_or_alone, given_by, given_in, noted_in, touched_in}
 use Rattle.dh_expressions.specs.Numbers.{narrowed}
 use Rattle.dh_expressions.specs.Reaching.{Finds, place_written, reach_told}
-use Rattle.dh_expressions.specs.Shown.{guard_of}
 use Rattle.dh_expressions.specs.Standings.{IsTouched, Standing, standing_at}
 use Rattle.dh_expressions.specs.Touching.{AddsTouched, IsNew, TouchesAt}
 use Rattle.dh_expressions.proofs.AccessesKept.{noted_touched, place_noted}
 use Rattle.dh_expressions.proofs.ListPlaces.{set_long, some_same, there}
-use Rattle.dh_expressions.proofs.Pushing.{begun_later, extends_again, fits_before, pushed_extends}
-use Rattle.dh_formed.specs.Counted.{AreNext, HaveGiven, given_at_paths, nothing}
+use Rattle.dh_expressions.proofs.Pushing.{extends_again, fits_before, pushed_extends}
+use Rattle.dh_formed.specs.Counted.{AreNext, HaveGiven, given_at_paths}
 use Rattle.dh_formed.specs.Formed.{Site}
 use Rattle.dh_formed.proofs.ElementsFormed.{found_extends}
-use Rattle.dh_formed.proofs.PartsCounted.{counts_again}
 use Rattle.dh_formed.proofs.ReadsCounted.{given_here, given_past, notes_other, notes_own, touch_gives}
 use Rattle.dh_formed.proofs.ValuesCounted.{copies_counts}
-use Rattle.dh_commands.specs.LanesRun.{lane_of, paths_counted}
 use Rattle.dh_commands.specs.ShownVariables.{factors_of}
 use Rattle.dh_blocks.specs.PathsOfLevels.{AreSpread}
 use Rattle.dh_blocks.proofs.PathNumbers.{kept, leader_within, leads, number_is}
 use Rattle.dh_laid.specs.LaidQuiet.{StandsIn}
-use Rattle.dh_reached.specs.Puts.{AreSited, IsUse, Put, PutsAt, is_write}
+use Rattle.dh_reached.specs.Puts.{AreSited, IsUse, Put, PutsAt}
 use Rattle.dh_reached.specs.ReachedBlocks.{StandsSpread}
 use Rattle.dh_reached.proofs.NoUses.{AddsNone, behind_none, none_again, none_counted, none_pushed, none_same, none_still, puts_added, puts_one}
 

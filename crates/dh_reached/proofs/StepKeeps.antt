@@ -1,7 +1,7 @@
 -- A step that does a block keeps the banks: by what its operations use, and their order.
-use Rattle.std.proofs.Common.{◌≡◌, ℕ, zero, suc, ◌+◌, ◌-◌, ◌^◌, ◌<◌, ◌≤◌, ◌⊎◌, inl, inr, ⊎_elim, Bool, true, false, List, Some, None, refl, sym, ap, ◌∙◌, subst, arith, length}
+use Rattle.std.proofs.Common.{◌≡◌, ℕ, zero, suc, ◌^◌, ◌<◌, ◌≤◌, ◌⊎◌, inl, inr, ⊎_elim, Bool, true, false, List, Some, refl, sym, ap, ◌∙◌, subst, arith, length}
 use Rattle.std.specs.Prelude.{[], ◌∷◌, ◌==◌, ◌&&◌, if◌then◌else◌, slice_get, Option}
-use Rattle.std.proofs.lemmas.Bool.{cases_eq, cases_lt}
+use Rattle.std.proofs.lemmas.Bool.{cases_lt}
 use Rattle.std.proofs.lemmas.Bool.Decides.{nat_tests}
 use Rattle.dh_tree.specs.Elements.{Spot}
 use Rattle.dh_tree.specs.Meets.{Before, In}
@@ -10,7 +10,7 @@ use Rattle.dh_plan.specs.declared.operations.Reach.{Reach}
 use Rattle.dh_plan.specs.Blocks.{StepStart, spot_of_reach}
 use Rattle.dh_plan.specs.PlainPlans.{PlainPlan, operations_in}
 use Rattle.dh_plan.specs.PlanRuns.{start_at}
-use Rattle.dh_plan.specs.SoundPlans.{ComesBefore, InOneBank, IsListed, IsOneOf, KeepsBanks, OperationBefore, Reaches, RisesIn, WritesAt, use_in, writes_memory}
+use Rattle.dh_plan.specs.SoundPlans.{InOneBank, IsListed, IsOneOf, KeepsBanks, OperationBefore, Reaches, RisesIn, WritesAt, use_in, writes_memory}
 use Rattle.dh_expressions.specs.Copying.{DoneBy, leaders_at}
 use Rattle.dh_expressions.specs.Drafted.{Step, holds}
 use Rattle.dh_expressions.specs.Numbers.{narrowed}
@@ -18,7 +18,7 @@ use Rattle.dh_expressions.proofs.CopiesMade.{leaders_few}
 use Rattle.dh_expressions.proofs.ListPlaces.{some_same}
 use Rattle.dh_formed.specs.Formed.{Site}
 use Rattle.dh_blocks.specs.BlockMade.{step_of}
-use Rattle.dh_reached.specs.Puts.{AreInOrder, EachUse, Goes, GoesBefore, IsUse, Put, is_write, operations_of, used}
+use Rattle.dh_reached.specs.Puts.{IsUse, Put, is_write, used}
 use Rattle.dh_reached.specs.StepBanks.{BlockUses, BlocksKeepBanks, NeverBoth, StandInOrder}
 use Rattle.dh_reached.proofs.PutLists.{all_at, goes_at, put_at}
 

@@ -1,5 +1,5 @@
 -- Steps of a plan of one thread: by recursion on its nodes, beside the phases that they are of.
-use Rattle.std.proofs.Common.{◌≡◌, ◌⊎◌, inl, inr, ℕ, ◌<◌, List, refl, sym, ap, ◌∙◌, subst}
+use Rattle.std.proofs.Common.{◌≡◌, inl, inr, ℕ, ◌<◌, List, refl, sym, ap, ◌∙◌, subst}
 use Rattle.std.specs.Prelude.{[], ◌∷◌, ◌++◌, map, slice_index}
 use Rattle.std.specs.List.{AllByRecursion}
 use Rattle.dh_tree.specs.Tables.{Fits}
@@ -8,7 +8,7 @@ use Rattle.dh_plan.specs.Correspondence.{FitKinds, Round}
 use Rattle.dh_plan.specs.PlainPlans.{Node, Nodes, PlainPlan, block_node, choice_node, loop_node, no_nodes, node_then, threads_node, turns_node}
 use Rattle.dh_plan.specs.PlanPhases.{AreNodesOf, IsNodeOf}
 use Rattle.dh_plan.specs.PlanRuns.{start_at}
-use Rattle.dh_plan.specs.SoundPlans.{Counting, IsStepOf, IsStepOfNode, KeepsBanks, StepsKeepBanks}
+use Rattle.dh_plan.specs.SoundPlans.{Counting, IsStepOf, IsStepOfNode, KeepsBanks}
 use Rattle.dh_reached.specs.StepsOfNodes.{InTurns, KeepsIn, NodesKeepBanks, keeps_tie}
 
 abbrev counting_of : Round → Counting

@@ -1,10 +1,9 @@
 -- What is put down for a store at a path: the reads of its value and of the indices of its target, and then its write.
-use Rattle.std.proofs.Common.{◌≡◌, ◌⊎◌, inl, inr, ℕ, zero, suc, ◌+◌, ◌-◌, ◌^◌, ◌<◌, ◌≤◌, List, Some, None, refl, sym, ap, ◌∙◌, subst, arith, length, add-one}
-use Rattle.std.specs.Prelude.{Bool as Truth, true, false, [], ◌∷◌, ◌++◌, slice_get, Option}
+use Rattle.std.proofs.Common.{◌≡◌, ℕ, ◌+◌, ◌^◌, ◌<◌, Some, None, sym, ap, ◌∙◌, subst, arith}
+use Rattle.std.specs.Prelude.{true, ◌++◌, Option}
 use Rattle.dh_base.specs.declared.places.Place.{Place}
 use Rattle.dh_value.specs.declared.kinds.Kind.{Kind}
 use Rattle.dh_tree.specs.declared.trees.expressions.Ref.{Ref}
-use Rattle.dh_tree.specs.Elements.{Spot}
 use Rattle.dh_tree.specs.Indices.{form_of}
 use Rattle.dh_tree.specs.Memories.{table_of}
 use Rattle.dh_tree.specs.PlainTrees as plain
@@ -12,8 +11,6 @@ use Rattle.dh_tree.specs.PlainTrees.{Term}
 use Rattle.dh_tree.specs.Seen.{program_seen}
 use Rattle.dh_meaning.specs.AccessNumbers.{form_accesses, term_accesses, terms_accesses}
 use Rattle.dh_meaning.specs.CoreOf.{memory_of}
-use Rattle.dh_meaning.specs.Effects.{entry_kind}
-use Rattle.dh_plan.specs.Blocks.{spot_of_reach}
 use Rattle.dh_expressions.specs.declared.accesses.Accesses.{Accesses}
 use Rattle.dh_expressions.specs.declared.drafts.Draft.{Draft}
 use Rattle.dh_expressions.specs.declared.elements.Aim.{Aim}
@@ -22,8 +19,8 @@ use Rattle.dh_expressions.specs.declared.scenes.Lane.{Lane}
 use Rattle.dh_expressions.specs.declared.scenes.Scene.{Scene}
 use Rattle.dh_expressions.specs.Drafted.{Begun, Extends, Fits, Step}
 use Rattle.dh_expressions.specs.Evaluated.{known_in}
-use Rattle.dh_expressions.specs.MadeTerms.{MadeTerm, MadeTerms, MadeWrite}
-use Rattle.dh_expressions.specs.Reaching.{place_written, reach_told}
+use Rattle.dh_expressions.specs.MadeTerms.{MadeTerm, MadeTerms}
+use Rattle.dh_expressions.specs.Reaching.{place_written}
 use Rattle.dh_expressions.specs.Standings.{standing_at}
 use Rattle.dh_expressions.proofs.Pushing.{begun_later, extends_again, fits_before}
 use Rattle.dh_formed.specs.Counted.{AreNext, HaveGiven, given_at_paths}
@@ -37,7 +34,7 @@ use Rattle.dh_commands.specs.MadeCommands.{MadeAim, MadeStored, MadeStoring}
 use Rattle.dh_laid.specs.BlockSites.{target_sites, term_sites, terms_sites, write_site}
 use Rattle.dh_laid.specs.Laid.{aim_accesses}
 use Rattle.dh_laid.specs.LaidNumbers.{IsAccessForm}
-use Rattle.dh_laid.proofs.AccessesLaid.{aim_lays, storing_lays, term_lays, terms_lay, write_lays}
+use Rattle.dh_laid.proofs.AccessesLaid.{aim_lays, storing_lays, term_lays, terms_lay}
 use Rattle.dh_reached.specs.IndicesKept.{FormKeeps, TermKeeps}
 use Rattle.dh_reached.specs.Puts.{AreSited, PutsAt}
 use Rattle.dh_reached.proofs.IndicesReach.{indices_reach, row_reaches}

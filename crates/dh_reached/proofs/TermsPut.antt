@@ -1,5 +1,5 @@
 -- What is put down for an expression at a path: its accesses in the order of their numbers, each as it stands.
-use Rattle.std.proofs.Common.{◌≡◌, ℕ, zero, suc, ◌+◌, ◌^◌, ◌<◌, ◌≤◌, List, Some, None, refl, sym, ap, ◌∙◌, subst, arith, length, add-one}
+use Rattle.std.proofs.Common.{◌≡◌, ℕ, suc, ◌+◌, ◌^◌, ◌<◌, List, Some, None, refl, sym, ap, ◌∙◌, subst, arith, length, add-one}
 use Rattle.std.specs.Prelude.{Bool as Truth, true, false, [], ◌∷◌, ◌++◌, slice_get, Option}
 use Rattle.std.proofs.lemmas.List.{length-append}
 use Rattle.dh_base.specs.declared.places.Place.{Place}
@@ -22,26 +22,26 @@ use Rattle.dh_expressions.specs.declared.elements.Aim.{Aim}
 use Rattle.dh_expressions.specs.declared.scenes.Around.{Around}
 use Rattle.dh_expressions.specs.declared.scenes.Lane.{Lane}
 use Rattle.dh_expressions.specs.declared.scenes.Scene.{Scene}
-use Rattle.dh_expressions.specs.Drafted.{Begun, Extends, Fits, Pushes, Step}
+use Rattle.dh_expressions.specs.Drafted.{Begun, Fits, Step}
 use Rattle.dh_expressions.specs.Evaluated.{counter_of, known_in}
 use Rattle.dh_expressions.specs.MadeTerms.{MadeRead, MadeTerm, MadeTerms}
 use Rattle.dh_expressions.specs.MadeValues.{MadeConverted}
 use Rattle.dh_expressions.specs.Reaching.{place_written}
 use Rattle.dh_expressions.specs.Shown.{is_kept}
 use Rattle.dh_expressions.specs.Standings.{standing_at}
-use Rattle.dh_expressions.proofs.Pushing.{begun_later, extends_again, fits_before, in_front}
+use Rattle.dh_expressions.proofs.Pushing.{begun_later, fits_before, in_front}
 use Rattle.dh_formed.specs.Counted.{AreNext, HaveGiven}
 use Rattle.dh_formed.specs.Formed.{Site}
 use Rattle.dh_formed.proofs.TermsCounted.{given_again, given_none, next_first, next_second}
 use Rattle.dh_formed.proofs.TermsFormed.{all_numbered, numbered}
 use Rattle.dh_formed.proofs.ValuesCounted.{number_counts, operation_counts, variable_counts}
 use Rattle.dh_formed.proofs.ValuesFormed.{operation_forms}
-use Rattle.dh_laid.specs.BlockSites.{read_site, term_sites, terms_sites}
+use Rattle.dh_laid.specs.BlockSites.{term_sites, terms_sites}
 use Rattle.dh_laid.proofs.AccessesLaid.{converted_extends, read_lays, term_lays, terms_lay}
-use Rattle.dh_reached.specs.IndicesKept.{IndicesKeep, TermKeeps, TermsKeep}
-use Rattle.dh_reached.specs.Puts.{AreSited, IsUse, PutsAt}
+use Rattle.dh_reached.specs.IndicesKept.{TermKeeps, TermsKeep}
+use Rattle.dh_reached.specs.Puts.{AreSited}
 use Rattle.dh_reached.proofs.IndicesReach.{indices_reach, row_reaches}
-use Rattle.dh_reached.proofs.NoUses.{AddsNone, at_then, before_none, none_counted, none_pushed, none_same, none_still, puts_added, puts_wider}
+use Rattle.dh_reached.proofs.NoUses.{AddsNone, at_then, before_none, none_counted, none_pushed, none_still, puts_added}
 use Rattle.dh_reached.specs.ReachedBlocks.{StandsSpread}
 use Rattle.dh_reached.proofs.ReadsPut.{PutsHere, ReachesAt, read_given, read_puts}
 

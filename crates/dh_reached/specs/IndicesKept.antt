@@ -1,6 +1,6 @@
 -- What is to be known of the accesses of an expression for their banks to be those of every turn: that their indices break
 -- no rule, and that the iterators in these are in turns of their loops in this step.
-use Rattle.std.specs.Prelude.{◌≡◌, ℕ, suc, ◌<◌, ◌≤◌, ◌^◌, nat_lt, true, List, slice_get, slice_index, Option, Some, None, []}
+use Rattle.std.specs.Prelude.{◌≡◌, ℕ, suc, ◌<◌, ◌≤◌, ◌^◌, nat_lt, true, List, slice_get, slice_index, Some, None, []}
 use Rattle.std.specs.List.{AllByRecursion}
 use Rattle.dh_value.specs.declared.kinds.Kind.TheVariants.{Unsigned}
 use Rattle.dh_tree.specs.declared.trees.counters.Counter.{Counter}

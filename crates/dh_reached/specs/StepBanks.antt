@@ -1,6 +1,6 @@
 -- In a step that does a block each operation reaches the bank that it lists, and no two reach one with one place; accesses
 -- that never meet do not both reach one; and writes stand in order.
-use Rattle.std.specs.Prelude.{◌≡◌, ℕ, ◌<◌, ◌^◌, List, [], ◌∷◌, length, Option, Some}
+use Rattle.std.specs.Prelude.{◌≡◌, ℕ, ◌<◌, List, [], ◌∷◌, length, Option, Some}
 use Rattle.dh_tree.specs.Meets.{Apart, Before, In, Meets}
 use Rattle.dh_plan.specs.PlainPlans.{PlainPlan, operations_in}
 use Rattle.dh_plan.specs.PlanRuns.{start_at}

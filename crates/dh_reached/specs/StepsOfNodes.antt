@@ -1,5 +1,5 @@
 -- Steps of a plan of one thread, by its nodes: each does one block, inside the loops round it.
-use Rattle.std.specs.Prelude.{◌≡◌, ℕ, ◌<◌, List, [], ◌∷◌, map, slice_index}
+use Rattle.std.specs.Prelude.{ℕ, ◌<◌, List, [], ◌∷◌, slice_index}
 use Rattle.std.specs.List.{AllByRecursion}
 use Rattle.dh_tree.specs.Tables.{Fits}
 use Rattle.dh_meaning.specs.Core.{CorePhases}
@@ -7,7 +7,7 @@ use Rattle.dh_plan.specs.Correspondence.{FitKinds, Round}
 use Rattle.dh_plan.specs.PlainPlans.{PlainPlan}
 use Rattle.dh_plan.specs.PlanPhases.{AreNodesOf, Tie}
 use Rattle.dh_plan.specs.PlanRuns.{start_at}
-use Rattle.dh_plan.specs.SoundPlans.{Counting, KeepsBanks, StepsKeepBanks}
+use Rattle.dh_plan.specs.SoundPlans.{KeepsBanks, StepsKeepBanks}
 
 -- each loop round a block is in a turn of its own
 abbrev pub InTurns : (registers : List ℕ) → List Round → Type 0
