@@ -119,9 +119,6 @@ module _ (x : Step) (sites : ℕ → Option Site) where
   loose : (first count : ℕ) (old new : Draft) → PutsDown x sites first count old new → PutsAt x sites first count (λ n. Unit {0}) (λ n. Unit {0}) old new
   loose first count old new h = record { down = h; at = each_any h.puts; written = each_written h.puts }
 
-  down_none : (first : ℕ) (old new : Draft) → AddsNone old new → PutsDown x sites first 0 old new
-  down_none first old new h = (puts_added x sites first 0 (λ n. Unit {0}) (λ n. Unit {0}) old new h).down
-
   pub down_behind : (first count : ℕ) (a b c : Draft) → AddsNone a b → PutsDown x sites first count b c → PutsDown x sites first count a c
   down_behind first count a b c h k = (behind_none x sites first count (λ n. Unit {0}) (λ n. Unit {0}) a b c h (loose first count b c k)).down
 

@@ -50,9 +50,6 @@ idle_place n f j s A e = absurd (none n (j - f) (placed_of f (none_there n) j s 
     none (suc n) zero e = cc
     none (suc n) (suc i) e = none n i e
 
-plus_less : (n c : ℕ) → n + 0 ≡ c → n ≡ c
-plus_less n c e = omega (arith, e)
-
 module _ (scene : Scene) (j : ℕ) (s : Site) where
   -- in the first part, or in the second
   either_part : (f a : ℕ) (xs ys : List (Option Site)) (m n : Bool) → length xs ≡ a → (places_from f xs j ≡ Some s → m ≡ true) → (places_from (f + a) ys j ≡ Some s → n ≡ true) → places_from f (xs ++ ys) j ≡ Some s → (m || n) ≡ true
