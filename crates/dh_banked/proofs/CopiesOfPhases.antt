@@ -179,14 +179,14 @@ module _ (known : Known) where
         turn_few round (located r n (action id place (counts iterator declared low high factor body combine combine_place))) (turn_count low.value high.value factor.value)
         (folded (phases (in_loop r (loop_of iterator low high factor)) n body) (other_phases (in_loop r (loop_of iterator low high factor)) (n + accesses_of body) combine))
         (λ some.
-            let is = copies_inside round (turning_of known (turn_count low.value high.value factor.value) (counts iterator declared low high factor body combine combine_place)) (copies_some low.value high.value factor.value some) in
-            let inner = subst (λ (m : ℕ). m ≤ 256) (sym is) here in
-            folded_few (round ++ turning_of known (turn_count low.value high.value factor.value) (counts iterator declared low high factor body combine combine_place) ∷ [])
-            (phases (in_loop r (loop_of iterator low high factor)) n body) (other_phases (in_loop r (loop_of iterator low high factor)) (n + accesses_of body) combine) inner
-            (few_in body (round ++ turning_of known (turn_count low.value high.value factor.value) (counts iterator declared low high factor body combine combine_place) ∷ []) (in_loop r (loop_of iterator low high factor)) n inner
-            (subst (λ (m : ℕ). copies_excess m body ≡ None) (sym is) (first_of (copies_excess (copies_in (factors round) * factor.value) body) _ all)))
-            (other_few combine (round ++ turning_of known (turn_count low.value high.value factor.value) (counts iterator declared low high factor body combine combine_place) ∷ []) (in_loop r (loop_of iterator low high factor)) (n + accesses_of body) inner
-            (subst (λ (m : ℕ). other_copies_excess m combine ≡ None) (sym is) (rest_of (copies_excess (copies_in (factors round) * factor.value) body) _ all))))
+        let is = copies_inside round (turning_of known (turn_count low.value high.value factor.value) (counts iterator declared low high factor body combine combine_place)) (copies_some low.value high.value factor.value some) in
+        let inner = subst (λ (m : ℕ). m ≤ 256) (sym is) here in
+        folded_few (round ++ turning_of known (turn_count low.value high.value factor.value) (counts iterator declared low high factor body combine combine_place) ∷ [])
+        (phases (in_loop r (loop_of iterator low high factor)) n body) (other_phases (in_loop r (loop_of iterator low high factor)) (n + accesses_of body) combine) inner
+        (few_in body (round ++ turning_of known (turn_count low.value high.value factor.value) (counts iterator declared low high factor body combine combine_place) ∷ []) (in_loop r (loop_of iterator low high factor)) n inner
+        (subst (λ (m : ℕ). copies_excess m body ≡ None) (sym is) (first_of (copies_excess (copies_in (factors round) * factor.value) body) _ all)))
+        (other_few combine (round ++ turning_of known (turn_count low.value high.value factor.value) (counts iterator declared low high factor body combine combine_place) ∷ []) (in_loop r (loop_of iterator low high factor)) (n + accesses_of body) inner
+        (subst (λ (m : ℕ). other_copies_excess m combine ≡ None) (sym is) (rest_of (copies_excess (copies_in (factors round) * factor.value) body) _ all))))
 
     other_few : (m : MaybeAction) (round : List Turning) (r : Around) (n : ℕ) → FewRound round → other_copies_excess (copies_in (factors round)) m ≡ None → ListFew round (other_phases r n m)
     other_few no_action round r n few e = tt

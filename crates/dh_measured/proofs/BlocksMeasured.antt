@@ -11,11 +11,13 @@ use Rattle.dh_tree.specs.Seen.{program_seen}
 use Rattle.dh_meaning.specs.AccessNumbers.{accesses_of, term_accesses}
 use Rattle.dh_meaning.specs.CoreOf.{core_action, core_commands, core_term, entity_number}
 use Rattle.dh_meaning.specs.Core.{no_commands}
+use Rattle.dh_meaning.specs.OnePhase.{any_makes, makes}
 use Rattle.dh_meaning.specs.Phases.{Located}
 use Rattle.dh_plan.specs.Correspondence.{Round}
 use Rattle.dh_plan.specs.PlainPlans.{PlainPlan}
 use Rattle.dh_plan.specs.PlanPhases.{commands_mention, term_mentions}
 use Rattle.dh_sound.specs.SimpleForms.{IsSimple}
+use Rattle.dh_sound.proofs.Makes.{makes_within}
 use Rattle.dh_expressions.specs.declared.accesses.Accesses.{Accesses}
 use Rattle.dh_expressions.specs.declared.scenes.Around.{Around}
 use Rattle.dh_expressions.specs.declared.scenes.Scene.{Scene}
@@ -29,7 +31,7 @@ use Rattle.dh_commands.specs.LanesRun.{paths_counted}
 use Rattle.dh_commands.specs.ShownVariables.{ArePlaced, IsSeen, depth_in, register_in}
 use Rattle.dh_commands.specs.Undone.{given_at}
 use Rattle.dh_blocks.specs.BlockGround.{IsGround}
-use Rattle.dh_blocks.specs.SoundCommands.{IsOwnOf, SoundAction}
+use Rattle.dh_blocks.specs.SoundCommands.{IsOwnOf}
 use Rattle.dh_blocks.specs.SoundTerms.{IsSound}
 use Rattle.dh_blocks.proofs.CommandsFollow.{is_own}
 use Rattle.dh_blocks.proofs.VariablesPlaced.{are_placed, register_small}
@@ -37,21 +39,20 @@ use Rattle.dh_laid.specs.BareCommands.{IsBare, IsBareFrom}
 use Rattle.dh_laid.specs.BlockSites.{MadeEach, block_sites, sites_from, term_sites, test_sites}
 use Rattle.dh_laid.specs.LaidNumbers.{StoresReach}
 use Rattle.dh_laid.specs.LaidQuiet.{StandsIn}
-use Rattle.dh_paced.specs.BlockLengths.{AssignsOwn, AssignsTo, BlockBegins, EachSuits, HaveRegisters, IsWholeBut}
-use Rattle.dh_paced.specs.Paced.{IsIn, IsOfEach}
+use Rattle.dh_paced.specs.BlockLengths.{AssignsOwn, AssignsTo, EachSuits, HaveRegisters}
+use Rattle.dh_paced.specs.Paced.{IsIn}
 use Rattle.dh_paced.proofs.BlocksPaced.{straights_are_long, tests_are_long}
 use Rattle.dh_paced.proofs.CoreAppended.{action_then_mentions}
-use Rattle.dh_typed_laid.specs.SuitingBlocks.{EachSuits as TypedEachSuits, EachFew, FitsBlock, HasSites, NamedHere, StandsSo}
+use Rattle.dh_typed_laid.specs.SuitingBlocks.{EachSuits as TypedEachSuits, FitsBlock, HasSites, NamedHere, StandsSo}
 use Rattle.dh_typed_laid.proofs.CommandsSuit.{sound_reaches}
 use Rattle.dh_typed_laid.proofs.EachFormed.{made_commands_suit}
 use Rattle.dh_typed_laid.proofs.TermsSuit.{term_suits}
 use Rattle.dh_gathering.specs.declared.blocks.Made.{Made}
 use Rattle.dh_gathering.specs.Growing.{registers_given}
-use Rattle.dh_gathering.specs.MadeBlocks.{MadeStraight, MadeTest}
 use Rattle.dh_placed.specs.MadeFormed.{HasRegisters}
-use Rattle.dh_placed.proofs.BlocksBegin.{bare_sites, bare_test, held_begins, held_of, noted_begins, round_begins}
+use Rattle.dh_placed.proofs.BlocksBegin.{bare_sites, bare_test, held_begins, noted_begins, round_begins}
 use Rattle.dh_placed.proofs.BlocksFormed.{made_straights_are_formed, made_tests_are_formed}
-use Rattle.dh_measured.specs.MeasuredBlocks.{FitsAlone, MadeStraightsAreLong, MadeTestsAreLong, StandsStraight, StandsTest}
+use Rattle.dh_measured.specs.MeasuredBlocks.{FitsAlone, MadeStraightsAreLong, MadeTestsAreLong}
 use Rattle.dh_measured.proofs.BlocksUnread.{flag_extends, flag_unread, none_at, sets_extend, sets_unread}
 use Rattle.dh_measured.proofs.NamesMentioned.{action_names, assigns_own, simple_sound, term_names}
 
@@ -65,10 +66,13 @@ bare_in a first count number h among =
     together : (m n : ℕ) → m ≤ n → m + (n - m) ≡ n
     together m n l = omega (arith, l)
 
-bare_each : (a : Accesses) (cs : List Located) → AllByRecursion (IsBare a) cs → (number : ℕ) → IsOfEach cs number → touched_in a number ≡ None
-bare_each a [] h number among = absurd among
-bare_each a (c ∷ cs) h number (inl among) = bare_in a c.first (accesses_of c.command) number h.0 among
-bare_each a (c ∷ cs) h number (inr among) = bare_each a cs h.1 number among
+bare_each : (a : Accesses) (cs : List Located) → AllByRecursion (IsBare a) cs → (number : ℕ) → any_makes number cs ≡ true → touched_in a number ≡ None
+bare_each a [] h number m = absurd cc
+bare_each a (c ∷ cs) h number m = by (makes number c.first c.command) refl m (λ g. bare_each a cs h.1 number g)
+  where
+    by : (b : Truth) → makes number c.first c.command ≡ b → (b || any_makes number cs) ≡ true → (any_makes number cs ≡ true → touched_in a number ≡ None) → touched_in a number ≡ None
+    by true e g later = bare_in a c.first (accesses_of c.command) number h.0 (makes_within number c.first c.command e)
+    by false e g later = later g
 
 -- Suits.
 

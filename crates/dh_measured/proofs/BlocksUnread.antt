@@ -1,5 +1,5 @@
 -- What is put down behind the commands of a block, and behind a test, reads nothing: registers that are set, and a flag.
-use Rattle.std.proofs.Common.{◌≡◌, ◌⊎◌, inl, inr, ℕ, zero, suc, ◌+◌, ◌<◌, ◌≤◌, Bool as Truth, true, false, List, [], ◌∷◌, ◌++◌, length, Option, Some, None, refl, ap, sym, ◌∙◌, subst, arith}
+use Rattle.std.proofs.Common.{◌≡◌, ℕ, zero, suc, ◌≤◌, Bool as Truth, true, false, List, [], ◌∷◌, ◌++◌, length, Option, Some, None, refl, ap, sym, ◌∙◌, arith}
 use Rattle.std.specs.Prelude.{replicate, slice_get}
 use Rattle.std.proofs.lemmas.List.{length-append}
 use Rattle.dh_base.specs.declared.outcomes.FaultKind.{FaultKind}
@@ -9,7 +9,7 @@ use Rattle.dh_plan.specs.declared.operations.Operation.{Operation}
 use Rattle.dh_plan.specs.declared.operations.OperationForm.TheVariants.{Compute, Set}
 use Rattle.dh_plan.specs.LegalSchedules.{is_read}
 use Rattle.dh_expressions.specs.declared.drafts.Draft.{Draft}
-use Rattle.dh_expressions.specs.Drafted.{Extends, Pushes}
+use Rattle.dh_expressions.specs.Drafted.{Extends}
 use Rattle.dh_expressions.proofs.Pushing.{extends_again, in_front, pushed_extends}
 use Rattle.dh_commands.specs.declared.buildings.Building.{Building}
 use Rattle.dh_gathering.specs.MadeBlocks.{AddsFlag, SetsGiven}

@@ -1,6 +1,6 @@
 -- What the core of sound commands mentions are names that stand in them; and what they assign to is another variable at
 -- each path, or is not mentioned in what it takes.
-use Rattle.std.proofs.Common.{◌≡◌, ◌⊎◌, inl, inr, ℕ, ◌+◌, ◌<◌, Bool as Truth, true, false, List, Option, Some, None, refl, sym, ◌∙◌, subst, arith}
+use Rattle.std.proofs.Common.{◌≡◌, ◌⊎◌, inl, inr, ℕ, ◌+◌, ◌<◌, Bool as Truth, true, false, List, Some, None, refl, sym, ◌∙◌, subst, arith}
 use Rattle.std.specs.Prelude.{◌==◌, ◌||◌}
 use Rattle.std.proofs.lemmas.Bool.Decides.{nat_tests}
 use Rattle.dh_value.specs.declared.kinds.Kind.{Kind}
@@ -14,7 +14,7 @@ use Rattle.dh_meaning.specs.Bindings.{kind_found, kind_or_first}
 use Rattle.dh_meaning.specs.Core.{no_commands, variable}
 use Rattle.dh_meaning.specs.CoreOf.{core_action, core_form, core_groups, core_other, core_part, core_term, core_terms, depth_of, entity_number, kind_of}
 use Rattle.dh_plan.specs.PlanPhases.{commands_mention, term_mentions, terms_mention}
-use Rattle.dh_sound.specs.SimpleForms.{GroupsSimple, IsSimple, OtherSimple, PartSimple}
+use Rattle.dh_sound.specs.SimpleForms.{GroupsSimple, IsSimple, PartSimple}
 use Rattle.dh_expressions.specs.declared.paths.Level.{Level}
 use Rattle.dh_expressions.specs.declared.scenes.Around.{Around}
 use Rattle.dh_expressions.specs.declared.scenes.Scene.{Scene}

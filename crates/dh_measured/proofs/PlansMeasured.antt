@@ -1,9 +1,9 @@
 -- The nodes that were made of a program have blocks as long as its phases.
-use Rattle.std.proofs.Common.{◌≡◌, ℕ, List, [], Option, Some, ap, sym, ◌∙◌}
+use Rattle.std.proofs.Common.{◌≡◌, ℕ, List, [], Option, ap, sym, ◌∙◌}
 use Rattle.dh_tree.specs.PlainTrees.{Term}
 use Rattle.dh_tree.specs.Seen.{program_seen}
 use Rattle.dh_meaning.specs.Core.{CoreCommands, CoreTerm}
-use Rattle.dh_meaning.specs.CoreOf.{core_term, core_test_of}
+use Rattle.dh_meaning.specs.CoreOf.{core_test_of}
 use Rattle.dh_meaning.specs.Effects.{commands, tests}
 use Rattle.dh_meaning.specs.Levels.{block_length}
 use Rattle.dh_meets.specs.Sharing.{shared}

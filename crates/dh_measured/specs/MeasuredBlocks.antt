@@ -10,6 +10,7 @@ use Rattle.dh_meaning.specs.AccessNumbers.{term_accesses}
 use Rattle.dh_meaning.specs.CoreOf.{core_commands, core_term}
 use Rattle.dh_meaning.specs.Effects.{commands, tests}
 use Rattle.dh_meaning.specs.Levels.{block_length}
+use Rattle.dh_meaning.specs.OnePhase.{any_makes}
 use Rattle.dh_meaning.specs.Phases.{Located}
 use Rattle.dh_plan.specs.Correspondence.{Round}
 use Rattle.dh_plan.specs.LegalSchedules.{block_clocks}
@@ -24,7 +25,7 @@ use Rattle.dh_sound.specs.SimpleForms.{IsSimple}
 use Rattle.dh_blocks.specs.SoundTerms.{IsSound}
 use Rattle.dh_laid.specs.BlockSites.{block_sites, test_sites}
 use Rattle.dh_paced.specs.BlockLengths.{ShareWithin}
-use Rattle.dh_paced.specs.Paced.{IsIn, IsOfEach, IsReadOfEach}
+use Rattle.dh_paced.specs.Paced.{IsIn, IsReadOfEach}
 use Rattle.dh_typed_blocks.specs.TypedTerms.{IsTyped}
 use Rattle.dh_typed_laid.specs.SuitingBlocks.{FitsBlock, NamedHere, StandsSo}
 use Rattle.dh_gathering.specs.declared.blocks.Made.{Made}
@@ -46,7 +47,8 @@ pub record StandsStraight (scene : Scene) (plan : PlainPlan) (count : ℕ) (fina
   pub counted : count ≡ registers_given final
   pub stands : StandsSo (block_of plan block (block_sites scene m.around ls m.before m.between m.made)) scene count m.around
   pub fits : AllByRecursion (FitsAlone (block_of plan block (block_sites scene m.around ls m.before m.between m.made)) scene m.around rounds) ls
-  pub shares : ShareWithin scene shared (IsOfEach ls) (IsReadOfEach ls)
+  -- (a loop without turns in an arm makes none of its accesses)
+  pub shares : ShareWithin scene shared (λ number. any_makes number ls ≡ true) (IsReadOfEach ls)
 
 abbrev pub MadeStraightsAreLong : Type 0
 MadeStraightsAreLong =

@@ -1,12 +1,12 @@
 -- The blocks that were made multiply no more often than their phases, at each path.
-use Rattle.std.proofs.Common.{◌≡◌, ◌+◌, ◌*◌, ◌≤◌, ℕ, List, [], ◌∷◌, ◌++◌, drop, length, map, None, refl, ap, sym, ◌∙◌, subst, arith, append_assoc}
+use Rattle.std.proofs.Common.{◌≡◌, ◌+◌, ◌*◌, ◌≤◌, ℕ, List, [], ◌∷◌, ◌++◌, drop, length, refl, ap, sym, ◌∙◌, subst, arith, append_assoc}
 use Rattle.std.specs.Prelude.{Bool as Truth, true, false}
 use Rattle.std.specs.List.{AllByRecursion}
-use Rattle.dh_tree.specs.PlainTrees.{Program, Term}
+use Rattle.dh_tree.specs.PlainTrees.{Program}
 use Rattle.dh_tree.specs.Seen.{program_seen}
 use Rattle.dh_meaning.specs.AccessNumbers.{accesses_of}
-use Rattle.dh_meaning.specs.Core.{CoreCommands, CoreTerm, Turning}
-use Rattle.dh_meaning.specs.CoreOf.{core_commands, core_of, core_term, core_test, core_test_of}
+use Rattle.dh_meaning.specs.Core.{CoreCommands, CoreTerm}
+use Rattle.dh_meaning.specs.CoreOf.{core_of, core_term, core_test_of}
 use Rattle.dh_meaning.specs.Phases.{Located, phases_of}
 use Rattle.dh_meaning.specs.Paths.{copies_in}
 use Rattle.dh_code.proofs.PathsInOrder.{length_paths}
@@ -25,7 +25,6 @@ use Rattle.dh_laid.specs.LaidProducts.{AddsProducts, products_in}
 use Rattle.dh_laid.specs.LaidQuiet.{StandsIn}
 use Rattle.dh_laid.specs.LaidUses.{AreAlong}
 use Rattle.dh_laid.proofs.ProductsOfCore.{terms_multiply}
-use Rattle.dh_blocks.specs.BlockMade.{IsTop}
 use Rattle.dh_blocks.proofs.RoundsTurned.{rounds_paths}
 use Rattle.dh_gathering.specs.declared.blocks.Made.{Made}
 use Rattle.dh_gathering.specs.MadeBlocks.{AddsFlag, IsRoundBlock, IsStraightBlock, IsTestBlock, made_tie}
@@ -34,7 +33,7 @@ use Rattle.dh_gathering.specs.PushedSets.{settings}
 use Rattle.dh_gathering.proofs.BlocksPlanned.{operations_are}
 use Rattle.dh_phased.proofs.RoundsTop.{rounds_are_top}
 use Rattle.dh_used.specs.MadePlans.{IsMadeOf}
-use Rattle.dh_used.proofs.NodesMade.{all_named, along, body_named, nodes_so, straight_named, straight_there}
+use Rattle.dh_used.proofs.NodesMade.{along, body_named, nodes_so, straight_named, straight_there}
 use Rattle.dh_multiplied.specs.MultipliedPlans.{MadePlansMultiply}
 use Rattle.dh_multiplied.proofs.StraightsMultiply.{each_multiply, each_products, each_reaching}
 use Rattle.dh_laid.proofs.CommandsMultiply.{products_append, tests_products_added}

@@ -1,5 +1,5 @@
 -- The multiplications of the commands of a block: those of the program's core, and what was put down for them.
-use Rattle.std.proofs.Common.{◌≡◌, ℕ, ◌+◌, ◌*◌, ◌≤◌, List, [], ◌∷◌, ◌++◌, Some, None, refl, ap, sym, ◌∙◌, subst, arith}
+use Rattle.std.proofs.Common.{◌≡◌, ℕ, ◌+◌, ◌*◌, ◌≤◌, List, [], ◌∷◌, Some, None, refl, ap, sym, ◌∙◌, subst, arith}
 use Rattle.std.specs.List.{AllByRecursion}
 use Rattle.std.proofs.Math.Nat.{add-mul}
 use Rattle.std.proofs.lemmas.List.{append-nil}
@@ -9,7 +9,6 @@ use Rattle.dh_meaning.specs.Core.{CoreCommands, no_commands}
 use Rattle.dh_meaning.specs.CoreOf.{Known, core_action, core_commands, core_groups, core_other, core_part, core_term}
 use Rattle.dh_meaning.specs.Phases.{Located}
 use Rattle.dh_plan.specs.DoneProgram.{commands_products, term_products}
-use Rattle.dh_expressions.specs.declared.drafts.Draft.{Draft}
 use Rattle.dh_expressions.specs.declared.scenes.Around.{Around}
 use Rattle.dh_expressions.specs.declared.scenes.Scene.{Scene}
 use Rattle.dh_commands.specs.declared.buildings.Building.{Building}

@@ -1,6 +1,6 @@
 -- Blocks reach memories of accesses of the source: an access with a site in a block is one that the block makes.
-use Rattle.std.proofs.Common.{◌≡◌, inl, ◌<◌, ◌+◌, ◌^◌, ℕ, List, Some, None, ap, sym, ◌∙◌, subst, length, refl, append_assoc}
-use Rattle.std.specs.Prelude.{Bool as Truth, true, false, [], ◌∷◌, ◌++◌, drop, Option, slice_get}
+use Rattle.std.proofs.Common.{◌≡◌, inl, ◌<◌, ◌+◌, ◌^◌, ℕ, List, Some, None, ap, sym, ◌∙◌, subst, length, append_assoc}
+use Rattle.std.specs.Prelude.{Bool as Truth, true, [], ◌∷◌, ◌++◌, drop, Option}
 use Rattle.std.specs.List.{AllByRecursion}
 use Rattle.std.specs.Option.{is_some}
 use Rattle.std.proofs.Math.Seq.{drop-append_seam}
@@ -11,7 +11,7 @@ use Rattle.dh_meaning.specs.AccessNumbers.{term_accesses}
 use Rattle.dh_meaning.specs.CoreOf.{entity_number, form_of, test_of}
 use Rattle.dh_meaning.specs.OnePhase.{any_makes, test_makes}
 use Rattle.dh_meaning.specs.Phases.{Located, idle_phases_of, phases_of}
-use Rattle.dh_meets.specs.SourceEvents.{SourceAccess, accesses_in, trace}
+use Rattle.dh_meets.specs.SourceEvents.{accesses_in, trace}
 use Rattle.dh_plan.specs.declared.operations.Operation.{Operation}
 use Rattle.dh_plan.specs.declared.operations.Reach.{Reach}
 use Rattle.dh_plan.specs.PlainPlans.{PlainPlan, operations_in}
@@ -23,7 +23,6 @@ use Rattle.dh_lengths.specs.SharedReads.{TellsShares}
 use Rattle.dh_expressions.specs.declared.drafts.Draft.{Draft}
 use Rattle.dh_expressions.specs.declared.scenes.Around.{Around}
 use Rattle.dh_expressions.specs.declared.scenes.Scene.{Scene}
-use Rattle.dh_expressions.specs.Evaluated.{known_in}
 use Rattle.dh_expressions.specs.Numbers.{narrowed}
 use Rattle.dh_expressions.proofs.ListPlaces.{there}
 use Rattle.dh_formed.specs.Formed.{Site}
@@ -36,7 +35,7 @@ use Rattle.dh_laid.specs.LaidNumbers.{StoresReach}
 use Rattle.dh_laid.specs.LaidUses.{AddsLedUses, AreAlong, AreSitesReaches, HaveNoOperations, IsSitesReach}
 use Rattle.dh_laid.proofs.BlocksUsed.{blocks_lead, tests_lead}
 use Rattle.dh_used.specs.SourceReaches.{IsOfSource, ReachSource}
-use Rattle.dh_used.specs.SourceSites.{AllStand, AreSited, IsSiteOf}
+use Rattle.dh_used.specs.SourceSites.{AllStand, AreSited}
 use Rattle.dh_used.specs.UsedBlocks.{EndsQuietly, IsInLoops, IsOwn}
 use Rattle.dh_used.proofs.BlocksByKeys.{along_reach, each_of, paths_lead, some_paths}
 use Rattle.dh_used.proofs.SharesOfProgram.{any_below, shares_inside, test_below, writes_alone}

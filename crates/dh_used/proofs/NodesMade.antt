@@ -1,27 +1,25 @@
 -- Blocks as they were made use what their commands make: they stand in their loops, and end with registers that are set.
-use Rattle.std.proofs.Common.{◌≡◌, ◌⊎◌, inl, inr, ◌<◌, ◌≤◌, ◌+◌, ◌-◌, ◌^◌, ◌||◌, ℕ, zero, suc, List, Some, None, ap, sym, ◌∙◌, subst, length, arith, refl, append_assoc}
-use Rattle.std.specs.Prelude.{Bool as Truth, true, false, if◌then◌else◌, [], ◌∷◌, ◌++◌, map, Option, slice_get}
+use Rattle.std.proofs.Common.{◌≡◌, inl, inr, ◌<◌, ◌≤◌, ◌+◌, ◌-◌, ◌||◌, ℕ, List, Some, None, ap, sym, ◌∙◌, subst, length, arith, refl, append_assoc}
+use Rattle.std.specs.Prelude.{Bool as Truth, true, false, [], ◌∷◌, ◌++◌}
 use Rattle.std.specs.List.{AllByRecursion}
-use Rattle.dh_tree.specs.PlainTrees.{Program, Term}
+use Rattle.dh_tree.specs.PlainTrees.{Program}
 use Rattle.dh_tree.specs.Seen.{program_seen}
 use Rattle.dh_meaning.specs.AccessNumbers.{accesses_of, term_accesses}
 use Rattle.dh_meaning.specs.Core.{CoreCommands, CoreTerm, Turning, CorePhase, straightly, turning, looping, choosing, CorePhases, no_core_phases, phase_and}
-use Rattle.dh_meaning.specs.CoreOf.{Known, core_of, form_of, known_of, test_of, turning_of}
-use Rattle.dh_meaning.specs.OnePhase.{any_makes, makes, test_makes, tests_make}
-use Rattle.dh_meaning.specs.Phases.{Located, Phase, straight, turns, repeated, decided, Phases, no_phases, phase, idle_phases_of, of_list, phases_of}
+use Rattle.dh_meaning.specs.CoreOf.{Known, core_of, form_of, known_of, turning_of}
+use Rattle.dh_meaning.specs.OnePhase.{any_makes, makes, test_makes}
+use Rattle.dh_meaning.specs.Phases.{Located, Phase, straight, turns, repeated, decided, Phases, no_phases, phase, idle_phases_of, phases_of}
 use Rattle.dh_meaning.specs.Sites.{nothing_around}
-use Rattle.dh_meets.specs.Charges as charges
-use Rattle.dh_meets.specs.SourceEvents.{SourceAccess, site_of}
+use Rattle.dh_meets.specs.SourceEvents.{SourceAccess}
 use Rattle.dh_value.specs.declared.operators.Op.TheVariants.{Both}
 use Rattle.dh_plan.specs.declared.operations.Operation.{Operation}
 use Rattle.dh_plan.specs.declared.operations.OperationForm.{OperationForm}
 use Rattle.dh_plan.specs.declared.operations.OperationForm.TheVariants.{Compute, Set}
 use Rattle.dh_plan.specs.Correspondence.{Round}
 use Rattle.dh_plan.specs.DoneProgram.{operations_using, probes_among}
-use Rattle.dh_plan.specs.PlainPlans.{Node, block_node, turns_node, loop_node, choice_node, threads_node, Nodes, no_nodes, node_then, PlainPlan, operations_in}
+use Rattle.dh_plan.specs.PlainPlans.{Node, block_node, turns_node, loop_node, choice_node, threads_node, Nodes, no_nodes, node_then, PlainPlan}
 use Rattle.dh_plan.specs.PlanPhases.{AreNodesOf, IsNodeOf, Tie}
 use Rattle.dh_plan.specs.SoundPlans.{access_in}
-use Rattle.dh_sound.specs.Blocks.{factors}
 use Rattle.dh_sound.specs.LoopsMatch.{EachMatches, unrolled}
 use Rattle.dh_sound.specs.PhaseFacts.{HasStraight, HasStraightIn, HasTest, HasTestIn, HaveStraight, HaveTest}
 use Rattle.dh_sound.specs.Straight.{IsNamedAction}
@@ -36,29 +34,23 @@ use Rattle.dh_expressions.specs.declared.accesses.Accesses.{Accesses}
 use Rattle.dh_expressions.specs.declared.drafts.Draft.{Draft}
 use Rattle.dh_expressions.specs.declared.scenes.Around.{Around}
 use Rattle.dh_expressions.specs.declared.scenes.Scene.{Scene}
-use Rattle.dh_expressions.specs.Drafted.{Pushes}
 use Rattle.dh_expressions.specs.Evaluated.{known_in}
 use Rattle.dh_expressions.specs.Noted.{touched_in}
 use Rattle.dh_expressions.specs.Shown.{is_read_term}
-use Rattle.dh_formed.specs.Formed.{Site}
-use Rattle.dh_commands.specs.declared.buildings.Building.{Building}
-use Rattle.dh_commands.specs.ShownVariables.{factors_of}
 use Rattle.dh_laid.specs.BareCommands.{AreRising, IsBare, IsBareFrom}
 use Rattle.dh_laid.specs.BlockSites.{block_sites, test_sites}
-use Rattle.dh_laid.specs.LaidNumbers.{StoresReach}
 use Rattle.dh_laid.specs.LaidQuiet.{StandsIn}
 use Rattle.dh_laid.specs.LaidUses.{AreAlong, HaveNoOperations}
 use Rattle.dh_blocks.specs.BlockMade.{IsTop}
 use Rattle.dh_gathering.specs.declared.blocks.Made.{Made}
-use Rattle.dh_gathering.specs.Cutting.{AreBlocksOf}
-use Rattle.dh_gathering.specs.MadeBlocks.{AddsFlag, IsRoundBlock, IsStraightBlock, IsTestBlock, MadeStraight, MadeTest, made_tie}
+use Rattle.dh_gathering.specs.MadeBlocks.{AddsFlag, IsRoundBlock, IsStraightBlock, IsTestBlock, made_tie}
 use Rattle.dh_gathering.specs.PhasesInLoops.{StraightInLoops, StraightOf, StraightsInLoops, TestInLoops, TestOf, TestsInLoops}
 use Rattle.dh_gathering.specs.PlacedPhases.{loops_round}
 use Rattle.dh_gathering.specs.PushedSets.{settings}
 use Rattle.dh_gathering.proofs.BlocksPlanned.{operations_are}
 use Rattle.dh_phased.proofs.RoundsTop.{rounds_are_top}
 use Rattle.dh_used.specs.MadePlans.{IsMadeOf, MadeNodesUse, MadePlansUse}
-use Rattle.dh_used.specs.UsedBlocks.{EndsQuietly, IsInLoops, IsOwn, UsesAsMade}
+use Rattle.dh_used.specs.UsedBlocks.{EndsQuietly, IsInLoops, IsOwn}
 use Rattle.dh_used.specs.UsedPlans.{UsesStraight, UsesTest, used_tie}
 use Rattle.dh_used.proofs.BlocksByKeys.{straights_use_as_made, tests_use_as_made}
 use Rattle.dh_used.proofs.PlansUsed.{named_facts, named_reaches, phases_named, plans_use}

@@ -1,5 +1,5 @@
 -- Plans reach memories of accesses of the source: each of their blocks is that of a node.
-use Rattle.std.proofs.Common.{◌≡◌, ◌<◌, ◌+◌, ◌==◌, ℕ, zero, suc, List, [], ◌∷◌, ◌++◌, Option, Some, None, length, refl, ap, sym, ◌∙◌, subst, arith}
+use Rattle.std.proofs.Common.{◌≡◌, ◌<◌, ◌+◌, ◌==◌, ℕ, List, [], ◌∷◌, Option, Some, None, length, refl, sym, subst, arith}
 use Rattle.std.specs.Prelude.{Bool as Truth, true, false, if◌then◌else◌, slice_get}
 use Rattle.std.specs.List.{AllByRecursion}
 use Rattle.std.proofs.lemmas.Bool.{eqb-true}
@@ -12,14 +12,12 @@ use Rattle.dh_plan.specs.declared.operations.Reach.{Reach}
 use Rattle.dh_plan.specs.Correspondence.{Round}
 use Rattle.dh_plan.specs.PlainPlans.{Node, block_node, turns_node, loop_node, choice_node, threads_node, Nodes, no_nodes, node_then, PlainPlan, block_operations, operations_in}
 use Rattle.dh_plan.specs.PlanPhases.{AreNodesOf, IsNodeOf, Tie}
-use Rattle.dh_plan.specs.SoundPlans.{HasAccess, access_in, blocks_of, node_blocks}
+use Rattle.dh_plan.specs.SoundPlans.{access_in, blocks_of, node_blocks}
 use Rattle.dh_expressions.specs.declared.scenes.Scene.{Scene}
 use Rattle.dh_expressions.proofs.ListPlaces.{place_within}
 use Rattle.dh_formed.proofs.ElementsFormed.{all_append}
-use Rattle.dh_gathering.specs.declared.blocks.Made.{Made}
 use Rattle.dh_gathering.specs.MadeBlocks.{IsStraightBlock, IsTestBlock, made_tie}
 use Rattle.dh_charged.proofs.BlocksTouch.{place_holds}
-use Rattle.dh_used.specs.MadePlans.{IsMadeOf}
 use Rattle.dh_used.specs.SourceReaches.{IsOfSource, MadePlansReach, ReachSource}
 use Rattle.dh_used.specs.UsedPlans.{listed}
 use Rattle.dh_used.proofs.BlocksReach.{straights_reach, tests_reach}
@@ -63,28 +61,28 @@ listed_holds P number [] e h = absurd (never e)
   where
     never : ◌≡◌ {A = ℕ} 0 1 → ⊥
     never z = omega (arith, z)
-listed_holds P number (n ∷ ns) e h = by (number == n) refl e
+listed_holds P number (n ∷ ns) e h = by (number == n) refl e (λ f. listed_holds P number ns f h.1)
   where
-    by : (t : Truth) → (number == n) ≡ t → (if t then 1 else 0) + listed number ns ≡ 1 → P number
-    by true same e = subst P (sym (eqb-true number n same)) h.0
-    by false other e = listed_holds P number ns (rest (listed number ns) e) h.1
+    by : (t : Truth) → (number == n) ≡ t → (if t then 1 else 0) + listed number ns ≡ 1 → (listed number ns ≡ 1 → P number) → P number
+    by true same e more = subst P (sym (eqb-true number n same)) h.0
+    by false other e more = more (rest (listed number ns) e)
       where
         rest : (l : ℕ) → 0 + l ≡ 1 → l ≡ 1
         rest l z = omega (arith, z)
+
+abbrev ReachesSource : Scene → PlainPlan → (block : ℕ) → Type 0
+ReachesSource scene plan block = ReachSource (program_seen scene.program.now) (operations_in plan block)
 
 pub made_plans_reach : MadePlansReach
 made_plans_reach scene final plan is once block i r h =
     place_holds (λ (o : Operation). (q : Reach) → access_in o.form ≡ Some q → IsOfSource (program_seen scene.program.now) q) (operations_in plan block) i h.operation own h.there r h.accesses
   where
-    abbrev Reaches : ℕ → Type 0
-    Reaches number = ReachSource (program_seen scene.program.now) (operations_in plan number)
-
-    straight : (rounds : List Round) (cs : CoreCommands) (number : ℕ) → IsStraightBlock scene final rounds cs number → Reaches number
+    straight : (rounds : List Round) (cs : CoreCommands) (number : ℕ) → IsStraightBlock scene final rounds cs number → ReachesSource scene plan number
     straight rounds cs number b =
         straights_reach scene plan number b.made.around b.located b.made.before b.made.between b.made.after.draft b.made.made (straight_stands scene final plan is rounds cs number b)
         (straight_along scene final plan is rounds cs number b) (straight_has scene final plan is rounds cs number b) is.tells (straight_bare scene final plan is rounds cs number b) (straight_own scene final plan is rounds cs number b) (straight_quiet scene final plan is rounds cs number b)
 
-    test : (rounds : List Round) (t : CoreTerm) (flag number : ℕ) → IsTestBlock scene final rounds t flag number → Reaches number
+    test : (rounds : List Round) (t : CoreTerm) (flag number : ℕ) → IsTestBlock scene final rounds t flag number → ReachesSource scene plan number
     test rounds t flag number b =
         tests_reach scene plan number b.made.around b.tested b.term b.made.before b.made.between b.made.after.draft b.made.next b.made.tests b.made.made b.term_is (test_stands_in scene final plan is rounds t flag number b)
         b.made.few (test_has scene final plan is rounds t flag number b) is.tells (test_bare scene final plan is rounds t flag number b) (test_own scene final plan is rounds t flag number b) (test_quiet scene final plan is rounds t flag number b)
@@ -95,11 +93,11 @@ made_plans_reach scene final plan is once block i r h =
         by : (o : Option PlanBlock) → slice_get plan.blocks block ≡ o → slice_get (block_operations o) i ≡ Some h.operation → block < length plan.blocks
         by None e k = absurd (never i k)
           where
-            never : (i : ℕ) → slice_get {A = Operation} [] i ≡ Some h.operation → ⊥
+            never : (i : ℕ) → slice_get (block_operations None) i ≡ Some h.operation → ⊥
             never i z = cc
         by (Some b) e k = place_within plan.blocks block b e
 
-    own : Reaches block
+    own : ReachesSource scene plan block
     own =
-        listed_holds Reaches block (blocks_of plan.body) (once block within)
-        (nodes_each (made_tie scene final) Reaches straight test [] (core_of (program_seen scene.program.now)).phases plan.body is.nodes)
+        listed_holds (ReachesSource scene plan) block (blocks_of plan.body) (once block within)
+        (nodes_each (made_tie scene final) (ReachesSource scene plan) straight test [] (core_of (program_seen scene.program.now)).phases plan.body is.nodes)
