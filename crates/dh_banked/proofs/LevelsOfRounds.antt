@@ -139,27 +139,31 @@ found_at (x ∷ rounds) (suc index) r at many own = by (nat_lt 1 x.loop.factor) 
 
 -- Iterators of loops one in the other are others, where they are unrolled.
 
+some_unrolled : (rounds : List Round) (index : ℕ) (r : Round) → slice_get rounds index ≡ Some r → nat_lt 1 r.loop.factor ≡ true → 0 < loops_until rounds (suc index)
+some_unrolled [] index r at many = absurd (cc)
+some_unrolled (y ∷ ys) zero r at many = subst (λ (b : Bool). 0 < length (if b then y.loop.factor ∷ [] else [])) (sym (ap (λ (q : Round). nat_lt 1 q.loop.factor) (some_same y r at) ∙ many)) (omega arith)
+some_unrolled (y ∷ ys) (suc n) r at many = one (nat_lt 1 y.loop.factor) (some_unrolled ys n r at many)
+  where
+    one : (b : Bool) → 0 < loops_until ys (suc n) → 0 < length (if b then y.loop.factor ∷ factors (loops_round (take (suc n) ys)) else factors (loops_round (take (suc n) ys)))
+    one true h = omega arith
+    one false h = h
+
 until_rises : (rounds : List Round) (j index : ℕ) (r : Round) → slice_get rounds index ≡ Some r → nat_lt 1 r.loop.factor ≡ true → j < index → loops_until rounds (suc j) < loops_until rounds (suc index)
 until_rises [] j index r at many less = absurd (cc)
 until_rises (x ∷ rounds) j zero r at many less = absurd (omega (arith, less))
-until_rises (x ∷ rounds) j (suc index) r at many less = by (nat_lt 1 x.loop.factor) j less
+until_rises (x ∷ rounds) zero (suc index) r at many less = by (nat_lt 1 x.loop.factor) (some_unrolled rounds index r at many)
   where
-    last : (rounds : List Round) (index : ℕ) → slice_get rounds index ≡ Some r → 0 < loops_until rounds (suc index)
-    last [] index e = absurd (cc)
-    last (y ∷ ys) zero e = subst (λ (b : Bool). 0 < length (if b then y.loop.factor ∷ [] else [])) (sym (ap (λ (q : Round). nat_lt 1 q.loop.factor) (some_same y r e) ∙ many)) (omega arith)
-    last (y ∷ ys) (suc n) e = one (nat_lt 1 y.loop.factor) (last ys n e)
-      where
-        one : (b : Bool) → 0 < loops_until ys (suc n) → 0 < length (if b then y.loop.factor ∷ factors (loops_round (take (suc n) ys)) else factors (loops_round (take (suc n) ys)))
-        one true h = omega arith
-        one false h = h
-
-    by : (b : Bool) (j : ℕ) → j < suc index
-        → length (if b then x.loop.factor ∷ factors (loops_round (take j rounds)) else factors (loops_round (take j rounds)))
+    by : (b : Bool) → 0 < loops_until rounds (suc index)
+        → length (if b then x.loop.factor ∷ [] else []) < length (if b then x.loop.factor ∷ factors (loops_round (take (suc index) rounds)) else factors (loops_round (take (suc index) rounds)))
+    by true h = omega (arith, h)
+    by false h = h
+until_rises (x ∷ rounds) (suc j) (suc index) r at many less = by (nat_lt 1 x.loop.factor) (until_rises rounds j index r at many (omega (arith, less)))
+  where
+    by : (b : Bool) → loops_until rounds (suc j) < loops_until rounds (suc index)
+        → length (if b then x.loop.factor ∷ factors (loops_round (take (suc j) rounds)) else factors (loops_round (take (suc j) rounds)))
         < length (if b then x.loop.factor ∷ factors (loops_round (take (suc index) rounds)) else factors (loops_round (take (suc index) rounds)))
-    by true zero l = let h = last rounds index at in omega (arith, h)
-    by false zero l = last rounds index at
-    by true (suc j) l = let h = until_rises rounds j index r at many (omega (arith, l)) in omega (arith, h)
-    by false (suc j) l = until_rises rounds j index r at many (omega (arith, l))
+    by true h = omega (arith, h)
+    by false h = h
 
 -- what is told of the level of a loop
 pub record HasLevel (levels : List Level) (rounds : List Round) (index : ℕ) (r : Round) : Type 0 where

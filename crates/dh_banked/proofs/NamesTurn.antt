@@ -41,11 +41,11 @@ in_turn registers (x ∷ rounds) (suc index) r h at = in_turn registers rounds i
 
 counter_has : (P : Counter → Type 0) (cs : List Counter) (entity : Option ℕ) (c : Counter) → AllByRecursion P cs → counter_in cs entity ≡ Some c → P c
 counter_has P [] entity c h at = absurd (cc)
-counter_has P (x ∷ cs) entity c h at = by (same_entity x.entity entity) at
+counter_has P (x ∷ cs) entity c h at = by (same_entity x.entity entity) at (λ e. counter_has P cs entity c h.1 e)
   where
-    by : (b : Bool) → (if b then Some x else counter_in cs entity) ≡ Some c → P c
-    by true e = subst P (some_same x c e) h.0
-    by false e = counter_has P cs entity c h.1 e
+    by : (b : Bool) → (if b then Some x else counter_in cs entity) ≡ Some c → (counter_in cs entity ≡ Some c → P c) → P c
+    by true e more = subst P (some_same x c e) h.0
+    by false e more = more e
 
 module _ (scene : Scene) (plan : PlainPlan) (block : ℕ) (registers : List ℕ) (memories : List (List ℕ)) (rounds : List Round) (levels : List Level) (paths : ℕ)
     (tells : TellsScene scene) (told : AreRoundsTold scene plan.registers rounds) (within : AreWithin [] 1 rounds levels paths) (copies : AllByRecursion HasCopy (counters_of (program_seen scene.program.now))) (turns : InTurns registers rounds) where

@@ -1,1 +1,2 @@
 pub mod ReadsOfBlocks
+pub mod MadeBanks

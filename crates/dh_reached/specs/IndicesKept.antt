@@ -68,7 +68,7 @@ module _ (x : Step) (scene : Scene) (levels : List Level) where
   pub record IndicesKeep (memory : ℕ) (ts : plain.Terms) : Type 0 where
     pub small : memory < 2 ^ 32
     pub dims : AllByRecursion IsDim (dims_at x.start.table memory)
-    pub few : banks_of (dims_at x.start.table memory) < 2 ^ 32
+    pub few : banks_of (dims_at x.start.table memory) ≤ 2 ^ 32
     pub kinds : AllHaveIndexKinds (counters_of (program_seen scene.program.now)) ts
     pub keeps : indices_breaches (counters_of (program_seen scene.program.now)) (dims_at x.start.table memory) ts ≡ []
     pub turns : AllTurn ts

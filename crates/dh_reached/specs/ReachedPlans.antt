@@ -1,20 +1,21 @@
 -- A plan whose blocks are put down in a scene: each is of straight commands or of a test of the program, as they stand in
 -- it, and in each step that does one its indices keep the rules and its loops are in turns.
-use Rattle.std.specs.Prelude.{◌≡◌, ℕ, ◌++◌, Bool, List, [], Some}
+use Rattle.std.specs.Prelude.{◌≡◌, ℕ, ◌<◌, ◌++◌, Bool, List, [], Some}
+use Rattle.dh_tree.specs.Meets.{In}
 use Rattle.dh_tree.specs.Memories.{table_of}
 use Rattle.dh_tree.specs.PlainTrees.{Term}
 use Rattle.dh_tree.specs.Seen.{program_seen}
 use Rattle.dh_tree.specs.Tables.{Fits}
+use Rattle.dh_meaning.specs.AccessNumbers.{accesses_of}
 use Rattle.dh_meaning.specs.Core.{CorePhases}
 use Rattle.dh_meaning.specs.CoreOf.{form_of, test_of}
 use Rattle.dh_meaning.specs.Phases.{Located, phases_of}
-use Rattle.dh_meets.specs.MayMeet.{meets_in}
 use Rattle.dh_plan.specs.declared.operations.Operation.{Operation}
 use Rattle.dh_plan.specs.Correspondence.{FitKinds, Round}
+use Rattle.dh_plan.specs.DoneProgram.{MeetsAs}
 use Rattle.dh_plan.specs.PlainPlans.{PlainPlan}
 use Rattle.dh_plan.specs.PlanPhases.{AreNodesOf, Tie}
 use Rattle.dh_plan.specs.SoundPlans.{StepsKeepBanks}
-use Rattle.dh_accesses.specs.Met.{SameMeets}
 use Rattle.dh_expressions.specs.declared.scenes.Around.{Around}
 use Rattle.dh_expressions.specs.declared.scenes.Scene.{Scene}
 use Rattle.dh_sound.specs.PhaseFacts.{HasTest}
@@ -68,7 +69,9 @@ module _ (scene : Scene) (plan : PlainPlan) (count : ℕ) where
 
   pub record ReachedPlan (phases : CorePhases) : Type 0 where
     pub table : plan.table ≡ table_of (program_seen scene.program.now)
-    pub meets : SameMeets plan.meets (meets_in (program_seen scene.program.now))
+    -- its accesses are all those of the program, which meet as there
+    pub meets : MeetsAs (program_seen scene.program.now) plan
+    pub there : (number : ℕ) → number < accesses_of (program_seen scene.program.now).body → In number plan.meets
     pub nodes : AreNodesOf reached_tie [] phases plan.body
 
 -- its steps keep the banks
