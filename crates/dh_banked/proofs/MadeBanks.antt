@@ -56,7 +56,8 @@ use Rattle.dh_reached.specs.StepsOfNodes.{InTurns}
 use Rattle.dh_reached.proofs.OppositeArms.{each_front}
 use Rattle.dh_reached.proofs.ReachedPlans.{reached_keep_banks}
 use Rattle.dh_banked.specs.MadeBanks.{MadePlansKeepBanks}
-use Rattle.dh_banked.proofs.BlocksStand.{reads_in, straight_along, straight_stands}
+use Rattle.dh_banked.specs.ReadsOfBlocks.{reads_in}
+use Rattle.dh_banked.proofs.BlocksStand.{straight_along, straight_stands}
 use Rattle.dh_banked.proofs.CopiesOfPhases.{straight_stands_few}
 use Rattle.dh_banked.proofs.IndicesTold.{AccessOk, command_keeps, command_ok, term_keeps}
 use Rattle.dh_banked.proofs.NamesTurn.{names_turn}
@@ -211,6 +212,6 @@ made_keep_banks scene count plan final h =
     reached_keep_banks scene plan count (core_of (program_seen scene.program.now)).phases (record {
       table = h.of.table;
       meets = h.meets.as_program;
-      there = λ number less. h.meets.range.there number (omega arith) less;
+      there = λ number less. h.meets.range.there number (omega arith) (omega (arith, less));
       nodes = nodes_reached scene count plan final h.of [] (core_of (program_seen scene.program.now)).phases plan.body tt (loops_are_own scene h.of.ready.entities (long scene count h.of.order)).inside h.nodes;
     })

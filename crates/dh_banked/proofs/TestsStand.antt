@@ -1,21 +1,12 @@
 -- The block of a test that was made of a ready program stands as its accesses are asked.
-<<<<<<< HEAD
 use Rattle.std.proofs.Common.{◌≡◌, ℕ, ◌<◌, ◌≤◌, ◌&&◌, Bool, true, false, List, [], length, Option, Some, None, refl, ap, sym, ◌∙◌, subst, arith}
 use Rattle.std.specs.Prelude.{slice_get, slice_index}
 use Rattle.dh_tree.specs.PlainTrees as plain
-=======
-use Rattle.std.proofs.Common.{◌≡◌, ℕ, ◌<◌, ◌≤◌, ◌&&◌, Bool, true, List, [], length, Option, Some, refl, ap, sym, ◌∙◌, subst, arith}
-use Rattle.std.specs.Prelude.{slice_get, slice_index}
->>>>>>> 9c4c89b78431255862c6ff98b0d01a9ebb4b31a0
 use Rattle.dh_tree.specs.Seen.{program_seen}
 use Rattle.dh_meaning.specs.Core.{CoreTerm}
 use Rattle.dh_meaning.specs.OnePhase.{test_makes}
 use Rattle.dh_meaning.specs.Phases.{Located, phases_of}
-<<<<<<< HEAD
 use Rattle.dh_meets.specs.SourceEvents.{SourceAccess, accesses_in, trace, with_indices}
-=======
-use Rattle.dh_meets.specs.SourceEvents.{accesses_in, trace}
->>>>>>> 9c4c89b78431255862c6ff98b0d01a9ebb4b31a0
 use Rattle.dh_sound.specs.PhaseFacts.{HasTest}
 use Rattle.dh_sound.proofs.LocatedSites.{test_first}
 use Rattle.dh_sound.proofs.SamePhase.{test_has_both}
@@ -43,13 +34,10 @@ use Rattle.dh_banked.proofs.CopiesOfPhases.{test_stands_few}
 use Rattle.dh_banked.proofs.ReadsShared.{first_true, shares_read}
 use Rattle.dh_banked.proofs.SpreadPaths.{flag_unused, stands_spread}
 
-<<<<<<< HEAD
 -- whatever access it is
 any_access : SourceAccess
 any_access = record { place = record { line = 0; column = 0 }; entity = None; element = with_indices plain.no_terms; writes = false; site = record { command = 0; arms = []; loops = [] } }
 
-=======
->>>>>>> 9c4c89b78431255862c6ff98b0d01a9ebb4b31a0
 module _ (scene : Scene) (count : ℕ) (plan : PlainPlan) (final : Made) (h : IsOfReady scene count plan final) (rounds : List Round) (test : CoreTerm) (flag block : ℕ) (s : IsTestBlock scene final rounds test flag block)
     (counting : AreCounting scene (placing_in scene) rounds) where
   pub test_has : HasTest (phases_of (program_seen scene.program.now)) s.tested
@@ -60,11 +48,7 @@ module _ (scene : Scene) (count : ℕ) (plan : PlainPlan) (final : Made) (h : Is
 
   none_before : (e : ℕ) → e < s.tested.first → reads_in scene makes e ≡ true → ⊥
   none_before e less reads =
-<<<<<<< HEAD
       let w = test_first e any_access s.tested.first s.tested.command (first_true (test_makes e s.tested) (is_read_of (slice_get (accesses_in (trace (program_seen scene.program.now))) e)) reads) in
-=======
-      let w = test_first e s.tested.first s.tested.command (first_true (test_makes e s.tested) (is_read_of (slice_get (accesses_in (trace (program_seen scene.program.now))) e)) reads) in
->>>>>>> 9c4c89b78431255862c6ff98b0d01a9ebb4b31a0
       never w.0
     where
       never : s.tested.first ≤ e → ⊥
