@@ -112,12 +112,14 @@ module _ (scene : Scene) (count : ℕ) (plan : PlainPlan) (final : Made) (h : Is
     reached_block =
         let k = straight_sound scene count plan final h rounds cs block s counting in
         let pair : (m : MadeEach scene s.made.around (k.of.done ++ k.of.folds) s.made.before s.made.between)
-            × StraightStands scene s.made.around plan count block (k.of.done ++ k.of.folds) s.made.before s.made.between m (sets_made s.made.between.values.log.items s.made.between.values.current.items) (reads_in scene (λ n. any_makes n s.located)) =
+        × StraightStands scene s.made.around plan count block (k.of.done ++ k.of.folds) s.made.before s.made.between m (sets_made s.made.between.values.log.items s.made.between.values.current.items) (reads_in scene (λ n. any_makes n s.located)) =
         subst (λ (ls : List Located). (m : MadeEach scene s.made.around ls s.made.before s.made.between)
-        × StraightStands scene s.made.around plan count block ls s.made.before s.made.between m (sets_made s.made.between.values.log.items s.made.between.values.current.items) (reads_in scene (λ n. any_makes n s.located))) k.are
-        (s.made.made, straight_stands scene count plan final h rounds cs block s counting
-        (stands_spread scene rounds s.made.around s.made.round s.made.stands_in (straight_stands_few (known_in scene) (program_seen scene.program.now) h.ready.limits (loops_round rounds) s.located s.placed))
-        (sets_unused s.made.between.values.log.items s.made.between.values.current.items)) in
+        × StraightStands scene s.made.around plan count block ls s.made.before s.made.between m (sets_made s.made.between.values.log.items s.made.between.values.current.items) (reads_in scene (λ n. any_makes n s.located))) k.are (
+          s.made.made,
+          straight_stands scene count plan final h rounds cs block s counting
+              (stands_spread scene rounds s.made.around s.made.round s.made.stands_in (straight_stands_few (known_in scene) (program_seen scene.program.now) h.ready.limits (loops_round rounds) s.located s.placed))
+              (sets_unused s.made.between.values.log.items s.made.between.values.current.items),
+        ) in
         let all : AllStand scene (k.of.done ++ k.of.folds) = subst (λ (ls : List Located). AllStand scene ls) k.are (straight_all scene count plan final h rounds cs block s counting) in
         record {
           around = s.made.around;
