@@ -59,6 +59,7 @@ bare_within a number e = by (slice_get a.touched.items number) refl e
 pub touched_already : (scene : Scene) (around : Around) (s : Standing) (d : Draft) (a : Accesses) (number : ℕ) → is_bare a number ≡ false → TouchesAt scene around s d d a a number
 touched_already scene around s d a number e = record {
   adds = inl refl;
+  fresh = inl refl;
   extends = extends_self d;
   quiet = λ x f b. refl;
   long = refl;
@@ -82,6 +83,7 @@ pub touched_first : (scene : Scene) (around : Around) (s : Standing) (d e k : Dr
     → TouchesAt scene around s d k before after number
 touched_first scene around s d e k before after number fault copies numbers t bare named made fault_is copies_are given_none put counts = record {
   adds = inr (t, added);
+  fresh = inr bare;
   extends = extends_again d e k (named_extends d e fault s.place named) made.extends;
   quiet = λ x f b. made.quiet x f (begun_later d e x (named_extends d e fault s.place named) b) ∙ named_quiet d e fault s.place named x;
   long = ap length put ∙ set_long before.touched.items number (Some t);

@@ -1,5 +1,5 @@
 -- An access gets its operations: its fault is named, and its copies are made.
-use Rattle.std.specs.Prelude.{◌≡◌, ◌⊎◌, ℕ, ◌<◌, ◌^◌, Bool, List, [], length, Some}
+use Rattle.std.specs.Prelude.{◌≡◌, ◌⊎◌, ℕ, ◌<◌, ◌^◌, Bool, true, List, [], length, Some}
 use Rattle.dh_tree.specs.Indices.{form_of}
 use Rattle.dh_tree.specs.PlainTrees.{Term}
 use Rattle.dh_expressions.specs.declared.accesses.Accesses.{Accesses}
@@ -10,7 +10,7 @@ use Rattle.dh_expressions.specs.declared.scenes.Around.{Around}
 use Rattle.dh_expressions.specs.declared.scenes.Scene.{Scene}
 use Rattle.dh_expressions.specs.Copying.{AddsAllCopies, AreCopies, AreNone, HasScopes}
 use Rattle.dh_expressions.specs.Drafted.{Begun, Extends, Fits, Names, Step, tale}
-use Rattle.dh_expressions.specs.Noted.{touched_in}
+use Rattle.dh_expressions.specs.Noted.{is_bare, touched_in}
 use Rattle.dh_expressions.specs.Standings.{IsTouched, Standing, standing_at}
 use Rattle.dh_expressions.specs.Reaching.{place_written}
 
@@ -39,6 +39,8 @@ pub record IsNew (old new : Draft) (scene : Scene) (around : Around) (s : Standi
 pub record TouchesAt (scene : Scene) (around : Around) (s : Standing) (old new : Draft) (before after : Accesses) (number : ℕ) : Type 0 where
   -- nothing is added, or all of a new one
   pub adds : (new ≡ old) ⊎ ((t : Touched) × AddsTouched old new scene around s before t)
+  -- and that only where it has no operations yet
+  pub fresh : (new ≡ old) ⊎ (is_bare before number ≡ true)
   pub extends : Extends old new
   pub quiet : (x : Step) → Fits x new → Begun x old → tale x new ≡ tale x old
   pub long : length after.touched.items ≡ length before.touched.items

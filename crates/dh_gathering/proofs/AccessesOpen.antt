@@ -1,8 +1,7 @@
 -- Accesses without operations stay so while operations are made of others.
-use Rattle.std.proofs.Common.{◌≡◌, ◌⊎◌, inl, inr, ℕ, ◌+◌, ◌<◌, ◌≤◌, List, [], ◌∷◌, ◌++◌, length, None, refl, sym, ◌∙◌, subst, arith}
+use Rattle.std.proofs.Common.{◌⊎◌, inl, inr, ℕ, ◌+◌, ◌<◌, ◌≤◌, List, [], ◌∷◌, ◌++◌, refl, sym, ◌∙◌, subst, arith}
 use Rattle.dh_meaning.specs.AccessNumbers.{accesses_of}
 use Rattle.dh_expressions.specs.declared.accesses.Accesses.{Accesses}
-use Rattle.dh_expressions.specs.Noted.{touched_in}
 use Rattle.dh_gathering.specs.OpenAccesses.{AreOpen, AreUntouched, Numbered, TouchesWithin}
 
 pub within_none : (a : Accesses) (first last : ℕ) → TouchesWithin a a first last

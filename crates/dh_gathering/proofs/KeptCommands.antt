@@ -1,6 +1,6 @@
 -- The commands that are kept in phases that are joined or folded are those of both, in order; and no other phase is
 -- kept there than in one of both.
-use Rattle.std.proofs.Common.{◌≡◌, Bool, true, List, [], ◌∷◌, ◌++◌, refl, ap, sym, ◌∙◌, subst, append_assoc, append-nil}
+use Rattle.std.proofs.Common.{◌≡◌, true, List, [], ◌∷◌, ◌++◌, refl, ap, sym, ◌∙◌, append_assoc, append-nil}
 use Rattle.dh_gathering.specs.KeptPhases.{KeepNoOther, Kept, another, at_once, commands_kept, done_at_once, ended_all, ended_at, folded_with, joined_with}
 
 pub commands_ended : {A : Type 0} (F : Type 0) (cs : List A) → commands_kept (ended_at {F = F} cs) ≡ cs

@@ -11,6 +11,7 @@ pub mod NodesMade
 pub mod PhasesGathered
 pub mod PartsGathered
 pub mod FormsFolded
+pub mod EachNamedOnce
 pub mod BlocksPut
 pub mod BlocksCut
 pub mod NodesFormed

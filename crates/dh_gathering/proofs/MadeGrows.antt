@@ -6,18 +6,40 @@ use Rattle.std.proofs.lemmas.List.{length-append}
 use Rattle.std.proofs.Math.ListN.{get_or-append, get_or-eq_default}
 use Rattle.std.proofs.Math.Seq.{get_or-append_seam}
 use Rattle.dh_value.specs.declared.kinds.Kind.{Kind}
+use Rattle.dh_value.specs.declared.kinds.Kind.TheVariants as kind
 use Rattle.dh_expressions.specs.Copying.{AreNone}
 use Rattle.dh_expressions.specs.Drafted.{Extends}
 use Rattle.dh_expressions.proofs.Pushing.{extends_again, extends_self}
+use Rattle.dh_commands.specs.declared.buildings.Building.{Building}
+use Rattle.dh_laid.specs.LaidAccesses.{touched_count}
 use Rattle.dh_gathering.specs.declared.blocks.Made.{Made}
-use Rattle.dh_gathering.specs.Growing.{AreAllLaid, Grows, IsAtRest, IsClear, place_in, registers_given}
+use Rattle.dh_gathering.specs.Growing.{AreAllLaid, Grows, IsAtRest, IsClear, NamesFew, place_in, registers_given}
 use Rattle.dh_gathering.specs.MadeBlocks.{StandsAt}
 
 not_more : (a b c : ℕ) → a ≤ b → b ≤ c → a ≤ c
 not_more a b c h k = omega (arith, h, k)
 
+few_none : (b : Building) → NamesFew b b
+few_none b = (refl, same (length b.draft.faults + touched_count b.accesses.touched.items))
+  where
+    same : (n : ℕ) → n ≤ n
+    same n = omega arith
+
+few_then : (a b c : Building) → NamesFew a b → NamesFew b c → NamesFew a c
+few_then a b c h k = (
+  k.0 ∙ h.0,
+  both (length a.draft.faults) (length b.draft.faults) (length c.draft.faults) (touched_count a.accesses.touched.items) (touched_count b.accesses.touched.items) (touched_count c.accesses.touched.items) h.1 k.1,
+)
+  where
+    both : (f g h l m n : ℕ) → g + l ≤ f + m → h + m ≤ g + n → h + l ≤ f + n
+    both f g h l m n e k = omega (arith, e, k)
+
 pub grows_none : (m : Made) → Grows m m
-grows_none m = record { draft = extends_self m.building.draft; starts = omega arith; places = λ block within. refl; registers = λ register k at. at; variables = refl }
+grows_none m = record { draft = extends_self m.building.draft; starts = omega arith; places = λ block within. refl; registers = λ register k at. at; flags = λ register k at. inl at; variables = refl; few = few_none m.building }
+
+flags_then : {X Y Z : Type 0} → (Y → X ⊎ Z) → Y ⊎ Z → X ⊎ Z
+flags_then f (inl y) = f y
+flags_then f (inr z) = inr z
 
 pub grows_then : (a b c : Made) → Grows a b → Grows b c → Grows a c
 grows_then a b c h k = record {
@@ -25,7 +47,9 @@ grows_then a b c h k = record {
   starts = not_more (length a.starts.items) (length b.starts.items) (length c.starts.items) h.starts k.starts;
   places = λ block within. k.places block (not_more block (length a.starts.items) (length b.starts.items) within h.starts) ∙ h.places block within;
   registers = λ register kind at. k.registers register kind (h.registers register kind at);
+  flags = λ register kind at. flags_then (h.flags register kind) (k.flags register kind at);
   variables = k.variables ∙ h.variables;
+  few = few_then a.building b.building c.building h.few k.few;
 }
 
 -- one block more
@@ -33,8 +57,10 @@ pub record AddsBlock (old new : Made) : Type 0 where
   pub draft : Extends old.building.draft new.building.draft
   pub starts : new.starts.items ≡ old.starts.items ++ length old.building.draft.operations.items ∷ []
   pub registers : (register : ℕ) (k : Kind) → slice_get old.registers register ≡ Some k → slice_get new.registers register ≡ Some k
+  pub flags : (register : ℕ) (k : Kind) → slice_get new.registers register ≡ Some k → (slice_get old.registers register ≡ Some k) ⊎ (k ≡ kind.Bool)
   pub longer : length old.registers ≤ length new.registers
   pub variables : registers_given new ≡ registers_given old
+  pub few : NamesFew old.building new.building
   pub clear : IsClear new.building.values
   pub laid : AreAllLaid new.building
   pub counts : AreNone new.building.accesses.counts.items
@@ -99,7 +125,9 @@ module _ (old new : Made) (h : AddsBlock old new) where
     starts = subst (λ (n : ℕ). length old.starts.items ≤ n) (sym one_longer) (next (length old.starts.items));
     places = places_same;
     registers = h.registers;
+    flags = h.flags;
     variables = h.variables;
+    few = h.few;
   }
     where
       next : (n : ℕ) → n ≤ suc n

@@ -1,5 +1,5 @@
 -- The block of straight commands: it begins and ends between two blocks, and stands where it was put down.
-use Rattle.std.proofs.Common.{◌≡◌, inr, ℕ, ◌+◌, ◌<◌, ◌≤◌, ◌^◌, List, [], ◌∷◌, ◌++◌, length, map, Some, None, replicate, refl, ap, sym, ◌∙◌, subst, arith}
+use Rattle.std.proofs.Common.{◌≡◌, inl, inr, ℕ, ◌+◌, ◌<◌, ◌≤◌, ◌^◌, List, [], ◌∷◌, ◌++◌, length, map, Some, None, replicate, refl, ap, sym, ◌∙◌, subst, arith}
 use Rattle.std.specs.Prelude.{Option, slice_get, slice_index}
 use Rattle.std.specs.List.{AllByRecursion}
 use Rattle.std.proofs.lemmas.List.{length-append, length-replicate}
@@ -38,7 +38,7 @@ use Rattle.dh_laid.proofs.AccessesLaid.{commands_lay, each_lays, lays_again, lay
 use Rattle.dh_laid.proofs.CommandsNumbered.{reaching_number}
 use Rattle.dh_gathering.specs.declared.blocks.Made.{Made}
 use Rattle.dh_gathering.specs.KeptPhases.{AreBeside}
-use Rattle.dh_gathering.specs.Growing.{AreAllLaid, IsAtRest, IsClear}
+use Rattle.dh_gathering.specs.Growing.{AreAllLaid, IsAtRest, IsClear, NamesFew}
 use Rattle.dh_gathering.specs.MadeBlocks.{AreFew, AreInside, ArePathsOf, DoesCommands, SetsGiven, StandsAt}
 use Rattle.dh_gathering.specs.OpenAccesses.{AreOpen, AreUntouched, Numbered, TouchesWithin}
 use Rattle.dh_gathering.specs.PushedSets.{SetsLogged}
@@ -291,7 +291,7 @@ module _ (scene : Scene) (paths : Paths) (old new : Made) (between after : Build
     lays =
         lays_again old.building.draft between.draft after.draft old.building.accesses between.accesses after.accesses
         (each_lays scene around (located_alone items) old.building between stands_in (made_located scene around items (located_alone items) old.building between (beside_alone items few) does))
-        (lays_quiet between.draft after.draft between.accesses after.accesses (more_operations between.draft after.draft _ given_sets.operations given_sets.faults) given_sets.accesses)
+        (lays_quiet between.draft after.draft between.accesses after.accesses (more_operations between.draft after.draft _ given_sets.operations given_sets.faults) given_sets.faults given_sets.accesses)
 
     touches : TouchesWithin old.building.accesses after.accesses first last
     touches =
@@ -304,8 +304,10 @@ module _ (scene : Scene) (paths : Paths) (old new : Made) (between after : Build
           (extends_again old.building.draft between.draft after.draft leaves.extends (more_operations between.draft after.draft _ given_sets.operations given_sets.faults));
       starts = starts ∙ ap (λ (n : ℕ). old.starts.items ++ n ∷ []) start_is;
       registers = same_registers old.registers new.registers registers;
+      flags = λ register k at. inl (ap (λ (l : List Kind). slice_get l register) (sym registers) ∙ at);
       longer = not_longer (length old.registers) (length new.registers) (ap (λ (l : List Kind). length l) registers);
       variables = ap (λ (b : Building). length b.values.current.items) building ∙ current_long;
+      few = subst (λ (b : Building). NamesFew old.building b) (sym building) (lays.long, lays.few);
       clear = subst (λ (b : Building). IsClear b.values) (sym building) clear_after;
       laid = subst (λ (b : Building). AreAllLaid b) (sym building) (laid_later old.building after lays rest.laid rest.counts);
       counts = subst (λ (b : Building). AreNone b.accesses.counts.items) (sym building) (lays.none rest.counts);

@@ -1,6 +1,6 @@
 -- The block of a test, and its flag: a register that was not there before.
-use Rattle.std.proofs.Common.{◌≡◌, ℕ, ◌+◌, ◌<◌, ◌≤◌, ◌^◌, List, [], ◌∷◌, ◌++◌, length, Some, None, replicate, refl, ap, sym, ◌∙◌, subst, arith}
-use Rattle.std.specs.Prelude.{Option, slice_get, slice_index}
+use Rattle.std.proofs.Common.{◌≡◌, ◌⊎◌, inl, inr, zero, suc, None, ℕ, ◌+◌, ◌<◌, ◌≤◌, ◌^◌, List, [], ◌∷◌, ◌++◌, length, Some, None, replicate, refl, ap, sym, ◌∙◌, subst, arith}
+use Rattle.std.specs.Prelude.{Bool, true, false, Option, slice_get, slice_index}
 use Rattle.std.specs.List.{AllByRecursion}
 use Rattle.std.proofs.lemmas.List.{append-nil, length-append}
 use Rattle.dh_value.specs.declared.kinds.Kind.{Kind}
@@ -62,6 +62,25 @@ module _ (scene : Scene) (around : Around) where
 pub flag_extends : (old new : Draft) (t : tree.Term) (value flag : ℕ) → SetsFlag old new t value flag → Extends old new
 flag_extends old new t value flag h = extends_again old h.mid new h.gives.extends (pushed_extends h.mid new h.number None (Set flag h.made) h.set)
 
+-- a flag names no fault
+flag_faults : (read : Bool) (old new : Draft) (value flag : ℕ) → AddsFlag read old new value flag → new.faults ≡ old.faults
+flag_faults true old new value flag (mid, (made, (number, (both, set)))) = set.faults ∙ both.faults
+flag_faults false old new value flag (number, set) = set.faults
+
+-- a flag behind these registers
+one_flag : (old : List Kind) (register : ℕ) (k : Kind) → slice_get (old ++ kind.Bool ∷ []) register ≡ Some k → (slice_get old register ≡ Some k) ⊎ (k ≡ kind.Bool)
+one_flag [] zero k at = inr (sym (ap kind_or at))
+  where
+    kind_or : Option Kind → Kind
+    kind_or None = kind.Bool
+    kind_or (Some x) = x
+one_flag [] (suc register) k at = absurd (never at)
+  where
+    never : None ≡ Some k → ⊥
+    never e = cc
+one_flag (x ∷ old) zero k at = inl at
+one_flag (x ∷ old) (suc register) k at = one_flag old register k at
+
 one_more : (n m : ℕ) → m ≡ n + 1 → n ≤ m
 one_more n m e = omega (arith, e)
 
@@ -92,7 +111,8 @@ module _ (scene : Scene) (paths : Paths) (old new : Made) (between : Building) (
       lays =
           lays_again old.building.draft between.draft new.building.draft old.building.accesses between.accesses new.building.accesses
           (tests_lay scene around n t (paths_counted around) old.building between next tests stands_in made)
-          (lays_quiet between.draft new.building.draft between.accesses new.building.accesses (subst (λ (d : Draft). Extends between.draft d) (sym draft_is) (flag_extends between.draft draft t value flag puts.0)) accesses_are)
+          (lays_quiet between.draft new.building.draft between.accesses new.building.accesses (subst (λ (d : Draft). Extends between.draft d) (sym draft_is) (flag_extends between.draft draft t value flag puts.0))
+          (ap (λ (d : Draft). d.faults) draft_is ∙ flag_faults (is_read_term t) between.draft draft value flag puts.1) accesses_are)
 
       touches : TouchesWithin old.building.accesses new.building.accesses n (n + term_accesses t)
       touches = record {
@@ -112,8 +132,10 @@ module _ (scene : Scene) (paths : Paths) (old new : Made) (between : Building) (
         draft = subst (λ (d : Draft). Extends old.building.draft d) (sym draft_is) (extends_again old.building.draft between.draft draft (does.does.so few).extends (flag_extends between.draft draft t value flag puts.0));
         starts = starts ∙ ap (λ (n : ℕ). old.starts.items ++ n ∷ []) start_is;
         registers = λ register k at. ap (λ (l : List Kind). slice_get l register) registers ∙ in_front old.registers (kind.Bool ∷ []) register k at;
+        flags = λ register k at. one_flag old.registers register k (ap (λ (l : List Kind). slice_get l register) (sym registers) ∙ at);
         longer = one_more (length old.registers) (length new.registers) (ap (λ (l : List Kind). length l) registers ∙ length-append old.registers (kind.Bool ∷ []));
         variables = variables;
+        few = (lays.long, lays.few);
         clear = subst (λ (v : Values). IsClear v) (sym values_are) (clear_still scene around old.building.values between.values changes rest.clear);
         laid = laid_later old.building new.building lays rest.laid rest.counts;
         counts = lays.none rest.counts;

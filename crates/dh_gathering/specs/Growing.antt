@@ -1,16 +1,17 @@
 -- What is made of a program grows: operations, starts of blocks and registers are only added. Between two blocks no
 -- variable is given a value, all accesses with operations are laid, and none is counted.
-use Rattle.std.specs.Prelude.{◌≡◌, ℕ, suc, ◌≤◌, ◌^◌, List, [], length, slice_get, slice_index_or, Some, None}
+use Rattle.std.specs.Prelude.{◌≡◌, ◌⊎◌, ℕ, suc, ◌+◌, ◌≤◌, ◌^◌, List, [], length, slice_get, slice_index_or, Some, None}
 use Rattle.dh_base.specs.declared.outcomes.FaultKind.{FaultKind}
 use Rattle.dh_base.specs.declared.places.Place.{Place}
 use Rattle.dh_value.specs.declared.kinds.Kind.{Kind}
+use Rattle.dh_value.specs.declared.kinds.Kind.TheVariants as kind
 use Rattle.dh_plan.specs.declared.operations.Operation.{Operation}
 use Rattle.dh_expressions.specs.Copying.{AreNone}
 use Rattle.dh_expressions.specs.Drafted.{Extends}
 use Rattle.dh_commands.specs.declared.assignments.Values.{Values}
 use Rattle.dh_commands.specs.declared.buildings.Building.{Building}
 use Rattle.dh_commands.specs.Undone.{AreReady, given_at}
-use Rattle.dh_laid.specs.LaidAccesses.{AreLaid, AreNamed}
+use Rattle.dh_laid.specs.LaidAccesses.{AreLaid, AreNamed, touched_count}
 use Rattle.dh_gathering.specs.declared.blocks.Made.{Made}
 
 -- no variable is given a value
@@ -34,6 +35,12 @@ registers_given m = length m.building.values.current.items
 abbrev pub AreAllLaid : Building → Type 0
 AreAllLaid b = (named : List (FaultKind × Place)) → AreNamed named b.draft → length named ≤ 2 ^ 32 → AreLaid named b.accesses
 
+-- there are as many accesses as before, and no more faults were named than accesses got operations
+abbrev pub NamesFew : (old new : Building) → Type 0
+NamesFew old new =
+    (length new.accesses.touched.items ≡ length old.accesses.touched.items)
+    × (length new.draft.faults + touched_count old.accesses.touched.items ≤ length old.draft.faults + touched_count new.accesses.touched.items)
+
 -- what is made at the end of a block, or at the begin
 pub record IsAtRest (m : Made) : Type 0 where
   pub clear : IsClear m.building.values
@@ -50,4 +57,7 @@ pub record Grows (old new : Made) : Type 0 where
   -- a block that was begun or is to be begun next begins where it did
   pub places : (block : ℕ) → block ≤ length old.starts.items → place_in new block ≡ place_in old block
   pub registers : (register : ℕ) (k : Kind) → slice_get old.registers register ≡ Some k → slice_get new.registers register ≡ Some k
+  -- those that are added are flags
+  pub flags : (register : ℕ) (k : Kind) → slice_get new.registers register ≡ Some k → (slice_get old.registers register ≡ Some k) ⊎ (k ≡ kind.Bool)
   pub variables : registers_given new ≡ registers_given old
+  pub few : NamesFew old.building new.building

@@ -6,6 +6,7 @@ pub mod PlacedPhases
 pub mod OpenAccesses
 pub mod MadeBlocks
 pub mod Gathered
+pub mod NamedOnce
 pub mod Cutting
 pub mod Registers
 pub mod LoopCounters

@@ -1,5 +1,5 @@
 -- Which straight phases and which tests stand in phases at any depth, and in which loops.
-use Rattle.std.specs.Prelude.{◌≡◌, ◌⊎◌, ℕ, List, [], ◌∷◌, ◌++◌}
+use Rattle.std.specs.Prelude.{◌≡◌, ◌⊎◌, List, [], ◌∷◌, ◌++◌}
 use Rattle.dh_meaning.specs.Core.{Turning}
 use Rattle.dh_meaning.specs.CoreOf.{Known, form_of, turning_of}
 use Rattle.dh_meaning.specs.Phases.{Located, Phase, straight, turns, repeated, decided, Phases, no_phases, phase}

@@ -4,6 +4,7 @@
 ghost use Rattle.std.specs.Prelude.{◌≡◌, ◌≤◌, ◌++◌, ◌∷◌, [], None, IfOk, OnOk, replicate};
 ghost use Rattle.dh_tree.specs.Seen.{term_seen};
 ghost use Rattle.dh_gathering.specs.MadeBlocks.{PutsFlag};
+ghost use Rattle.dh_gathering.specs.NamedOnce.{NamesOnce};
 ghost use Rattle.dh_gathering.specs.PushedSets.{SetsLogged, SetsRegister};
 ghost use Rattle.dh_gathering.specs.Gathered.{DoesNumbered, EndsBlock, MakesStraightIn, MakesTestIn, SetsFirst, all_numbered};
 
@@ -97,8 +98,9 @@ pub fn straight_block(
     paths: &Paths,
     commands: &[Located<'_>],
 ) -> Result<u64, NoMemory>
-    ensures { IfOk result (λ block. MakesStraightIn scene.now paths.now made.old made.new
+    ensures made { IfOk result (λ block. MakesStraightIn scene.now paths.now made.old made.new
         (all_numbered commands.now) block) }
+    ensures once { IfOk result (λ block. NamesOnce made.old made.new [] (block ∷ [])) }
 {
     let start = made.building.draft.operations.len();
     let guards = no_guards(scene.alloc, paths.count)?;
@@ -151,8 +153,9 @@ pub fn test_block(
     first: u32,
     test: &Expr,
 ) -> Result<Tested, NoMemory>
-    ensures { IfOk result (λ t. MakesTestIn scene.now paths.now made.old made.new first (term_seen
-        test.now) t.flag t.block) }
+    ensures made { IfOk result (λ t. MakesTestIn scene.now paths.now made.old made.new first
+        (term_seen test.now) t.flag t.block) }
+    ensures once { IfOk result (λ t. NamesOnce made.old made.new [] (t.block ∷ [])) }
 {
     let start = made.building.draft.operations.len();
     let guards = no_guards(scene.alloc, paths.count)?;

@@ -6,9 +6,11 @@ ghost use Rattle.dh_tree.specs.Seen.{action_seen, all_parts_seen, maybe_block_se
 ghost use Rattle.dh_meaning.specs.AccessNumbers.{accesses_of, groups_accesses, other_accesses};
 ghost use Rattle.dh_meaning.specs.Phases.{other_phases};
 ghost use Rattle.dh_plan.specs.SeenPlans.{nodes_seen};
+ghost use Rattle.dh_plan.specs.SoundPlans.{blocks_of};
 ghost use Rattle.dh_accesses.specs.Counted.{behind};
 ghost use Rattle.dh_gathering.specs.Gathered.{GathersCommand, GathersGroups, GathersOf, MakesBody, all_kept};
 ghost use Rattle.dh_gathering.specs.KeptPhases.{done_at_once};
+ghost use Rattle.dh_gathering.specs.NamedOnce.{NamesOnce, kept_blocks};
 ghost use Rattle.dh_gathering.specs.OpenAccesses.{numbered};
 
 use crate::blocks::Made;
@@ -58,6 +60,8 @@ fn gather<'a>(
         command.now))) }
     ensures gathers { IfOk result (λ g. GathersCommand scene.now paths.now made.old made.new
         (all_kept g.0.items) first (action_seen command.now)) }
+    ensures once { IfOk result (λ g. NamesOnce made.old made.new [] (kept_blocks (all_kept
+        g.0.items))) }
 {
     let alloc = scene.alloc;
     match &command.form {
@@ -120,6 +124,8 @@ fn gather_other<'a>(
     ensures gathers { IfOk result (λ g. GathersOf scene.now paths.now made.old made.new (all_kept
         g.0.items) first (other_accesses (maybe_block_seen other.now)) (λ r n. other_phases r n
         (maybe_block_seen other.now))) }
+    ensures once { IfOk result (λ g. NamesOnce made.old made.new [] (kept_blocks (all_kept
+        g.0.items))) }
 {
     match other {
         Some(block) => gather(scene, made, paths, first, block),
@@ -141,6 +147,8 @@ fn gather_parts<'a>(
         parts.now))) }
     ensures gathers { IfOk result (λ g. GathersGroups scene.now paths.now made.old made.new
         (all_kept g.0.items) first parts.now) }
+    ensures once { IfOk result (λ g. NamesOnce made.old made.new [] (kept_blocks (all_kept
+        g.0.items))) }
 {
     let mut done = Vec::new(scene.alloc);
     let mut current = Vec::new(scene.alloc);
@@ -168,8 +176,10 @@ pub fn nodes_in(
     paths: &Paths,
     body: &Command,
 ) -> Result<Vec<Node>, NoMemory>
-    ensures { IfOk result (λ nodes. MakesBody scene.now paths.now made.old made.new (action_seen
-        body.now) (nodes_seen nodes.items)) }
+    ensures made { IfOk result (λ nodes. MakesBody scene.now paths.now made.old made.new
+        (action_seen body.now) (nodes_seen nodes.items)) }
+    ensures once { IfOk result (λ nodes. NamesOnce made.old made.new [] (blocks_of (nodes_seen
+        nodes.items))) }
 {
     let (forms, _) = gather(scene, made, paths, 0, body)?;
     nodes_of(scene, made, paths, forms)

@@ -1,9 +1,11 @@
 //! Nodes from phases: a straight phase and a test become blocks as their node is made.
 
-ghost use Rattle.std.specs.Prelude.{IfOk};
+ghost use Rattle.std.specs.Prelude.{◌++◌, ◌∷◌, [], IfOk};
 ghost use Rattle.dh_plan.specs.SeenPlans.{node_seen, nodes_seen};
+ghost use Rattle.dh_plan.specs.SoundPlans.{blocks_of, node_blocks};
 ghost use Rattle.dh_tree.specs.Seen.{action_seen, term_seen};
 ghost use Rattle.dh_gathering.specs.Gathered.{Chooses, Counts, MakesNodeIn, MakesNodesIn, Repeats, all_kept, kept_of};
+ghost use Rattle.dh_gathering.specs.NamedOnce.{NamesOnce, kept_blocks};
 
 use crate::blocks::{Made, straight_block, test_block};
 use crate::joining::{Loose, is_straight, one, one_command};
@@ -20,8 +22,10 @@ fn node_of(
     paths: &Paths,
     form: Loose<'_>,
 ) -> Result<Node, NoMemory>
-    ensures { IfOk result (λ node. MakesNodeIn scene.now paths.now made.old made.new (kept_of
+    ensures made { IfOk result (λ node. MakesNodeIn scene.now paths.now made.old made.new (kept_of
         form.entry) (node_seen node)) }
+    ensures once { IfOk result (λ node. NamesOnce made.old made.new (kept_blocks (kept_of form.entry
+        ∷ [])) (node_blocks (node_seen node))) }
 {
     match form {
         Loose::Straight(commands) => {
@@ -39,8 +43,10 @@ pub fn nodes_of(
     paths: &Paths,
     mut forms: Vec<Loose<'_>>,
 ) -> Result<Vec<Node>, NoMemory>
-    ensures { IfOk result (λ nodes. MakesNodesIn scene.now paths.now made.old made.new (all_kept
-        forms.entry.items) (nodes_seen nodes.items)) }
+    ensures made { IfOk result (λ nodes. MakesNodesIn scene.now paths.now made.old made.new
+        (all_kept forms.entry.items) (nodes_seen nodes.items)) }
+    ensures once { IfOk result (λ nodes. NamesOnce made.old made.new (kept_blocks (all_kept
+        forms.entry.items)) (blocks_of (nodes_seen nodes.items))) }
 {
     let mut nodes = Vec::new(scene.alloc);
     forms.reverse();
@@ -61,9 +67,12 @@ pub fn choose<'a>(
     chosen: Vec<Loose<'a>>,
     other: Vec<Loose<'a>>,
 ) -> Result<Vec<Loose<'a>>, NoMemory>
-    ensures { IfOk result (λ forms. Chooses scene.now paths.now made.old made.new first (action_seen
-        command.now) (term_seen test.now) (all_kept chosen.entry.items) (all_kept
+    ensures made { IfOk result (λ forms. Chooses scene.now paths.now made.old made.new first
+        (action_seen command.now) (term_seen test.now) (all_kept chosen.entry.items) (all_kept
         other.entry.items) (all_kept forms.items)) }
+    ensures once { IfOk result (λ forms. NamesOnce made.old made.new (kept_blocks (all_kept
+        chosen.entry.items) ++ kept_blocks (all_kept other.entry.items)) (kept_blocks (all_kept
+        forms.items))) }
 {
     let simple = is_straight(chosen.as_slice()) & is_straight(other.as_slice());
     if simple {
@@ -92,8 +101,10 @@ pub fn repeat<'a>(
     test: &Expr,
     body: Vec<Loose<'a>>,
 ) -> Result<Vec<Loose<'a>>, NoMemory>
-    ensures { IfOk result (λ forms. Repeats scene.now paths.now made.old made.new first (term_seen
-        test.now) (all_kept body.entry.items) (all_kept forms.items)) }
+    ensures made { IfOk result (λ forms. Repeats scene.now paths.now made.old made.new first
+        (term_seen test.now) (all_kept body.entry.items) (all_kept forms.items)) }
+    ensures once { IfOk result (λ forms. NamesOnce made.old made.new (kept_blocks (all_kept
+        body.entry.items)) (kept_blocks (all_kept forms.items))) }
 {
     let tested = test_block(scene, made, paths, first, test)?;
     let body = nodes_of(scene, made, paths, body)?;
@@ -116,8 +127,10 @@ pub fn turns<'a>(
     count: u64,
     turn: Vec<Loose<'a>>,
 ) -> Result<Vec<Loose<'a>>, NoMemory>
-    ensures { IfOk result (λ forms. Counts scene.now within.now made.old made.new (all_kept
+    ensures made { IfOk result (λ forms. Counts scene.now within.now made.old made.new (all_kept
         turn.entry.items) iterator.now count (all_kept forms.items)) }
+    ensures once { IfOk result (λ forms. NamesOnce made.old made.new (kept_blocks (all_kept
+        turn.entry.items)) (kept_blocks (all_kept forms.items))) }
 {
     if turn.is_empty() {
         return Ok(turn);

@@ -1,7 +1,7 @@
 -- An access that gets its operations is laid, and all others stay as they are: by recursion on what is put down for
 -- expressions and commands.
 use Rattle.std.proofs.Common.{◌≡◌, ◌⊎◌, inl, inr, ⊎_elim, ◌<◌, ◌≤◌, ◌+◌, ◌^◌, ℕ, zero, suc, List, Some, None, ap, sym, ◌∙◌, subst, length, arith, refl, add-one}
-use Rattle.std.specs.Prelude.{Bool as Truth, true, false, if◌then◌else◌, ◌==◌, ◌&&◌, [], ◌∷◌, ◌++◌, Option, slice_get}
+use Rattle.std.specs.Prelude.{Bool as Truth, true, false, if◌then◌else◌, ◌==◌, ◌&&◌, [], ◌∷◌, ◌++◌, Option, slice_get, slice_index_or}
 use Rattle.std.proofs.lemmas.List.{length-append}
 use Rattle.dh_base.specs.declared.outcomes.FaultKind.{FaultKind}
 use Rattle.dh_base.specs.declared.outcomes.FaultKind.TheVariants.{OutOfRange}
@@ -34,13 +34,13 @@ use Rattle.dh_expressions.specs.Drafted.{Extends}
 use Rattle.dh_expressions.specs.Evaluated.{counter_of}
 use Rattle.dh_expressions.specs.MadeTerms.{MadeRead, MadeTerm, MadeTerms, MadeWrite}
 use Rattle.dh_expressions.specs.MadeValues.{MadeBy, MadeConverted}
-use Rattle.dh_expressions.specs.Noted.{Notes, copied_in, copy_or_alone, noted_in, touched_in}
+use Rattle.dh_expressions.specs.Noted.{Notes, copied_in, copy_or_alone, given_then, is_bare, is_bare_of, noted_in, touched_in, touched_of}
 use Rattle.dh_expressions.specs.Numbers.{narrowed}
 use Rattle.dh_expressions.specs.Reaching.{place_written}
 use Rattle.dh_expressions.specs.Shown.{guard_of, is_kept, kind_written, register_at}
 use Rattle.dh_expressions.specs.Standings.{Standing, standing_at}
 use Rattle.dh_expressions.specs.Touching.{AddsTouched, IsNew, TouchesAt}
-use Rattle.dh_expressions.proofs.AccessesKept.{named_extends, noted_touched, place_noted}
+use Rattle.dh_expressions.proofs.AccessesKept.{bare_within, named_extends, noted_touched, place_noted}
 use Rattle.dh_expressions.proofs.CopiesMade.{guard_long, guard_place}
 use Rattle.dh_expressions.proofs.ListPlaces.{place_of_more, place_within, set_long, there}
 use Rattle.dh_expressions.proofs.Pushing.{at_seam, extends_again, extends_self, pushed_extends}
@@ -52,11 +52,12 @@ use Rattle.dh_commands.specs.declared.buildings.Building.{Building}
 use Rattle.dh_commands.specs.declared.choices.Left.{Left}
 use Rattle.dh_commands.specs.LanesRun.{lane_of, paths_counted}
 use Rattle.dh_commands.specs.MadeCommands.{Commanding, FoldedWith, MadeActionForm, MadeActions, MadeAim, MadeArm, MadeAssigned, MadeCleared, MadeCommand, MadeGroups, MadeLanes, MadeOldOperand, MadeOperand, MadeOther, MadeReduced, MadeStored, MadeStoring}
-use Rattle.dh_laid.specs.LaidAccesses.{AreLaid, AreNamed, CommandsLay, EachLay, GroupsLay, IsLaid, Lays, TermsLay, TestsLay, copy_in}
+use Rattle.dh_laid.specs.LaidAccesses.{AreLaid, AreNamed, CommandsLay, EachLay, GroupsLay, IsLaid, Lays, TermsLay, TestsLay, copy_in, touched_count}
 use Rattle.dh_laid.specs.LaidQuiet.{StandsIn}
 use Rattle.dh_laid.proofs.ArmsLaid.{arm_guards_form}
 use Rattle.dh_laid.proofs.ChoicesLaid.{choices_form}
 use Rattle.dh_laid.proofs.CommandsQuiet.{stands_arm}
+use Rattle.dh_laid.proofs.FaultsKept.{choices_faults, converted_faults, copies_faults, finds_faults, folded_faults, guards_faults, held_faults, number_faults, operation_faults, same_faults, variable_faults}
 use Rattle.dh_laid.proofs.ValuesLogged.{tests_same}
 
 -- Composition.
@@ -64,18 +65,22 @@ use Rattle.dh_laid.proofs.ValuesLogged.{tests_same}
 named_before : (named : List (FaultKind × Place)) (old new : Draft) → Extends old new → AreNamed named new → AreNamed named old
 named_before named old new e all n f at = all n f (e.faults n f at)
 
--- no access is touched
-pub lays_quiet : (old new : Draft) (before after : Accesses) → Extends old new → after ≡ before → Lays old new before after
-lays_quiet old new before after e same = record {
+-- no access is touched, and no fault is named
+pub lays_quiet : (old new : Draft) (before after : Accesses) → Extends old new → new.faults ≡ old.faults → after ≡ before → Lays old new before after
+lays_quiet old new before after e faults same = record {
   extends = e;
   laid = λ named all few laid none. subst (λ (a : Accesses). AreLaid named a) (sym same) laid;
   none = λ none. subst (λ (a : Accesses). AreNone a.counts.items) (sym same) none;
   long = ap (λ (a : Accesses). length a.touched.items) same;
+  few = as_few (length new.faults) (length old.faults) (touched_count before.touched.items) (touched_count after.touched.items) (ap (λ (fs : List (FaultKind × Place)). length fs) faults) (ap (λ (a : Accesses). touched_count a.touched.items) same);
 }
+  where
+    as_few : (f g m n : ℕ) → f ≡ g → n ≡ m → f + m ≤ g + n
+    as_few f g m n e h = omega (arith, e, h)
 
 -- nothing is put down
 pub lays_none : (old new : Draft) (before after : Accesses) → new ≡ old → after ≡ before → Lays old new before after
-lays_none old new before after still same = lays_quiet old new before after (subst (λ (d : Draft). Extends old d) (sym still) (extends_self old)) same
+lays_none old new before after still same = lays_quiet old new before after (subst (λ (d : Draft). Extends old d) (sym still) (extends_self old)) (same_faults old new still) same
 
 pub lays_still : (old new : Building) → new ≡ old → Lays old.draft new.draft old.accesses new.accesses
 lays_still old new still = lays_none old.draft new.draft old.accesses new.accesses (ap (λ (b : Building). b.draft) still) (ap (λ (b : Building). b.accesses) still)
@@ -87,7 +92,11 @@ lays_again a b c x y z h k = record {
   laid = λ named all few laid none. k.laid named all few (h.laid named (named_before named b c k.extends all) few laid none) (h.none none);
   none = λ none. k.none (h.none none);
   long = k.long ∙ h.long;
+  few = both (length a.faults) (length b.faults) (length c.faults) (touched_count x.touched.items) (touched_count y.touched.items) (touched_count z.touched.items) h.few k.few;
 }
+  where
+    both : (f g h l m n : ℕ) → g + l ≤ f + m → h + m ≤ g + n → h + l ≤ f + n
+    both f g h l m n e k = omega (arith, e, k)
 
 -- Copies: only those that lead have guards.
 
@@ -145,6 +154,78 @@ module _ (leader bank : ℕ → ℕ) (guards : List (Option ℕ)) where
       more : (p : ℕ) → p < n → p < suc n
       more p less = omega (arith, less)
 
+-- How many accesses have operations.
+
+not_fewer : (f g m n : ℕ) → f ≡ g → m ≤ n → f + m ≤ g + n
+not_fewer f g m n e h = omega (arith, e, h)
+
+one_more : (f g m n : ℕ) → f ≡ g + 1 → suc m ≤ n → f + m ≤ g + n
+one_more f g m n e h = omega (arith, e, h)
+
+touched_there : (ts : List (Option Touched)) (m : ℕ) (u : Touched) → touched_of (slice_get ts m) ≡ Some u → slice_get ts m ≡ Some (Some u)
+touched_there ts m u e = by (slice_get ts m) refl e
+  where
+    by : (o : Option (Option Touched)) → slice_get ts m ≡ o → touched_of o ≡ Some u → slice_get ts m ≡ Some (Some u)
+    by None f g = absurd (cc)
+    by (Some None) f g = absurd (cc)
+    by (Some (Some w)) f g = f ∙ ap (λ (o : Option Touched). Some o) g
+
+bare_there : (o : Option (Option Touched)) → is_bare_of o ≡ true → o ≡ Some None
+bare_there None e = absurd (cc)
+bare_there (Some None) e = refl
+bare_there (Some (Some t)) e = absurd (cc)
+
+-- each that has operations has them later
+abbrev StayTouched : (xs ys : List (Option Touched)) → Type 0
+StayTouched xs ys = (m : ℕ) (u : Touched) → slice_get xs m ≡ Some (Some u) → (w : Touched) × (slice_get ys m ≡ Some (Some w))
+
+count_here : (x y : Option Touched) (m n : ℕ) → ((u : Touched) → x ≡ Some u → (w : Touched) × (y ≡ Some w)) → m ≤ n → (xs ys : List (Option Touched)) → touched_count xs ≡ m → touched_count ys ≡ n → touched_count (x ∷ xs) ≤ touched_count (y ∷ ys)
+count_here None None m n kept h xs ys e f = omega (arith, h, e, f)
+count_here None (Some w) m n kept h xs ys e f = omega (arith, h, e, f)
+count_here (Some u) None m n kept h xs ys e f = absurd (lost (kept u refl))
+  where
+    lost : (w : Touched) × (None ≡ Some w) → ⊥
+    lost p = let q : None ≡ Some p.0 = p.1 in cc
+count_here (Some u) (Some w) m n kept h xs ys e f = omega (arith, h, e, f)
+
+same_inside : {A : Type 0} (a b : A) → Some a ≡ Some b → a ≡ b
+same_inside a b e = cc
+
+head_kept : (x y : Option Touched) (xs ys : List (Option Touched)) → StayTouched (x ∷ xs) (y ∷ ys) → (u : Touched) → x ≡ Some u → (w : Touched) × (y ≡ Some w)
+head_kept x y xs ys kept u e = let w = kept 0 u (ap (λ (o : Option Touched). Some o) e) in (w.0, same_inside y (Some w.0) w.1)
+
+less_long : (m n : ℕ) → suc m ≡ suc n → m ≡ n
+less_long m n e = omega (arith, e)
+
+count_more : (xs ys : List (Option Touched)) → length xs ≡ length ys → StayTouched xs ys → touched_count xs ≤ touched_count ys
+count_more [] [] e kept = omega arith
+count_more [] (y ∷ ys) e kept = absurd (cc)
+count_more (x ∷ xs) [] e kept = absurd (cc)
+count_more (x ∷ xs) (y ∷ ys) e kept =
+    count_here x y (touched_count xs) (touched_count ys) (head_kept x y xs ys kept) (count_more xs ys (less_long (length xs) (length ys) e) (λ m u at. kept (suc m) u at)) xs ys refl refl
+
+count_one : (xs ys : List (Option Touched)) (k : ℕ) (w : Touched) → length xs ≡ length ys → StayTouched xs ys → slice_get xs k ≡ Some None → slice_get ys k ≡ Some (Some w) → suc (touched_count xs) ≤ touched_count ys
+count_one [] ys k w e kept f g = absurd (cc)
+count_one (x ∷ xs) [] k w e kept f g = absurd (cc)
+count_one (x ∷ xs) (y ∷ ys) zero w e kept f g =
+    subst (λ (o : Option Touched). suc (touched_count (o ∷ xs)) ≤ touched_count (y ∷ ys)) (sym (same_inside x None f))
+    (subst (λ (o : Option Touched). suc (touched_count xs) ≤ touched_count (o ∷ ys)) (sym (same_inside y (Some w) g))
+    (next (touched_count xs) (touched_count ys) (count_more xs ys (less_long (length xs) (length ys) e) (λ m u at. kept (suc m) u at))))
+  where
+    next : (m n : ℕ) → m ≤ n → suc m ≤ suc n
+    next m n h = omega (arith, h)
+count_one (x ∷ xs) (y ∷ ys) (suc k) w e kept f g =
+    further x y (head_kept x y xs ys kept) (count_one xs ys k w (less_long (length xs) (length ys) e) (λ m u at. kept (suc m) u at) f g)
+  where
+    further : (x y : Option Touched) → ((u : Touched) → x ≡ Some u → (w : Touched) × (y ≡ Some w)) → suc (touched_count xs) ≤ touched_count ys → suc (touched_count (x ∷ xs)) ≤ touched_count (y ∷ ys)
+    further None None kept h = h
+    further None (Some w) kept h = omega (arith, h)
+    further (Some u) (Some w) kept h = omega (arith, h)
+    further (Some u) None kept h = absurd (lost (kept u refl))
+      where
+        lost : (w : Touched) × (None ≡ Some w) → ⊥
+        lost p = let q : None ≡ Some p.0 = p.1 in cc
+
 -- Accesses.
 
 module _ (scene : Scene) (around : Around) (stands : StandsIn scene around) (memory : ℕ) (place : Place) (form : plain.TermForm) (writes : Truth) where
@@ -164,6 +245,9 @@ module _ (scene : Scene) (around : Around) (stands : StandsIn scene around) (mem
 
     touched_extends : Extends old new
     touched_extends = extends_again old a.middle new (named_extends old a.middle t.fault place a.names) formed_copies.extends
+
+    touched_faults : new.faults ≡ (a.middle).faults
+    touched_faults = copies_faults stood.leader stood.bank around.guards.now leads (length around.guards.now) a.middle new before.counts.items copies.0 t.copies stands.few copies.1
 
     fault_named : (named : List (FaultKind × Place)) → AreNamed named new → length named ≤ 2 ^ 32 → slice_get named t.fault ≡ Some (OutOfRange, place)
     fault_named named all few =
@@ -205,7 +289,23 @@ module _ (scene : Scene) (around : Around) (stands : StandsIn scene around) (mem
         ⊎_elim (λ was. laid m u was) (λ (fresh : IsNew old new scene around stood before number m u). new_laid old new before u fresh.adds none named all few) (t.known m u at);
     none = t.none;
     long = t.long;
+    few = by t.adds t.fresh;
   }
+    where
+      kept : (m : ℕ) (u : Touched) → slice_get before.touched.items m ≡ Some (Some u) → (w : Touched) × (slice_get after.touched.items m ≡ Some (Some w))
+      kept m u at = (u, touched_there after.touched.items m u (t.kept m u (ap touched_of at)))
+
+      still : new ≡ old → length new.faults + touched_count before.touched.items ≤ length old.faults + touched_count after.touched.items
+      still same = not_fewer (length new.faults) (length old.faults) (touched_count before.touched.items) (touched_count after.touched.items) (ap (λ (d : Draft). length d.faults) same) (count_more before.touched.items after.touched.items (sym t.long) kept)
+
+      by : (new ≡ old) ⊎ ((u : Touched) × AddsTouched old new scene around stood before u) → (new ≡ old) ⊎ (is_bare before number ≡ true) → length new.faults + touched_count before.touched.items ≤ length old.faults + touched_count after.touched.items
+      by (inl same) o = still same
+      by (inr a) (inl same) = still same
+      by (inr (u, a)) (inr bare) =
+          let here = t.there (bare_within before number bare) in
+          one_more (length new.faults) (length old.faults) (touched_count before.touched.items) (touched_count after.touched.items)
+          (ap (λ (fs : List (FaultKind × Place)). length fs) (touched_faults old new before u a ∙ a.names.faults) ∙ length-append old.faults ((OutOfRange, place) ∷ []))
+          (count_one before.touched.items after.touched.items number here.0 (sym t.long) kept (bare_there (slice_get before.touched.items number) bare) (touched_there after.touched.items number here.0 here.1))
 
 -- what a read gave is noted
 pub notes_lays : (d : Draft) (before after : Accesses) (number path value : ℕ) → Notes before after number path value → Lays d d before after
@@ -213,9 +313,22 @@ notes_lays d before after number path value h = record {
   extends = extends_self d;
   laid = λ named all few laid none m u at. by named laid m u at (place_noted before after number path value h m);
   none = λ none. subst (λ (ns : List ℕ). AreNone ns) (sym h.counts) none;
-  long = ap (λ (os : List (Option Touched)). length os) h.touched ∙ set_long before.touched.items number _;
+  long = noted_long;
+  few = not_fewer (length d.faults) (length d.faults) (touched_count before.touched.items) (touched_count after.touched.items) refl (count_more before.touched.items after.touched.items (sym noted_long) noted_kept);
 }
   where
+    noted_long : length after.touched.items ≡ length before.touched.items
+    noted_long = ap (λ (os : List (Option Touched)). length os) h.touched ∙ set_long before.touched.items number (noted_in (slice_index_or before.touched.items number None) path value)
+
+    noted_kept : StayTouched before.touched.items after.touched.items
+    noted_kept m u at = of (place_noted before after number path value h m)
+      where
+        of : (touched_in after m ≡ touched_in before m) ⊎ ((m ≡ number) × (touched_in after m ≡ noted_in (touched_in before m) path value)) → (w : Touched) × (slice_get after.touched.items m ≡ Some (Some w))
+        of (inl same) = (u, touched_there after.touched.items m u (same ∙ ap touched_of at))
+        of (inr p) =
+            let w : Touched = record { fault = u.fault; copies = u.copies; given = given_then u.given path value } in
+            (w, touched_there after.touched.items m w (p.1 ∙ ap (λ (o : Option (Option Touched)). noted_in (touched_of o) path value) at))
+
     by : (named : List (FaultKind × Place)) → AreLaid named before → (m : ℕ) (u : Touched) → touched_in after m ≡ Some u
         → (touched_in after m ≡ touched_in before m) ⊎ ((m ≡ number) × (touched_in after m ≡ noted_in (touched_in before m) path value)) → IsLaid named u
     by named laid m u at (inl same) = laid m u (sym same ∙ at)
@@ -268,21 +381,23 @@ module _ (scene : Scene) (lane : Lane) (stands : StandsIn scene lane.around) whe
   read_lays access memory aim old new before after v r =
       lays_again old r.first new before r.middle after (touch_lays scene lane.around stands memory (place_written access) (form_of access) false old r.first before r.middle aim.number r.touches)
       (lays_again r.first new new r.middle r.middle after
-      (lays_quiet r.first new r.middle r.middle (extends_again r.first r.second new (pushed_extends r.first r.second _ _ _ r.probes) (found_extends r.second new memory aim (copied_in r.middle aim.number lane.number) _ v r.finds)) refl)
+      (lays_quiet r.first new r.middle r.middle (extends_again r.first r.second new (pushed_extends r.first r.second _ _ _ r.probes) (found_extends r.second new memory aim (copied_in r.middle aim.number lane.number) _ v r.finds))
+      (finds_faults r.second new memory aim (copied_in r.middle aim.number lane.number) _ v r.finds ∙ r.probes.faults) refl)
       (notes_lays new r.middle after aim.number lane.number v r.notes))
 
   pub write_lays : (access : Term) (memory : ℕ) (aim : Aim) (value : ℕ) (old new : Draft) (before after : Accesses) → MadeWrite scene lane access memory aim value old new before after → Lays old new before after
   write_lays access memory aim value old new before after w =
       lays_again old w.first new before after after (touch_lays scene lane.around stands memory (place_written access) (form_of access) true old w.first before after aim.number w.touches)
-      (lays_quiet w.first new after after (extends_again w.first w.second new (pushed_extends w.first w.second _ _ _ w.probes) (pushed_extends w.second new _ _ _ w.writes)) refl)
+      (lays_quiet w.first new after after (extends_again w.first w.second new (pushed_extends w.first w.second _ _ _ w.probes) (pushed_extends w.second new _ _ _ w.writes)) (w.writes.faults ∙ w.probes.faults) refl)
 
   module _ (current : List (Option ℕ)) where
     mutual
       pub term_lays : (t : Term) (old new : Draft) (before after : Accesses) (n next v : ℕ) → MadeTerm scene lane current t old new before after n next v → Lays old new before after
-      term_lays (plain.term place k (plain.number negative z)) old new before after n next v m = lays_quiet old new before after (number_forms (kind_or_first k) negative z old new v m.part).extends m.same
-      term_lays (plain.term place k (plain.truth_value b)) old new before after n next v m = lays_quiet old new before after (pushed_extends old new v None (Constant (truth b)) m.part) m.same
+      term_lays (plain.term place k (plain.number negative z)) old new before after n next v m = lays_quiet old new before after (number_forms (kind_or_first k) negative z old new v m.part).extends (number_faults (kind_or_first k) negative z old new v m.part) m.same
+      term_lays (plain.term place k (plain.truth_value b)) old new before after n next v m = lays_quiet old new before after (pushed_extends old new v None (Constant (truth b)) m.part) m.part.faults m.same
       term_lays (plain.term place k (plain.named r)) old new before after n next v m =
-          lays_quiet old new before after (variable_extends (counter_of scene (entity_number r.entity)) (held_at scene.held.now (entity_number r.entity)) lane current (kind_or_first k) old new v m.part) m.same
+          lays_quiet old new before after (variable_extends (counter_of scene (entity_number r.entity)) (held_at scene.held.now (entity_number r.entity)) lane current (kind_or_first k) old new v m.part)
+          (variable_faults (counter_of scene (entity_number r.entity)) (held_at scene.held.now (entity_number r.entity)) lane current (kind_or_first k) old new v m.part) m.same
       term_lays (plain.term place k (plain.accessed r ts)) old new before after n next v m =
           lays_again old m.middle new before m.between after (terms_lay ts old m.middle before m.between n m.aim.number m.aim.indices m.indices) (read_lays _ _ m.aim m.middle new m.between after v m.reads)
       term_lays (plain.term place k (plain.in_bank r bank at row)) old new before after n next v m =
@@ -290,10 +405,10 @@ module _ (scene : Scene) (lane : Lane) (stands : StandsIn scene lane.around) whe
       term_lays (plain.term place k (plain.applied op left right)) old new before after n next v m =
           lays_again old m.middle new before m.between after (term_lays left old m.middle before m.between n m.own m.a m.first)
           (lays_again m.middle m.end new m.between after after (term_lays right m.middle m.end m.between after m.own next m.b m.second)
-          (lays_quiet m.end new after after (operation_forms op left right (kind_or_first k) m.a m.b m.end new v m.operation).extends refl))
+          (lays_quiet m.end new after after (operation_forms op left right (kind_or_first k) m.a m.b m.end new v m.operation).extends (operation_faults op left right m.a m.b m.end new v m.operation) refl))
       term_lays (plain.term place k (plain.converted inner to)) old new before after n next v m =
           lays_again old m.middle new before after after (term_lays inner old m.middle before after n next m.a m.operand)
-          (lays_quiet m.middle new after after (converted_extends (is_kept inner to) to m.a m.middle new v m.converts) refl)
+          (lays_quiet m.middle new after after (converted_extends (is_kept inner to) to m.a m.middle new v m.converts) (converted_faults (is_kept inner to) to m.a m.middle new v m.converts) refl)
 
       pub terms_lay : (ts : plain.Terms) (old new : Draft) (before after : Accesses) (n next : ℕ) (vs : List ℕ) → MadeTerms scene lane current ts old new before after n next vs → Lays old new before after
       terms_lay plain.no_terms old new before after n next vs m = lays_none old new before after m.still m.same
@@ -320,22 +435,24 @@ module _ (scene : Scene) (lane : Lane) (stands : StandsIn scene lane.around) whe
       → Lays old new.draft before new.accesses
   storing_lays target t value None old before new next m = lays_none old new.draft before new.accesses m.0 m.1
   storing_lays target t value (Some (aim, memory)) old before new next m =
-      lays_again old m.0 new.draft before before new.accesses (lays_quiet old m.0 before before (held_forms t _ value old m.0 m.1.0 m.1.1.0).extends refl)
+      lays_again old m.0 new.draft before before new.accesses (lays_quiet old m.0 before before (held_forms t _ value old m.0 m.1.0 m.1.1.0).extends (held_faults t _ value old m.0 m.1.0 m.1.1.0) refl)
       (write_lays target memory aim m.1.0 m.0 new.draft before new.accesses m.1.1.1.0)
 
   pub assigned_lays : (first entity : ℕ) (t : Term) (old new : Building) (next : ℕ) → MadeAssigned scene lane first entity t old new next → Lays old.draft new.draft old.accesses new.accesses
   assigned_lays first entity t old new next m =
       lays_again old.draft m.middle new.draft old.accesses new.accesses new.accesses (term_lays old.values.current.items t old.draft m.middle old.accesses new.accesses first next m.value m.term)
-      (lays_quiet m.middle new.draft new.accesses new.accesses (held_forms t (held_at scene.held.now entity).kind m.value m.middle new.draft m.held m.holds).extends refl)
+      (lays_quiet m.middle new.draft new.accesses new.accesses (held_forms t (held_at scene.held.now entity).kind m.value m.middle new.draft m.held m.holds).extends (held_faults t (held_at scene.held.now entity).kind m.value m.middle new.draft m.held m.holds) refl)
 
   pub cleared_lays : (entity : ℕ) (old new : Building) → MadeCleared scene lane entity old new → Lays old.draft new.draft old.accesses new.accesses
   cleared_lays entity old new m =
-      lays_quiet old.draft new.draft old.accesses new.accesses (number_forms (held_at scene.held.now entity).kind false 0 old.draft new.draft m.value m.number).extends m.same
+      lays_quiet old.draft new.draft old.accesses new.accesses (number_forms (held_at scene.held.now entity).kind false 0 old.draft new.draft m.value m.number).extends
+      (number_faults (held_at scene.held.now entity).kind false 0 old.draft new.draft m.value m.number) m.same
 
   pub reduced_lays : (first entity : ℕ) (op : Op) (t : Term) (old new : Building) (next : ℕ) → MadeReduced scene lane first entity op t old new next → Lays old.draft new.draft old.accesses new.accesses
   reduced_lays first entity op t old new next m =
       lays_again old.draft m.middle new.draft old.accesses new.accesses new.accesses (term_lays old.values.current.items t old.draft m.middle old.accesses new.accesses first next m.value m.term)
-      (lays_quiet m.middle new.draft new.accesses new.accesses (folded_extends lane old.values.current.items (held_at scene.held.now entity) op t m.value m.middle new.draft m.folded m.folds) refl)
+      (lays_quiet m.middle new.draft new.accesses new.accesses (folded_extends lane old.values.current.items (held_at scene.held.now entity) op t m.value m.middle new.draft m.folded m.folds)
+      (folded_faults lane old.values.current.items (held_at scene.held.now entity) op t m.value m.middle new.draft m.folded m.folds) refl)
 
   pub stored_lays : (first : ℕ) (target t : Term) (old new : Building) (next : ℕ) → MadeStored scene lane first target t old new next → Lays old.draft new.draft old.accesses new.accesses
   stored_lays first target t old new next m =
@@ -364,7 +481,8 @@ pub arm_lays : (Inner : Commanding) (around : Around) (holds : Truth) (tests : L
 arm_lays Inner around holds tests old new first next lefts m inner =
     lays_again old.draft m.begin.draft new.draft old.accesses m.begin.accesses new.accesses
     (lays_quiet old.draft m.begin.draft old.accesses m.begin.accesses
-    (subst (λ (d : Draft). Extends old.draft d) (sym m.begin_draft) (arm_guards_form holds around.guards.now tests (length tests) old.draft m.guarded m.arm.guards.now m.guards).extends) m.begin_accesses)
+    (subst (λ (d : Draft). Extends old.draft d) (sym m.begin_draft) (arm_guards_form holds around.guards.now tests (length tests) old.draft m.guarded m.arm.guards.now m.guards).extends)
+    (ap (λ (d : Draft). d.faults) m.begin_draft ∙ guards_faults holds around.guards.now tests (length tests) old.draft m.guarded m.arm.guards.now m.guards) m.begin_accesses)
     (lays_again m.begin.draft m.inside.draft new.draft m.begin.accesses m.inside.accesses new.accesses inner (lays_none m.inside.draft new.draft m.inside.accesses new.accesses m.draft m.accesses))
 
 -- All commands.
@@ -399,7 +517,8 @@ module _ (scene : Scene) where
         (lays_again m.after_chosen.draft m.after_other.draft new.draft m.after_chosen.accesses m.after_other.accesses new.accesses
         (other_lays other around m.tests m.after_chosen m.after_other m.behind next m.other_left s many m.other)
         (lays_quiet m.after_other.draft new.draft m.after_other.accesses new.accesses
-        (choices_form m.tests m.joined.choices (length m.joined.choices) m.after_other.draft new.draft m.joined.middle new.values m.joined.choose).extends m.joined.same)))
+        (choices_form m.tests m.joined.choices (length m.joined.choices) m.after_other.draft new.draft m.joined.middle new.values m.joined.choose).extends
+        (choices_faults m.tests m.joined.choices (length m.joined.choices) m.after_other.draft new.draft m.joined.middle new.values m.joined.choose) m.joined.same)))
     action_lays (blocks body) around old new first next s m = groups_lays body around old new first next s m
     action_lays (lets_memory name shape shape_places value) around old new first next s m = lays_still old new m.still
     action_lays (views name parent form) around old new first next s m = lays_still old new m.still

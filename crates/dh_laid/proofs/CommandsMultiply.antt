@@ -52,7 +52,7 @@ use Rattle.dh_laid.specs.LaidProducts.{AddsProducts, CommandsHaveProducts, Group
 use Rattle.dh_laid.specs.LaidQuiet.{StandsIn}
 use Rattle.dh_laid.proofs.ValuesLogged.{arm_long, tests_same}
 
-products_append : (xs ys : List Operation) → block_products (xs ++ ys) ≡ block_products xs + block_products ys
+pub products_append : (xs ys : List Operation) → block_products (xs ++ ys) ≡ block_products xs + block_products ys
 products_append [] ys = omega arith
 products_append (o ∷ xs) ys = by (is_product o.form) (block_products (xs ++ ys)) (block_products xs) (block_products ys) (products_append xs ys)
   where
@@ -70,7 +70,7 @@ none_same old new same = record { more = []; adds = same ∙ sym (append-nil old
 none_none : (old new : Draft) → new ≡ old → AddsNone old new
 none_none old new same = none_same old new (ap (λ (d : Draft). d.operations.items) same)
 
-products_again : (a b c : Draft) (p q : ℕ) → AddsProducts a b p → AddsProducts b c q → AddsProducts a c (p + q)
+pub products_again : (a b c : Draft) (p q : ℕ) → AddsProducts a b p → AddsProducts b c q → AddsProducts a c (p + q)
 products_again a b c p q h k = record {
   more = h.more ++ k.more;
   adds = k.adds ∙ (ap (λ (os : List Operation). os ++ k.more) h.adds ∙ append_assoc a.operations.items h.more k.more);
@@ -268,7 +268,7 @@ lanes_products_added One p each (suc n) first old new next m =
     subst (λ (i : ℕ). AddsProducts old.draft new.draft i) (times_more p n)
     (products_again old.draft (m.0).draft new.draft (p * n) p (lanes_products_added One p each n first old m.0 m.1.0 m.1.1.0) (each n m.0 new next m.1.1.1))
 
-tests_products_added : (scene : Scene) (around : Around) → StandsIn scene around → (first : ℕ) (t : Term) (count : ℕ) (old new : Building) (next : ℕ) (tests : List ℕ) → MadeTests scene around first t count old new next tests
+pub tests_products_added : (scene : Scene) (around : Around) → StandsIn scene around → (first : ℕ) (t : Term) (count : ℕ) (old new : Building) (next : ℕ) (tests : List ℕ) → MadeTests scene around first t count old new next tests
     → AddsProducts old.draft new.draft (products_in t * count)
 tests_products_added scene around stands first t zero old new next tests m = products_within old.draft new.draft 0 (products_in t * 0) (omega arith) (none_none old.draft new.draft (ap (λ (b : Building). b.draft) m.0))
 tests_products_added scene around stands first t (suc n) old new next tests m =

@@ -12,6 +12,7 @@ pub mod CommandsQuiet
 pub mod CommandsMultiply
 pub mod ProductsOfCore
 pub mod CommandsProbe
+pub mod FaultsKept
 pub mod AccessesLaid
 pub mod SitesLaid
 pub mod UsesAdded

@@ -35,7 +35,7 @@ use Rattle.dh_formed.proofs.ValuesCounted.{copies_counts}
 use Rattle.dh_commands.specs.LanesRun.{paths_counted}
 use Rattle.dh_laid.specs.LaidQuiet.{StandsIn}
 use Rattle.dh_laid.specs.LaidUses.{AddsLedUses, IsLeadersUse, IsUnshared, PathsLead}
-use Rattle.dh_laid.proofs.UsesAdded.{AddsNone, any_reach, any_register, no_reach, none_again, none_none, none_pushed, none_same, none_then_uses, use_pushed, uses_counted, uses_same}
+use Rattle.dh_laid.proofs.UsesAdded.{AddsNone, any_register, no_reach, none_again, none_none, none_same, none_then_uses, probe_pushed, use_pushed, uses_counted, uses_same}
 
 -- The leaders of accesses.
 
@@ -136,7 +136,7 @@ module _ (scene : Scene) (sites : ℕ → Option Site) (lane : Lane) (stands : S
           let copies = a.copies stands.scopes stands.low in
           none_again scene sites old a.middle new (none_same scene sites old a.middle a.names.operations)
           (uses_counted scene sites a.middle new 0 _ _
-          (copies_counts any_register any_reach no_reach no_reach (stood writes).leader (stood writes).bank (stood writes).guards (low writes) (length (stood writes).guards) a.middle new before.counts.items copies.0 u.copies stands.few
+          (copies_counts any_register no_reach no_reach no_reach (stood writes).leader (stood writes).bank (stood writes).guards (low writes) (length (stood writes).guards) a.middle new before.counts.items copies.0 u.copies stands.few
           copies.1))
 
   -- the leader that is noted at this path
@@ -193,7 +193,7 @@ module _ (scene : Scene) (sites : ℕ → Option Site) (lane : Lane) (stands : S
       → AddsLedUses scene sites d e own_use
   find_one d e copy v found is one led h =
       use_pushed scene sites d e v copy.guard (Read (reach_told memory aim (Some (copy.bank, copy.place)))) own_use (subst (λ (o : Option ℕ). Finds d e memory aim copy o v) is h) (λ k. one_used k one)
-      (λ r told. led_reach scene sites (reach_told memory aim (Some (copy.bank, copy.place))) r led told)
+      (λ r told. led_reach scene sites (reach_told memory aim (Some (copy.bank, copy.place))) r led told) (λ r told. told)
 
   module _ (d e : Draft) (a : Accesses) (v : ℕ) (u : Touched) (is : touched_in a aim.number ≡ Some u) (led : IsLed (stood false) u) (at : sites aim.number ≡ Some (site false)) (own : given_at_paths a aim.number ≡ lane.number) (known : aim.number < length scene.shares.now) (shares : (earlier : ℕ) → slice_get scene.shares.now aim.number ≡ Some (Some earlier) → lane.number < given_at_paths a earlier) where
     abbrev copy : AccessAt
@@ -298,7 +298,7 @@ module _ (scene : Scene) (sites : ℕ → Option Site) (lane : Lane) (stands : S
     read_used = record {
       uses =
           none_then_uses scene sites old m.first new own_use (touch_used false old m.first before m.middle m.touches)
-          (none_then_uses scene sites m.first m.second new own_use (none_pushed scene sites m.first m.second _ _ _ m.probes (λ k. refl)) found_used);
+          (none_then_uses scene sites m.first m.second new own_use (probe_pushed scene sites m.first m.second _ _ _ _ m.probes (record { site = site false; there = at; memory_is = refl })) found_used);
       given = read_gives;
       led = notes_led sites m.middle after aim.number lane.number v m.notes middle_led;
     }
@@ -328,8 +328,8 @@ module _ (scene : Scene) (sites : ℕ → Option Site) (lane : Lane) (stands : S
     pub write_used : AddsLedUses scene sites old new own_use
     write_used =
         none_then_uses scene sites old m.first new own_use (touch_used true old m.first before after m.touches)
-        (none_then_uses scene sites m.first m.second new own_use (none_pushed scene sites m.first m.second _ _ _ m.probes (λ k. refl)) (use_pushed scene sites m.second new _ _ _ own_use m.writes (λ k. one_used k use_one)
-        (λ r told. led_reach scene sites _ r (led_use true after touched_there.0 touched_there.1 (write_led.led aim.number touched_there.0 (site true) at touched_there.1) at (leads lane.number within) alone.own) told)))
+        (none_then_uses scene sites m.first m.second new own_use (probe_pushed scene sites m.first m.second _ _ _ _ m.probes (record { site = site true; there = at; memory_is = refl })) (use_pushed scene sites m.second new _ _ _ own_use m.writes (λ k. one_used k use_one)
+        (λ r told. led_reach scene sites _ r (led_use true after touched_there.0 touched_there.1 (write_led.led aim.number touched_there.0 (site true) at touched_there.1) at (leads lane.number within) alone.own) told) (λ r told. told)))
 
     pub write_gives : (k : ℕ) → given_at_paths after k ≡ given_at_paths before k
     write_gives k = touch_gives scene lane.around (stood true) old m.first before after aim.number k m.touches

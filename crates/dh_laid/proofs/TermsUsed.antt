@@ -36,7 +36,7 @@ use Rattle.dh_laid.specs.LaidQuiet.{StandsIn}
 use Rattle.dh_laid.specs.LaidUses.{AddsLedUses, IsUnshared, PathsLead}
 use Rattle.dh_laid.proofs.ReadsUsed.{AreLed, UsesPart, led_same, read_used, write_gives, write_led, write_used}
 use Rattle.dh_laid.proofs.SitesLaid.{HasSites, sites_behind, sites_front, sites_last, term_sites_long, terms_sites_long}
-use Rattle.dh_laid.proofs.UsesAdded.{AddsNone, any_reach, any_register, no_reach, converted_used, folded_used, held_used, no_accesses, none_none, none_pushed, none_then_uses, ranged_behind, ranged_then, uses_counted, uses_then_none}
+use Rattle.dh_laid.proofs.UsesAdded.{AddsNone, any_register, no_reach, converted_used, folded_used, held_used, no_accesses, none_none, none_pushed, none_then_uses, ranged_behind, ranged_then, uses_counted, uses_then_none}
 
 -- what is put down at a path, which reads so many accesses and uses so many, from a first one on
 pub record UsesLane (scene : Scene) (sites : ℕ → Option Site) (lane : Lane) (old new : Draft) (before after : Accesses) (n count all : ℕ) : Type 0 where
@@ -91,13 +91,13 @@ module _ (scene : Scene) (sites : ℕ → Option Site) (lane : Lane) (stands : S
     pub term_used : (t : Term) (old new : Draft) (before after : Accesses) (n next v : ℕ) → MadeTerm scene lane current t old new before after n next v → n + term_accesses t < 2 ^ 32 → HasSites sites n (term_sites scene lane.around t)
         → AreLed sites before → AreNext scene lane before n (term_accesses t) → UsesPart scene sites lane old new before after n (term_accesses t)
     term_used (plain.term place k (plain.number negative z)) old new before after n next v m few has led nx =
-        part_none scene sites lane old new before after n (uses_counted scene sites old new 0 _ _ (number_counts any_register any_reach no_reach no_reach (kind_or_first k) negative z old new v m.part)) m.same led
+        part_none scene sites lane old new before after n (uses_counted scene sites old new 0 _ _ (number_counts any_register no_reach no_reach no_reach (kind_or_first k) negative z old new v m.part)) m.same led
     term_used (plain.term place k (plain.truth_value b)) old new before after n next v m few has led nx =
         part_none scene sites lane old new before after n (none_pushed scene sites old new v None (Constant (truth b)) m.part (λ access. refl)) m.same led
     term_used (plain.term place k (plain.named r)) old new before after n next v m few has led nx =
         part_none scene sites lane old new before after n
         (uses_counted scene sites old new 0 _ _
-        (variable_counts any_register any_reach no_reach no_reach (counter_of scene (entity_number r.entity)) (held_at scene.held.now (entity_number r.entity)) lane current (kind_or_first k) tt old new v m.part))
+        (variable_counts any_register no_reach no_reach no_reach (counter_of scene (entity_number r.entity)) (held_at scene.held.now (entity_number r.entity)) lane current (kind_or_first k) tt old new v m.part))
         m.same led
     term_used (plain.term place k (plain.accessed r ts)) old new before after n next v m few has led nx =
         let less : n + terms_accesses ts < 2 ^ 32 = omega (arith, few) in
@@ -124,7 +124,7 @@ module _ (scene : Scene) (sites : ℕ → Option Site) (lane : Lane) (stands : S
         (term_used right m.middle m.end m.between after m.own next m.b m.second (omega (arith, few, own))
         (sites_behind sites n m.own (term_sites scene lane.around left) (term_sites scene lane.around right) (long_is n m.own (term_sites scene lane.around left) (term_accesses left) (term_sites_long scene lane.around left) own) has) one.led
         (next_behind scene sites lane old m.middle before m.between n m.own (term_accesses left) (term_accesses right) own nx one)))
-        (uses_counted scene sites m.end new (product_of op) _ _ (operation_counts any_register any_reach no_reach no_reach op left right m.a m.b m.end new v m.operation))
+        (uses_counted scene sites m.end new (product_of op) _ _ (operation_counts any_register no_reach no_reach no_reach op left right m.a m.b m.end new v m.operation))
     term_used (plain.term place k (plain.converted inner to)) old new before after n next v m few has led nx =
         part_still scene sites lane old m.middle new before after n (term_accesses inner) (term_used inner old m.middle before after n next m.a m.operand few has led nx) (converted_used scene sites (is_kept inner to) to m.a m.middle new v m.converts)
 
@@ -204,7 +204,7 @@ module _ (scene : Scene) (sites : ℕ → Option Site) (lane : Lane) (stands : S
   pub cleared_used : (entity : ℕ) → MadeCleared scene lane entity old new → UsesHere 0 0
   cleared_used entity m = record {
     uses =
-        no_accesses scene sites old.draft new.draft first _ (uses_counted scene sites old.draft new.draft 0 _ _ (number_counts any_register any_reach no_reach no_reach (held_at scene.held.now entity).kind false 0 old.draft new.draft m.value m.number));
+        no_accesses scene sites old.draft new.draft first _ (uses_counted scene sites old.draft new.draft 0 _ _ (number_counts any_register no_reach no_reach no_reach (held_at scene.held.now entity).kind false 0 old.draft new.draft m.value m.number));
     given = given_none scene lane old.accesses new.accesses first m.same;
     led = led_same sites old.accesses new.accesses m.same led;
   }

@@ -19,7 +19,7 @@ use Rattle.dh_plan.specs.declared.operations.OperationForm.{OperationForm}
 use Rattle.dh_plan.specs.declared.operations.OperationForm.TheVariants.{Check, Compute, Constant, Convert, Old, Probe, Read, Select, Set, Write}
 use Rattle.dh_plan.specs.declared.operations.Reach.{Reach}
 use Rattle.dh_plan.specs.DoneProgram.{counts_use}
-use Rattle.dh_plan.specs.SoundPlans.{use_in}
+use Rattle.dh_plan.specs.SoundPlans.{access_in, use_in}
 use Rattle.dh_expressions.specs.declared.drafts.Draft.{Draft}
 use Rattle.dh_expressions.specs.declared.scenes.Lane.{Lane}
 use Rattle.dh_expressions.specs.Drafted.{Pushes}
@@ -34,13 +34,10 @@ use Rattle.dh_formed.proofs.ValuesCounted.{held_counts, shown_counts}
 use Rattle.dh_commands.specs.declared.assignments.Values.{Values}
 use Rattle.dh_commands.specs.declared.choices.Choice.{Choice}
 use Rattle.dh_commands.specs.MadeCommands.{FoldedWith, MadeArmGuard, MadeArmGuards, MadeBehind, MadeChoiceBy, MadeChoices, MadeGuard, MadeOldOperand, MadeOperand, MadeOutcome}
-use Rattle.dh_laid.specs.LaidUses.{AddsLedUses, AreLedUses, IsLeadersUse, used_by}
+use Rattle.dh_laid.specs.LaidUses.{AddsLedUses, AreLedUses, AreSitesReaches, IsLeadersUse, IsSitesReach, used_by}
 
 abbrev pub any_register : ℕ → Type 0
 any_register register = Unit {0}
-
-abbrev pub any_reach : Reach → Type 0
-any_reach r = Unit {0}
 
 abbrev pub no_reach : Reach → Type 0
 no_reach r = ⊥
@@ -64,7 +61,7 @@ module _ (scene : Scene) (sites : ℕ → Option Site) where
   AddsNone old new = AddsLedUses scene sites old new nothing
 
   pub none_same : (old new : Draft) → new.operations.items ≡ old.operations.items → AddsNone old new
-  none_same old new same = record { more = []; adds = same ∙ sym (append-nil old.operations.items); uses_are = λ access. refl; each = tt }
+  none_same old new same = record { more = []; adds = same ∙ sym (append-nil old.operations.items); uses_are = λ access. refl; each = tt; reaches = tt }
 
   pub none_none : (old new : Draft) → new ≡ old → AddsNone old new
   none_none old new same = none_same old new (ap (λ (d : Draft). d.operations.items) same)
@@ -76,11 +73,12 @@ module _ (scene : Scene) (sites : ℕ → Option Site) where
     adds = two.adds ∙ (ap (λ (os : List Operation). os ++ two.more) one.adds ∙ append_assoc a.operations.items one.more two.more);
     uses_are = λ access. let e = uses_append access one.more two.more in let l = one.uses_are access in let r = two.uses_are access in let w = sum access in omega (arith, e, l, r, w);
     each = all_append (λ (o : Operation). (r : Reach) → use_in o.form ≡ Some r → IsLeadersUse scene sites r) one.more two.more one.each two.each;
+    reaches = all_append (λ (o : Operation). (r : Reach) → access_in o.form ≡ Some r → IsSitesReach sites r) one.more two.more one.reaches two.reaches;
   }
 
   -- the same, told otherwise
   pub uses_same : (a b : Draft) (f g : ℕ → ℕ) → ((access : ℕ) → f access ≡ g access) → AddsLedUses scene sites a b f → AddsLedUses scene sites a b g
-  uses_same a b f g same h = record { more = h.more; adds = h.adds; uses_are = λ access. h.uses_are access ∙ same access; each = h.each }
+  uses_same a b f g same h = record { more = h.more; adds = h.adds; uses_are = λ access. h.uses_are access ∙ same access; each = h.each; reaches = h.reaches }
 
   no_sum : (access : ℕ) → nothing access + nothing access ≡ nothing access
   no_sum access = omega arith
@@ -101,51 +99,120 @@ module _ (scene : Scene) (sites : ℕ → Option Site) where
   pub none_then_uses : (a b c : Draft) (f : ℕ → ℕ) → AddsNone a b → AddsLedUses scene sites b c f → AddsLedUses scene sites a c f
   none_then_uses a b c f h k = uses_again a b c nothing f f (nothing_plus f) h k
 
+  -- a read or a write
   pub use_pushed : (old new : Draft) (n : ℕ) (guard : Option ℕ) (form : OperationForm) (f : ℕ → ℕ) → Pushes old new n guard form → ((access : ℕ) → counts_use access (use_in form) ≡ f access)
-      → ((r : Reach) → use_in form ≡ Some r → IsLeadersUse scene sites r) → AddsLedUses scene sites old new f
-  use_pushed old new n guard form f p is led = record {
+      → ((r : Reach) → use_in form ≡ Some r → IsLeadersUse scene sites r) → ((r : Reach) → access_in form ≡ Some r → use_in form ≡ Some r) → AddsLedUses scene sites old new f
+  use_pushed old new n guard form f p is led used = record {
     more = record { guard = guard; form = form } ∷ [];
     adds = p.operations;
     uses_are = λ access. alone (counts_use access (use_in form)) ∙ is access;
     each = (led, tt);
+    reaches = (λ r e. of_led r (led r (used r e)), tt);
   }
     where
       alone : (c : ℕ) → c + 0 ≡ c
       alone c = omega arith
 
-  pub none_pushed : (old new : Draft) (n : ℕ) (guard : Option ℕ) (form : OperationForm) → Pushes old new n guard form → ((access : ℕ) → counts_use access (use_in form) ≡ 0) → AddsNone old new
-  none_pushed old new n guard form p is = use_pushed old new n guard form nothing p is (λ r e. absurd (counted r e (is r.access)))
-    where
-      counted : (r : Reach) → use_in form ≡ Some r → counts_use r.access (use_in form) ≡ 0 → ⊥
-      counted r e none = never (r.access == r.access) (eq-eqb r.access r.access refl) (sym (ap (λ u. counts_use r.access u) e) ∙ none)
-        where
-          never : (t : Truth) → t ≡ true → ◌≡◌ {A = ℕ} (if t then 1 else 0) 0 → ⊥
-          never true e h = omega (arith, h)
-          never false e h = cc
+      of_led : (r : Reach) → IsLeadersUse scene sites r → IsSitesReach sites r
+      of_led r l = record { site = l.site; there = l.there; memory_is = l.memory_is }
 
-  pub uses_counted : (old new : Draft) (p : ℕ) (f u : ℕ → ℕ) → Counts old new (FormIs any_register any_reach no_reach no_reach) p f u → AddsLedUses scene sites old new u
-  uses_counted old new p f u c = record { more = c.more; adds = c.adds; uses_are = c.uses_are; each = all_none c.more c.each }
+  -- a probe of an access that has a site
+  pub probe_pushed : (old new : Draft) (n : ℕ) (guard : Option ℕ) (q : Reach) (fault : ℕ) → Pushes old new n guard (Probe q fault) → IsSitesReach sites q → AddsNone old new
+  probe_pushed old new n guard q fault p reach = record {
+    more = record { guard = guard; form = Probe q fault } ∷ [];
+    adds = p.operations;
+    uses_are = λ access. refl;
+    each = (λ r e. absurd (never r e), tt);
+    reaches = (λ r e. same r e, tt);
+  }
     where
-      none : (form : OperationForm) → FormIs any_register any_reach no_reach no_reach form → (r : Reach) → use_in form ≡ Some r → IsLeadersUse scene sites r
+      never : (r : Reach) → None ≡ Some r → ⊥
+      never r e = cc
+
+      same : (r : Reach) → Some q ≡ Some r → IsSitesReach sites r
+      same r e = subst (λ (k : Reach). IsSitesReach sites k) (inner e) reach
+        where
+          inner : Some q ≡ Some r → q ≡ r
+          inner h = cc
+
+  -- what reaches no memory
+  pub none_pushed : (old new : Draft) (n : ℕ) (guard : Option ℕ) (form : OperationForm) → Pushes old new n guard form → ((access : ℕ) → counts_use access (access_in form) ≡ 0) → AddsNone old new
+  none_pushed old new n guard form p is = record {
+    more = record { guard = guard; form = form } ∷ [];
+    adds = p.operations;
+    uses_are = λ access. ap (λ u. counts_use access u + 0) unused;
+    each = (λ r e. absurd (never r (sym unused ∙ e)), tt);
+    reaches = (λ r e. absurd (never r (sym unreached ∙ e)), tt);
+  }
+    where
+      never : (r : Reach) → None ≡ Some r → ⊥
+      never r e = cc
+
+      by : (o : Option Reach) → access_in form ≡ o → access_in form ≡ None
+      by None e = e
+      by (Some r) e = absurd (counted (r.access == r.access) (eq-eqb r.access r.access refl) (sym (ap (λ u. counts_use r.access u) e) ∙ is r.access))
+        where
+          counted : (t : Truth) → t ≡ true → ◌≡◌ {A = ℕ} (if t then 1 else 0) 0 → ⊥
+          counted true e h = omega (arith, h)
+          counted false e h = cc
+
+      unreached : access_in form ≡ None
+      unreached = by (access_in form) refl
+
+      used : (f : OperationForm) → access_in f ≡ None → use_in f ≡ None
+      used (Constant word) e = refl
+      used (Old register) e = refl
+      used (Compute op left right) e = refl
+      used (Convert inner to) e = refl
+      used (Select test a b) e = refl
+      used (Check ok fault) e = refl
+      used (Probe q fault) e = refl
+      used (Read q) e = e
+      used (Write q value) e = e
+      used (Set register value) e = refl
+
+      unused : use_in form ≡ None
+      unused = used form unreached
+
+  pub uses_counted : (old new : Draft) (p : ℕ) (f u : ℕ → ℕ) → Counts old new (FormIs any_register no_reach no_reach no_reach) p f u → AddsLedUses scene sites old new u
+  uses_counted old new p f u c = record { more = c.more; adds = c.adds; uses_are = c.uses_are; each = all_none c.more c.each; reaches = none_reach c.more c.each }
+    where
+      none : (form : OperationForm) → FormIs any_register no_reach no_reach no_reach form → (r : Reach) → use_in form ≡ Some r → IsLeadersUse scene sites r
       none (Constant word) h r e = absurd (cc)
       none (Old register) h r e = absurd (cc)
       none (Compute op left right) h r e = absurd (cc)
       none (Convert inner to) h r e = absurd (cc)
       none (Select test a b) h r e = absurd (cc)
       none (Check ok fault) h r e = absurd h
-      none (Probe q fault) h r e = absurd (cc)
+      none (Probe q fault) h r e = absurd h
       none (Read q) h r e = absurd h
       none (Write q value) h r e = absurd h
       none (Set register value) h r e = absurd h
 
-      all_none : (os : List Operation) → AllByRecursion (λ (o : Operation). FormIs any_register any_reach no_reach no_reach o.form) os → AreLedUses scene sites os
+      all_none : (os : List Operation) → AllByRecursion (λ (o : Operation). FormIs any_register no_reach no_reach no_reach o.form) os → AreLedUses scene sites os
       all_none [] h = tt
       all_none (o ∷ os) h = (none o.form h.0, all_none os h.1)
+
+      unreached : (form : OperationForm) → FormIs any_register no_reach no_reach no_reach form → (r : Reach) → access_in form ≡ Some r → IsSitesReach sites r
+      unreached (Constant word) h r e = absurd (cc)
+      unreached (Old register) h r e = absurd (cc)
+      unreached (Compute op left right) h r e = absurd (cc)
+      unreached (Convert inner to) h r e = absurd (cc)
+      unreached (Select test a b) h r e = absurd (cc)
+      unreached (Check ok fault) h r e = absurd (cc)
+      unreached (Probe q fault) h r e = absurd h
+      unreached (Read q) h r e = absurd h
+      unreached (Write q value) h r e = absurd h
+      unreached (Set register value) h r e = absurd (cc)
+
+      none_reach : (os : List Operation) → AllByRecursion (λ (o : Operation). FormIs any_register no_reach no_reach no_reach o.form) os → AreSitesReaches sites os
+      none_reach [] h = tt
+      none_reach (o ∷ os) h = (unreached o.form h.0, none_reach os h.1)
 
   -- Ranges of accesses.
 
   pub no_accesses : (old new : Draft) (n : ℕ) (f : ℕ → ℕ) → AddsNone old new → AddsLedUses scene sites old new (ranged n 0 f)
-  no_accesses old new n f h = record { more = h.more; adds = h.adds; uses_are = λ access. h.uses_are access ∙ ranged_none n f access; each = h.each }
+  no_accesses old new n f h = record { more = h.more; adds = h.adds; uses_are = λ access. h.uses_are access ∙ ranged_none n f access; each = h.each; reaches = h.reaches }
 
   pub ranged_then : (a b c : Draft) (n own p q : ℕ) (f : ℕ → ℕ) → own ≡ n + p → AddsLedUses scene sites a b (ranged n p f) → AddsLedUses scene sites b c (ranged own q f) → AddsLedUses scene sites a c (ranged n (p + q) f)
   ranged_then a b c n own p q f is h k =
@@ -202,10 +269,10 @@ module _ (scene : Scene) (sites : ℕ → Option Site) where
   converted_used false to value old new v m = none_pushed old new v None (Convert value to) m (λ access. refl)
 
   pub held_used : (t : Term) (to : Kind) (value : ℕ) (old new : Draft) (v : ℕ) → MadeHeld t to value old new v → AddsNone old new
-  held_used t to value old new v m = uses_counted old new 0 _ _ (held_counts any_register any_reach no_reach no_reach t to value old new v m)
+  held_used t to value old new v m = uses_counted old new 0 _ _ (held_counts any_register no_reach no_reach no_reach t to value old new v m)
 
   shown_used : (current : List (Option ℕ)) (register : ℕ) (old new : Draft) (v : ℕ) → MadeShown current register old new v → AddsNone old new
-  shown_used current register old new v m = uses_counted old new 0 _ _ (shown_counts any_register any_reach no_reach no_reach current register tt old new v m)
+  shown_used current register old new v m = uses_counted old new 0 _ _ (shown_counts any_register no_reach no_reach no_reach current register tt old new v m)
 
   old_operand_used : (own to : Kind) (value : ℕ) (old new : Draft) (v : ℕ) → MadeOldOperand own to value old new v → AddsNone old new
   old_operand_used own kind.Bool value old new v m = none_none old new m.0

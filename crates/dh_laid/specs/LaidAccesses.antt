@@ -1,6 +1,6 @@
 -- Accesses with operations are laid: what was put down for them names their faults, and only paths that lead have guards,
 -- with places counted by leaders. It holds whatever the step, and all that is put down for commands and tests keeps it.
-use Rattle.std.specs.Prelude.{◌≡◌, ℕ, ◌≤◌, ◌^◌, List, length, map, slice_get, Option, Some, None}
+use Rattle.std.specs.Prelude.{◌≡◌, ℕ, suc, ◌+◌, ◌≤◌, ◌^◌, List, [], ◌∷◌, length, map, slice_get, Option, Some, None}
 use Rattle.dh_base.specs.declared.outcomes.FaultKind.{FaultKind}
 use Rattle.dh_base.specs.declared.outcomes.FaultKind.TheVariants.{OutOfRange}
 use Rattle.dh_base.specs.declared.places.Place.{Place}
@@ -58,14 +58,21 @@ AreLaid named a = (number : ℕ) (t : Touched) → touched_in a number ≡ Some 
 abbrev pub AreNamed : List (FaultKind × Place) → Draft → Type 0
 AreNamed named d = (n : ℕ) (f : FaultKind × Place) → slice_get d.faults n ≡ Some f → slice_get named n ≡ Some f
 
+-- how many accesses have operations
+abbrev pub touched_count : List (Option Touched) → ℕ
+touched_count [] = 0
+touched_count (None ∷ ts) = touched_count ts
+touched_count (Some t ∷ ts) = suc (touched_count ts)
+
 -- What was put down keeps the operations and the faults so far at their numbers; and where all faults are those of a list
 -- that is short, it keeps that all accesses with operations are laid, and that none is counted. There are as many accesses
--- as before.
+-- as before, and no more faults were named than accesses got operations.
 pub record Lays (old new : Draft) (before after : Accesses) : Type 0 where
   pub extends : Extends old new
   pub laid : (named : List (FaultKind × Place)) → AreNamed named new → length named ≤ 2 ^ 32 → AreLaid named before → AreNone before.counts.items → AreLaid named after
   pub none : AreNone before.counts.items → AreNone after.counts.items
   pub long : length after.touched.items ≡ length before.touched.items
+  pub few : length new.faults + touched_count before.touched.items ≤ length old.faults + touched_count after.touched.items
 
 abbrev pub TermsLay : Type 0
 TermsLay =

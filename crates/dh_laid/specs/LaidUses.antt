@@ -10,7 +10,7 @@ use Rattle.dh_meaning.specs.Phases.{Located}
 use Rattle.dh_plan.specs.declared.operations.Operation.{Operation}
 use Rattle.dh_plan.specs.declared.operations.Reach.{Reach}
 use Rattle.dh_plan.specs.DoneProgram.{operations_using}
-use Rattle.dh_plan.specs.SoundPlans.{use_in}
+use Rattle.dh_plan.specs.SoundPlans.{access_in, use_in}
 use Rattle.dh_expressions.specs.declared.accesses.Accesses.{Accesses}
 use Rattle.dh_expressions.specs.declared.drafts.Draft.{Draft}
 use Rattle.dh_expressions.specs.declared.scenes.Around.{Around}
@@ -54,12 +54,23 @@ pub record IsLeadersUse (scene : Scene) (sites : ℕ → Option Site) (r : Reach
 abbrev pub AreLedUses : Scene → (sites : ℕ → Option Site) → List Operation → Type 0
 AreLedUses scene sites os = AllByRecursion (λ o. (r : Reach) → use_in o.form ≡ Some r → IsLeadersUse scene sites r) os
 
+-- an operation reaches the memory of an access that has a site
+pub record IsSitesReach (sites : ℕ → Option Site) (r : Reach) : Type 0 where
+  pub site : Site
+  pub there : sites r.access ≡ Some site
+  pub memory_is : r.memory ≡ narrowed site.memory
+
+-- so does each of these that reaches a memory, probes too
+abbrev pub AreSitesReaches : (sites : ℕ → Option Site) → List Operation → Type 0
+AreSitesReaches sites os = AllByRecursion (λ o. (r : Reach) → access_in o.form ≡ Some r → IsSitesReach sites r) os
+
 -- so many were added, and each is so
 pub record AddsLedUses (scene : Scene) (sites : ℕ → Option Site) (old new : Draft) (uses : (access : ℕ) → ℕ) : Type 0 where
   pub more : List Operation
   pub adds : new.operations.items ≡ old.operations.items ++ more
   pub uses_are : (access : ℕ) → operations_using access more ≡ uses access
   pub each : AreLedUses scene sites more
+  pub reaches : AreSitesReaches sites more
 
 -- at the first paths, so many
 abbrev pub used_by : (share : Option (Option ℕ)) → Option Site → (paths : ℕ) → ℕ

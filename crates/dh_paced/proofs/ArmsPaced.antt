@@ -1,5 +1,5 @@
 -- An arm of an `if` in time, and the variables behind both.
-use Rattle.std.proofs.Common.{◌≡◌, ◌⊎◌, inl, inr, ℕ, suc, ◌+◌, ◌^◌, ◌<◌, ◌≤◌, true, false, Some, None, Option, List, length, refl, sym, ap, ◌∙◌, subst, arith}
+use Rattle.std.proofs.Common.{◌≡◌, ◌⊎◌, ℕ, ◌<◌, ◌≤◌, true, false, Some, None, Option, List, length, refl, sym, ap, ◌∙◌, subst, arith}
 use Rattle.std.specs.Prelude.{Bool as Truth, ◌||◌, if◌then◌else◌, max, slice_get}
 use Rattle.dh_tree.specs.declared.trees.counters.Counter.{Counter}
 use Rattle.dh_meaning.specs.Core.{CoreCommands}
@@ -12,16 +12,15 @@ use Rattle.dh_expressions.specs.declared.scenes.Scene.{Scene}
 use Rattle.dh_expressions.specs.Evaluated.{counter_of}
 use Rattle.dh_expressions.proofs.ListPlaces.{place_within, some_same, there}
 use Rattle.dh_formed.specs.Formed.{Agrees, Block}
-use Rattle.dh_formed.specs.Timed.{AgreeInTime, AreBounded, Clocks, CurrentAt, NotedInTime, VariableAt, Within}
-use Rattle.dh_formed.proofs.ValuesFormed.{agrees_before}
-use Rattle.dh_formed.proofs.ValuesTimed.{agree_before, time_later, within_again, within_more, within_none}
+use Rattle.dh_formed.specs.Timed.{AgreeInTime, Clocks, CurrentAt, NotedInTime, VariableAt, Within}
+use Rattle.dh_formed.proofs.ValuesTimed.{time_later, within_again}
 use Rattle.dh_commands.specs.declared.assignments.Values.{Values}
 use Rattle.dh_commands.specs.declared.buildings.Building.{Building}
 use Rattle.dh_commands.specs.declared.choices.Choice.{Choice}
 use Rattle.dh_commands.specs.declared.choices.Left.{Left}
 use Rattle.dh_commands.specs.Joined.{AreChoices}
 use Rattle.dh_commands.specs.LanesRun.{lane_of, paths_counted}
-use Rattle.dh_commands.specs.MadeCommands.{Commanding, MadeArm, MadeArmGuards, MadeJoined}
+use Rattle.dh_commands.specs.MadeCommands.{Commanding, MadeArm, MadeJoined}
 use Rattle.dh_commands.specs.ShownVariables.{register_in}
 use Rattle.dh_commands.specs.Undone.{AreReady, first_left}
 use Rattle.dh_commands.proofs.ArmsLeft.{AreSame, ArmLeft, IsSetAt}

@@ -1,14 +1,14 @@
 -- The variables that a command assigns to are those that its straight commands in the core do; and what is asked of a
 -- command says of each of them that it is a target.
-use Rattle.std.proofs.Common.{◌≡◌, ◌⊎◌, inl, inr, ℕ, ◌+◌, true, false, Some, None, Option, refl, sym, ap, ◌∙◌, subst}
+use Rattle.std.proofs.Common.{◌≡◌, ◌⊎◌, inl, inr, ℕ, ◌+◌, true, false, Some, None, Option, refl, sym, ◌∙◌, subst}
 use Rattle.std.specs.Prelude.{Bool as Truth, ◌==◌, ◌||◌}
 use Rattle.std.proofs.lemmas.Bool.{eq-eqb, eqb-true}
 use Rattle.dh_tree.specs.PlainTrees as plain
 use Rattle.dh_tree.specs.PlainTrees.{Term, Action, action, ActionForm, lets, lets_memory, views, assigns, stores, reduces, calls, blocks, decides, repeats, counts, MaybeAction, no_action, one_action, Actions, no_actions, action_then, Groups, no_groups, group_then}
 use Rattle.dh_meaning.specs.AccessNumbers.{accesses_of, part_accesses, term_accesses}
-use Rattle.dh_meaning.specs.Core.{CoreCommands, no_commands}
-use Rattle.dh_meaning.specs.CoreOf.{Known, core_action, core_groups, core_other, core_part, core_term, entity_number, store_to}
-use Rattle.dh_meaning.specs.Levels.{Levels, any_assigns, assigns_to}
+use Rattle.dh_meaning.specs.Core.{no_commands}
+use Rattle.dh_meaning.specs.CoreOf.{Known, core_action, core_groups, core_other, core_part, entity_number}
+use Rattle.dh_meaning.specs.Levels.{Levels, any_assigns}
 use Rattle.dh_formed.specs.Timed.{Clocks, leveled}
 use Rattle.dh_expressions.specs.declared.scenes.Around.{Around}
 use Rattle.dh_expressions.specs.declared.scenes.Scene.{Scene}

@@ -1,12 +1,12 @@
 -- A variable that is assigned at one path after the other: behind all of them what it was given is there at its new
 -- level, and what others were given is there as before.
-use Rattle.std.proofs.Common.{◌≡◌, ◌⊎◌, inl, inr, ℕ, suc, ◌+◌, ◌<◌, ◌≤◌, true, false, Some, None, Option, List, length, refl, sym, ap, ◌∙◌, subst, arith}
+use Rattle.std.proofs.Common.{◌≡◌, ◌⊎◌, inl, inr, ℕ, suc, ◌<◌, ◌≤◌, true, false, Some, None, Option, List, length, refl, sym, ap, ◌∙◌, subst, arith}
 use Rattle.std.specs.Prelude.{slice_get, slice_set}
 use Rattle.std.proofs.lemmas.Bool.{cases_eq}
 use Rattle.dh_tree.specs.declared.trees.counters.Counter.{Counter}
 use Rattle.dh_tree.specs.PlainTrees.{Term}
 use Rattle.dh_meaning.specs.CoreOf.{core_term}
-use Rattle.dh_meaning.specs.Levels.{Leveled, Levels, with_value, with_variables}
+use Rattle.dh_meaning.specs.Levels.{Levels, with_value, with_variables}
 use Rattle.dh_code.specs.Slots.{held_at}
 use Rattle.dh_plan.specs.PlanPhases.{term_mentions}
 use Rattle.dh_expressions.specs.declared.scenes.Around.{Around}

@@ -1,8 +1,7 @@
 -- Variables behind an `if`: what is chosen is there at the greatest of the level of the test and of those at which both
 -- arms left it; of a variable that no arm assigns to nothing is chosen.
-use Rattle.std.proofs.Common.{◌≡◌, ◌⊎◌, inl, inr, ℕ, zero, suc, ◌+◌, ◌<◌, ◌≤◌, true, false, Some, None, Option, List, [], length, refl, sym, ap, ◌∙◌, subst, arith}
-use Rattle.std.specs.Prelude.{Bool as Truth, max, slice_get, slice_set}
-use Rattle.std.proofs.lemmas.Bool.{cases_eq}
+use Rattle.std.proofs.Common.{◌≡◌, ◌⊎◌, inl, inr, ℕ, zero, suc, ◌<◌, ◌≤◌, Some, None, Option, List, length, refl, sym, ap, ◌∙◌, subst, arith}
+use Rattle.std.specs.Prelude.{max, slice_get}
 use Rattle.dh_expressions.specs.declared.drafts.Draft.{Draft}
 use Rattle.dh_expressions.specs.declared.scenes.Around.{Around}
 use Rattle.dh_expressions.specs.declared.scenes.Scene.{Scene}
@@ -16,11 +15,9 @@ use Rattle.dh_commands.specs.declared.assignments.Values.{Values}
 use Rattle.dh_commands.specs.declared.choices.Choice.{Choice}
 use Rattle.dh_commands.specs.declared.choices.Left.{Left}
 use Rattle.dh_commands.specs.Joined.{AreApart, IsLeft}
-use Rattle.dh_commands.specs.LanesRun.{paths_counted}
 use Rattle.dh_commands.specs.MadeCommands.{MadeBehind, MadeChoice, MadeChoiceBy, MadeChoices}
-use Rattle.dh_commands.specs.ShownVariables.{register_in}
 use Rattle.dh_commands.specs.Undone.{first_left, given_at, lefts_of, value_left}
-use Rattle.dh_commands.proofs.ArmsLeft.{ArmLeft, IsSetAt, given_slot, lefts_given, lefts_none, lefts_some, slot}
+use Rattle.dh_commands.proofs.ArmsLeft.{ArmLeft, IsSetAt, given_slot, lefts_given, lefts_some, slot}
 use Rattle.dh_commands.proofs.ArmsJoined.{none_left}
 use Rattle.dh_commands.proofs.JoinedArms.{first_has}
 use Rattle.dh_laid.proofs.ChoicesLaid.{choices_form}

@@ -1,30 +1,27 @@
 -- Whole commands in time: by recursion on the command and on what was put down for it.
 use Rattle.std.proofs.Common.{◌≡◌, ◌⊎◌, inl, inr, ℕ, suc, ◌+◌, ◌^◌, ◌<◌, ◌≤◌, true, false, Some, None, Option, List, length, refl, sym, ap, ◌∙◌, subst, arith}
-use Rattle.std.specs.Prelude.{Bool as Truth, ◌||◌, max, slice_get}
+use Rattle.std.specs.Prelude.{Bool as Truth, ◌||◌, max}
 use Rattle.std.proofs.lemmas.Bool.{cases_lt}
-use Rattle.dh_value.specs.declared.kinds.Kind.{Kind}
 use Rattle.dh_value.specs.declared.operators.Op.{Op}
 use Rattle.dh_tree.specs.declared.trees.expressions.Ref.{Ref}
 use Rattle.dh_tree.specs.Indices.{form_of}
 use Rattle.dh_tree.specs.PlainTrees as plain
 use Rattle.dh_tree.specs.PlainTrees.{Term, Action, action, ActionForm, lets, lets_memory, views, assigns, stores, reduces, calls, blocks, decides, repeats, counts, MaybeAction, no_action, one_action, Actions, no_actions, action_then, Groups, no_groups, group_then}
 use Rattle.dh_meaning.specs.AccessNumbers.{accesses_of, groups_accesses, other_accesses, part_accesses, term_accesses, terms_accesses}
-use Rattle.dh_meaning.specs.Core.{CoreCommands, no_commands}
-use Rattle.dh_meaning.specs.CoreOf.{core_action, core_groups, core_other, core_part, core_term, entity_number}
+use Rattle.dh_meaning.specs.Core.{no_commands}
+use Rattle.dh_meaning.specs.CoreOf.{core_action, core_groups, core_other, core_part, entity_number}
 use Rattle.dh_meaning.specs.Levels.{Leveled, Levels, any_assigns, choice_levels, greatest, term_leveled, with_value, with_variables}
-use Rattle.dh_expressions.specs.declared.accesses.Accesses.{Accesses}
 use Rattle.dh_expressions.specs.declared.drafts.Draft.{Draft}
 use Rattle.dh_expressions.specs.declared.scenes.Around.{Around}
 use Rattle.dh_expressions.specs.declared.scenes.Scene.{Scene}
 use Rattle.dh_expressions.specs.Drafted.{Extends}
 use Rattle.dh_expressions.specs.Evaluated.{known_in}
-use Rattle.dh_expressions.proofs.Pushing.{extends_again}
 use Rattle.dh_formed.specs.Counted.{given_at_paths}
-use Rattle.dh_formed.specs.Formed.{Agrees, Block, IsNoted, TermSuits}
-use Rattle.dh_formed.specs.Timed.{AgreeInTime, AreBounded, Clocks, GuardAt, LevelsThen, NotedInTime, ReadsAgree, Within, all_leveled, leveled}
+use Rattle.dh_formed.specs.Formed.{Agrees, Block, TermSuits}
+use Rattle.dh_formed.specs.Timed.{AgreeInTime, AreBounded, Clocks, LevelsThen, ReadsAgree, all_leveled, leveled}
 use Rattle.dh_formed.proofs.LevelsBehind.{levels_behind}
 use Rattle.dh_formed.proofs.ValuesFormed.{agrees_before}
-use Rattle.dh_formed.proofs.ValuesTimed.{agree_before, time_later, within_again, within_more, within_none}
+use Rattle.dh_formed.proofs.ValuesTimed.{agree_before, time_later, within_again, within_none}
 use Rattle.dh_commands.specs.declared.assignments.Values.{Values}
 use Rattle.dh_commands.specs.declared.buildings.Building.{Building}
 use Rattle.dh_commands.specs.declared.choices.Left.{Left}
@@ -32,24 +29,24 @@ use Rattle.dh_commands.specs.LanesRun.{lane_of, paths_counted}
 use Rattle.dh_commands.specs.MadeCommands.{AssignedTo, ClearedTo, MadeActions, MadeArm, MadeCommand, MadeGroups, MadeIf, MadeOther, MadeTests, ReducedTo, StoredTo}
 use Rattle.dh_commands.specs.Undone.{AreReady}
 use Rattle.dh_commands.specs.ShownVariables.{register_in}
-use Rattle.dh_laid.specs.Laid.{AreTruths, FormsJoined, FormsTested, FormsTests, FormsThere, StandsRound}
-use Rattle.dh_laid.specs.LaidCommands.{ActionsSuit, AreFew, AreFewOther, AssignmentSuits, ClearingSuits, CommandSuits, FormsCommand, GroupsSuit, OtherSuits, ReducingSuits, StandsHeld, StoreSuits, TestSuits}
-use Rattle.dh_laid.specs.LaidNumbers.{IsAccessForm, Numbers, StoresReach, StoresReachGroups, StoresReachOther, StoresReachPart}
+use Rattle.dh_laid.specs.Laid.{AreTruths, FormsJoined, FormsTested, FormsThere}
+use Rattle.dh_laid.specs.LaidCommands.{ActionsSuit, AreFew, AreFewOther, AssignmentSuits, ClearingSuits, CommandSuits, FormsCommand, GroupsSuit, OtherSuits, ReducingSuits, StoreSuits, TestSuits}
+use Rattle.dh_laid.specs.LaidNumbers.{Numbers, StoresReach, StoresReachGroups, StoresReachOther, StoresReachPart}
 use Rattle.dh_laid.proofs.CommandsLaid.{FormsArm, FormsEnded, actions_form, arm_forms, command_forms, groups_form, held_moved, other_forms, tests_extend}
 use Rattle.dh_laid.proofs.CommandsNumbered.{actions_reached, command_reached, groups_reached, some_arm, tests_number}
 use Rattle.dh_laid.proofs.PathsLaid.{round_later, tests_form}
 use Rattle.dh_laid.proofs.ChoicesLaid.{truths_later}
 use Rattle.dh_laid.proofs.JoinsLaid.{joins_form}
 use Rattle.dh_laid.proofs.ValuesLogged.{logged_ready, tests_same}
-use Rattle.dh_commands.proofs.ArmsLeft.{AreSame, same_again, same_ready}
+use Rattle.dh_commands.proofs.ArmsLeft.{same_again, same_ready}
 use Rattle.dh_paced.specs.Assigned.{IsAssignedIn, IsAssignedInOther}
 use Rattle.dh_paced.specs.Paced.{IsIn, IsReadGroups, IsReadIn, IsReadOther, IsReadPart, action_levels, between_arms, groups_levels, other_levels, part_levels}
-use Rattle.dh_paced.specs.Standing.{AreCurrent, HaveGivenTo, IsGround, IsTarget, OwnsGroups, OwnsIn, OwnsOther, OwnsPart, OwnsTarget, OwnsTerm, Paces, StandsFor, TakesAlone}
+use Rattle.dh_paced.specs.Standing.{AreCurrent, IsGround, IsTarget, OwnsGroups, OwnsIn, OwnsOther, OwnsPart, OwnsTarget, OwnsTerm, Paces, StandsFor, TakesAlone}
 use Rattle.dh_paced.proofs.ArmsPaced.{PacesArm, arm_paced, arm_stands, joined_paced}
 use Rattle.dh_paced.proofs.AssignedCore.{assigned_true, is_target, or_true, other_target, other_true, true_assigned, true_or, true_other}
 use Rattle.dh_paced.proofs.AssignmentsLogged.{HaveRoom, LeavesOf, arm_logged, based, behind_other, command_logged, other_logged, under_arm, values_at}
 use Rattle.dh_paced.proofs.CoreAppended.{action_then_levels, part_then_levels}
-use Rattle.dh_paced.proofs.LanesPaced.{assigned_paced, cleared_paced, given_to, reads_less, reduced_paced}
+use Rattle.dh_paced.proofs.LanesPaced.{assigned_paced, cleared_paced, reads_less, reduced_paced}
 use Rattle.dh_paced.proofs.LevelsOfCommands.{LevelsGo, action_go, assigned_levels, groups_go, other_go, part_go, reduced_core, reduced_leveled}
 use Rattle.dh_paced.proofs.StoresPaced.{by_indices_paced, by_row_paced}
 use Rattle.dh_paced.proofs.TestsPaced.{TestsAt, TestsPaced, tests_paced}

@@ -1,11 +1,11 @@
 -- The straight commands of a command stand in front of those behind it: so levels behind them, and what they mention and
 -- assign to, are of both.
-use Rattle.std.proofs.Common.{◌≡◌, ℕ, ◌+◌, Option, Some, None, refl, ap, sym, ◌∙◌}
+use Rattle.std.proofs.Common.{◌≡◌, ℕ, ◌+◌, Option, refl, ap, sym, ◌∙◌}
 use Rattle.std.specs.Prelude.{Bool as Truth, true, false, ◌||◌, List, [], ◌∷◌}
-use Rattle.dh_tree.specs.PlainTrees.{Action, action, ActionForm, lets, lets_memory, views, assigns, stores, reduces, calls, blocks, decides, repeats, counts, MaybeAction, no_action, one_action, Actions, no_actions, action_then, Groups, no_groups, group_then}
+use Rattle.dh_tree.specs.PlainTrees.{Action, action, lets, lets_memory, views, assigns, stores, reduces, calls, blocks, decides, repeats, counts, Actions, no_actions, action_then, Groups, no_groups, group_then}
 use Rattle.dh_meaning.specs.AccessNumbers.{accesses_of, part_accesses}
-use Rattle.dh_meaning.specs.Core.{CoreCommand, CoreCommands, no_commands, command_and}
-use Rattle.dh_meaning.specs.CoreOf.{Known, core_action, core_action_form, core_commands, core_groups, core_part}
+use Rattle.dh_meaning.specs.Core.{CoreCommands, no_commands, command_and}
+use Rattle.dh_meaning.specs.CoreOf.{Known, core_action, core_commands, core_groups, core_part}
 use Rattle.dh_meaning.specs.Levels.{Levels, any_assigns, assigns_to, command_leveled, commands_leveled}
 use Rattle.dh_meaning.specs.Phases.{Located}
 use Rattle.dh_plan.specs.PlanPhases.{command_mentions, commands_mention}

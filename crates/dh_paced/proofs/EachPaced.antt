@@ -1,12 +1,12 @@
 -- The commands of a block in time, one after the other.
-use Rattle.std.proofs.Common.{◌≡◌, ◌⊎◌, inl, inr, ℕ, suc, ◌+◌, ◌^◌, ◌<◌, ◌≤◌, true, Some, None, Option, List, [], ◌∷◌, length, refl, sym, ap, ◌∙◌, subst, arith}
-use Rattle.std.specs.Prelude.{◌||◌}
+use Rattle.std.proofs.Common.{◌≡◌, ◌⊎◌, inl, inr, ℕ, ◌+◌, ◌^◌, ◌<◌, ◌≤◌, true, Some, Option, List, [], ◌∷◌, length, refl, sym, ◌∙◌, subst, arith}
 use Rattle.std.specs.List.{AllByRecursion}
 use Rattle.std.proofs.lemmas.Bool.{cases_lt}
 use Rattle.dh_meaning.specs.AccessNumbers.{accesses_of}
-use Rattle.dh_meaning.specs.Core.{CoreCommands, no_commands}
+use Rattle.dh_meaning.specs.Core.{no_commands}
 use Rattle.dh_meaning.specs.CoreOf.{core_action, core_commands}
 use Rattle.dh_meaning.specs.Levels.{Levels}
+use Rattle.dh_meaning.specs.OnePhase.{any_makes, makes}
 use Rattle.dh_meaning.specs.Phases.{Located}
 use Rattle.dh_plan.specs.PlanPhases.{commands_mention}
 use Rattle.dh_expressions.specs.declared.accesses.Accesses.{Accesses}
@@ -16,8 +16,8 @@ use Rattle.dh_expressions.specs.Drafted.{Extends}
 use Rattle.dh_expressions.specs.Evaluated.{known_in}
 use Rattle.dh_expressions.proofs.Pushing.{extends_again}
 use Rattle.dh_formed.specs.Counted.{given_at_paths}
-use Rattle.dh_formed.specs.Formed.{Agrees, Block, IsNoted, Site}
-use Rattle.dh_formed.specs.Timed.{AgreeInTime, AreBounded, Clocks, ReadsAgree}
+use Rattle.dh_formed.specs.Formed.{Agrees, IsNoted, Site}
+use Rattle.dh_formed.specs.Timed.{AgreeInTime, AreBounded, Clocks}
 use Rattle.dh_formed.proofs.TermsCounted.{left_of, right_of}
 use Rattle.dh_formed.proofs.ValuesFormed.{agrees_before}
 use Rattle.dh_formed.proofs.ValuesTimed.{agree_before}
@@ -26,14 +26,14 @@ use Rattle.dh_commands.specs.LanesRun.{paths_counted}
 use Rattle.dh_commands.specs.MadeCommands.{MadeCommand}
 use Rattle.dh_laid.specs.BareCommands.{AreRising}
 use Rattle.dh_laid.specs.BlockSites.{MadeEach}
-use Rattle.dh_laid.specs.LaidCommands.{AreFew, CommandSuits, FormsCommand}
-use Rattle.dh_laid.specs.LaidNumbers.{Numbers, StoresReach}
+use Rattle.dh_laid.specs.LaidCommands.{CommandSuits, FormsCommand}
+use Rattle.dh_laid.specs.LaidNumbers.{StoresReach}
 use Rattle.dh_laid.proofs.CommandsLaid.{command_forms}
 use Rattle.dh_laid.proofs.CommandsNumbered.{command_reached}
 use Rattle.dh_laid.proofs.PathsLaid.{extends_same}
 use Rattle.dh_paced.specs.BlockLengths.{AssignsOwn, EachSuits}
 use Rattle.dh_paced.specs.Paced.{IsIn, IsOfEach, IsReadIn, IsReadOfEach, action_levels, each_levels, outer_each, outer_in}
-use Rattle.dh_paced.specs.Standing.{HaveGivenTo, IsGround, OwnsIn, Paces, StandsFor}
+use Rattle.dh_paced.specs.Standing.{HaveGivenTo, IsGround, Paces, StandsFor}
 use Rattle.dh_paced.proofs.CommandsPaced.{both_paced, command_paced, stands_then}
 use Rattle.dh_paced.proofs.CoreAppended.{action_then_mentions}
 use Rattle.dh_paced.proofs.LevelsOfCommands.{LevelsGo, action_go, read_in}
@@ -133,7 +133,7 @@ module _ (c : Clocks) (scene : Scene) (top : Around) (spaces : ℕ) (shared : �
 
   pub each_paced : (cs : List Located) (from : ℕ) (old new : Building) (m : MadeEach scene top cs old new) (l : Levels) → AllByRecursion (λ (d : Located). StoresReach d.command) cs → AreRising from cs → EachSuits c.block scene top cs old new m
       → AllByRecursion (λ (d : Located). AssignsOwn scene top d.first d.command) cs → StandsFor c scene top spaces shared Variable Read Own top old 0 from l
-      → ((x : ℕ) → IsOfEach cs x → Own x) → ((x : ℕ) → from ≤ x → c.outer x ≡ outer_each (known_in scene) shared cs l x) → ((e : ℕ) → Read e → from ≤ e → IsReadOfEach cs e)
+      → ((x : ℕ) → any_makes x cs ≡ true → Own x) → ((x : ℕ) → from ≤ x → c.outer x ≡ outer_each (known_in scene) shared cs l x) → ((e : ℕ) → Read e → from ≤ e → IsReadOfEach cs e)
       → ((e : ℕ) → commands_mention e (core_commands (known_in scene) cs) ≡ true → Variable e)
       → ((x : ℕ) (s : Site) → c.block.sites x ≡ Some s → (each_levels (known_in scene) shared cs l).reads x ≡ c.reads x) → Agrees c.block new.draft → AgreeInTime c new.draft
       → EachPaced old new (each_levels (known_in scene) shared cs l) (end_of from cs)
@@ -156,9 +156,9 @@ module _ (c : Clocks) (scene : Scene) (top : Around) (spaces : ℕ) (shared : �
       let agrees_mid : Agrees c.block mid.draft = agrees_before c.block mid.draft new.draft more agrees in
       let here : StandsFor c scene top spaces shared Variable Read Own top old 0 d.first l = stands_gap old from d.first l rising.0 (λ e read more. each_first e (reads e read more)) s in
       let mention = λ (e : ℕ). action_then_mentions (known_in scene) d.first d.command (core_commands (known_in scene) cs) e in
-      let known : Knows c scene top spaces shared Variable Read Own d.first (accesses_of d.command) (λ x. outer_in (known_in scene) shared 0 d.first d.command l x) (IsReadIn d.first d.command) (core_action (known_in scene) d.first d.command no_commands) =
+      let known : Knows c scene top spaces shared Variable Read Own d.first (accesses_of d.command) (λ x. outer_in (known_in scene) shared 0 d.first d.command l x) (IsReadIn d.first d.command) (λ x. makes x d.first d.command) (core_action (known_in scene) d.first d.command no_commands) =
       record {
-        own = λ x i. own x (inl i);
+        own = λ x i. own x (left_of (makes x d.first d.command) (any_makes x cs) i);
         outer_is = λ x i. outers x (let r = rising.0 in let a = i.0 in omega (arith, r, a)) ∙ pick_low x k (outer_in (known_in scene) shared 0 d.first d.command l x) (outer_each (known_in scene) shared cs la x) i.1;
         reads = λ e read i. read_here e i (reads e read (let r = rising.0 in let a = i.0 in omega (arith, r, a)));
         names = λ e mentioned. names e (mention e ∙ left_of (commands_mention e (core_action (known_in scene) d.first d.command no_commands)) (commands_mention e (core_commands (known_in scene) cs)) mentioned);
@@ -169,7 +169,7 @@ module _ (c : Clocks) (scene : Scene) (top : Around) (spaces : ℕ) (shared : �
       let behind : StandsFor c scene top spaces shared Variable Read Own top mid 0 k la =
       stands_then c scene top spaces shared Variable Read Own g top old mid 0 d.first k l la (λ x. CommandSuits x scene d.command top old mid d.first next m) here f agrees_mid suits.0 one_go.bounded one_go.more p in
       let q : EachPaced mid new (each_levels (known_in scene) shared cs la) (end_of k cs) =
-      each_paced cs k mid new rest la reach.1 rising.1.1 suits.1 assign.1 behind (λ x i. own x (inr i))
+      each_paced cs k mid new rest la reach.1 rising.1.1 suits.1 assign.1 behind (λ x i. own x (right_of (makes x d.first d.command) (any_makes x cs) i))
       (λ x from_k. outers x (let r = rising.0 in omega (arith, r, from_k)) ∙ pick_high x k (outer_in (known_in scene) shared 0 d.first d.command l x) (outer_each (known_in scene) shared cs la x) from_k)
       (λ e read from_k. read_behind e from_k (reads e read (let r = rising.0 in omega (arith, r, from_k))))
       (λ e mentioned. names e (mention e ∙ right_of (commands_mention e (core_action (known_in scene) d.first d.command no_commands)) (commands_mention e (core_commands (known_in scene) cs)) mentioned)) told agrees agree in

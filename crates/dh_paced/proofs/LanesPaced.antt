@@ -1,29 +1,25 @@
 -- What is put down at one path after the other: assignments, variables that are set to 0, and reducers.
-use Rattle.std.proofs.Common.{◌≡◌, ◌⊎◌, inl, inr, ℕ, zero, suc, ◌+◌, ◌^◌, ◌<◌, ◌≤◌, true, false, Some, None, Option, List, length, refl, sym, ap, ◌∙◌, subst, arith, add-one}
+use Rattle.std.proofs.Common.{◌≡◌, ◌⊎◌, inl, inr, ℕ, zero, suc, ◌+◌, ◌^◌, ◌<◌, ◌≤◌, false, Some, Option, List, length, refl, sym, ap, ◌∙◌, subst, arith, add-one}
 use Rattle.std.specs.Prelude.{max, slice_get}
 use Rattle.std.proofs.lemmas.Bool.{cases_lt}
 use Rattle.dh_value.specs.declared.operators.Op.{Op}
 use Rattle.dh_value.specs.Words.{IsKind}
-use Rattle.dh_tree.specs.declared.trees.expressions.Ref.{Ref}
 use Rattle.dh_tree.specs.PlainTrees.{Term}
 use Rattle.dh_meaning.specs.AccessNumbers.{term_accesses}
-use Rattle.dh_meaning.specs.CoreOf.{core_term}
 use Rattle.dh_meaning.specs.Levels.{Leveled, Levels, greatest, with_value, with_variables}
 use Rattle.dh_code.specs.Slots.{held_at}
-use Rattle.dh_plan.specs.PlanPhases.{term_mentions}
 use Rattle.dh_expressions.specs.declared.accesses.Accesses.{Accesses}
 use Rattle.dh_expressions.specs.declared.drafts.Draft.{Draft}
 use Rattle.dh_expressions.specs.declared.scenes.Around.{Around}
 use Rattle.dh_expressions.specs.declared.scenes.Scene.{Scene}
 use Rattle.dh_expressions.specs.Drafted.{Extends}
-use Rattle.dh_expressions.specs.Evaluated.{known_in}
 use Rattle.dh_expressions.specs.MadeTerms.{MadeTerm}
 use Rattle.dh_expressions.specs.Shown.{kind_written, register_at}
 use Rattle.dh_expressions.proofs.ListPlaces.{set_long}
 use Rattle.dh_expressions.proofs.Pushing.{extends_again}
 use Rattle.dh_formed.specs.Counted.{AreNext, HaveGiven, given_at_paths}
-use Rattle.dh_formed.specs.Formed.{Agrees, Block, HeldSuits, IsNoted, IsScope, TermSuits}
-use Rattle.dh_formed.specs.Timed.{AgreeInTime, AreBounded, Clocks, CurrentAt, EntityAt, HasClock, LevelsThen, NotedInTime, ReadsAgree, StandsInTime, TimesTerm, TimesValue, Within, leveled}
+use Rattle.dh_formed.specs.Formed.{Agrees, HeldSuits, IsNoted, IsScope, TermSuits}
+use Rattle.dh_formed.specs.Timed.{AgreeInTime, Clocks, CurrentAt, HasClock, LevelsThen, NotedInTime, ReadsAgree, TimesValue, Within, leveled}
 use Rattle.dh_formed.proofs.LevelsBehind.{levels_behind}
 use Rattle.dh_formed.proofs.ValuesFormed.{agrees_before}
 use Rattle.dh_formed.proofs.ValuesTimed.{agree_before, held_timed, number_timed, time_later, within_again, within_more, within_none}
@@ -32,12 +28,12 @@ use Rattle.dh_commands.specs.LanesRun.{lane_of, paths_counted}
 use Rattle.dh_commands.specs.MadeCommands.{AssignedTo, ClearedTo, MadeAssigned, MadeCleared, MadeLanes, MadeReduced, ReducedTo}
 use Rattle.dh_commands.specs.ShownVariables.{register_in}
 use Rattle.dh_commands.specs.Undone.{Assigns}
-use Rattle.dh_laid.specs.Laid.{AreHeld, FitsRegister, FormsAtPath, FormsThere, ReducerSuits, StandsRound}
+use Rattle.dh_laid.specs.Laid.{AreHeld, FitsRegister, FormsThere, ReducerSuits}
 use Rattle.dh_laid.proofs.PathsLaid.{extends_same, round_later, scope_of}
 use Rattle.dh_laid.proofs.ReducersLaid.{reduces_form}
 use Rattle.dh_laid.proofs.ValuesLaid.{assignments_form, clearings_form}
 use Rattle.dh_paced.specs.Paced.{IsIn}
-use Rattle.dh_paced.specs.Standing.{AreCurrent, AreOwn, HaveGivenTo, IsGround, IsTarget, IsUnder, OwnsTerm, Paces, StandsFor, TakesAlone}
+use Rattle.dh_paced.specs.Standing.{HaveGivenTo, IsGround, IsTarget, OwnsTerm, Paces, StandsFor, TakesAlone}
 use Rattle.dh_paced.proofs.AssigningPaced.{Assigning, assigned_all, assigning_more, assigning_none, mentioned_there}
 use Rattle.dh_paced.proofs.AssignmentsLogged.{register_under}
 use Rattle.dh_paced.proofs.LeavesPaced.{IsHere, TermHere, folded_timed, next_of, term_here}

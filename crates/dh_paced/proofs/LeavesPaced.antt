@@ -1,7 +1,6 @@
 -- Expressions, and what commands put down beside them, at one path of a block.
-use Rattle.std.proofs.Common.{◌≡◌, ◌⊎◌, inl, inr, ℕ, suc, ◌+◌, ◌^◌, ◌<◌, ◌≤◌, true, false, Some, None, Option, List, length, refl, sym, ap, ◌∙◌, subst, arith}
+use Rattle.std.proofs.Common.{◌≡◌, ℕ, ◌+◌, ◌^◌, ◌<◌, ◌≤◌, true, false, Some, Option, List, length, refl, sym, ap, ◌∙◌, subst, arith}
 use Rattle.std.specs.Prelude.{Bool as Truth, max, slice_get}
-use Rattle.std.proofs.lemmas.Bool.{cases_lt}
 use Rattle.dh_value.specs.declared.kinds.Kind.{Kind}
 use Rattle.dh_value.specs.declared.kinds.Kind.TheVariants as kind
 use Rattle.dh_value.specs.declared.operators.Op.{Op}
@@ -9,12 +8,11 @@ use Rattle.dh_tree.specs.PlainTrees as plain
 use Rattle.dh_tree.specs.PlainTrees.{Term}
 use Rattle.dh_meaning.specs.AccessNumbers.{term_accesses, terms_accesses}
 use Rattle.dh_meaning.specs.CoreOf.{core_term, core_terms}
-use Rattle.dh_meaning.specs.Levels.{Leveled, Levels}
+use Rattle.dh_meaning.specs.Levels.{Levels}
 use Rattle.dh_code.specs.Extended.{extension_of}
 use Rattle.dh_code.specs.Made.{same_kind}
 use Rattle.dh_code.specs.declared.places.Held.{Held}
 use Rattle.dh_plan.specs.declared.operations.OperationForm.TheVariants.{Convert}
-use Rattle.dh_plan.specs.LegalSchedules.{greatest_of}
 use Rattle.dh_plan.specs.PlanPhases.{term_mentions, terms_mention}
 use Rattle.dh_expressions.specs.declared.accesses.Accesses.{Accesses}
 use Rattle.dh_expressions.specs.declared.drafts.Draft.{Draft}
@@ -24,21 +22,20 @@ use Rattle.dh_expressions.specs.declared.scenes.Scene.{Scene}
 use Rattle.dh_expressions.specs.Drafted.{Extends}
 use Rattle.dh_expressions.specs.Evaluated.{known_in}
 use Rattle.dh_expressions.specs.MadeTerms.{MadeTerm, MadeTerms}
-use Rattle.dh_expressions.specs.MadeValues.{IsThere, MadeConverted, MadeShown}
+use Rattle.dh_expressions.specs.MadeValues.{IsThere, MadeConverted}
 use Rattle.dh_expressions.specs.Shown.{kind_written, register_at}
 use Rattle.dh_expressions.proofs.ListPlaces.{place_within, some_same}
 use Rattle.dh_expressions.proofs.Pushing.{extends_again, extends_self}
-use Rattle.dh_formed.specs.Counted.{AreNext, CountsTerm, CountsTerms, HaveGiven, Stands, given_at_paths}
+use Rattle.dh_formed.specs.Counted.{AreNext, HaveGiven, given_at_paths}
 use Rattle.dh_formed.specs.Formed.{Agrees, AreNumbers, FormsPart, IsNoted, IsScope, TermSuits, TermsSuit}
-use Rattle.dh_formed.specs.Timed.{AgreeInTime, AreBounded, Clocks, CurrentAt, EntityAt, GuardAt, HasClock, NotedInTime, ReadsAgree, StandsInTime, StartedInTime, TimesTerm, TimesTerms, TimesValue, Within, all_leveled, clock_of, leveled}
+use Rattle.dh_formed.specs.Timed.{AgreeInTime, AreBounded, Clocks, CurrentAt, EntityAt, GuardAt, HasClock, NotedInTime, ReadsAgree, StandsInTime, TimesTerm, TimesTerms, TimesValue, Within, all_leveled, clock_of, leveled}
 use Rattle.dh_formed.proofs.TermsCounted.{all_counted, counted}
 use Rattle.dh_formed.proofs.TermsFormed.{all_formed, formed}
 use Rattle.dh_formed.proofs.TermsTimed.{all_timed, timed}
-use Rattle.dh_formed.proofs.ValuesTimed.{agree_before, compute_timed, held_timed, shown_timed, time_later, timed_pushed, within_again, within_more, within_none}
-use Rattle.dh_commands.specs.LanesRun.{lane_of, paths_counted}
+use Rattle.dh_formed.proofs.ValuesTimed.{agree_before, compute_timed, held_timed, shown_timed, time_later, timed_pushed, within_again, within_none}
 use Rattle.dh_commands.specs.MadeCommands.{FoldedWith, MadeOldOperand, MadeOperand}
 use Rattle.dh_paced.specs.Paced.{IsIn}
-use Rattle.dh_paced.specs.Standing.{AreOwn, HaveGivenTo, IsGround, OwnsTerm, OwnsTerms}
+use Rattle.dh_paced.specs.Standing.{AreOwn, IsGround, OwnsTerm, OwnsTerms}
 
 -- Values in time.
 

@@ -1,6 +1,6 @@
 -- The levels behind a command: of reads those of its own alone are others, and the greatest level is no more than it was,
 -- or than that of one of these reads. By recursion on the command.
-use Rattle.std.proofs.Common.{◌≡◌, ◌⊎◌, inl, inr, ℕ, suc, ◌+◌, ◌<◌, ◌≤◌, Some, None, Option, refl, sym, ap, ◌∙◌, subst, arith}
+use Rattle.std.proofs.Common.{◌≡◌, ◌⊎◌, inl, inr, ℕ, suc, ◌+◌, ◌<◌, ◌≤◌, Some, None, Option, refl, sym, ◌∙◌, subst, arith}
 use Rattle.std.specs.Prelude.{Bool as Truth, true, false, ◌==◌, ◌||◌, if◌then◌else◌, max}
 use Rattle.dh_value.specs.declared.operators.Op.{Op}
 use Rattle.dh_tree.specs.declared.trees.expressions.Ref.{Ref}
@@ -14,11 +14,11 @@ use Rattle.dh_meaning.specs.CoreOf.{core_action, core_groups, core_other, core_p
 use Rattle.dh_meaning.specs.Levels.{Leveled, Levels, any_assigns, arms_joined, choice_levels, command_leveled, greatest, term_leveled, with_value, with_variables}
 use Rattle.dh_expressions.specs.declared.scenes.Scene.{Scene}
 use Rattle.dh_expressions.specs.Evaluated.{known_in}
-use Rattle.dh_formed.specs.Timed.{AreBounded, LevelsThen, all_leveled, leveled}
+use Rattle.dh_formed.specs.Timed.{AreBounded, LevelsThen, leveled}
 use Rattle.dh_formed.proofs.LevelsBehind.{all_levels_behind, levels_behind, operation_leveled}
 use Rattle.dh_laid.specs.Laid.{aim_accesses}
 use Rattle.dh_laid.specs.LaidNumbers.{IsAccessForm, StoresReach, StoresReachGroups, StoresReachOther, StoresReachPart}
-use Rattle.dh_paced.specs.Paced.{IsIn, IsReadIn, IsReadGroups, IsReadOther, IsReadPart, action_levels, between_arms, groups_levels, other_levels, part_levels, term_levels}
+use Rattle.dh_paced.specs.Paced.{IsIn, IsReadIn, IsReadGroups, IsReadOther, IsReadPart, action_levels, between_arms, groups_levels, other_levels, part_levels}
 use Rattle.dh_paced.proofs.CoreAppended.{action_then_levels, part_then_levels}
 
 -- Reads are among the accesses.

@@ -13,3 +13,4 @@ pub mod CommandsPaced
 pub mod OwnsCommands
 pub mod ReadsHaveSites
 pub mod EachPaced
+pub mod BlocksPaced

@@ -1,11 +1,8 @@
 -- What is asked of each part of a command, from what is known of the whole: by recursion on the command.
-use Rattle.std.proofs.Common.{◌≡◌, ◌⊎◌, inl, inr, ℕ, suc, ◌+◌, ◌<◌, ◌≤◌, true, false, Some, None, Option, refl, sym, ap, ◌∙◌, subst, arith}
-use Rattle.std.specs.Prelude.{Bool as Truth, ◌==◌, ◌||◌, if◌then◌else◌, max, nat_lt}
-use Rattle.std.proofs.lemmas.Bool.{eq-eqb}
+use Rattle.std.proofs.Common.{◌≡◌, ◌⊎◌, inl, inr, ℕ, suc, ◌+◌, ◌<◌, ◌≤◌, true, false, Some, None, Option, refl, sym, ◌∙◌, subst, arith}
+use Rattle.std.specs.Prelude.{Bool as Truth, ◌==◌, ◌||◌, ◌&&◌, nat_le, if◌then◌else◌, max, nat_lt}
 use Rattle.std.proofs.lemmas.Bool.Decides.{nat_tests}
 use Rattle.dh_tree.specs.Indices.{form_of}
-use Rattle.dh_tree.specs.declared.trees.expressions.Ref.{Ref}
-use Rattle.dh_value.specs.declared.operators.Op.{Op}
 use Rattle.dh_tree.specs.PlainTrees as plain
 use Rattle.dh_tree.specs.PlainTrees.{Term, Action, action, ActionForm, lets, lets_memory, views, assigns, stores, reduces, calls, blocks, decides, repeats, counts, MaybeAction, no_action, one_action, Actions, no_actions, action_then, Groups, no_groups, group_then}
 use Rattle.dh_meaning.specs.AccessNumbers.{accesses_of, groups_accesses, other_accesses, part_accesses, term_accesses, terms_accesses}
@@ -13,7 +10,8 @@ use Rattle.dh_meaning.specs.Bindings.{kind_found}
 use Rattle.dh_meaning.specs.Core.{CoreCommands, CoreTerm, assign, choose, command_and, no_commands, variable}
 use Rattle.dh_meaning.specs.CoreOf.{core_action, core_groups, core_other, core_part, core_term, core_terms, depth_of, entity_number, kind_of, operation_of, store_to}
 use Rattle.dh_meaning.specs.Levels.{Leveled, Levels}
-use Rattle.dh_plan.specs.PlanPhases.{command_mentions, commands_mention, term_mentions, terms_mention}
+use Rattle.dh_meaning.specs.OnePhase.{groups_make, is_within, makes, other_makes, part_makes}
+use Rattle.dh_plan.specs.PlanPhases.{commands_mention, term_mentions, terms_mention}
 use Rattle.dh_expressions.specs.declared.scenes.Around.{Around}
 use Rattle.dh_expressions.specs.declared.scenes.Scene.{Scene}
 use Rattle.dh_expressions.specs.Evaluated.{known_in}
@@ -23,9 +21,9 @@ use Rattle.dh_laid.specs.Laid.{aim_accesses}
 use Rattle.dh_laid.specs.LaidNumbers.{IsAccessForm, StoresReach, StoresReachGroups, StoresReachOther, StoresReachPart}
 use Rattle.dh_paced.specs.BlockLengths.{AssignsOwn, AssignsOwnGroups, AssignsOwnOther, AssignsOwnPart}
 use Rattle.dh_paced.specs.Paced.{IsIn, IsReadGroups, IsReadIn, IsReadOther, IsReadPart, action_levels, between_arms, outer_groups, outer_in, outer_other, outer_part, part_levels}
-use Rattle.dh_paced.specs.Standing.{AreOwn, IsTarget, OwnsGroups, OwnsIn, OwnsOther, OwnsPart, OwnsTarget, OwnsTerm, OwnsTerms, OwnsWrite}
+use Rattle.dh_paced.specs.Standing.{OwnsGroups, OwnsIn, OwnsOther, OwnsPart, OwnsTarget, OwnsTerm, OwnsTerms}
 use Rattle.dh_paced.proofs.CoreAppended.{action_then_mentions, appended, appended_mentions, part_then_mentions}
-use Rattle.dh_paced.proofs.LevelsOfCommands.{aims_fewer, read_in, read_in_groups, read_in_other, read_in_part}
+use Rattle.dh_paced.proofs.LevelsOfCommands.{read_in, read_in_groups, read_in_other, read_in_part}
 
 pub pick_low : (m k x y : ℕ) → m < k → (if nat_lt m k then x else y) ≡ x
 pick_low m k x y less = grind (arith, nat_tests, less)
@@ -33,23 +31,29 @@ pick_low m k x y less = grind (arith, nat_tests, less)
 pub pick_high : (m k x y : ℕ) → k ≤ m → (if nat_lt m k then x else y) ≡ y
 pick_high m k x y more = grind (arith, nat_tests, more)
 
+within : (k n count : ℕ) → IsIn n count k → is_within k n count ≡ true
+within k n count among = let f = among.0 in let b = among.1 in decided k n (n + count) f b
+  where
+    decided : (k n e : ℕ) → n ≤ k → k < e → (nat_le n k && nat_lt k e) ≡ true
+    decided k n e f b = grind (arith, nat_tests, f, b)
+
 or_none : (a : Truth) → a ≡ true → (a || false) ≡ true
 or_none a h = left_of a false h
 
 module _ (c : Clocks) (scene : Scene) (top : Around) (spaces : ℕ) (shared : ℕ → Option ℕ) (Variable Read Own : ℕ → Type 0) where
   -- what is known of a command, or of parts of a block, whose accesses are so many, from a first one on
-  pub record Knows (first count : ℕ) (outers : (m : ℕ) → ℕ) (IsRead : ℕ → Type 0) (cs : CoreCommands) : Type 0 where
-    pub own : (m : ℕ) → IsIn first count m → Own m
+  pub record Knows (first count : ℕ) (outers : (m : ℕ) → ℕ) (IsRead : ℕ → Type 0) (made : ℕ → Truth) (cs : CoreCommands) : Type 0 where
+    pub own : (m : ℕ) → made m ≡ true → Own m
     pub outer_is : (m : ℕ) → IsIn first count m → c.outer m ≡ outers m
     pub reads : (e : ℕ) → Read e → IsIn first count e → IsRead e
     pub names : (e : ℕ) → commands_mention e cs ≡ true → Variable e
 
   -- an expression among accesses with one level round them
-  term_own : (outer first k count n : ℕ) (t : Term) (outers : (m : ℕ) → ℕ) (IsRead : ℕ → Type 0) (cs : CoreCommands) → Knows first count outers IsRead cs → first ≤ n → n + term_accesses t ≤ first + count
-      → ((m : ℕ) → IsIn n (term_accesses t) m → outers m ≡ outer) → ((e : ℕ) → term_mentions e (core_term (known_in scene) n t) ≡ true → commands_mention e cs ≡ true) → OwnsTerm c scene top spaces shared Variable Read Own outer n t
-  term_own outer first k count n t outers IsRead cs h from below is mentions = record {
+  term_own : (outer first k count n : ℕ) (t : Term) (outers : (m : ℕ) → ℕ) (IsRead : ℕ → Type 0) (made : ℕ → Truth) (cs : CoreCommands) → Knows first count outers IsRead made cs → first ≤ n → n + term_accesses t ≤ first + count
+      → ((m : ℕ) → IsIn n (term_accesses t) m → made m ≡ true) → ((m : ℕ) → IsIn n (term_accesses t) m → outers m ≡ outer) → ((e : ℕ) → term_mentions e (core_term (known_in scene) n t) ≡ true → commands_mention e cs ≡ true) → OwnsTerm c scene top spaces shared Variable Read Own outer n t
+  term_own outer first k count n t outers IsRead made cs h from below makes is mentions = record {
     are = record {
-      own = λ m among. h.own m (wide m among);
+      own = λ m among. h.own m (makes m among);
       outers = λ m among. h.outer_is m (wide m among) ∙ is m among;
     };
     names = λ e mentioned. h.names e (mentions e mentioned);
@@ -58,11 +62,11 @@ module _ (c : Clocks) (scene : Scene) (top : Around) (spaces : ℕ) (shared : �
       wide : (m : ℕ) → IsIn n (term_accesses t) m → IsIn first count m
       wide m among = let f = among.0 in let b = among.1 in (omega (arith, from, f), omega (arith, below, b))
 
-  terms_own : (outer first count n : ℕ) (ts : plain.Terms) (outers : (m : ℕ) → ℕ) (IsRead : ℕ → Type 0) (cs : CoreCommands) → Knows first count outers IsRead cs → first ≤ n → n + terms_accesses ts ≤ first + count
-      → ((m : ℕ) → IsIn n (terms_accesses ts) m → outers m ≡ outer) → ((e : ℕ) → terms_mention e (core_terms (known_in scene) n ts) ≡ true → commands_mention e cs ≡ true) → OwnsTerms c scene top spaces shared Variable Read Own outer n ts
-  terms_own outer first count n ts outers IsRead cs h from below is mentions = record {
+  terms_own : (outer first count n : ℕ) (ts : plain.Terms) (outers : (m : ℕ) → ℕ) (IsRead : ℕ → Type 0) (made : ℕ → Truth) (cs : CoreCommands) → Knows first count outers IsRead made cs → first ≤ n → n + terms_accesses ts ≤ first + count
+      → ((m : ℕ) → IsIn n (terms_accesses ts) m → made m ≡ true) → ((m : ℕ) → IsIn n (terms_accesses ts) m → outers m ≡ outer) → ((e : ℕ) → terms_mention e (core_terms (known_in scene) n ts) ≡ true → commands_mention e cs ≡ true) → OwnsTerms c scene top spaces shared Variable Read Own outer n ts
+  terms_own outer first count n ts outers IsRead made cs h from below makes is mentions = record {
     are = record {
-      own = λ m among. h.own m (wide m among);
+      own = λ m among. h.own m (makes m among);
       outers = λ m among. h.outer_is m (wide m among) ∙ is m among;
     };
     names = λ e mentioned. h.names e (mentions e mentioned);
@@ -73,39 +77,39 @@ module _ (c : Clocks) (scene : Scene) (top : Around) (spaces : ℕ) (shared : �
 
   -- what is assigned, with a value
   assigned_own : (outer first e : ℕ) (t : Term) (value : CoreTerm) (depth : ℕ) → ((f : ℕ) → term_mentions f (core_term (known_in scene) first t) ≡ true → term_mentions f value ≡ true)
-      → Knows first (term_accesses t + 0) (λ m. outer) (IsIn first (term_accesses t)) (command_and (assign depth e value) no_commands) → OwnsTerm c scene top spaces shared Variable Read Own outer first t × Variable e
+      → Knows first (term_accesses t + 0) (λ m. outer) (IsIn first (term_accesses t)) (λ m. is_within m first (term_accesses t)) (command_and (assign depth e value) no_commands) → OwnsTerm c scene top spaces shared Variable Read Own outer first t × Variable e
   assigned_own outer first e t value depth more h = (
-    term_own outer first 0 (term_accesses t + 0) first t (λ m. outer) (IsIn first (term_accesses t)) (command_and (assign depth e value) no_commands) h (omega arith) (omega arith) (λ m among. refl)
+    term_own outer first 0 (term_accesses t + 0) first t (λ m. outer) (IsIn first (term_accesses t)) (λ m. is_within m first (term_accesses t)) (command_and (assign depth e value) no_commands) h (omega arith) (omega arith) (λ m among. within m first (term_accesses t) among) (λ m among. refl)
         (λ f mentioned. or_none ((f == e) || term_mentions f value) (right_of (f == e) (term_mentions f value) (more f mentioned))),
     h.names e (or_none ((e == e) || term_mentions e value) (left_of (e == e) (term_mentions e value) (itself e))),
   )
 
   -- a store
   stored_own : (outer first : ℕ) (target t : Term) → IsAccessForm (form_of target)
-      → Knows first ((term_accesses t + term_accesses target) + 0) (λ m. outer) (IsIn first (term_accesses t + aim_accesses (form_of target)))
+      → Knows first ((term_accesses t + term_accesses target) + 0) (λ m. outer) (IsIn first (term_accesses t + aim_accesses (form_of target))) (λ m. is_within m first (term_accesses t + term_accesses target))
       (command_and (store_to (known_in scene) (first + term_accesses t) target (core_term (known_in scene) first t)) no_commands)
       → OwnsTerm c scene top spaces shared Variable Read Own outer first t × OwnsTarget c scene top spaces shared Variable Read Own outer (first + term_accesses t) (form_of target)
   stored_own outer first (plain.term place k (plain.accessed r ts)) t is h = (
-    term_own outer first 0 ((term_accesses t + suc (terms_accesses ts)) + 0) first t (λ m. outer) _ _ h (omega arith) (omega arith) (λ m among. refl)
+    term_own outer first 0 ((term_accesses t + suc (terms_accesses ts)) + 0) first t (λ m. outer) _ _ _ h (omega arith) (omega arith) (λ m among. within m first (term_accesses t + suc (terms_accesses ts)) (let f = among.0 in let b = among.1 in (omega (arith, f), omega (arith, b)))) (λ m among. refl)
         (λ e mentioned. or_none _ (left_of (term_mentions e (core_term (known_in scene) first t)) (terms_mention e (core_terms (known_in scene) (first + term_accesses t) ts)) mentioned)),
     (
-      terms_own outer first ((term_accesses t + suc (terms_accesses ts)) + 0) (first + term_accesses t) ts (λ m. outer) _ _ h (omega arith) (omega arith) (λ m among. refl)
+      terms_own outer first ((term_accesses t + suc (terms_accesses ts)) + 0) (first + term_accesses t) ts (λ m. outer) _ _ _ h (omega arith) (omega arith) (λ m among. within m first (term_accesses t + suc (terms_accesses ts)) (let f = among.0 in let b = among.1 in (omega (arith, f), omega (arith, b)))) (λ m among. refl)
           (λ e mentioned. or_none _ (right_of (term_mentions e (core_term (known_in scene) first t)) (terms_mention e (core_terms (known_in scene) (first + term_accesses t) ts)) mentioned)),
       record {
-        own = h.own (first + term_accesses t + terms_accesses ts) (omega arith, omega arith);
+        own = h.own (first + term_accesses t + terms_accesses ts) (within _ first (term_accesses t + suc (terms_accesses ts)) (omega arith, omega arith));
         outer_is = h.outer_is (first + term_accesses t + terms_accesses ts) (omega arith, omega arith);
         unread = λ read. let r = h.reads (first + term_accesses t + terms_accesses ts) read (omega arith, omega arith) in let b = r.1 in omega (arith, b);
       },
     ),
   )
   stored_own outer first (plain.term place k (plain.in_bank r bank at row)) t is h = (
-    term_own outer first 0 ((term_accesses t + suc (term_accesses row)) + 0) first t (λ m. outer) _ _ h (omega arith) (omega arith) (λ m among. refl)
+    term_own outer first 0 ((term_accesses t + suc (term_accesses row)) + 0) first t (λ m. outer) _ _ _ h (omega arith) (omega arith) (λ m among. within m first (term_accesses t + suc (term_accesses row)) (let f = among.0 in let b = among.1 in (omega (arith, f), omega (arith, b)))) (λ m among. refl)
         (λ e mentioned. or_none _ (left_of (term_mentions e (core_term (known_in scene) first t)) (term_mentions e (core_term (known_in scene) (first + term_accesses t) row)) mentioned)),
     (
-      term_own outer first 0 ((term_accesses t + suc (term_accesses row)) + 0) (first + term_accesses t) row (λ m. outer) _ _ h (omega arith) (omega arith) (λ m among. refl)
+      term_own outer first 0 ((term_accesses t + suc (term_accesses row)) + 0) (first + term_accesses t) row (λ m. outer) _ _ _ h (omega arith) (omega arith) (λ m among. within m first (term_accesses t + suc (term_accesses row)) (let f = among.0 in let b = among.1 in (omega (arith, f), omega (arith, b)))) (λ m among. refl)
           (λ e mentioned. or_none _ (right_of (term_mentions e (core_term (known_in scene) first t)) (term_mentions e (core_term (known_in scene) (first + term_accesses t) row)) mentioned)),
       record {
-        own = h.own (first + term_accesses t + term_accesses row) (omega arith, omega arith);
+        own = h.own (first + term_accesses t + term_accesses row) (within _ first (term_accesses t + suc (term_accesses row)) (omega arith, omega arith));
         outer_is = h.outer_is (first + term_accesses t + term_accesses row) (omega arith, omega arith);
         unread = λ read. let r = h.reads (first + term_accesses t + term_accesses row) read (omega arith, omega arith) in let b = r.1 in omega (arith, b);
       },
@@ -118,10 +122,10 @@ module _ (c : Clocks) (scene : Scene) (top : Around) (spaces : ℕ) (shared : �
   stored_own outer first (plain.term place k (plain.converted inner to)) t is h = absurd is
 
   -- parts one behind the other
-  first_known : (first a b : ℕ) (f g : (m : ℕ) → ℕ) (P Q : ℕ → Type 0) (cs one two : CoreCommands) → ((e : ℕ) → commands_mention e cs ≡ (commands_mention e one || commands_mention e two)) → ((m : ℕ) → Q m → IsIn (first + a) b m)
-      → Knows first (a + b) (λ m. if nat_lt m (first + a) then f m else g m) (λ m. P m ⊎ Q m) cs → Knows first a f P one
-  first_known first a b f g P Q cs one two mention among h = record {
-    own = λ m i. h.own m (i.0, let l = i.1 in omega (arith, l));
+  first_known : (first a b : ℕ) (f g : (m : ℕ) → ℕ) (P Q : ℕ → Type 0) (d e : ℕ → Truth) (cs one two : CoreCommands) → ((e : ℕ) → commands_mention e cs ≡ (commands_mention e one || commands_mention e two)) → ((m : ℕ) → Q m → IsIn (first + a) b m)
+      → Knows first (a + b) (λ m. if nat_lt m (first + a) then f m else g m) (λ m. P m ⊎ Q m) (λ m. d m || e m) cs → Knows first a f P d one
+  first_known first a b f g P Q d e cs one two mention among h = record {
+    own = λ m i. h.own m (left_of (d m) (e m) i);
     outer_is = λ m i. h.outer_is m (i.0, let l = i.1 in omega (arith, l)) ∙ pick_low m (first + a) (f m) (g m) i.1;
     reads = λ e read i. by e i (h.reads e read (i.0, let l = i.1 in omega (arith, l)));
     names = λ e mentioned. h.names e (mention e ∙ left_of (commands_mention e one) (commands_mention e two) mentioned);
@@ -134,10 +138,10 @@ module _ (c : Clocks) (scene : Scene) (top : Around) (spaces : ℕ) (shared : �
           never : (e : ℕ) → e < first + a → first + a ≤ e → ⊥
           never e l f = omega (arith, l, f)
 
-  second_known : (first a b : ℕ) (f g : (m : ℕ) → ℕ) (P Q : ℕ → Type 0) (cs one two : CoreCommands) → ((e : ℕ) → commands_mention e cs ≡ (commands_mention e one || commands_mention e two)) → ((m : ℕ) → P m → IsIn first a m)
-      → Knows first (a + b) (λ m. if nat_lt m (first + a) then f m else g m) (λ m. P m ⊎ Q m) cs → Knows (first + a) b g Q two
-  second_known first a b f g P Q cs one two mention among h = record {
-    own = λ m i. h.own m (wide m i);
+  second_known : (first a b : ℕ) (f g : (m : ℕ) → ℕ) (P Q : ℕ → Type 0) (d e : ℕ → Truth) (cs one two : CoreCommands) → ((e : ℕ) → commands_mention e cs ≡ (commands_mention e one || commands_mention e two)) → ((m : ℕ) → P m → IsIn first a m)
+      → Knows first (a + b) (λ m. if nat_lt m (first + a) then f m else g m) (λ m. P m ⊎ Q m) (λ m. d m || e m) cs → Knows (first + a) b g Q e two
+  second_known first a b f g P Q d e cs one two mention among h = record {
+    own = λ m i. h.own m (right_of (d m) (e m) i);
     outer_is = λ m i. h.outer_is m (wide m i) ∙ pick_high m (first + a) (f m) (g m) i.0;
     reads = λ e read i. by e i (h.reads e read (wide e i));
     names = λ e mentioned. h.names e (mention e ∙ right_of (commands_mention e one) (commands_mention e two) mentioned);
@@ -153,8 +157,8 @@ module _ (c : Clocks) (scene : Scene) (top : Around) (spaces : ℕ) (shared : �
           never : (e : ℕ) → e < first + a → first + a ≤ e → ⊥
           never e l f = omega (arith, l, f)
 
-  known_as : (first a b : ℕ) (f : (m : ℕ) → ℕ) (P : ℕ → Type 0) (cs : CoreCommands) → a ≡ b → Knows first a f P cs → Knows first b f P cs
-  known_as first a b f P cs same h = subst (λ (n : ℕ). Knows first n f P cs) same h
+  known_as : (first a b : ℕ) (f : (m : ℕ) → ℕ) (P : ℕ → Type 0) (d : ℕ → Truth) (cs : CoreCommands) → a ≡ b → Knows first a f P d cs → Knows first b f P d cs
+  known_as first a b f P d cs same h = subst (λ (n : ℕ). Knows first n f P d cs) same h
 
   -- the arms of an `if` behind its test
   module _ (outer first : ℕ) (test : Term) (chosen : Action) (other : MaybeAction) (l : Levels) (reaches : StoresReach chosen × StoresReachOther other) where
@@ -182,17 +186,17 @@ module _ (c : Clocks) (scene : Scene) (top : Around) (spaces : ℕ) (shared : �
     abbrev Whole : Type 0
     Whole =
         Knows first (term_accesses test + (accesses_of chosen + other_accesses other)) (λ m. if nat_lt m n1 then outer else (if nat_lt m n2 then outer_chosen m else outer_second m))
-        (λ m. IsIn first (term_accesses test) m ⊎ (IsReadIn n1 chosen m ⊎ IsReadOther n2 other m)) (command_and (choose (core_term (known_in scene) first test) core_chosen core_second) no_commands)
+        (λ m. IsIn first (term_accesses test) m ⊎ (IsReadIn n1 chosen m ⊎ IsReadOther n2 other m)) (λ m. is_within m first (term_accesses test) || (makes m n1 chosen || other_makes m n2 other)) (command_and (choose (core_term (known_in scene) first test) core_chosen core_second) no_commands)
 
     test_own : Whole → OwnsTerm c scene top spaces shared Variable Read Own outer first test
     test_own h =
-        term_own outer first 0 (term_accesses test + (accesses_of chosen + other_accesses other)) first test _ _ _ h (omega arith) (omega arith)
-        (λ m among. pick_low m n1 outer (if nat_lt m n2 then outer_chosen m else outer_second m) among.1) (λ e mentioned. or_none _ (left_of (term_mentions e (core_term (known_in scene) first test)) _ mentioned))
+        term_own outer first 0 (term_accesses test + (accesses_of chosen + other_accesses other)) first test _ _ _ _ h (omega arith) (omega arith)
+        (λ m among. left_of (is_within m first (term_accesses test)) (makes m n1 chosen || other_makes m n2 other) (within m first (term_accesses test) among)) (λ m among. pick_low m n1 outer (if nat_lt m n2 then outer_chosen m else outer_second m) among.1) (λ e mentioned. or_none _ (left_of (term_mentions e (core_term (known_in scene) first test)) _ mentioned))
 
     arms_known : Whole
-        → Knows n1 (accesses_of chosen + other_accesses other) (λ m. if nat_lt m n2 then outer_chosen m else outer_second m) (λ m. IsReadIn n1 chosen m ⊎ IsReadOther n2 other m) (appended core_chosen core_second)
+        → Knows n1 (accesses_of chosen + other_accesses other) (λ m. if nat_lt m n2 then outer_chosen m else outer_second m) (λ m. IsReadIn n1 chosen m ⊎ IsReadOther n2 other m) (λ m. makes m n1 chosen || other_makes m n2 other) (appended core_chosen core_second)
     arms_known h = record {
-      own = λ m i. h.own m (wide m i);
+      own = λ m i. h.own m (right_of (is_within m first (term_accesses test)) (makes m n1 chosen || other_makes m n2 other) i);
       outer_is = λ m i. h.outer_is m (wide m i) ∙ pick_high m n1 outer (if nat_lt m n2 then outer_chosen m else outer_second m) i.0;
       reads = λ e read i. by e i (h.reads e read (wide e i));
       names = λ e mentioned. h.names e (or_none _ (right_of (term_mentions e (core_term (known_in scene) first test)) (commands_mention e core_chosen || commands_mention e core_second) (sym (appended_mentions e core_chosen core_second) ∙ mentioned)));
@@ -208,22 +212,22 @@ module _ (c : Clocks) (scene : Scene) (top : Around) (spaces : ℕ) (shared : �
             never : (e : ℕ) → e < n1 → n1 ≤ e → ⊥
             never e b f = omega (arith, b, f)
 
-    chosen_known : Whole → Knows n1 (accesses_of chosen) outer_chosen (IsReadIn n1 chosen) core_chosen
+    chosen_known : Whole → Knows n1 (accesses_of chosen) outer_chosen (IsReadIn n1 chosen) (λ m. makes m n1 chosen) core_chosen
     chosen_known h =
-        first_known n1 (accesses_of chosen) (other_accesses other) outer_chosen outer_second (IsReadIn n1 chosen) (IsReadOther n2 other) (appended core_chosen core_second) core_chosen core_second (λ e. appended_mentions e core_chosen core_second)
+        first_known n1 (accesses_of chosen) (other_accesses other) outer_chosen outer_second (IsReadIn n1 chosen) (IsReadOther n2 other) (λ m. makes m n1 chosen) (λ m. other_makes m n2 other) (appended core_chosen core_second) core_chosen core_second (λ e. appended_mentions e core_chosen core_second)
         (λ m q. read_in_other n2 other m q reaches.1) (arms_known h)
 
-    second_arm_known : Whole → Knows n2 (other_accesses other) outer_second (IsReadOther n2 other) core_second
+    second_arm_known : Whole → Knows n2 (other_accesses other) outer_second (IsReadOther n2 other) (λ m. other_makes m n2 other) core_second
     second_arm_known h =
-        second_known n1 (accesses_of chosen) (other_accesses other) outer_chosen outer_second (IsReadIn n1 chosen) (IsReadOther n2 other) (appended core_chosen core_second) core_chosen core_second (λ e. appended_mentions e core_chosen core_second)
+        second_known n1 (accesses_of chosen) (other_accesses other) outer_chosen outer_second (IsReadIn n1 chosen) (IsReadOther n2 other) (λ m. makes m n1 chosen) (λ m. other_makes m n2 other) (appended core_chosen core_second) core_chosen core_second (λ e. appended_mentions e core_chosen core_second)
         (λ m p. read_in n1 chosen m p reaches.0) (arms_known h)
 
-  none_read : (first count : ℕ) (outers : (m : ℕ) → ℕ) (cs : CoreCommands) → Knows first count outers (λ m. ⊥) cs → (m : ℕ) → IsIn first count m → Read m → ⊥
+  none_read : (first count : ℕ) (outers : (m : ℕ) → ℕ) (cs : CoreCommands) → Knows first count outers (λ m. ⊥) (λ m. false) cs → (m : ℕ) → IsIn first count m → Read m → ⊥
   none_read first count outers cs h m i read = h.reads m read i
 
   mutual
     pub owns_in : (outer first : ℕ) (a : Action) (l : Levels) → StoresReach a → AssignsOwn scene top first a
-        → Knows first (accesses_of a) (λ m. outer_in (known_in scene) shared outer first a l m) (IsReadIn first a) (core_action (known_in scene) first a no_commands) → OwnsIn c scene top spaces shared Variable Read Own outer first a l
+        → Knows first (accesses_of a) (λ m. outer_in (known_in scene) shared outer first a l m) (IsReadIn first a) (λ m. makes m first a) (core_action (known_in scene) first a no_commands) → OwnsIn c scene top spaces shared Variable Read Own outer first a l
     owns_in outer first (action id place (lets name declared (Some value))) l s a h =
         let o = assigned_own outer first (entity_number name.entity) value (core_term (known_in scene) first value) (depth_of (known_in scene) name) (λ f mentioned. mentioned) h in (o.0, (record { is = o.1; no_counter = a.0 }, a.1))
     owns_in outer first (action id place (lets name declared None)) l s a h =
@@ -247,7 +251,7 @@ module _ (c : Clocks) (scene : Scene) (top : Around) (spaces : ℕ) (shared : �
       ),
     )
     owns_in outer first (action id place (blocks body)) l s a h =
-        owns_groups outer first body l s a (known_as first (0 + groups_accesses body) (groups_accesses body) (λ m. outer_groups (known_in scene) shared outer first body l m) (IsReadGroups first body) (core_groups (known_in scene) first body no_commands) (omega arith) h)
+        owns_groups outer first body l s a (known_as first (0 + groups_accesses body) (groups_accesses body) (λ m. outer_groups (known_in scene) shared outer first body l m) (IsReadGroups first body) (λ m. groups_make m first body) (core_groups (known_in scene) first body no_commands) (omega arith) h)
     owns_in outer first (action id place (lets_memory name shape shape_places value)) l s a h = tt
     owns_in outer first (action id place (views name parent form)) l s a h = tt
     owns_in outer first (action id place (calls function arguments)) l s a h = tt
@@ -256,12 +260,12 @@ module _ (c : Clocks) (scene : Scene) (top : Around) (spaces : ℕ) (shared : �
         λ m i read. none_read first (0 + (accesses_of body + other_accesses combine)) (λ m. outer) no_commands h m (i.0, let b = i.1 in omega (arith, b)) read
 
     pub owns_other : (outer first : ℕ) (other : MaybeAction) (l : Levels) → StoresReachOther other → AssignsOwnOther scene top first other
-        → Knows first (other_accesses other) (λ m. outer_other (known_in scene) shared outer first other l m) (IsReadOther first other) (core_other (known_in scene) first other) → OwnsOther c scene top spaces shared Variable Read Own outer first other l
+        → Knows first (other_accesses other) (λ m. outer_other (known_in scene) shared outer first other l m) (IsReadOther first other) (λ m. other_makes m first other) (core_other (known_in scene) first other) → OwnsOther c scene top spaces shared Variable Read Own outer first other l
     owns_other outer first no_action l s a h = tt
     owns_other outer first (one_action b) l s a h = owns_in outer first b l s a h
 
     owns_part : (outer first : ℕ) (part : Actions) (l : Levels) → StoresReachPart part → AssignsOwnPart scene top first part
-        → Knows first (part_accesses part) (λ m. outer_part (known_in scene) shared outer first part l m) (IsReadPart first part) (core_part (known_in scene) first part no_commands) → OwnsPart c scene top spaces shared Variable Read Own outer first part l
+        → Knows first (part_accesses part) (λ m. outer_part (known_in scene) shared outer first part l m) (IsReadPart first part) (λ m. part_makes m first part) (core_part (known_in scene) first part no_commands) → OwnsPart c scene top spaces shared Variable Read Own outer first part l
     owns_part outer first no_actions l s a h = tt
     owns_part outer first (action_then b rest) l s a h =
         let f = λ (m : ℕ). outer_in (known_in scene) shared outer first b l m in
@@ -270,13 +274,13 @@ module _ (c : Clocks) (scene : Scene) (top : Around) (spaces : ℕ) (shared : �
         let two : CoreCommands = core_part (known_in scene) (first + accesses_of b) rest no_commands in
         let all : CoreCommands = core_action (known_in scene) first b two in (
           owns_in outer first b l s.0 a.0
-              (first_known first (accesses_of b) (part_accesses rest) f e (IsReadIn first b) (IsReadPart (first + accesses_of b) rest) all one two (λ x. action_then_mentions (known_in scene) first b two x) (λ m q. read_in_part (first + accesses_of b) rest m q s.1) h),
+              (first_known first (accesses_of b) (part_accesses rest) f e (IsReadIn first b) (IsReadPart (first + accesses_of b) rest) (λ m. makes m first b) (λ m. part_makes m (first + accesses_of b) rest) all one two (λ x. action_then_mentions (known_in scene) first b two x) (λ m q. read_in_part (first + accesses_of b) rest m q s.1) h),
           owns_part outer (first + accesses_of b) rest (action_levels (known_in scene) shared outer first b l) s.1 a.1
-              (second_known first (accesses_of b) (part_accesses rest) f e (IsReadIn first b) (IsReadPart (first + accesses_of b) rest) all one two (λ x. action_then_mentions (known_in scene) first b two x) (λ m p. read_in first b m p s.0) h),
+              (second_known first (accesses_of b) (part_accesses rest) f e (IsReadIn first b) (IsReadPart (first + accesses_of b) rest) (λ m. makes m first b) (λ m. part_makes m (first + accesses_of b) rest) all one two (λ x. action_then_mentions (known_in scene) first b two x) (λ m p. read_in first b m p s.0) h),
         )
 
     owns_groups : (outer first : ℕ) (body : Groups) (l : Levels) → StoresReachGroups body → AssignsOwnGroups scene top first body
-        → Knows first (groups_accesses body) (λ m. outer_groups (known_in scene) shared outer first body l m) (IsReadGroups first body) (core_groups (known_in scene) first body no_commands) → OwnsGroups c scene top spaces shared Variable Read Own outer first body l
+        → Knows first (groups_accesses body) (λ m. outer_groups (known_in scene) shared outer first body l m) (IsReadGroups first body) (λ m. groups_make m first body) (core_groups (known_in scene) first body no_commands) → OwnsGroups c scene top spaces shared Variable Read Own outer first body l
     owns_groups outer first no_groups l s a h = tt
     owns_groups outer first (group_then part rest) l s a h =
         let f = λ (m : ℕ). outer_part (known_in scene) shared outer first part l m in
@@ -285,7 +289,7 @@ module _ (c : Clocks) (scene : Scene) (top : Around) (spaces : ℕ) (shared : �
         let two : CoreCommands = core_groups (known_in scene) (first + part_accesses part) rest no_commands in
         let all : CoreCommands = core_part (known_in scene) first part two in (
           owns_part outer first part l s.0 a.0
-              (first_known first (part_accesses part) (groups_accesses rest) f e (IsReadPart first part) (IsReadGroups (first + part_accesses part) rest) all one two (λ x. part_then_mentions (known_in scene) first part two x) (λ m q. read_in_groups (first + part_accesses part) rest m q s.1) h),
+              (first_known first (part_accesses part) (groups_accesses rest) f e (IsReadPart first part) (IsReadGroups (first + part_accesses part) rest) (λ m. part_makes m first part) (λ m. groups_make m (first + part_accesses part) rest) all one two (λ x. part_then_mentions (known_in scene) first part two x) (λ m q. read_in_groups (first + part_accesses part) rest m q s.1) h),
           owns_groups outer (first + part_accesses part) rest (part_levels (known_in scene) shared outer first part l) s.1 a.1
-              (second_known first (part_accesses part) (groups_accesses rest) f e (IsReadPart first part) (IsReadGroups (first + part_accesses part) rest) all one two (λ x. part_then_mentions (known_in scene) first part two x) (λ m p. read_in_part first part m p s.0) h),
+              (second_known first (part_accesses part) (groups_accesses rest) f e (IsReadPart first part) (IsReadGroups (first + part_accesses part) rest) (λ m. part_makes m first part) (λ m. groups_make m (first + part_accesses part) rest) all one two (λ x. part_then_mentions (known_in scene) first part two x) (λ m p. read_in_part first part m p s.0) h),
         )

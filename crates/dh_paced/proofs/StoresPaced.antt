@@ -1,10 +1,9 @@
 -- Stores at one path after the other: the value, then what names the element, then its write.
-use Rattle.std.proofs.Common.{◌≡◌, ◌⊎◌, inl, inr, ℕ, zero, suc, ◌+◌, ◌^◌, ◌<◌, ◌≤◌, true, false, Some, None, Option, List, [], length, map, refl, sym, ap, ◌∙◌, subst, arith, add-one}
+use Rattle.std.proofs.Common.{◌≡◌, ◌⊎◌, inl, inr, ℕ, suc, ◌+◌, ◌^◌, ◌<◌, ◌≤◌, true, Some, None, Option, List, [], length, map, sym, ap, ◌∙◌, subst, arith}
 use Rattle.std.specs.Prelude.{max, slice_get}
 use Rattle.std.proofs.lemmas.Bool.{cases_lt}
 use Rattle.dh_base.specs.declared.places.Place.{Place}
 use Rattle.dh_value.specs.declared.kinds.Kind.{Kind}
-use Rattle.dh_tree.specs.declared.trees.counters.Counter.{Counter}
 use Rattle.dh_tree.specs.declared.trees.expressions.Ref.{Ref}
 use Rattle.dh_tree.specs.Indices.{form_of}
 use Rattle.dh_tree.specs.Memories.{table_of}
@@ -12,9 +11,9 @@ use Rattle.dh_tree.specs.PlainTrees as plain
 use Rattle.dh_tree.specs.PlainTrees.{Term}
 use Rattle.dh_tree.specs.Seen.{program_seen}
 use Rattle.dh_meaning.specs.AccessNumbers.{term_accesses, terms_accesses}
-use Rattle.dh_meaning.specs.CoreOf.{core_term, memory_of, store_to}
+use Rattle.dh_meaning.specs.CoreOf.{memory_of}
 use Rattle.dh_meaning.specs.Effects.{entry_kind}
-use Rattle.dh_meaning.specs.Levels.{Leveled, Levels, command_leveled}
+use Rattle.dh_meaning.specs.Levels.{Leveled, Levels}
 use Rattle.dh_code.specs.Slots.{held_at}
 use Rattle.dh_plan.specs.LegalSchedules.{greatest_of}
 use Rattle.dh_plan.specs.Ordered.{one_or_none}
@@ -31,24 +30,24 @@ use Rattle.dh_expressions.specs.Reaching.{place_written}
 use Rattle.dh_expressions.proofs.Pushing.{extends_again, pushed_extends}
 use Rattle.dh_formed.specs.Counted.{AreNext, HaveGiven, given_at_paths}
 use Rattle.dh_formed.specs.Formed.{AccessSuits, Agrees, IsNoted, IsScope, TermSuits}
-use Rattle.dh_formed.specs.Timed.{AgreeInTime, AreBounded, Clocks, EntityAt, HasClock, LevelsThen, NotedInTime, ReadsAgree, TimesTerm, TimesTerms, TimesValue, VariableAt, Within, aim_clock, all_leveled, clock_of, leveled}
+use Rattle.dh_formed.specs.Timed.{AgreeInTime, Clocks, EntityAt, HasClock, LevelsThen, NotedInTime, ReadsAgree, TimesValue, VariableAt, Within, aim_clock, all_leveled, clock_of, leveled}
 use Rattle.dh_formed.proofs.AccessesFormed.{noted_later, scope_later}
 use Rattle.dh_formed.proofs.LevelsBehind.{all_levels_behind, levels_behind}
 use Rattle.dh_formed.proofs.ReadsCounted.{write_gives}
 use Rattle.dh_formed.proofs.ReadsTimed.{greatest_append, written_noted, written_within}
 use Rattle.dh_formed.proofs.TermsFormed.{all_formed, all_numbered, formed, numbered}
 use Rattle.dh_formed.proofs.ValuesFormed.{agrees_before}
-use Rattle.dh_formed.proofs.ValuesTimed.{agree_before, held_timed, time_later, within_again, within_more}
+use Rattle.dh_formed.proofs.ValuesTimed.{agree_before, held_timed, time_later, within_again}
 use Rattle.dh_commands.specs.declared.buildings.Building.{Building}
 use Rattle.dh_commands.specs.declared.assignments.Values.{Values}
 use Rattle.dh_commands.specs.LanesRun.{lane_of, paths_counted}
 use Rattle.dh_commands.specs.MadeCommands.{MadeAim, MadeStored, MadeStoring, StoredTo}
-use Rattle.dh_laid.specs.Laid.{AimingSuits, FormsThere, StoringSuits, aim_accesses}
+use Rattle.dh_laid.specs.Laid.{AimingSuits, FormsThere, StoringSuits}
 use Rattle.dh_laid.proofs.StoresLaid.{stores_form}
 use Rattle.dh_paced.specs.Paced.{IsIn}
-use Rattle.dh_paced.specs.Standing.{AreCurrent, AreOwn, HaveGivenTo, IsGround, IsUnder, OwnsTarget, OwnsTerm, OwnsTerms, OwnsWrite, Paces, StandsFor}
+use Rattle.dh_paced.specs.Standing.{AreCurrent, IsGround, OwnsTerm, OwnsTerms, OwnsWrite, Paces, StandsFor}
 use Rattle.dh_paced.proofs.AssigningPaced.{entity_under}
-use Rattle.dh_paced.proofs.LanesPaced.{AtLane, GivenAt, given_end, given_more, lane_here, lane_scope, lane_started, lanes_paced}
+use Rattle.dh_paced.proofs.LanesPaced.{AtLane, given_end, given_more, lane_here, lane_scope, lane_started, lanes_paced}
 use Rattle.dh_paced.proofs.LeavesPaced.{IsHere, TermHere, TermsHere, next_of, term_here, terms_here}
 
 -- The clock of what names an element.

@@ -15,9 +15,9 @@ use Rattle.dh_expressions.specs.Drafted.{Extends}
 use Rattle.dh_expressions.specs.Evaluated.{counter_of}
 use Rattle.dh_expressions.specs.Shown.{guard_of, kind_written}
 use Rattle.dh_expressions.proofs.ListPlaces.{place_of_more}
-use Rattle.dh_expressions.proofs.Pushing.{extends_again, extends_self}
+use Rattle.dh_expressions.proofs.Pushing.{extends_again}
 use Rattle.dh_formed.specs.Formed.{Agrees, FormsTerm, TermSuits}
-use Rattle.dh_formed.specs.Timed.{AgreeInTime, Clocks, EntityAt, GuardAt, HasClock, LevelsThen, ReadsAgree, StartedInTime, TimesValue, VariableAt, Within, leveled}
+use Rattle.dh_formed.specs.Timed.{AgreeInTime, Clocks, GuardAt, HasClock, LevelsThen, ReadsAgree, StartedInTime, TimesValue, VariableAt, Within, leveled}
 use Rattle.dh_formed.proofs.CommandsFormed.{selects_in_time}
 use Rattle.dh_formed.proofs.LevelsBehind.{levels_behind}
 use Rattle.dh_formed.proofs.ReadsTimed.{guard_there}
@@ -31,8 +31,7 @@ use Rattle.dh_commands.specs.MadeCommands.{MadeArmGuard, MadeArmGuards, MadeGuar
 use Rattle.dh_laid.specs.Laid.{AreHeld}
 use Rattle.dh_laid.proofs.ArmsLaid.{arm_guards_form}
 use Rattle.dh_laid.proofs.ValuesLaid.{held_later}
-use Rattle.dh_paced.specs.Paced.{IsIn}
-use Rattle.dh_paced.specs.Standing.{AreCurrent, HaveGivenTo, IsGround, OwnsTerm, Paces, StandsFor}
+use Rattle.dh_paced.specs.Standing.{AreCurrent, IsGround, OwnsTerm, Paces, StandsFor}
 use Rattle.dh_paced.proofs.AssigningPaced.{entity_under}
 use Rattle.dh_paced.proofs.LanesPaced.{AtLane, given_end, given_more, lane_begin, lane_here, lane_next}
 use Rattle.dh_paced.proofs.LeavesPaced.{IsHere, TermHere, term_here, value_then, value_there, value_where}

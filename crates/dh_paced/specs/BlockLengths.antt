@@ -6,6 +6,7 @@ use Rattle.dh_meaning.specs.AccessNumbers.{accesses_of, part_accesses, term_acce
 use Rattle.dh_meaning.specs.CoreOf.{core_commands, core_term, entity_number}
 use Rattle.dh_meaning.specs.Effects.{commands, tests}
 use Rattle.dh_meaning.specs.Levels.{block_length}
+use Rattle.dh_meaning.specs.OnePhase.{any_makes}
 use Rattle.dh_meaning.specs.Phases.{Located}
 use Rattle.dh_plan.specs.declared.operations.Operation.{Operation}
 use Rattle.dh_plan.specs.LegalSchedules.{block_clocks, is_read}
@@ -18,10 +19,10 @@ use Rattle.dh_expressions.specs.declared.scenes.Scene.{Scene}
 use Rattle.dh_expressions.specs.Drafted.{Extends}
 use Rattle.dh_expressions.specs.Evaluated.{counter_of, known_in}
 use Rattle.dh_expressions.specs.Noted.{touched_in}
-use Rattle.dh_formed.specs.Formed.{Block, IsNoted, Site, TermSuits}
+use Rattle.dh_formed.specs.Formed.{Block, IsNoted, Site}
 use Rattle.dh_formed.specs.WholeBlocks.{IsCut, block_of}
 use Rattle.dh_commands.specs.declared.buildings.Building.{Building}
-use Rattle.dh_commands.specs.LanesRun.{lane_of, paths_counted}
+use Rattle.dh_commands.specs.LanesRun.{paths_counted}
 use Rattle.dh_commands.specs.MadeCommands.{MadeTests}
 use Rattle.dh_commands.specs.ShownVariables.{register_in}
 use Rattle.dh_laid.specs.BareCommands.{AreRising}
@@ -29,7 +30,7 @@ use Rattle.dh_laid.specs.BlockSites.{MadeEach, block_sites, test_sites}
 use Rattle.dh_laid.specs.Laid.{StandsRound}
 use Rattle.dh_laid.specs.LaidCommands.{CommandSuits, StandsHeld, TestSuits}
 use Rattle.dh_laid.specs.LaidNumbers.{StoresReach}
-use Rattle.dh_paced.specs.Paced.{IsIn, IsOfEach, IsReadOfEach}
+use Rattle.dh_paced.specs.Paced.{IsIn, IsReadOfEach}
 
 -- Variables.
 
@@ -112,13 +113,14 @@ EachSuits x scene around (c ∷ cs) old new (mid, (next, (m, rest))) = CommandSu
 pub record IsStraightPaced (plan : PlainPlan) (block : ℕ) (scene : Scene) (around : Around) (spaces : ℕ) (shared : ℕ → Option ℕ) (cs : List Located) (old new : Building) (end : Draft) (m : MadeEach scene around cs old new) : Type 0 where
   pub whole : IsWholeBut plan block old.draft new.draft end
   pub begins : BlockBegins (block_of plan block (block_sites scene around cs old new m)) scene around spaces old
-  pub bare : (number : ℕ) → IsOfEach cs number → touched_in old.accesses number ≡ None
+  pub bare : (number : ℕ) → any_makes number cs ≡ true → touched_in old.accesses number ≡ None
   pub suits : EachSuits (block_of plan block (block_sites scene around cs old new m)) scene around cs old new m
   pub reaches : AllByRecursion (λ (c : Located). StoresReach c.command) cs
   pub rising : AreRising 0 cs
   pub assigns_own : AllByRecursion (λ (c : Located). AssignsOwn scene around c.first c.command) cs
   pub variables : HaveRegisters scene around spaces (λ e. commands_mention e (core_commands (known_in scene) cs) ≡ true)
-  pub shares : ShareWithin scene shared (IsOfEach cs) (IsReadOfEach cs)
+  -- (a loop without turns in an arm makes none of its accesses)
+  pub shares : ShareWithin scene shared (λ number. any_makes number cs ≡ true) (IsReadOfEach cs)
 
 abbrev pub StraightsAreLong : Type 0
 StraightsAreLong =

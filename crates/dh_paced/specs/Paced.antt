@@ -1,12 +1,12 @@
 -- Of the accesses of commands: which are reads, and of which level the tests round them are. Levels of a whole command
 -- are those behind its straight commands in the core.
-use Rattle.std.specs.Prelude.{◌≡◌, ◌⊎◌, ℕ, ◌+◌, ◌<◌, ◌≤◌, max, nat_lt, Bool as Truth, false, if◌then◌else◌, List, [], ◌∷◌, Option, Some, None}
+use Rattle.std.specs.Prelude.{◌⊎◌, ℕ, ◌+◌, ◌<◌, ◌≤◌, max, nat_lt, if◌then◌else◌, List, [], ◌∷◌, Option, Some, None}
 use Rattle.dh_tree.specs.Indices.{form_of}
 use Rattle.dh_tree.specs.PlainTrees.{Term, Action, action, ActionForm, lets, lets_memory, views, assigns, stores, reduces, calls, blocks, decides, repeats, counts, MaybeAction, no_action, one_action, Actions, no_actions, action_then, Groups, no_groups, group_then}
 use Rattle.dh_meaning.specs.AccessNumbers.{accesses_of, part_accesses, term_accesses}
-use Rattle.dh_meaning.specs.Core.{CoreCommands, no_commands}
+use Rattle.dh_meaning.specs.Core.{no_commands}
 use Rattle.dh_meaning.specs.CoreOf.{Known, core_action, core_groups, core_other, core_part, core_term}
-use Rattle.dh_meaning.specs.Levels.{Leveled, Levels, commands_leveled, level_ground, term_leveled, with_variables}
+use Rattle.dh_meaning.specs.Levels.{Leveled, Levels, commands_leveled, term_leveled, with_variables}
 use Rattle.dh_meaning.specs.Phases.{Located}
 use Rattle.dh_laid.specs.Laid.{aim_accesses}
 

@@ -1,6 +1,6 @@
 -- What stands in time where a command begins, and behind it: what variables were given is there at their levels, whatever
 -- the path, and reads of the block have given at all paths.
-use Rattle.std.specs.Prelude.{◌≡◌, ◌⊎◌, ℕ, suc, ◌+◌, ◌<◌, ◌≤◌, max, true, false, List, length, slice_get, Option, Some, None}
+use Rattle.std.specs.Prelude.{◌≡◌, ◌⊎◌, ℕ, ◌+◌, ◌<◌, ◌≤◌, max, true, false, List, length, slice_get, Option, Some, None}
 use Rattle.dh_tree.specs.Indices.{form_of}
 use Rattle.dh_tree.specs.PlainTrees as plain
 use Rattle.dh_tree.specs.PlainTrees.{Term, Action, action, ActionForm, lets, lets_memory, views, assigns, stores, reduces, calls, blocks, decides, repeats, counts, MaybeAction, no_action, one_action, Actions, no_actions, action_then, Groups, no_groups, group_then}
@@ -9,13 +9,12 @@ use Rattle.dh_meaning.specs.CoreOf.{core_term, core_terms, entity_number}
 use Rattle.dh_meaning.specs.Levels.{Levels}
 use Rattle.dh_plan.specs.PlanPhases.{term_mentions, terms_mention}
 use Rattle.dh_expressions.specs.declared.accesses.Accesses.{Accesses}
-use Rattle.dh_expressions.specs.declared.drafts.Draft.{Draft}
 use Rattle.dh_expressions.specs.declared.scenes.Around.{Around}
 use Rattle.dh_expressions.specs.declared.scenes.Scene.{Scene}
 use Rattle.dh_expressions.specs.Evaluated.{counter_of, known_in}
 use Rattle.dh_formed.specs.Counted.{given_at_paths}
 use Rattle.dh_formed.specs.Formed.{IsNoted}
-use Rattle.dh_formed.specs.Timed.{AreBounded, Clocks, CurrentAt, EntityAt, GuardAt, NotedInTime, Within, leveled}
+use Rattle.dh_formed.specs.Timed.{AreBounded, Clocks, EntityAt, GuardAt, NotedInTime, Within, leveled}
 use Rattle.dh_commands.specs.declared.buildings.Building.{Building}
 use Rattle.dh_commands.specs.LanesRun.{lane_of, paths_counted}
 use Rattle.dh_commands.specs.ShownVariables.{register_in}

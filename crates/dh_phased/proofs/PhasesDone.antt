@@ -1,4 +1,5 @@
--- Each block that was made of sound commands or of a sound test does its phase; so the nodes do the phases.
+-- Each block that was made of sound commands or of a sound test does its phase, and touches no more than that; so the nodes
+-- do the phases.
 use Rattle.std.proofs.Common.{◌≡◌, ℕ, List, [], ◌∷◌, ◌++◌, Bool, true, false, if◌then◌else◌, Some, None, refl, ap, sym, ◌∙◌, subst}
 use Rattle.std.specs.Prelude.{◌&&◌, Option, not, nat_lt}
 use Rattle.dh_tree.specs.declared.trees.counters.Counter.{Counter}
@@ -10,19 +11,24 @@ use Rattle.dh_meaning.specs.Paths.{Path}
 use Rattle.dh_meaning.specs.Phases.{Located}
 use Rattle.dh_plan.specs.Correspondence.{Round}
 use Rattle.dh_plan.specs.PlainPlans.{Node, block_node, turns_node, loop_node, choice_node, threads_node, Nodes, no_nodes, node_then, PlainPlan}
-use Rattle.dh_plan.specs.PlanPhases.{AreNodesOf, DoesBlock, IsLoopRegister, IsNodeOf, SetsFlag}
+use Rattle.dh_plan.specs.PlanPhases.{AreNodesOf, DoesBlock, IsLoopRegister, IsNodeOf, SetsFlag, Touches, does_phases}
+use Rattle.dh_expressions.specs.declared.scenes.Around.{Around}
 use Rattle.dh_expressions.specs.declared.scenes.Scene.{Scene}
 use Rattle.dh_expressions.specs.Evaluated.{counter_of, known_in}
-use Rattle.dh_blocks.specs.BlockMade.{IsMade}
+use Rattle.dh_laid.specs.BlockSites.{MadeEach}
+use Rattle.dh_laid.specs.LaidQuiet.{StandsIn}
+use Rattle.dh_blocks.specs.BlockMade.{IsMade, IsTop}
 use Rattle.dh_blocks.specs.SlotsOfScene.{HoldsVariables, placing_in, slots_in}
-use Rattle.dh_blocks.specs.TestMade.{DoesTest}
+use Rattle.dh_blocks.specs.TestMade.{DoesTest, IsTestMade}
 use Rattle.dh_blocks.proofs.TestDone.{made_tests_do}
 use Rattle.dh_blocks.proofs.TracedBlocks.{made_blocks_do}
+use Rattle.dh_charged.specs.TouchedBlocks.{HaveCounters, StandsInPlan}
+use Rattle.dh_charged.proofs.BlocksTouch.{straights_touch, tests_touch}
 use Rattle.dh_gathering.specs.declared.blocks.Made.{Made}
 use Rattle.dh_gathering.specs.LoopCounters.{AreCounting, IsCounting, LoopsCount, LoopsCountIn}
 use Rattle.dh_gathering.specs.MadeBlocks.{IsStraightBlock, IsTestBlock, counter_in, made_tie}
 use Rattle.dh_gathering.proofs.CountersApart.{loop_register}
-use Rattle.dh_phased.specs.DonePhases.{HasMade, HasSoundBlocks, PhasesAreDone, done_tie}
+use Rattle.dh_phased.specs.DonePhases.{HasMade, HasSoundBlocks, PhasesAreDone}
 use Rattle.dh_phased.proofs.BlocksMade.{straight_is_made, test_is_made}
 use Rattle.dh_phased.proofs.RoundsTop.{rounds_are_top}
 use Rattle.dh_phased.proofs.SlotsTold.{slots_told}
@@ -31,32 +37,49 @@ counting_more : (scene : Scene) (rounds : List Round) (r : Round) → AreCountin
 counting_more scene [] r all h is = ((h, is), tt)
 counting_more scene (x ∷ rounds) r all h is = (all.0, counting_more scene rounds r all.1 h is)
 
+have_counters : (scene : Scene) (rounds : List Round) → AreCounting scene (placing_in scene) rounds → HaveCounters scene rounds
+have_counters scene [] h = tt
+have_counters scene (r ∷ rounds) h = ((h.0.0.counter, h.0.0.counted), have_counters scene rounds h.1)
+
 module _ (scene : Scene) (plan : PlainPlan) (count : ℕ) (final : Made) (made : HasMade plan count final) (holds : HoldsVariables scene plan count) (sound : HasSoundBlocks scene plan final) where
-  straight_does : (rounds : List Round) (cs : CoreCommands) (block : ℕ) → AreCounting scene (placing_in scene) rounds → IsStraightBlock scene final rounds cs block → DoesBlock plan (slots_in scene) rounds (commands cs) block
+  -- what stands round a block
+  stands_here : (rounds : List Round) (around : Around) → IsTop rounds around → StandsIn scene around → AreCounting scene (placing_in scene) rounds → StandsInPlan scene around plan rounds count
+  stands_here rounds around top stands counting = record { holds = holds; top = top; few = stands.few; counters = have_counters scene rounds counting }
+
+  straight_does : (rounds : List Round) (cs : CoreCommands) (block : ℕ) → AreCounting scene (placing_in scene) rounds → IsStraightBlock scene final rounds cs block
+      → DoesBlock plan (slots_in scene) rounds (commands cs) block × Touches plan (slots_in scene) rounds (commands cs) None block
   straight_does rounds cs block counting s =
       let k = sound.straights rounds cs block s counting in
-      subst (λ (c : CoreCommands). DoesBlock plan (slots_in scene) rounds (commands c) block) (sym (s.are ∙ ap (λ (ls : List Located). core_commands (known_in scene) ls) k.are))
-      (made_blocks_do scene s.made.around plan count block k.done k.folds rounds s.made.before s.made.between
-      (subst (λ (ls : List Located). IsMade scene s.made.around plan count block ls s.made.before s.made.between) k.are (straight_is_made scene plan count final made rounds s.located block s.made k.ordered))
-      holds (rounds_are_top scene rounds s.made.around s.made.round s.made.stands_in) k.sound k.traced)
+      let top = rounds_are_top scene rounds s.made.around s.made.round s.made.stands_in in
+      let is : IsMade scene s.made.around plan count block (k.done ++ k.folds) s.made.before s.made.between =
+      subst (λ (ls : List Located). IsMade scene s.made.around plan count block ls s.made.before s.made.between) k.are (straight_is_made scene plan count final made rounds s.located block s.made k.ordered) in
+      let each : MadeEach scene s.made.around (k.done ++ k.folds) s.made.before s.made.between = subst (λ (ls : List Located). MadeEach scene s.made.around ls s.made.before s.made.between) k.are s.made.made in
+      subst (λ (c : CoreCommands). DoesBlock plan (slots_in scene) rounds (commands c) block × Touches plan (slots_in scene) rounds (commands c) None block)
+      (sym (s.are ∙ ap (λ (ls : List Located). core_commands (known_in scene) ls) k.are)) (
+        made_blocks_do scene s.made.around plan count block k.done k.folds rounds s.made.before s.made.between is holds top k.sound k.traced,
+        straights_touch scene s.made.around plan rounds count block k.done k.folds s.made.before s.made.between (stands_here rounds s.made.around top s.made.stands_in counting) k.sound is.put each,
+      )
 
   test_does : (rounds : List Round) (test : CoreTerm) (flag block : ℕ) → AreCounting scene (placing_in scene) rounds → IsTestBlock scene final rounds test flag block
-      → DoesBlock plan (slots_in scene) rounds (tests test) block × SetsFlag plan (slots_in scene) rounds test flag block
+      → DoesBlock plan (slots_in scene) rounds (tests test) block × (SetsFlag plan (slots_in scene) rounds test flag block × Touches plan (slots_in scene) rounds (tests test) (Some flag) block)
   test_does rounds test flag block counting s =
       let k = sound.tests rounds test flag block s counting in
+      let top = rounds_are_top scene rounds s.made.around s.made.round s.made.stands_in in
+      let is : IsTestMade scene s.made.around plan count block flag s.tested.first s.term s.made.tests s.made.before s.made.between = test_is_made scene plan count final made rounds s.tested.first s.term flag block s.made k.ordered in
       let does : DoesTest scene plan rounds block flag s.tested.first s.term s.made.between =
-      made_tests_do scene s.made.around plan count block flag s.tested.first s.term s.made.tests rounds s.made.before s.made.between
-      (test_is_made scene plan count final made rounds s.tested.first s.term flag block s.made k.ordered) holds (rounds_are_top scene rounds s.made.around s.made.round s.made.stands_in) k.sound k.traced in
-      subst (λ (t : CoreTerm). DoesBlock plan (slots_in scene) rounds (tests t) block × SetsFlag plan (slots_in scene) rounds t flag block) (sym (s.is ∙ ap (λ (o : Option Term). core_test_of (known_in scene) s.tested.first o) s.term_is)) (does.does, does.sets)
+      made_tests_do scene s.made.around plan count block flag s.tested.first s.term s.made.tests rounds s.made.before s.made.between is holds top k.sound k.traced in
+      let touches = tests_touch scene s.made.around plan rounds count block flag s.tested.first s.made.next s.term s.made.tests s.made.before s.made.between (stands_here rounds s.made.around top s.made.stands_in counting) k.sound is.put s.made.made in
+      subst (λ (t : CoreTerm). DoesBlock plan (slots_in scene) rounds (tests t) block × (SetsFlag plan (slots_in scene) rounds t flag block × Touches plan (slots_in scene) rounds (tests t) (Some flag) block))
+      (sym (s.is ∙ ap (λ (o : Option Term). core_test_of (known_in scene) s.tested.first o) s.term_is)) (does.does, (does.sets, touches))
 
   mutual
-    nodes_done : (rounds : List Round) (qs : CorePhases) (ns : Nodes) → AreCounting scene (placing_in scene) rounds → LoopsCount scene (placing_in scene) rounds qs → AreNodesOf (made_tie scene final) rounds qs ns → AreNodesOf (done_tie plan (slots_in scene)) rounds qs ns
+    nodes_done : (rounds : List Round) (qs : CorePhases) (ns : Nodes) → AreCounting scene (placing_in scene) rounds → LoopsCount scene (placing_in scene) rounds qs → AreNodesOf (made_tie scene final) rounds qs ns → AreNodesOf (does_phases plan (slots_in scene)) rounds qs ns
     nodes_done rounds no_core_phases no_nodes all loops h = tt
     nodes_done rounds no_core_phases (node_then n ns) all loops h = absurd h
     nodes_done rounds (phase_and q qs) no_nodes all loops h = absurd h
     nodes_done rounds (phase_and q qs) (node_then n ns) all loops h = (node_done rounds q n all loops.0 h.0, nodes_done rounds qs ns all loops.1 h.1)
 
-    node_done : (rounds : List Round) (q : CorePhase) (n : Node) → AreCounting scene (placing_in scene) rounds → LoopsCountIn scene (placing_in scene) rounds q → IsNodeOf (made_tie scene final) rounds q n → IsNodeOf (done_tie plan (slots_in scene)) rounds q n
+    node_done : (rounds : List Round) (q : CorePhase) (n : Node) → AreCounting scene (placing_in scene) rounds → LoopsCountIn scene (placing_in scene) rounds q → IsNodeOf (made_tie scene final) rounds q n → IsNodeOf (does_phases plan (slots_in scene)) rounds q n
     node_done rounds (straightly cs) (block_node block) all loops h = straight_does rounds cs block all h
     node_done rounds (straightly cs) (turns_node counter turns ms) all loops h = absurd h
     node_done rounds (straightly cs) (loop_node block flag ms) all loops h = absurd h

@@ -1,14 +1,12 @@
--- The nodes that were made of a program do its phases, where the commands and tests of their blocks are sound.
+-- The nodes that were made of a program do its phases, and touch no more registers than these, where the commands and tests of their blocks are sound.
 use Rattle.std.specs.Prelude.{◌≡◌, ℕ, ◌≤◌, ◌^◌, List, [], ◌++◌, length}
 use Rattle.dh_tree.specs.PlainTrees.{Term}
 use Rattle.dh_meaning.specs.Core.{CoreCommands, CorePhases, CoreTerm}
-use Rattle.dh_meaning.specs.Effects.{commands, tests}
 use Rattle.dh_meaning.specs.Phases.{Located}
-use Rattle.dh_plan.specs.Correspondence.{Round, Slots}
+use Rattle.dh_plan.specs.Correspondence.{Round}
 use Rattle.dh_plan.specs.Ordered.{IsOrdered}
 use Rattle.dh_plan.specs.PlainPlans.{Nodes, PlainPlan, first_in, operations_in}
-use Rattle.dh_plan.specs.PlanPhases.{AreNodesOf, DoesBlock, IsLoopRegister, SetsFlag, Tie}
-use Rattle.dh_code.specs.Slots.{IsPlacing}
+use Rattle.dh_plan.specs.PlanPhases.{AreNodesOf, does_phases}
 use Rattle.dh_expressions.specs.declared.scenes.Around.{Around}
 use Rattle.dh_expressions.specs.declared.scenes.Scene.{Scene}
 use Rattle.dh_blocks.specs.BlockMade.{AreSoundHere}
@@ -52,15 +50,7 @@ pub record HasSoundBlocks (scene : Scene) (plan : PlainPlan) (final : Made) : Ty
   pub tests : (rounds : List Round) (test : CoreTerm) (flag block : ℕ) (s : IsTestBlock scene final rounds test flag block) → AreCounting scene (placing_in scene) rounds
       → IsSoundTested scene s.made.around plan rounds block s.tested s.term
 
--- Each block does its phase, each test sets its flag, and each loop has a counter of its own.
-abbrev pub done_tie : PlainPlan → Slots → Tie
-done_tie plan slots = record {
-  of_block = λ rounds cs block. DoesBlock plan slots rounds (commands cs) block;
-  of_test = λ rounds test flag block. DoesBlock plan slots rounds (tests test) block × SetsFlag plan slots rounds test flag block;
-  of_loop = λ rounds loop counter. IsLoopRegister slots rounds loop counter;
-}
-
 abbrev pub PhasesAreDone : Type 0
 PhasesAreDone =
     (scene : Scene) (plan : PlainPlan) (count : ℕ) (final : Made) (qs : CorePhases) (ns : Nodes) → HasMade plan count final → HoldsVariables scene plan count → HasSoundBlocks scene plan final → LoopsCount scene (placing_in scene) [] qs
-    → AreNodesOf (made_tie scene final) [] qs ns → AreNodesOf (done_tie plan (slots_in scene)) [] qs ns
+    → AreNodesOf (made_tie scene final) [] qs ns → AreNodesOf (does_phases plan (slots_in scene)) [] qs ns

@@ -99,7 +99,7 @@ not_bare : (a : Accesses) (m : ℕ) (t : Touched) → touched_in a m ≡ None �
 not_bare a m t e f = let g : None ≡ Some t = sym e ∙ f in cc
 
 -- a site has the number of one of the accesses
-place_told : (first number : ℕ) (ss : List (Option Site)) (s : Site) → places_from first ss number ≡ Some s → (first ≤ number) × (number < first + length ss)
+pub place_told : (first number : ℕ) (ss : List (Option Site)) (s : Site) → places_from first ss number ≡ Some s → (first ≤ number) × (number < first + length ss)
 place_told first number ss s e = by (nat_lt number first) refl e
   where
     above : (n k : ℕ) → nat_lt n k ≡ false → k ≤ n
@@ -117,7 +117,7 @@ place_told first number ss s e = by (nat_lt number first) refl e
         (low, omega (arith, low, less))
 
 module _ (scene : Scene) (around : Around) where
-  site_cases : (a b : Option Site) (s : Site) → site_or a b ≡ Some s → (a ≡ Some s) ⊎ (b ≡ Some s)
+  pub site_cases : (a b : Option Site) (s : Site) → site_or a b ≡ Some s → (a ≡ Some s) ⊎ (b ≡ Some s)
   site_cases None b s e = inr e
   site_cases (Some r) b s e = inl e
 

@@ -9,4 +9,12 @@ pub mod PlacesOf
 pub mod CommandsPut
 pub mod CommandsDown
 pub mod BlocksPut
+pub mod GuardsIn
+pub mod OppositeArms
+pub mod SitesMade
+pub mod NeverMeet
+pub mod PlanAccesses
+pub mod StepsOfNodes
+pub mod MeetsInOrder
 pub mod StepKeeps
+pub mod ReachedPlans

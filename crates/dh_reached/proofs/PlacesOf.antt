@@ -85,7 +85,7 @@ module _ (scene : Scene) where
     pub places_long : (a : Action) (around : Around) (old new : Building) (first next : ℕ) (m : MadeCommand scene a around old new first next) → StoresReach a → length (command_sites scene a around old new first next m) ≡ accesses_of a
     places_long (action id place form) around old new first next m is = form_long form around old new first next m is
 
-    form_long : (form : ActionForm) (around : Around) (old new : Building) (first next : ℕ) (m : MadeActionForm scene form around old new first next) → StoresReachForm form
+    pub form_long : (form : ActionForm) (around : Around) (old new : Building) (first next : ℕ) (m : MadeActionForm scene form around old new first next) → StoresReachForm form
         → length (action_sites scene form around old new first next m) ≡ own_accesses form + inner_accesses form
     form_long (lets name declared (Some value)) around old new first next m is = there_long (term_sites scene around value) ∙ (sites_long scene around value ∙ plus_none (term_accesses value))
     form_long (lets name declared None) around old new first next m is = omega arith
@@ -105,7 +105,7 @@ module _ (scene : Scene) where
     form_long (repeats test body) around old new first next m is = none_long (term_accesses test + accesses_of body)
     form_long (counts iterator declared low high factor body combine combine_place) around old new first next m is = none_long (accesses_of body + other_accesses combine) ∙ none_plus (accesses_of body + other_accesses combine)
 
-    other_long : (other : MaybeAction) (around : Around) (tests : List ℕ) (old new : Building) (first next : ℕ) (lefts : List Left) (m : MadeOther scene other around tests old new first next lefts) → StoresReachOther other
+    pub other_long : (other : MaybeAction) (around : Around) (tests : List ℕ) (old new : Building) (first next : ℕ) (lefts : List Left) (m : MadeOther scene other around tests old new first next lefts) → StoresReachOther other
         → length (other_sites scene other around tests old new first next lefts m) ≡ other_accesses other
     other_long no_action around tests old new first next lefts m is = refl
     other_long (one_action a) around tests old new first next lefts m is = places_long a m.arm m.begin m.inside first next m.command is
@@ -117,7 +117,7 @@ module _ (scene : Scene) where
         both_long (command_sites scene a around old m.middle first m.own m.one) (actions_sites scene rest around m.middle new m.own next m.rest) (accesses_of a) (part_accesses rest)
         (places_long a around old m.middle first m.own m.one is.0) (actions_long rest around m.middle new m.own next m.rest is.1)
 
-    groups_long : (body : Groups) (around : Around) (old new : Building) (first next : ℕ) (m : MadeGroups scene body around old new first next) → StoresReachGroups body
+    pub groups_long : (body : Groups) (around : Around) (old new : Building) (first next : ℕ) (m : MadeGroups scene body around old new first next) → StoresReachGroups body
         → length (groups_sites scene body around old new first next m) ≡ groups_accesses body
     groups_long no_groups around old new first next m is = refl
     groups_long (group_then g rest) around old new first next m is =

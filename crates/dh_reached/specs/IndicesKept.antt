@@ -122,7 +122,11 @@ module _ (x : Step) (scene : Scene) (levels : List Level) where
     GroupsKeep no_groups = Unit {0}
     GroupsKeep (group_then part rest) = ActionsKeep part × GroupsKeep rest
 
-  -- the step begins with the memories of the program, and each command of a block keeps so
+  -- of each command of a block
+  abbrev pub CommandsKeep : List Located → Type 0
+  CommandsKeep cs = AllByRecursion (λ (c : Located). CommandKeeps c.command) cs
+
+  -- the step begins with the memories of the program
   pub record BlockKeeps (cs : List Located) : Type 0 where
     pub table : x.start.table ≡ table_of (program_seen scene.program.now)
-    pub each : AllByRecursion (λ (c : Located). CommandKeeps c.command) cs
+    pub each : CommandsKeep cs

@@ -8,3 +8,9 @@ pub mod IndicesKept
 pub mod ReadsTold
 -- blocks as they are reached in a step
 pub mod ReachedBlocks
+-- accesses that never meet
+pub mod NeverMeet
+-- steps by nodes
+pub mod StepsOfNodes
+-- plans whose blocks are put down in a scene
+pub mod ReachedPlans

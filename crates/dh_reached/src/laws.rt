@@ -1,7 +1,10 @@
 //! Laws on the banks that a block reaches, stated on functions that do nothing.
 
+ghost use Rattle.dh_reached.specs.NeverMeet.{StraightNever, TestNever};
 ghost use Rattle.dh_reached.specs.ReachedBlocks.{StraightReaches, TestReaches};
+ghost use Rattle.dh_reached.specs.ReachedPlans.{ReachedPlansKeepBanks};
 ghost use Rattle.dh_reached.specs.StepBanks.{BlocksKeepBanks};
+ghost use Rattle.dh_reached.specs.StepsOfNodes.{NodesKeepBanks};
 
 /// A step that does a block whose uses are told keeps the banks.
 pub fn blocks_keep_banks()
@@ -13,4 +16,20 @@ pub fn blocks_keep_banks()
 pub fn blocks_use_what_stands()
     ensures straight { StraightReaches }
     ensures tests { TestReaches }
+{}
+
+/// Of two accesses of a block that never meet one at most is done, at any path.
+pub fn unmet_accesses_are_not_both_done()
+    ensures straight { StraightNever }
+    ensures tests { TestNever }
+{}
+
+/// The steps of a plan keep the banks where each of its blocks does, in a step of its own.
+pub fn nodes_keep_banks()
+    ensures { NodesKeepBanks }
+{}
+
+/// The steps of a plan keep the banks whose blocks are put down in a scene, as they stand in the program.
+pub fn reached_plans_keep_banks()
+    ensures { ReachedPlansKeepBanks }
 {}

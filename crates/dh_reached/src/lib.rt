@@ -6,4 +6,7 @@
 
 mod laws;
 
-pub use laws::{blocks_keep_banks, blocks_use_what_stands};
+pub use laws::{
+    blocks_keep_banks, blocks_use_what_stands, nodes_keep_banks, reached_plans_keep_banks,
+    unmet_accesses_are_not_both_done,
+};

@@ -14,6 +14,9 @@ use Rattle.dh_meaning.specs.Phases.{Located, idle_phases_of, phases_of}
 use Rattle.dh_meets.specs.SourceEvents as source
 use Rattle.dh_meets.specs.SourceEvents.{SourceAccess, accesses_in, trace}
 use Rattle.dh_plan.specs.declared.operations.Operation.{Operation}
+use Rattle.dh_plan.specs.declared.operations.OperationForm.{OperationForm}
+use Rattle.dh_plan.specs.declared.operations.OperationForm.TheVariants.{Compute, Set}
+use Rattle.dh_value.specs.declared.operators.Op.TheVariants.{Both}
 use Rattle.dh_plan.specs.Correspondence.{Round}
 use Rattle.dh_plan.specs.PlainPlans.{PlainPlan, operations_in}
 use Rattle.dh_plan.specs.SoundPlans.{IsOneOf, blocks_of, use_in}
@@ -77,13 +80,18 @@ sets_unused : (ss : List (ℕ × ℕ)) → AllByRecursion (λ (o : Operation). u
 sets_unused [] = tt
 sets_unused (s ∷ ss) = (refl, sets_unused ss)
 
+abbrev unguarded : OperationForm → Operation
+unguarded form = record { guard = None; form = form }
+
 flag_unused : (read : Truth) (old new : Draft) (value flag : ℕ) → AddsFlag read old new value flag → EndsUnused old new
 flag_unused true old new value flag (mid, (made, (number, (both, set)))) = record {
-  more = _ ∷ (_ ∷ []);
-  adds = set.operations ∙ (ap (λ (os : List Operation). os ++ _ ∷ []) both.operations ∙ append_assoc old.operations.items (_ ∷ []) (_ ∷ []));
+  more = unguarded (Compute Both value value) ∷ (unguarded (Set flag made) ∷ []);
+  adds = set.operations
+      ∙ (ap (λ (os : List Operation). os ++ unguarded (Set flag made) ∷ []) both.operations
+      ∙ append_assoc old.operations.items (unguarded (Compute Both value value) ∷ []) (unguarded (Set flag made) ∷ []));
   unused = (refl, (refl, tt));
 }
-flag_unused false old new value flag (number, set) = record { more = _ ∷ []; adds = set.operations; unused = (refl, tt) }
+flag_unused false old new value flag (number, set) = record { more = unguarded (Set flag value) ∷ []; adds = set.operations; unused = (refl, tt) }
 
 along_reach : (from : ℕ) (cs : List Located) → AreAlong from cs → AllByRecursion (λ (c : Located). StoresReach c.command) cs
 along_reach from [] h = tt

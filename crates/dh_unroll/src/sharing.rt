@@ -19,10 +19,7 @@ fn narrow_share(share: Option<usize>) -> Option<u32>
 }
 
 /// Numbers of accesses in 32 bits.
-pub fn narrow_shares(
-    alloc: Global,
-    shares: &[Option<usize>],
-) -> Result<Vec<Option<u32>>, NoMemory>
+pub fn narrow_shares(alloc: Global, shares: &[Option<usize>]) -> Result<Vec<Option<u32>>, NoMemory>
     ensures { IfOk result (λ narrowed. narrowed.items ≡ narrow_shares shares.now) }
 {
     let mut narrowed = Vec::with_capacity(alloc, shares.len())?;

@@ -162,14 +162,14 @@ pub each_of : (P : Located → Type 0) (cs : List Located) → ((c : Located) �
 each_of P [] h = tt
 each_of P (c ∷ cs) h = (h c (inl refl), each_of P cs (λ d g. h d (inr g)))
 
-along_reach : (from : ℕ) (cs : List Located) → AreAlong from cs → AllByRecursion (λ (c : Located). StoresReach c.command) cs
+pub along_reach : (from : ℕ) (cs : List Located) → AreAlong from cs → AllByRecursion (λ (c : Located). StoresReach c.command) cs
 along_reach from [] h = tt
 along_reach from (c ∷ cs) h = (h.0.reaches, along_reach (c.first + accesses_of c.command) cs h.1)
 
-some_paths : (scene : Scene) (around : Around) (makes : ℕ → Truth) → IsInLoops scene around makes → 0 < paths_counted around
+pub some_paths : (scene : Scene) (around : Around) (makes : ℕ → Truth) → IsInLoops scene around makes → 0 < paths_counted around
 some_paths scene around makes h = subst (λ (n : ℕ). 0 < n) (sym h.counted) (some_copies around.levels.now h.spread)
 
-paths_lead : (scene : Scene) (around : Around) (makes : ℕ → Truth) → IsInLoops scene around makes → PathsLead around
+pub paths_lead : (scene : Scene) (around : Around) (makes : ℕ → Truth) → IsInLoops scene around makes → PathsLead around
 paths_lead scene around makes h path within = all_lead around.levels.now h.spread path (subst (λ (n : ℕ). path < n) h.counted within)
 
 pub straights_use_as_made : StraightsUseAsMade

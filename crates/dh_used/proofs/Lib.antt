@@ -5,3 +5,5 @@ pub mod BlocksByKeys
 pub mod NumbersOfCore
 pub mod PlansUsed
 pub mod NodesMade
+pub mod BlocksReach
+pub mod NodesReach

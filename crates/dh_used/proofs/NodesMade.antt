@@ -1,23 +1,25 @@
 -- Blocks as they were made use what their commands make: they stand in their loops, and end with registers that are set.
-use Rattle.std.proofs.Common.{◌≡◌, ◌⊎◌, inl, inr, ◌<◌, ◌≤◌, ◌+◌, ◌-◌, ◌^◌, ◌||◌, ℕ, zero, suc, List, Some, None, ap, sym, ◌∙◌, subst, length, arith, refl, append_assoc}
-use Rattle.std.specs.Prelude.{Bool as Truth, true, false, if◌then◌else◌, [], ◌∷◌, ◌++◌, map, Option, slice_get}
+use Rattle.std.proofs.Common.{◌≡◌, inl, inr, ◌<◌, ◌≤◌, ◌+◌, ◌-◌, ◌||◌, ℕ, List, Some, None, ap, sym, ◌∙◌, subst, length, arith, refl, append_assoc}
+use Rattle.std.specs.Prelude.{Bool as Truth, true, false, [], ◌∷◌, ◌++◌}
 use Rattle.std.specs.List.{AllByRecursion}
-use Rattle.dh_tree.specs.PlainTrees.{Program, Term}
+use Rattle.dh_tree.specs.PlainTrees.{Program}
 use Rattle.dh_tree.specs.Seen.{program_seen}
 use Rattle.dh_meaning.specs.AccessNumbers.{accesses_of, term_accesses}
-use Rattle.dh_meaning.specs.Core.{Turning, CorePhase, straightly, turning, looping, choosing, CorePhases, no_core_phases, phase_and}
-use Rattle.dh_meaning.specs.CoreOf.{Known, core_of, form_of, known_of, test_of, turning_of}
-use Rattle.dh_meaning.specs.OnePhase.{any_makes, makes, test_makes, tests_make}
-use Rattle.dh_meaning.specs.Phases.{Located, Phase, straight, turns, repeated, decided, Phases, no_phases, phase, idle_phases_of, of_list, phases_of}
+use Rattle.dh_meaning.specs.Core.{CoreCommands, CoreTerm, Turning, CorePhase, straightly, turning, looping, choosing, CorePhases, no_core_phases, phase_and}
+use Rattle.dh_meaning.specs.CoreOf.{Known, core_of, form_of, known_of, turning_of}
+use Rattle.dh_meaning.specs.OnePhase.{any_makes, makes, test_makes}
+use Rattle.dh_meaning.specs.Phases.{Located, Phase, straight, turns, repeated, decided, Phases, no_phases, phase, idle_phases_of, phases_of}
 use Rattle.dh_meaning.specs.Sites.{nothing_around}
-use Rattle.dh_meets.specs.Charges as charges
-use Rattle.dh_meets.specs.SourceEvents.{SourceAccess, site_of}
+use Rattle.dh_meets.specs.SourceEvents.{SourceAccess}
+use Rattle.dh_value.specs.declared.operators.Op.TheVariants.{Both}
 use Rattle.dh_plan.specs.declared.operations.Operation.{Operation}
+use Rattle.dh_plan.specs.declared.operations.OperationForm.{OperationForm}
+use Rattle.dh_plan.specs.declared.operations.OperationForm.TheVariants.{Compute, Set}
 use Rattle.dh_plan.specs.Correspondence.{Round}
 use Rattle.dh_plan.specs.DoneProgram.{operations_using, probes_among}
-use Rattle.dh_plan.specs.PlainPlans.{Node, block_node, turns_node, loop_node, choice_node, threads_node, Nodes, no_nodes, node_then, PlainPlan, operations_in}
+use Rattle.dh_plan.specs.PlainPlans.{Node, block_node, turns_node, loop_node, choice_node, threads_node, Nodes, no_nodes, node_then, PlainPlan}
 use Rattle.dh_plan.specs.PlanPhases.{AreNodesOf, IsNodeOf, Tie}
-use Rattle.dh_sound.specs.Blocks.{factors}
+use Rattle.dh_plan.specs.SoundPlans.{access_in}
 use Rattle.dh_sound.specs.LoopsMatch.{EachMatches, unrolled}
 use Rattle.dh_sound.specs.PhaseFacts.{HasStraight, HasStraightIn, HasTest, HasTestIn, HaveStraight, HaveTest}
 use Rattle.dh_sound.specs.Straight.{IsNamedAction}
@@ -32,29 +34,23 @@ use Rattle.dh_expressions.specs.declared.accesses.Accesses.{Accesses}
 use Rattle.dh_expressions.specs.declared.drafts.Draft.{Draft}
 use Rattle.dh_expressions.specs.declared.scenes.Around.{Around}
 use Rattle.dh_expressions.specs.declared.scenes.Scene.{Scene}
-use Rattle.dh_expressions.specs.Drafted.{Pushes}
 use Rattle.dh_expressions.specs.Evaluated.{known_in}
 use Rattle.dh_expressions.specs.Noted.{touched_in}
 use Rattle.dh_expressions.specs.Shown.{is_read_term}
-use Rattle.dh_formed.specs.Formed.{Site}
-use Rattle.dh_commands.specs.declared.buildings.Building.{Building}
-use Rattle.dh_commands.specs.ShownVariables.{factors_of}
 use Rattle.dh_laid.specs.BareCommands.{AreRising, IsBare, IsBareFrom}
 use Rattle.dh_laid.specs.BlockSites.{block_sites, test_sites}
-use Rattle.dh_laid.specs.LaidNumbers.{StoresReach}
 use Rattle.dh_laid.specs.LaidQuiet.{StandsIn}
 use Rattle.dh_laid.specs.LaidUses.{AreAlong, HaveNoOperations}
 use Rattle.dh_blocks.specs.BlockMade.{IsTop}
 use Rattle.dh_gathering.specs.declared.blocks.Made.{Made}
-use Rattle.dh_gathering.specs.Cutting.{AreBlocksOf}
-use Rattle.dh_gathering.specs.MadeBlocks.{AddsFlag, IsRoundBlock, IsStraightBlock, IsTestBlock, MadeStraight, MadeTest, made_tie}
+use Rattle.dh_gathering.specs.MadeBlocks.{AddsFlag, IsRoundBlock, IsStraightBlock, IsTestBlock, made_tie}
 use Rattle.dh_gathering.specs.PhasesInLoops.{StraightInLoops, StraightOf, StraightsInLoops, TestInLoops, TestOf, TestsInLoops}
 use Rattle.dh_gathering.specs.PlacedPhases.{loops_round}
 use Rattle.dh_gathering.specs.PushedSets.{settings}
 use Rattle.dh_gathering.proofs.BlocksPlanned.{operations_are}
 use Rattle.dh_phased.proofs.RoundsTop.{rounds_are_top}
 use Rattle.dh_used.specs.MadePlans.{IsMadeOf, MadeNodesUse, MadePlansUse}
-use Rattle.dh_used.specs.UsedBlocks.{EndsQuietly, IsInLoops, UsesAsMade}
+use Rattle.dh_used.specs.UsedBlocks.{EndsQuietly, IsInLoops, IsOwn}
 use Rattle.dh_used.specs.UsedPlans.{UsesStraight, UsesTest, used_tie}
 use Rattle.dh_used.proofs.BlocksByKeys.{straights_use_as_made, tests_use_as_made}
 use Rattle.dh_used.proofs.PlansUsed.{named_facts, named_reaches, phases_named, plans_use}
@@ -124,6 +120,9 @@ module _ (known : Known) where
   straight_inside round (q ∷ qs) loops cs i (inl h) = straight_inside_in round q loops cs i.0 h
   straight_inside round (q ∷ qs) loops cs i (inr h) = straight_inside round qs loops cs i.1 h
 
+  test_matches : (round loops : List Turning) (d c : Located) → EachMatches known (unrolled round) d.around.loops → (loops ≡ round) × (d ≡ c) → EachMatches known (unrolled loops) c.around.loops
+  test_matches round loops d c i h = subst (λ (ls : List Turning). EachMatches known (unrolled ls) c.around.loops) (sym h.0) (subst (λ (x : Located). EachMatches known (unrolled round) x.around.loops) h.1 i)
+
   mutual
     test_inside_in : (round : List Turning) (q : Phase) (loops : List Turning) (c : Located) → IsInside known (unrolled round) q → TestInLoops known round q loops c → EachMatches known (unrolled loops) c.around.loops
     test_inside_in round (straight ds) loops c i h = absurd h
@@ -133,9 +132,6 @@ module _ (known : Known) where
     test_inside_in round (decided choice chosen other) loops c i (inl h) = test_matches round loops choice c i.0 h
     test_inside_in round (decided choice chosen other) loops c i (inr (inl h)) = tests_inside round chosen loops c i.1.0 h
     test_inside_in round (decided choice chosen other) loops c i (inr (inr h)) = tests_inside round other loops c i.1.1 h
-
-    test_matches : (round loops : List Turning) (d c : Located) → EachMatches known (unrolled round) d.around.loops → (loops ≡ round) × (d ≡ c) → EachMatches known (unrolled loops) c.around.loops
-    test_matches round loops d c i h = subst (λ (ls : List Turning). EachMatches known (unrolled ls) c.around.loops) (sym h.0) (subst (λ (x : Located). EachMatches known (unrolled round) x.around.loops) h.1 i)
 
     tests_inside : (round : List Turning) (qs : Phases) (loops : List Turning) (c : Located) → AreInside known (unrolled round) qs → TestsInLoops known round qs loops c → EachMatches known (unrolled loops) c.around.loops
     tests_inside round no_phases loops c i h = absurd h
@@ -215,14 +211,24 @@ sets_probe_none : (number : ℕ) (ss : List (ℕ × ℕ)) → probes_among numbe
 sets_probe_none number [] = refl
 sets_probe_none number (s ∷ ss) = let e = sets_probe_none number ss in omega (arith, e)
 
+sets_reach_none : (ss : List (ℕ × ℕ)) → AllByRecursion (λ (o : Operation). access_in o.form ≡ None) (settings ss)
+sets_reach_none [] = tt
+sets_reach_none (s ∷ ss) = (refl, sets_reach_none ss)
+
+abbrev put_down : OperationForm → Operation
+put_down form = record { guard = None; form = form }
+
 flag_quiet : (read : Truth) (old new : Draft) (value flag : ℕ) → AddsFlag read old new value flag → EndsQuietly old new
 flag_quiet true old new value flag (mid, (made, (number, (both, set)))) = record {
-  more = _ ∷ (_ ∷ []);
-  adds = set.operations ∙ (ap (λ (os : List Operation). os ++ _ ∷ []) both.operations ∙ append_assoc old.operations.items (_ ∷ []) (_ ∷ []));
+  more = put_down (Compute Both value value) ∷ (put_down (Set flag made) ∷ []);
+  adds = set.operations
+      ∙ (ap (λ (os : List Operation). os ++ put_down (Set flag made) ∷ []) both.operations
+      ∙ append_assoc old.operations.items (put_down (Compute Both value value) ∷ []) (put_down (Set flag made) ∷ []));
   no_use = λ k. refl;
   no_probe = λ k. refl;
+  reach_none = (refl, (refl, tt));
 }
-flag_quiet false old new value flag (number, set) = record { more = _ ∷ []; adds = set.operations; no_use = λ k. refl; no_probe = λ k. refl }
+flag_quiet false old new value flag (number, set) = record { more = put_down (Set flag value) ∷ []; adds = set.operations; no_use = λ k. refl; no_probe = λ k. refl; reach_none = (refl, tt) }
 
 -- Blocks.
 
@@ -248,69 +254,86 @@ module _ (scene : Scene) (final : Made) (plan : PlainPlan) (is : IsMadeOf scene 
       loops = λ number a made at. sym (match_factors (known_of p) (loops_round rounds) a.site.loops (matches number a made at)) ∙ sym top.factors_are;
     }
 
-  straight_used : (rounds : List Round) (cs : _) (block : ℕ) → IsStraightBlock scene final rounds cs block → UsesStraight p plan cs block
-  straight_used rounds cs block b = record {
-    located = b.located;
-    are = b.are;
-    named = all_named b.located named;
-    uses =
-        straights_use_as_made scene plan block b.made.around b.located b.made.before b.made.between b.made.after.draft b.made.made
-        (in_loops rounds b.made.around b.made.round b.made.stands_in (λ number. any_makes number b.located) loops)
-        (along 0 b.located b.made.rising named) has is.tells untouched
-        (operations_are final plan.blocks is.blocks block b.made.before b.made.after b.made.stands)
-        (record { more = settings b.made.sets.sets; adds = b.made.sets.operations; no_use = λ k. sets_use_none k b.made.sets.sets; no_probe = λ k. sets_probe_none k b.made.sets.sets });
-  }
-    where
-      has : HasStraight (phases_of (program_seen scene.program.now)) b.located
-      has = straight_there (known_in scene) [] (phases_of (program_seen scene.program.now)) (loops_round rounds) b.located b.placed
+  -- what stands round the block of a straight phase
+  module _ (rounds : List Round) (cs : CoreCommands) (block : ℕ) (b : IsStraightBlock scene final rounds cs block) where
+    pub straight_has : HasStraight (phases_of (program_seen scene.program.now)) b.located
+    straight_has = straight_there (known_in scene) [] (phases_of (program_seen scene.program.now)) (loops_round rounds) b.located b.placed
 
-      named : AllHold named_facts tt b.located
-      named = straight_named (phases_of (program_seen scene.program.now)) b.located body_named has
+    straight_held : AllHold named_facts tt b.located
+    straight_held = straight_named (phases_of (program_seen scene.program.now)) b.located body_named straight_has
 
-      matched : EachInside (known_in scene) (unrolled (loops_round rounds)) b.located
-      matched = straight_inside (known_in scene) [] (phases_of (program_seen scene.program.now)) (loops_round rounds) b.located body_inside b.placed
+    straight_matches : EachInside (known_in scene) (unrolled (loops_round rounds)) b.located
+    straight_matches = straight_inside (known_in scene) [] (phases_of (program_seen scene.program.now)) (loops_round rounds) b.located body_inside b.placed
 
-      loops : (number : ℕ) (a : SourceAccess) → any_makes number b.located ≡ true → access_at (program_seen scene.program.now) number ≡ Some a → EachMatches (known_in scene) (unrolled (loops_round rounds)) a.site.loops
-      loops number a made at =
-          let c = maker number b.located made in
-          subst (λ ls. EachMatches (known_in scene) (unrolled (loops_round rounds)) ls)
-          (sym (straight_loops number a (program_seen scene.program.now) at b.located c.0 (straight_either (phases_of (program_seen scene.program.now)) (idle_phases_of (program_seen scene.program.now)) b.located (inl has)) c.1.0 c.1.1))
-          (inside_of (known_in scene) (unrolled (loops_round rounds)) b.located c.0 matched c.1.0)
+    straight_loops_match : (number : ℕ) (a : SourceAccess) → any_makes number b.located ≡ true → access_at (program_seen scene.program.now) number ≡ Some a → EachMatches (known_in scene) (unrolled (loops_round rounds)) a.site.loops
+    straight_loops_match number a made at =
+        let c = maker number b.located made in
+        subst (λ ls. EachMatches (known_in scene) (unrolled (loops_round rounds)) ls)
+        (sym (straight_loops number a (program_seen scene.program.now) at b.located c.0 (straight_either (phases_of (program_seen scene.program.now)) (idle_phases_of (program_seen scene.program.now)) b.located (inl straight_has)) c.1.0 c.1.1))
+        (inside_of (known_in scene) (unrolled (loops_round rounds)) b.located c.0 straight_matches c.1.0)
 
-      untouched : HaveNoOperations (block_sites scene b.made.around b.located b.made.before b.made.between b.made.made) b.made.before.accesses
-      untouched = record {
-        none = b.made.counts;
-        there = λ number s at. (bare_made b.made.before.accesses b.located number b.made.bare (blocks_placed scene b.made.around b.located b.made.before b.made.between b.made.made (along 0 b.located b.made.rising named) number s at)).0;
-        bare = λ number s at. (bare_made b.made.before.accesses b.located number b.made.bare (blocks_placed scene b.made.around b.located b.made.before b.made.between b.made.made (along 0 b.located b.made.rising named) number s at)).1;
-      }
+    pub straight_stands : IsInLoops scene b.made.around (λ number. any_makes number b.located)
+    straight_stands = in_loops rounds b.made.around b.made.round b.made.stands_in (λ number. any_makes number b.located) straight_loops_match
 
-  test_used : (rounds : List Round) (test : _) (flag block : ℕ) → IsTestBlock scene final rounds test flag block → UsesTest p plan test block
-  test_used rounds test flag block b = record {
-    tested = b.tested;
-    is = b.is;
-    uses =
-        tests_use_as_made scene plan block b.made.around b.tested b.term b.made.before b.made.between b.made.after.draft b.made.next b.made.tests b.made.made b.term_is
-        (in_loops rounds b.made.around b.made.round b.made.stands_in (λ number. test_makes number b.tested) loops)
-        b.made.few has is.tells untouched
-        (operations_are final plan.blocks is.blocks block b.made.before b.made.after b.made.stands)
-        (flag_quiet (is_read_term b.term) b.made.between.draft b.made.after.draft b.made.value flag b.made.adds);
-  }
-    where
-      has : HasTest (phases_of (program_seen scene.program.now)) b.tested
-      has = test_there (known_in scene) [] (phases_of (program_seen scene.program.now)) (loops_round rounds) b.tested b.placed
+    pub straight_along : AreAlong 0 b.located
+    straight_along = along 0 b.located b.made.rising straight_held
 
-      loops : (number : ℕ) (a : SourceAccess) → test_makes number b.tested ≡ true → access_at (program_seen scene.program.now) number ≡ Some a → EachMatches (known_in scene) (unrolled (loops_round rounds)) a.site.loops
-      loops number a made at =
-          subst (λ ls. EachMatches (known_in scene) (unrolled (loops_round rounds)) ls)
-          (sym (ap (λ (s : _). s.loops) (test_stands_there number a (program_seen scene.program.now) at b.tested (test_either (phases_of (program_seen scene.program.now)) (idle_phases_of (program_seen scene.program.now)) b.tested (inl has)) made)))
-          (test_inside (known_in scene) [] (phases_of (program_seen scene.program.now)) (loops_round rounds) b.tested body_inside b.placed)
+    pub straight_bare : HaveNoOperations (block_sites scene b.made.around b.located b.made.before b.made.between b.made.made) b.made.before.accesses
+    straight_bare = record {
+      none = b.made.counts;
+      there = λ number s at. (bare_made b.made.before.accesses b.located number b.made.bare (blocks_placed scene b.made.around b.located b.made.before b.made.between b.made.made straight_along number s at)).0;
+      bare = λ number s at. (bare_made b.made.before.accesses b.located number b.made.bare (blocks_placed scene b.made.around b.located b.made.before b.made.between b.made.made straight_along number s at)).1;
+    }
 
-      untouched : HaveNoOperations (test_sites scene b.made.around b.tested.first b.term) b.made.before.accesses
-      untouched = record {
-        none = b.made.counts;
-        there = λ number s at. let w = test_placed_all scene b.made.around b.tested.first b.term number s at in (bare_at b.made.before.accesses b.tested.first (term_accesses b.term) number b.made.bare w.0 w.1).0;
-        bare = λ number s at. let w = test_placed_all scene b.made.around b.tested.first b.term number s at in (bare_at b.made.before.accesses b.tested.first (term_accesses b.term) number b.made.bare w.0 w.1).1;
-      }
+    pub straight_own : IsOwn plan block b.made.before.draft b.made.after.draft
+    straight_own = operations_are final plan.blocks is.blocks block b.made.before b.made.after b.made.stands
+
+    pub straight_quiet : EndsQuietly b.made.between.draft b.made.after.draft
+    straight_quiet = record { more = settings b.made.sets.sets; adds = b.made.sets.operations; no_use = λ k. sets_use_none k b.made.sets.sets; no_probe = λ k. sets_probe_none k b.made.sets.sets; reach_none = sets_reach_none b.made.sets.sets }
+
+    straight_used : UsesStraight p plan cs block
+    straight_used = record {
+      located = b.located;
+      are = b.are;
+      named = all_named b.located straight_held;
+      uses =
+          straights_use_as_made scene plan block b.made.around b.located b.made.before b.made.between b.made.after.draft b.made.made straight_stands straight_along straight_has is.tells straight_bare straight_own straight_quiet;
+    }
+
+  -- and of a test
+  module _ (rounds : List Round) (test : CoreTerm) (flag block : ℕ) (b : IsTestBlock scene final rounds test flag block) where
+    pub test_has : HasTest (phases_of (program_seen scene.program.now)) b.tested
+    test_has = test_there (known_in scene) [] (phases_of (program_seen scene.program.now)) (loops_round rounds) b.tested b.placed
+
+    test_loops_match : (number : ℕ) (a : SourceAccess) → test_makes number b.tested ≡ true → access_at (program_seen scene.program.now) number ≡ Some a → EachMatches (known_in scene) (unrolled (loops_round rounds)) a.site.loops
+    test_loops_match number a made at =
+        subst (λ ls. EachMatches (known_in scene) (unrolled (loops_round rounds)) ls)
+        (sym (ap (λ (s : _). s.loops) (test_stands_there number a (program_seen scene.program.now) at b.tested (test_either (phases_of (program_seen scene.program.now)) (idle_phases_of (program_seen scene.program.now)) b.tested (inl test_has)) made)))
+        (test_inside (known_in scene) [] (phases_of (program_seen scene.program.now)) (loops_round rounds) b.tested body_inside b.placed)
+
+    pub test_stands_in : IsInLoops scene b.made.around (λ number. test_makes number b.tested)
+    test_stands_in = in_loops rounds b.made.around b.made.round b.made.stands_in (λ number. test_makes number b.tested) test_loops_match
+
+    pub test_bare : HaveNoOperations (test_sites scene b.made.around b.tested.first b.term) b.made.before.accesses
+    test_bare = record {
+      none = b.made.counts;
+      there = λ number s at. let w = test_placed_all scene b.made.around b.tested.first b.term number s at in (bare_at b.made.before.accesses b.tested.first (term_accesses b.term) number b.made.bare w.0 w.1).0;
+      bare = λ number s at. let w = test_placed_all scene b.made.around b.tested.first b.term number s at in (bare_at b.made.before.accesses b.tested.first (term_accesses b.term) number b.made.bare w.0 w.1).1;
+    }
+
+    pub test_own : IsOwn plan block b.made.before.draft b.made.after.draft
+    test_own = operations_are final plan.blocks is.blocks block b.made.before b.made.after b.made.stands
+
+    pub test_quiet : EndsQuietly b.made.between.draft b.made.after.draft
+    test_quiet = flag_quiet (is_read_term b.term) b.made.between.draft b.made.after.draft b.made.value flag b.made.adds
+
+    test_used : UsesTest p plan test block
+    test_used = record {
+      tested = b.tested;
+      is = b.is;
+      uses =
+          tests_use_as_made scene plan block b.made.around b.tested b.term b.made.before b.made.between b.made.after.draft b.made.next b.made.tests b.made.made b.term_is test_stands_in b.made.few test_has is.tells test_bare test_own test_quiet;
+    }
 
 -- Nodes that are tied in one way are tied in another, where each of their blocks, tests and loops is.
 module _ (a b : Tie) (of_block : (rounds : List Round) (cs : _) (block : ℕ) → a.of_block rounds cs block → b.of_block rounds cs block) (of_test : (rounds : List Round) (test : _) (flag block : ℕ) → a.of_test rounds test flag block → b.of_test rounds test flag block) (of_loop : (rounds : List Round) (loop : Turning) (counter : ℕ) → a.of_loop rounds loop counter → b.of_loop rounds loop counter) where

@@ -6,3 +6,4 @@ pub mod UsedBlocks
 pub mod UsedPlans
 -- plans as they are made
 pub mod MadePlans
+pub mod SourceReaches

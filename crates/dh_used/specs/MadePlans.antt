@@ -1,5 +1,5 @@
 -- Plans whose nodes were made of the phases of a program use each access by keys, where each block is that of one node.
-use Rattle.std.specs.Prelude.{◌≡◌, ℕ, []}
+use Rattle.std.specs.Prelude.{[]}
 use Rattle.dh_tree.specs.Seen.{program_seen}
 use Rattle.dh_meaning.specs.CoreOf.{core_of}
 use Rattle.dh_plan.specs.DoneProgram.{ProbesByPaths, UsesByKeys}

@@ -1,6 +1,7 @@
 -- How often a block of a plan reads, writes and probes each access of the program: with each of its keys once and at
 -- each of its paths, where the block makes it; not at all, where it does not.
-use Rattle.std.specs.Prelude.{◌≡◌, ℕ, ◌+◌, ◌<◌, ◌^◌, Bool, true, if◌then◌else◌, List, ◌++◌, drop, length, Some}
+use Rattle.std.specs.Prelude.{◌≡◌, ℕ, ◌+◌, ◌<◌, ◌^◌, Bool, true, if◌then◌else◌, List, ◌++◌, drop, length, Some, None}
+use Rattle.std.specs.List.{AllByRecursion}
 use Rattle.dh_tree.specs.PlainTrees.{Program, Term}
 use Rattle.dh_tree.specs.Seen.{program_seen}
 use Rattle.dh_meaning.specs.AccessNumbers.{term_accesses}
@@ -14,6 +15,7 @@ use Rattle.dh_meets.specs.SourceEvents.{SourceAccess}
 use Rattle.dh_plan.specs.declared.operations.Operation.{Operation}
 use Rattle.dh_plan.specs.DoneProgram.{operations_using, probes_among, uses_wanted}
 use Rattle.dh_plan.specs.PlainPlans.{PlainPlan, operations_in}
+use Rattle.dh_plan.specs.SoundPlans.{access_in}
 use Rattle.dh_sound.specs.PhaseFacts.{HasStraight, HasTest}
 use Rattle.dh_sound.specs.ToldEvents.{access_at}
 use Rattle.dh_lengths.specs.SharedReads.{TellsShares}
@@ -47,6 +49,7 @@ pub record EndsQuietly (d e : Draft) : Type 0 where
   pub adds : e.operations.items ≡ d.operations.items ++ more
   pub no_use : (number : ℕ) → operations_using number more ≡ 0
   pub no_probe : (number : ℕ) → probes_among number more ≡ 0
+  pub reach_none : AllByRecursion (λ (o : Operation). access_in o.form ≡ None) more
 
 -- the operations of a block are those that were added to a draft
 abbrev pub IsOwn : PlainPlan → (block : ℕ) → (old end : Draft) → Type 0

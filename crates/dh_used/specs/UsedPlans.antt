@@ -1,6 +1,6 @@
 -- How often a plan reads, writes and probes each access of its program, from what its blocks do, each of which is that of
 -- one node.
-use Rattle.std.specs.Prelude.{◌≡◌, ℕ, ◌+◌, ◌<◌, ◌==◌, if◌then◌else◌, List, [], ◌∷◌, length}
+use Rattle.std.specs.Prelude.{◌≡◌, ℕ, ◌<◌, List, [], length}
 use Rattle.std.specs.List.{AllByRecursion}
 use Rattle.dh_tree.specs.PlainTrees.{Program}
 use Rattle.dh_meaning.specs.Core.{CoreCommands, CoreTerm}
@@ -12,6 +12,7 @@ use Rattle.dh_plan.specs.PlainPlans.{PlainPlan}
 use Rattle.dh_plan.specs.PlanPhases.{AreNodesOf, Tie}
 use Rattle.dh_plan.specs.SoundPlans.{blocks_of}
 use Rattle.dh_sound.specs.Straight.{IsNamedAction}
+pub use Rattle.dh_gathering.specs.NamedOnce.{listed}
 use Rattle.dh_used.specs.UsedBlocks.{UsesAsMade}
 
 -- a block of straight commands, or of a test, that uses what they make
@@ -32,11 +33,6 @@ used_tie p plan = record {
   of_test = λ rounds test flag block. UsesTest p plan test block;
   of_loop = λ rounds loop counter. Unit {0};
 }
-
--- how often a number is listed
-abbrev pub listed : (number : ℕ) → List ℕ → ℕ
-listed number [] = 0
-listed number (n ∷ ns) = (if number == n then 1 else 0) + listed number ns
 
 -- each block is that of one node
 abbrev pub OneNodeEach : PlainPlan → Type 0

@@ -1,6 +1,7 @@
 //! Laws on how often accesses are made, stated on functions that do nothing.
 
 ghost use Rattle.dh_used.specs.MadePlans.{MadeNodesUse, MadePlansUse};
+ghost use Rattle.dh_used.specs.SourceReaches.{MadePlansReach};
 ghost use Rattle.dh_used.specs.SourceSites.{BlocksAreSited, TestsAreSited};
 ghost use Rattle.dh_used.specs.UsedBlocks.{StraightsUseAsMade, TestsUseAsMade};
 ghost use Rattle.dh_used.specs.UsedPlans.{PlansUse};
@@ -29,4 +30,9 @@ pub fn plans_use_by_keys()
 pub fn made_plans_use_by_keys()
     ensures nodes { MadeNodesUse }
     ensures plans { MadePlansUse }
+{}
+
+/// It reaches memories of accesses of the source, each as its access does.
+pub fn made_plans_reach_the_source()
+    ensures { MadePlansReach }
 {}

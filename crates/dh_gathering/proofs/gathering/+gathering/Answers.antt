@@ -1,4 +1,4 @@
-use Rattle.std.proofs.Common.{ap, sym, ◌∙◌, subst, rules}
+use Rattle.std.proofs.Common.{Some, ap, sym, ◌∙◌, subst, rules}
 use Rattle.std.proofs.lemmas.List.{drop_all}
 use Rattle.std.proofs.lemmas.Result.{IfOk-weaker}
 use Rattle.dh_accesses.proofs.CountedParts.{left_first, next_command}
@@ -6,7 +6,9 @@ use Rattle.dh_tree.proofs.SeenActions as known
 use Rattle.dh_tree.specs.PlainTrees.{action, repeats, counts, decides}
 use Rattle.dh_tree.specs.Seen.{action_seen, action_form_seen, all_parts_seen, maybe_block_seen, term_seen, placed, unrolled}
 use Rattle.dh_meaning.specs.AccessNumbers.{groups_accesses}
+use Rattle.dh_expressions.specs.Levels.{levels_inside}
 use Rattle.dh_gathering.specs.Gathered.{Chooses, GathersGroups, all_kept, all_numbered}
+use Rattle.dh_gathering.proofs.EachNamedOnce.{once_arms, once_body, once_counts, once_joined, once_nothing, once_part}
 use Rattle.dh_gathering.proofs.PartsGathered.{command_turn, commands_begin, left_all, left_begin, left_end, part_end, parts_begin, parts_end}
 use Rattle.dh_gathering.proofs.PhasesGathered.{block_of_code, choice_of_code, found_of_code, gathers_as, loop_of_code, turns_of_code}
 use Rattle.dh_gathering.proofs.gathering.+gathering.Goals as goal
@@ -17,7 +19,7 @@ gather-returns-in_ok-forms-in-If-clause-gathers t c =
     gathers_as c.args.scene.now c.args.paths.now c.args.made.now c.choose.new.made (all_kept c.in_ok-forms-in-If.forms.items) c.args.first c.args.command.now.id c.args.command.now.place (action_form_seen c.args.command.now.form) _ seen
     (choice_of_code c.args.scene.now c.args.paths.now c.args.made.now c.gather.new.made c.gather_other.new.made c.choose.new.made (all_kept c.in_ok-chosen-in-If.chosen.items) (all_kept c.in_ok-other-in-If.other.items) (all_kept c.in_ok-forms-in-If.forms.items)
     c.args.first c.behind_term-next.result c.in_ok-chosen-in-If.next c.args.command.now.id c.args.command.now.place (term_seen c.in-If.test) (action_seen c.deref.result.now) (maybe_block_seen c.in-If.other)
-    c.behind_term-next.ensures c.in_ok-chosen-in-If.ensures.next c.in_ok-chosen-in-If.ensures.gathers c.in_ok-other-in-If.ensures.gathers (subst (λ f. Chooses c.args.scene.now c.args.paths.now c.gather_other.new.made c.choose.new.made c.args.first (action c.args.command.now.id c.args.command.now.place f) (term_seen c.in-If.test) (all_kept c.in_ok-chosen-in-If.chosen.items) (all_kept c.in_ok-other-in-If.other.items) (all_kept c.in_ok-forms-in-If.forms.items)) seen c.in_ok-forms-in-If.ensures))
+    c.behind_term-next.ensures c.in_ok-chosen-in-If.ensures.next c.in_ok-chosen-in-If.ensures.gathers c.in_ok-other-in-If.ensures.gathers (subst (λ f. Chooses c.args.scene.now c.args.paths.now c.gather_other.new.made c.choose.new.made c.args.first (action c.args.command.now.id c.args.command.now.place f) (term_seen c.in-If.test) (all_kept c.in_ok-chosen-in-If.chosen.items) (all_kept c.in_ok-other-in-If.other.items) (all_kept c.in_ok-forms-in-If.forms.items)) seen c.in_ok-forms-in-If.ensures.made))
 
 pub gather-returns-in_ok-forms-in-While-clause-gathers : goal.gather-returns-in_ok-forms-in-While-clause-gathers
 gather-returns-in_ok-forms-in-While-clause-gathers t c =
@@ -25,7 +27,7 @@ gather-returns-in_ok-forms-in-While-clause-gathers t c =
     gathers_as c.args.scene.now c.args.paths.now c.args.made.now c.repeat.new.made (all_kept c.in_ok-forms-in-While.forms.items) c.args.first c.args.command.now.id c.args.command.now.place (action_form_seen c.args.command.now.form) _ seen
     (loop_of_code c.args.scene.now c.args.paths.now c.args.made.now c.gather-in-While.new.made c.repeat.new.made (all_kept c.in_ok-body-in-While.body.items) (all_kept c.in_ok-forms-in-While.forms.items)
     c.args.first c.behind_term-next-in-While.result c.args.command.now.id c.args.command.now.place (term_seen c.in-While.test) (action_seen c.deref-in-While.result.now)
-    c.behind_term-next-in-While.ensures c.in_ok-body-in-While.ensures.gathers c.in_ok-forms-in-While.ensures)
+    c.behind_term-next-in-While.ensures c.in_ok-body-in-While.ensures.gathers c.in_ok-forms-in-While.ensures.made)
 
 pub gather-returns-in_ok-forms-in-For-clause-gathers : goal.gather-returns-in_ok-forms-in-For-clause-gathers
 gather-returns-in_ok-forms-in-For-clause-gathers t c =
@@ -36,7 +38,7 @@ gather-returns-in_ok-forms-in-For-clause-gathers t c =
     (turns_of_code c.args.scene.now c.args.paths.now c.in_ok-within-in-For.within c.args.made.now c.gather-in-For.new.made c.gather_other-in-For.new.made c.turns.new.made (all_kept c.in_ok-body-in-For.body.items) (all_kept c.in_ok-folds-in-For.folds.items) (all_kept c.in_ok-turn-in-For.turn.items) (all_kept c.in_ok-forms-in-For.forms.items)
     c.args.first c.in_ok-body-in-For.next c.args.command.now.id c.args.command.now.place c.in-For.iterator c.in-For.declared (placed c.in-For.low c.in-For.low_place) (placed c.in-For.high c.in-For.high_place) (unrolled c.in-For.factor c.in-For.factor_place c.in-For.unroll_place)
     (action_seen c.deref-in-For.result.now) (maybe_block_seen c.in-For.combine) c.in-For.combine_place c.turn_count-count.result
-    c.turn_count-count.ensures c.if-count-eq0.false c.in_ok-within-in-For.ensures.levels c.in_ok-within-in-For.ensures.count c.in_ok-body-in-For.ensures.next c.in_ok-body-in-For.ensures.gathers c.in_ok-folds-in-For.ensures.gathers c.in_ok-turn-in-For.ensures c.in_ok-forms-in-For.ensures)
+    c.turn_count-count.ensures c.if-count-eq0.false (c.in_ok-within-in-For.ensures.levels ∙ ap (λ e. levels_inside c.args.paths.now.levels.items (Some e) c.in-For.factor) c.entity_of-entity.ensures) c.in_ok-within-in-For.ensures.count c.in_ok-body-in-For.ensures.next c.in_ok-body-in-For.ensures.gathers c.in_ok-folds-in-For.ensures.gathers c.in_ok-turn-in-For.ensures c.in_ok-forms-in-For.ensures.made)
 
 pub gather-returns-in-Block-clause-gathers : goal.gather-returns-in-Block-clause-gathers
 gather-returns-in-Block-clause-gathers t c =
@@ -57,24 +59,34 @@ gather_parts-loop-part-init t c = (
   c.new-current.ensures.items,
   (
     left_first c.args.first (groups_accesses (all_parts_seen c.args.parts.now)) (search rules),
-    parts_begin c.args.scene.now c.args.paths.now c.args.parts.now c.args.first c.args.made.now (all_kept c.new-done.result.items) (ap all_kept c.new-done.ensures.items),
+    (
+      parts_begin c.args.scene.now c.args.paths.now c.args.parts.now c.args.first c.args.made.now (all_kept c.new-done.result.items) (ap all_kept c.new-done.ensures.items),
+      once_nothing c.args.made.now c.new-done.result.items c.new-done.ensures.items,
+    ),
   ),
 )
 
 pub gather_parts-loop-command-init : goal.gather_parts-loop-command-init
 gather_parts-loop-command-init t c = (
   left_begin c.args.parts.now c.loop-part.part-index c.loop-part.next c.args.first (groups_accesses (all_parts_seen c.args.parts.now)) c.part-item.result c.deref-command-items.result.now c.loop-part-test.true c.part-item.is c.deref-command-items.ensures.value c.loop-part.invariant.1.0,
-  commands_begin c.args.scene.now c.args.paths.now c.args.parts.now c.args.first c.args.made.now c.loop-part.made (all_kept c.loop-part.done.items) (all_numbered c.loop-part.current.items) c.loop-part.part-index c.loop-part.next c.part-item.result c.deref-command-items.result.now
-      c.loop-part-test.true c.part-item.is c.deref-command-items.ensures.value (ap all_numbered c.loop-part.invariant.0) c.loop-part.invariant.1.1,
+  (
+    commands_begin c.args.scene.now c.args.paths.now c.args.parts.now c.args.first c.args.made.now c.loop-part.made (all_kept c.loop-part.done.items) (all_numbered c.loop-part.current.items) c.loop-part.part-index c.loop-part.next c.part-item.result c.deref-command-items.result.now
+        c.loop-part-test.true c.part-item.is c.deref-command-items.ensures.value (ap all_numbered c.loop-part.invariant.0) c.loop-part.invariant.1.1.0,
+    c.loop-part.invariant.1.1.1,
+  ),
 )
 
 pub gather_parts-loop-command-preserved : goal.gather_parts-loop-command-preserved
 gather_parts-loop-command-preserved t c = (
   next_command c.loop-command.next c.in_ok-forms.behind c.args.first (groups_accesses (all_parts_seen c.args.parts.now)) c.deref-command-items.result.now c.loop-command.command-index c.command-item.result c.args.parts.now _
       c.loop-command-test.true c.command-item.is c.in_ok-forms.ensures.next c.loop-command.invariant.0,
-  command_turn c.args.scene.now c.args.paths.now c.args.parts.now c.args.first c.args.made.now c.loop-command.made c.gather.new.made (all_kept c.loop-command.done.items) (all_kept c.join.new.done.items) (all_numbered c.loop-command.current.items) (all_numbered c.join.new.current.items) (all_kept c.in_ok-forms.forms.items)
-      c.loop-part.part-index c.deref-command-items.result.now c.loop-command.command-index c.loop-command.next c.in_ok-forms.behind c.command-item.result
-      c.loop-command-test.true c.command-item.is c.in_ok-forms.ensures.next c.in_ok-forms.ensures.gathers c.in_ok-join.ensures c.loop-command.invariant.1,
+  (
+    command_turn c.args.scene.now c.args.paths.now c.args.parts.now c.args.first c.args.made.now c.loop-command.made c.gather.new.made (all_kept c.loop-command.done.items) (all_kept c.join.new.done.items) (all_numbered c.loop-command.current.items) (all_numbered c.join.new.current.items) (all_kept c.in_ok-forms.forms.items)
+        c.loop-part.part-index c.deref-command-items.result.now c.loop-command.command-index c.loop-command.next c.in_ok-forms.behind c.command-item.result
+        c.loop-command-test.true c.command-item.is c.in_ok-forms.ensures.next c.in_ok-forms.ensures.gathers c.in_ok-join.ensures c.loop-command.invariant.1.0,
+    once_joined c.args.made.now c.loop-command.made c.gather.new.made (all_kept c.loop-command.done.items) (all_kept c.join.new.done.items) (all_numbered c.loop-command.current.items) (all_numbered c.join.new.current.items) (all_kept c.in_ok-forms.forms.items)
+        c.in_ok-join.ensures c.in_ok-forms.ensures.once c.loop-command.invariant.1.1,
+  ),
 )
 
 pub gather_parts-loop-part-preserved : goal.gather_parts-loop-part-preserved
@@ -83,8 +95,11 @@ gather_parts-loop-part-preserved t c = (
   (
     left_end c.args.parts.now c.loop-part.part-index c.loop-command.next c.args.first (groups_accesses (all_parts_seen c.args.parts.now)) c.deref-command-items.result.now c.loop-command.command-index
         (drop_all c.loop-command.command-index c.deref-command-items.result.now c.loop-command-test.false) c.loop-command.invariant.0,
-    part_end c.args.scene.now c.args.paths.now c.args.parts.now c.args.first c.args.made.now c.loop-command.made (all_kept c.loop-command.done.items) (all_kept c.end_phase.new.done.items) (all_numbered c.loop-command.current.items) c.loop-part.part-index c.deref-command-items.result.now c.loop-command.command-index c.loop-command.next
-        (drop_all c.loop-command.command-index c.deref-command-items.result.now c.loop-command-test.false) c.in_ok-end_phase.ensures.0 c.loop-command.invariant.1,
+    (
+      part_end c.args.scene.now c.args.paths.now c.args.parts.now c.args.first c.args.made.now c.loop-command.made (all_kept c.loop-command.done.items) (all_kept c.end_phase.new.done.items) (all_numbered c.loop-command.current.items) c.loop-part.part-index c.deref-command-items.result.now c.loop-command.command-index c.loop-command.next
+          (drop_all c.loop-command.command-index c.deref-command-items.result.now c.loop-command-test.false) c.in_ok-end_phase.ensures.0 c.loop-command.invariant.1.0,
+      once_part c.args.made.now c.loop-command.made (all_kept c.loop-command.done.items) (all_kept c.end_phase.new.done.items) (all_numbered c.loop-command.current.items) c.in_ok-end_phase.ensures.0 c.loop-command.invariant.1.1,
+    ),
   ),
 )
 
@@ -93,4 +108,27 @@ gather_parts-returns-clause-next t c = left_all c.args.parts.now c.loop-part.par
 
 pub gather_parts-returns-clause-gathers : goal.gather_parts-returns-clause-gathers
 gather_parts-returns-clause-gathers t c =
-    parts_end c.args.scene.now c.args.paths.now c.args.parts.now c.args.first c.args.made.now c.loop-part.made (all_kept c.loop-part.done.items) c.loop-part.part-index c.loop-part.next (drop_all c.loop-part.part-index c.args.parts.now c.loop-part-test.false) c.loop-part.invariant.1.1
+    parts_end c.args.scene.now c.args.paths.now c.args.parts.now c.args.first c.args.made.now c.loop-part.made (all_kept c.loop-part.done.items) c.loop-part.part-index c.loop-part.next (drop_all c.loop-part.part-index c.args.parts.now c.loop-part-test.false) c.loop-part.invariant.1.1.0
+
+pub gather_parts-returns-clause-once : goal.gather_parts-returns-clause-once
+gather_parts-returns-clause-once t c = c.loop-part.invariant.1.1.1
+
+pub gather_other-returns-in-Some-clause-once : goal.gather_other-returns-in-Some-clause-once
+gather_other-returns-in-Some-clause-once t c = c.gather.ensures.once
+
+pub gather-returns-in-Block-clause-once : goal.gather-returns-in-Block-clause-once
+gather-returns-in-Block-clause-once t c = c.gather_parts.ensures.once
+
+pub gather-returns-in_ok-forms-in-If-clause-once : goal.gather-returns-in_ok-forms-in-If-clause-once
+gather-returns-in_ok-forms-in-If-clause-once t c =
+    once_arms c.args.made.now c.gather.new.made c.gather_other.new.made c.choose.new.made (all_kept c.in_ok-chosen-in-If.chosen.items) (all_kept c.in_ok-other-in-If.other.items) (all_kept c.in_ok-forms-in-If.forms.items)
+    c.in_ok-chosen-in-If.ensures.once c.in_ok-other-in-If.ensures.once c.in_ok-forms-in-If.ensures.once
+
+pub gather-returns-in_ok-forms-in-While-clause-once : goal.gather-returns-in_ok-forms-in-While-clause-once
+gather-returns-in_ok-forms-in-While-clause-once t c =
+    once_body c.args.made.now c.gather-in-While.new.made c.repeat.new.made (all_kept c.in_ok-body-in-While.body.items) (all_kept c.in_ok-forms-in-While.forms.items) c.in_ok-body-in-While.ensures.once c.in_ok-forms-in-While.ensures.once
+
+pub gather-returns-in_ok-forms-in-For-clause-once : goal.gather-returns-in_ok-forms-in-For-clause-once
+gather-returns-in_ok-forms-in-For-clause-once t c =
+    once_counts c.args.made.now c.gather-in-For.new.made c.gather_other-in-For.new.made c.turns.new.made (all_kept c.in_ok-body-in-For.body.items) (all_kept c.in_ok-folds-in-For.folds.items) (all_kept c.in_ok-turn-in-For.turn.items) (all_kept c.in_ok-forms-in-For.forms.items)
+    c.in_ok-body-in-For.ensures.once c.in_ok-folds-in-For.ensures.once c.in_ok-turn-in-For.ensures c.in_ok-forms-in-For.ensures.once

@@ -1,0 +1,2 @@
+pub mod SharesWithin
+pub mod PlansLast

@@ -1,0 +1,5 @@
+pub mod NamesMentioned
+pub mod BlocksUnread
+pub mod BlocksMeasured
+pub mod NodesTied
+pub mod PlansMeasured

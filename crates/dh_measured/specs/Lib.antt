@@ -1,0 +1,2 @@
+pub mod MeasuredBlocks
+pub mod MeasuredPlans

@@ -1,0 +1,2 @@
+pub mod StraightsMultiply
+pub mod NodesMultiply

@@ -1,0 +1,2 @@
+pub mod VariablesSized
+pub mod RegistersSized

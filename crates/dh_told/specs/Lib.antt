@@ -1,0 +1,3 @@
+pub mod ScenesKnown
+pub mod PlansTold
+pub mod FormedPlans
