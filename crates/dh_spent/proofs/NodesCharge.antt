@@ -227,11 +227,14 @@ listed_once block [] e = absurd (never e)
   where
     never : 0 ≡ 1 → ⊥
     never e = omega (arith, e)
-listed_once block (b ∷ bs) e = by (block == b) refl e
+listed_once block (b ∷ bs) e = by (block == b) refl e (λ g. listed_once block bs g)
   where
-    by : (t : Truth) → (block == b) ≡ t → (if t then 1 else 0) + listed block bs ≡ 1 → IsOneOf block (b ∷ bs)
-    by true f g = inl (eqb-true block b f)
-    by false f g = inr (listed_once block bs g)
+    none : (n : ℕ) → 0 + n ≡ 1 → n ≡ 1
+    none n h = omega (arith, h)
+
+    by : (t : Truth) → (block == b) ≡ t → (if t then 1 else 0) + listed block bs ≡ 1 → (listed block bs ≡ 1 → IsOneOf block bs) → IsOneOf block (b ∷ bs)
+    by true f g later = inl (eqb-true block b f)
+    by false f g later = inr (later (none (listed block bs) g))
 
 pub made_plans_charge : MadePlansCharge
 made_plans_charge scene final plan is memories once =
