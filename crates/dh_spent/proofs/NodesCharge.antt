@@ -1,5 +1,5 @@
 -- The blocks that were made charge no more than the program: what is told of each as it was made is what laws on blocks ask.
-use Rattle.std.proofs.Common.{◌≡◌, ◌⊎◌, inl, inr, ◌<◌, ◌+◌, ◌==◌, ℕ, zero, suc, List, [], ◌∷◌, ◌++◌, length, Option, Some, None, refl, ap, sym, ◌∙◌, subst, arith, append_assoc}
+use Rattle.std.proofs.Common.{◌≡◌, inl, inr, ◌<◌, ◌+◌, ◌==◌, ℕ, List, [], ◌∷◌, ◌++◌, length, Option, Some, None, refl, ap, sym, ◌∙◌, subst, arith, append_assoc}
 use Rattle.std.specs.Prelude.{Bool as Truth, true, false, if◌then◌else◌, slice_get}
 use Rattle.std.specs.List.{AllByRecursion}
 use Rattle.std.proofs.lemmas.Bool.{eqb-true}
@@ -52,9 +52,9 @@ use Rattle.dh_charged.specs.TracedSites.{HaveMemories}
 use Rattle.dh_charged.proofs.BlocksCharged.{blocks_charge_less, plans_charge, tests_charge_less}
 use Rattle.dh_used.specs.MadePlans.{IsMadeOf}
 use Rattle.dh_used.specs.SourceSites.{AllStand, AreSited}
-use Rattle.dh_used.specs.UsedPlans.{OneNodeEach, listed}
+use Rattle.dh_used.specs.UsedPlans.{listed}
 use Rattle.dh_used.proofs.BlocksByKeys.{each_of}
-use Rattle.dh_used.proofs.NodesMade.{all_named, along, bare_at, bare_made, body_inside, body_named, inside_of, maker, nodes_so, straight_inside, straight_named, straight_there, test_inside, test_there}
+use Rattle.dh_used.proofs.NodesMade.{along, bare_at, bare_made, body_inside, body_named, inside_of, maker, nodes_so, straight_inside, straight_named, straight_there, test_inside, test_there}
 use Rattle.dh_used.proofs.PlansUsed.{named_facts}
 use Rattle.dh_used.proofs.SharesOfProgram.{any_below, shares_inside, test_below, writes_alone}
 use Rattle.dh_used.proofs.SitesOfSource.{blocks_are_sited, blocks_placed, test_placed_all, tests_are_sited}
@@ -225,7 +225,7 @@ made_nodes_charge scene final plan is memories =
 listed_once : (block : ℕ) (bs : List ℕ) → listed block bs ≡ 1 → IsOneOf block bs
 listed_once block [] e = absurd (never e)
   where
-    never : 0 ≡ 1 → ⊥
+    never : ◌≡◌ {A = ℕ} 0 1 → ⊥
     never e = omega (arith, e)
 listed_once block (b ∷ bs) e = by (block == b) refl e (λ g. listed_once block bs g)
   where

@@ -1,5 +1,5 @@
 -- The site of an access of a block tells of the access of that number in the program.
-use Rattle.std.proofs.Common.{◌≡◌, ℕ, zero, suc, ◌<◌, ◌||◌, Bool, true, List, [], ◌∷◌, length, Option, Some, None, refl, ap, sym, ◌∙◌, arith}
+use Rattle.std.proofs.Common.{◌≡◌, ℕ, zero, suc, ◌<◌, ◌||◌, Bool, true, List, [], ◌∷◌, length, Option, Some, refl, ap, sym, ◌∙◌, arith}
 use Rattle.std.specs.Prelude.{slice_get}
 use Rattle.std.specs.Option.{is_some}
 use Rattle.dh_tree.specs.Memories.{memories_of, number_in}
@@ -8,7 +8,7 @@ use Rattle.dh_tree.specs.Seen.{program_seen}
 use Rattle.dh_meaning.specs.Bindings.{bindings_of}
 use Rattle.dh_meaning.specs.CoreOf.{entity_number}
 use Rattle.dh_meaning.specs.Paths.{copies_in}
-use Rattle.dh_meets.specs.Charges.{depends, element_depends}
+use Rattle.dh_meets.specs.Charges.{element_depends}
 use Rattle.dh_meets.specs.SourceEvents.{Element, SourceAccess, accesses_in, trace}
 use Rattle.dh_events.specs.Accesses.{element_in}
 use Rattle.dh_sound.specs.ToldEvents.{access_at}

@@ -22,6 +22,7 @@ use Rattle.dh_meaning.specs.Sites.{nothing_around}
 use Rattle.dh_meets.specs.SourceEvents.{SourceAccess, accesses_in, trace}
 use Rattle.dh_sound.specs.ToldEvents.{access_at}
 use Rattle.dh_sound.proofs.EventCounts.{events_counted}
+use Rattle.dh_sound.proofs.NamedPrograms.{ready_named}
 use Rattle.dh_code.specs.Declarations.{declarations}
 use Rattle.dh_code.specs.Slots.{held_at}
 use Rattle.dh_plan.specs.declared.operations.Operation.{Operation}
@@ -47,8 +48,10 @@ use Rattle.dh_phased.specs.ProgramLoops.{HasOwnLoops}
 use Rattle.dh_phased.proofs.LoopsCounted.{loops_are_own}
 use Rattle.dh_phased.proofs.PhasesDone.{phases_are_done}
 use Rattle.dh_phased.proofs.SlotsTold.{slots_told}
+use Rattle.dh_used.specs.SourceReaches.{AreOfSource}
 use Rattle.dh_used.specs.UsedPlans.{listed}
-use Rattle.dh_told.specs.FormedPlans.{AreOfSource, IsWholePlan, ReadyPlansAreFormed}
+use Rattle.dh_used.proofs.NodesReach.{made_plans_reach}
+use Rattle.dh_told.specs.FormedPlans.{IsWholePlan, ReadyPlansAreFormed}
 use Rattle.dh_told.specs.PlansTold.{IsOfReady}
 use Rattle.dh_told.specs.ScenesKnown.{AreInOrder, HaveTheirKinds}
 use Rattle.dh_told.proofs.BlocksTold.{both_all, holds, plans_told, straight_formed, table, test_formed}
@@ -312,4 +315,8 @@ module _ (scene : Scene) (count : ℕ) (plan : PlainPlan) (final : Made) (h : Is
   }
 
 pub plans_formed : ReadyPlansAreFormed
-plans_formed scene count plan final h known = plan_formed scene count plan final h known
+plans_formed scene count plan final h =
+    plan_formed scene count plan final h
+    (made_plans_reach scene final plan
+    (record { named = ready_named (program_seen scene.program.now) h.of.ready; tells = h.of.shares; blocks = h.of.made.blocks; nodes = h.nodes })
+    h.once)

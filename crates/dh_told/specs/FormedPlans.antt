@@ -1,32 +1,17 @@
 -- The plan of a ready program whole is formed.
-use Rattle.std.specs.Prelude.{◌≡◌, ℕ, [], Some}
-use Rattle.dh_tree.specs.Memories.{memories_of, number_in}
-use Rattle.dh_tree.specs.PlainTrees.{Program}
+use Rattle.std.specs.Prelude.{◌≡◌, ℕ, []}
 use Rattle.dh_tree.specs.Seen.{program_seen}
-use Rattle.dh_meaning.specs.CoreOf.{core_of, entity_number}
-use Rattle.dh_meets.specs.SourceEvents.{SourceAccess}
-use Rattle.dh_sound.specs.ToldEvents.{access_at}
-use Rattle.dh_plan.specs.declared.operations.Reach.{Reach}
+use Rattle.dh_meaning.specs.CoreOf.{core_of}
 use Rattle.dh_plan.specs.PlainPlans.{PlainPlan}
 use Rattle.dh_plan.specs.PlanPhases.{AreNodesOf}
-use Rattle.dh_plan.specs.SoundPlans.{HasAccess, IsFormed}
+use Rattle.dh_plan.specs.SoundPlans.{IsFormed}
 use Rattle.dh_expressions.specs.declared.scenes.Scene.{Scene}
-use Rattle.dh_expressions.specs.Numbers.{narrowed}
 use Rattle.dh_charged.specs.MetAccesses.{PlanMeets}
 use Rattle.dh_gathering.specs.declared.blocks.Made.{Made}
 use Rattle.dh_gathering.specs.Gathered.{HasNodes}
 use Rattle.dh_gathering.specs.MadeBlocks.{made_tie}
 use Rattle.dh_used.specs.UsedPlans.{OneNodeEach}
 use Rattle.dh_told.specs.PlansTold.{IsOfReady}
-
--- an operation of a plan that reaches a memory is of an access of the program, and of the memory of that access
-pub record IsOfSource (p : Program) (r : Reach) : Type 0 where
-  pub access : SourceAccess
-  pub there : access_at p r.access ≡ Some access
-  pub memory_is : r.memory ≡ narrowed (entity_number (number_in (memories_of p) access.entity))
-
-abbrev pub AreOfSource : Program → PlainPlan → Type 0
-AreOfSource p plan = (block i : ℕ) (r : Reach) → HasAccess plan block i r → IsOfSource p r
 
 -- its nodes are those of the program's phases, each block that of one node, and its accesses meet as those of the program
 pub record IsWholePlan (scene : Scene) (count : ℕ) (plan : PlainPlan) (final : Made) : Type 0 where
@@ -39,4 +24,4 @@ pub record IsWholePlan (scene : Scene) (count : ℕ) (plan : PlainPlan) (final :
 
 abbrev pub ReadyPlansAreFormed : Type 0
 ReadyPlansAreFormed =
-    (scene : Scene) (count : ℕ) (plan : PlainPlan) (final : Made) → IsWholePlan scene count plan final → AreOfSource (program_seen scene.program.now) plan → IsFormed plan
+    (scene : Scene) (count : ℕ) (plan : PlainPlan) (final : Made) → IsWholePlan scene count plan final → IsFormed plan

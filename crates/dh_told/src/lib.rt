@@ -16,7 +16,7 @@ pub fn ready_plans_are_sound()
     ensures { ReadyPlansAreSound }
 {}
 
-/// The plan whole is formed, where its accesses are of the program.
+/// The plan whole is formed.
 pub fn ready_plans_are_formed()
     ensures { ReadyPlansAreFormed }
 {}

@@ -1,0 +1,4 @@
+pub mod SharesNarrowed
+pub mod ScenesMade
+pub mod PlansMade
+pub mod PlansUnrolled

@@ -1,2 +1,6 @@
-pub mod Shares
+-- what `unroll` promises
 pub mod Unrolled
+-- the earlier reads that accesses share, in 32 bits
+pub mod Shares
+-- the plan as it is made
+pub mod MadePlans

@@ -4,6 +4,7 @@ ghost use Rattle.std.specs.Prelude.{IfOk};
 ghost use Rattle.dh_tree.specs.Seen.{program_seen};
 ghost use Rattle.dh_plan.specs.Passes.{IsToCompile};
 ghost use Rattle.dh_plan.specs.SeenPlans.{plan_seen};
+ghost use Rattle.dh_unroll.specs.MadePlans.{MakesPhases};
 ghost use Rattle.dh_unroll.specs.Unrolled.{IsUnrolled};
 
 use crate::sharing::narrow_shares;
@@ -21,6 +22,7 @@ use std::alloc::Global;
 /// The phases of a program, over the registers of its variables.
 fn phases_of(alloc: Global, program: &Typed) -> Result<Phased, NoMemory>
     requires { IsToCompile (program_seen program.now) }
+    ensures { IfOk result (λ phased. MakesPhases program.now phased) }
 {
     let tree = program.tree();
     let places = place_all(alloc, &tree.body, tree.entities.len())?;
