@@ -39,7 +39,7 @@ module _ (scene : Scene) where
     held = held;
     count_is = counted;
     scopes = scopes;
-    shares = subst (λ (l : List (Option ℕ)). TellsShares p l) (sym same) (shares_narrowed p shares (few_accesses asked) told);
+    shares = subst (λ (l : List (Option ℕ)). TellsShares p l) (sym same) (shares_narrowed p shares (few_accesses scene asked) told);
   }
 
   pub phases_made : (count : ℕ) (phased : Phased) → IsToCompile p → IsSceneMade scene count → IsTold scene → MakesPhased scene count p.body phased → MakesPhases scene.program.now phased
@@ -48,8 +48,8 @@ module _ (scene : Scene) where
     count = count;
     of = refl;
     made = made;
-    phased_is = makes told (let long = made.shares.long in omega (arith, long)) (few_accesses asked) refl
-        (places_successive (declarations [] p.body) (length p.entities) scene.held.now count (few_entities asked) made.held made.count_is);
+    phased_is = makes told (let long = made.shares.long in omega (arith, long)) (few_accesses scene asked) refl
+        (places_successive (declarations [] p.body) (length p.entities) scene.held.now count (few_entities scene asked) made.held made.count_is);
   }
 
   -- from what the calls told of the program's tree
