@@ -55,11 +55,11 @@ use Rattle.dh_used.specs.SourceSites.{AllStand, AreSited}
 use Rattle.dh_used.proofs.BlocksByKeys.{each_of}
 use Rattle.dh_used.proofs.SharesOfProgram.{any_below, test_below}
 use Rattle.dh_used.proofs.SitesOfSource.{blocks_are_sited, tests_are_sited}
-use Rattle.dh_placed.specs.MadeFormed.{HasRegisters}
-use Rattle.dh_placed.specs.PlacedSound.{SoundStraight, SoundTest}
-use Rattle.dh_placed.proofs.BlocksFormed.{made_straights_are_formed, made_tests_are_formed}
-use Rattle.dh_placed.proofs.BlocksPlaced.{placed_straights_are_sound, placed_tests_are_sound}
-use Rattle.dh_placed.proofs.PhasesHeld.{straight_run, straight_there, test_run, test_there}
+use Rattle.dh_told.specs.MadeFormed.{HasRegisters}
+use Rattle.dh_told.specs.PlacedSound.{SoundStraight, SoundTest}
+use Rattle.dh_told.proofs.BlocksFormed.{made_straights_are_formed, made_tests_are_formed}
+use Rattle.dh_told.proofs.BlocksPlaced.{placed_straights_are_sound, placed_tests_are_sound}
+use Rattle.dh_told.proofs.PhasesHeld.{straight_run, straight_there, test_run, test_there}
 use Rattle.dh_told.specs.PlansTold.{IsOfReady, ReadyPlansAreSound}
 use Rattle.dh_told.proofs.BlocksCut.{adds_then, each_adds, flag_adds, made_cut, tests_add}
 use Rattle.dh_told.proofs.EntitiesKnown.{scenes_tell}

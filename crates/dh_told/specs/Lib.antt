@@ -1,3 +1,14 @@
 pub mod ScenesKnown
 pub mod PlansTold
 pub mod FormedPlans
+pub mod MadeFormed
+pub mod PlacedSound
+pub mod SizedRegisters
+pub mod LastingPlans
+pub mod MadeBanks
+pub mod ReadsOfBlocks
+pub mod MeasuredBlocks
+pub mod MeasuredPlans
+pub mod SpentPlans
+pub mod MultipliedPlans
+pub mod MadePlans

@@ -1,22 +1,14 @@
-//! Laws on the plan of a ready program whole, as it is made: what its scene tells, and that its blocks are sound.
+//! Laws on the plan of a ready program whole, as `dh_gathering` makes it: what its scene tells; that its blocks are sound and
+//! formed, and so is the plan; that each block is as long as its phase; that its steps keep the banks, that it charges and
+//! multiplies no more than the program, and that its registers have kinds. Put together: it is a plan of the program
+//! (`proofs/PlansMade`), which `dh_unroll` promises.
 #![tactic(auto)]
 
-ghost use Rattle.dh_told.specs.FormedPlans.{ReadyPlansAreFormed};
-ghost use Rattle.dh_told.specs.PlansTold.{ReadyPlansAreSound};
-ghost use Rattle.dh_told.specs.ScenesKnown.{ReadyScenesHold, ReadyScenesTell};
+mod laws;
 
-/// The scene tells of each variable what the program declares, and the plan has registers for all of them.
-pub fn ready_scenes_are_known()
-    ensures tells { ReadyScenesTell }
-    ensures holds { ReadyScenesHold }
-{}
-
-/// The blocks of a plan are sound in whatever loops they stand.
-pub fn ready_plans_are_sound()
-    ensures { ReadyPlansAreSound }
-{}
-
-/// The plan whole is formed.
-pub fn ready_plans_are_formed()
-    ensures { ReadyPlansAreFormed }
-{}
+pub use laws::{
+    made_blocks_are_as_long_as_their_phases, made_blocks_are_formed,
+    made_plans_are_as_long_as_their_phases, made_plans_charge, made_plans_keep_banks,
+    made_plans_multiply, placed_blocks_are_sound, ready_plans_are_formed, ready_plans_are_sound,
+    ready_plans_last, ready_scenes_are_known, registers_are_sized,
+};

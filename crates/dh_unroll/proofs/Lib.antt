@@ -1,4 +1,3 @@
 pub mod SharesNarrowed
 pub mod ScenesMade
-pub mod PlansMade
 pub mod PlansUnrolled

@@ -9,9 +9,9 @@ use Rattle.dh_plan.specs.SeenPlans.{meets_seen, nodes_seen}
 use Rattle.dh_plan.specs.declared.plans.Meets.{Meets}
 use Rattle.dh_accesses.specs.Met.{MeetsBody}
 use Rattle.dh_gathering.specs.declared.making.Phased.{Phased}
-use Rattle.dh_unroll.specs.MadePlans.{MakesPhases}
+use Rattle.dh_told.specs.MadePlans.{IsMadePlan, MakesPhases}
 use Rattle.dh_unroll.specs.Unrolled.{IsUnrolled}
-use Rattle.dh_unroll.proofs.PlansMade.{unrolled}
+use Rattle.dh_told.proofs.PlansMade.{plan_of, sized}
 
 -- the parts of a plan, by a program's tree
 pub record HasParts (t : Tree) (phased : Phased) (plan : PlainPlan) (meets : Meets) : Type 0 where
@@ -27,7 +27,8 @@ pub record HasParts (t : Tree) (phased : Phased) (plan : PlainPlan) (meets : Mee
 pub plan_unrolled : (t : Tree) (phased : Phased) (plan : PlainPlan) (meets : Meets) → IsToCompile (program_seen t) → MakesPhases t phased → HasParts t phased plan meets → IsUnrolled (program_seen t) plan
 plan_unrolled t phased plan meets asked m parts =
     subst (λ (u : Tree). IsToCompile (program_seen u) → HasParts u phased plan meets → IsUnrolled (program_seen u) plan) m.of
-    (λ a h. unrolled m.scene m.count phased plan a m.made m.phased_is (record {
+    (λ a h.
+    let put : IsMadePlan m.scene phased plan = record {
       table = h.table;
       views = h.views;
       registers = h.registers;
@@ -37,4 +38,9 @@ plan_unrolled t phased plan meets asked m parts =
       tree = meets;
       meets = h.meets_are;
       met = h.met;
-    })) asked parts
+    } in
+    record {
+      is_plan = plan_of m.scene m.count phased plan a m.made m.phased_is put;
+      views = h.views;
+      registers = sized m.scene m.count phased plan a m.made m.phased_is put;
+    }) asked parts

@@ -8,7 +8,6 @@ use Rattle.dh_tree.specs.Seen.{action_seen, program_seen}
 use Rattle.dh_meaning.specs.AccessNumbers.{accesses_of}
 use Rattle.dh_meaning.specs.Bindings.{bindings, bindings_of}
 use Rattle.dh_plan.specs.Passes.{IsToCompile}
-use Rattle.dh_backend.proofs.FaultsFew.{accesses_within}
 use Rattle.dh_runnable.proofs.ProgramsRun.{ready_runs}
 use Rattle.dh_events.specs.Scopes.{AreScopes}
 use Rattle.dh_lengths.specs.SharedReads.{TellsShares}
@@ -20,8 +19,8 @@ use Rattle.dh_gathering.specs.declared.making.Phased.{Phased}
 use Rattle.dh_gathering.specs.MadeBlocks.{IsTold}
 use Rattle.dh_gathering.specs.ProgramMade.{MakesPhased}
 use Rattle.dh_gathering.proofs.KindsOfRegisters.{places_successive}
-use Rattle.dh_phased.proofs.ReachingPhases.{ready_scenes_are_told}
-use Rattle.dh_unroll.specs.MadePlans.{IsSceneMade, MakesPhases}
+use Rattle.dh_told.specs.MadePlans.{IsSceneMade, MakesPhases}
+use Rattle.dh_told.proofs.PlansMade.{few_accesses, few_entities, ready_scenes_are_told}
 use Rattle.dh_unroll.specs.Shares.{narrow_shares}
 use Rattle.dh_unroll.proofs.SharesNarrowed.{shares_narrowed}
 
@@ -33,12 +32,6 @@ module _ (scene : Scene) where
   abbrev p : Program
   p = program_seen scene.program.now
 
-  pub few_accesses : IsToCompile p → accesses_of p.body < 2 ^ 32
-  few_accesses asked = let small = asked.small in let within = accesses_within p in omega (arith, small, within)
-
-  pub few_entities : IsToCompile p → length p.entities ≤ 2 ^ 32
-  few_entities asked = let few = (ready_runs p asked.ready).entities in omega (arith, few)
-
   pub scene_made : (count : ℕ) (shares : List (Option ℕ)) → IsToCompile p
       → scene.held.now ≡ all_held (declarations [] p.body) 0 0 (length p.entities) → count ≡ slots_counted (declarations [] p.body) 0 0 (length p.entities)
       → AreScopes (bindings_of p) scene.scopes.now → TellsShares p shares → scene.shares.now ≡ narrow_shares shares → IsSceneMade scene count
@@ -46,7 +39,7 @@ module _ (scene : Scene) where
     held = held;
     count_is = counted;
     scopes = scopes;
-    shares = subst (λ (l : List (Option ℕ)). TellsShares p l) (sym same) (shares_narrowed p shares (few_accesses asked) told);
+    shares = subst (λ (l : List (Option ℕ)). TellsShares p l) (sym same) (shares_narrowed p shares (few_accesses scene asked) told);
   }
 
   pub phases_made : (count : ℕ) (phased : Phased) → IsToCompile p → IsSceneMade scene count → IsTold scene → MakesPhased scene count p.body phased → MakesPhases scene.program.now phased
@@ -55,8 +48,8 @@ module _ (scene : Scene) where
     count = count;
     of = refl;
     made = made;
-    phased_is = makes told (let long = made.shares.long in omega (arith, long)) (few_accesses asked) refl
-        (places_successive (declarations [] p.body) (length p.entities) scene.held.now count (few_entities asked) made.held made.count_is);
+    phased_is = makes told (let long = made.shares.long in omega (arith, long)) (few_accesses scene asked) refl
+        (places_successive (declarations [] p.body) (length p.entities) scene.held.now count (few_entities scene asked) made.held made.count_is);
   }
 
   -- from what the calls told of the program's tree

@@ -3,7 +3,7 @@ use Rattle.std.proofs.Common.{◌≡◌, ℕ, zero, suc, ◌<◌, ◌^◌, List,
 use Rattle.dh_tree.specs.PlainTrees.{Program}
 use Rattle.dh_meaning.specs.AccessNumbers.{accesses_of}
 use Rattle.dh_meets.specs.Sharing.{shared}
-use Rattle.dh_used.proofs.SharedReads.{shared_before}
+use Rattle.dh_told.proofs.PlansMade.{shared_before}
 use Rattle.dh_lengths.specs.SharedReads.{TellsShares, share_told, told}
 use Rattle.dh_expressions.specs.Numbers.{narrowed}
 use Rattle.dh_unroll.specs.Shares.{narrow_share, narrow_shares}

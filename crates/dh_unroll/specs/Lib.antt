@@ -2,5 +2,3 @@
 pub mod Unrolled
 -- the earlier reads that accesses share, in 32 bits
 pub mod Shares
--- the plan as it is made
-pub mod MadePlans

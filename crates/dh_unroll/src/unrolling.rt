@@ -4,7 +4,7 @@ ghost use Rattle.std.specs.Prelude.{IfOk};
 ghost use Rattle.dh_tree.specs.Seen.{program_seen};
 ghost use Rattle.dh_plan.specs.Passes.{IsToCompile};
 ghost use Rattle.dh_plan.specs.SeenPlans.{plan_seen};
-ghost use Rattle.dh_unroll.specs.MadePlans.{MakesPhases};
+ghost use Rattle.dh_told.specs.MadePlans.{MakesPhases};
 ghost use Rattle.dh_unroll.specs.Unrolled.{IsUnrolled};
 
 use crate::sharing::narrow_shares;

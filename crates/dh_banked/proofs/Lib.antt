@@ -1,9 +1,0 @@
-pub mod LevelsOfRounds
-pub mod NamesTurn
-pub mod IndicesTold
-pub mod CopiesOfPhases
-pub mod SpreadPaths
-pub mod ReadsShared
-pub mod TestsStand
-pub mod BlocksStand
-pub mod MadeBanks

@@ -1,5 +1,0 @@
-use Rattle.dh_banked.proofs.MadeBanks.{made_keep_banks}
-use Rattle.dh_banked.proofs.made_plans_keep_banks.Goals as goal
-
-pub returns : goal.returns
-returns c = made_keep_banks

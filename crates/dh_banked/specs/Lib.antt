@@ -1,2 +1,0 @@
-pub mod ReadsOfBlocks
-pub mod MadeBanks

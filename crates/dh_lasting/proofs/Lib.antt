@@ -1,2 +1,0 @@
-pub mod SharesWithin
-pub mod PlansLast

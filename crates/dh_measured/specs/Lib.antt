@@ -1,2 +1,0 @@
-pub mod MeasuredBlocks
-pub mod MeasuredPlans

@@ -1,2 +1,0 @@
-pub mod StraightsMultiply
-pub mod NodesMultiply

@@ -1,4 +1,0 @@
-pub mod BlocksBegin
-pub mod BlocksFormed
-pub mod PhasesHeld
-pub mod BlocksPlaced

@@ -1,2 +1,0 @@
-pub mod MadeFormed
-pub mod PlacedSound

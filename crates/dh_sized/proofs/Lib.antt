@@ -1,2 +1,0 @@
-pub mod VariablesSized
-pub mod RegistersSized

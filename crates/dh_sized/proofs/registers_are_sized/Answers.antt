@@ -1,5 +1,0 @@
-use Rattle.dh_sized.proofs.RegistersSized.{registers_are_sized}
-use Rattle.dh_sized.proofs.registers_are_sized.Goals as goal
-
-pub returns : goal.returns
-returns c = registers_are_sized

@@ -1,3 +1,0 @@
-pub mod LevelsOfLoops
-pub mod SitesOfPlan
-pub mod NodesCharge

@@ -1,2 +1,0 @@
--- charges of a plan
-pub mod SpentPlans
