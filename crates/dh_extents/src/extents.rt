@@ -3,7 +3,7 @@
 ghost use Rattle.std.specs.Prelude.{◌≡◌, ◌<◌};
 ghost use Rattle.dh_tree.specs.Elements.{banks_of, rows_of, position_in_bank};
 ghost use Rattle.dh_tree.specs.Tables.{elements_of};
-ghost use Rattle.dh_net.specs.Extents.{AreDims, IsExtent};
+ghost use Rattle.dh_extents.specs.Extents.{AreDims, IsExtent};
 
 use dh_tree::Dim;
 

@@ -1,8 +1,8 @@
 use Rattle.std.proofs.Common.{ℕ, ◌+◌, ◌*◌, ◌/◌, ◌<◌, subst}
 use Rattle.std.specs.Prelude.{slice_index_or}
 use Rattle.std.proofs.Math.Facts.{Fits-of_lt}
-use Rattle.dh_code.proofs.DimSizes.{index_in, index_word, position_word, position_all, all_elements_are, no_more, first_part, some_element}
-use Rattle.dh_code.proofs.spots.+place_in_bank.Goals as goal
+use Rattle.dh_extents.proofs.DimSizes.{index_in, index_word, position_word, position_all, all_elements_are, no_more, first_part, some_element}
+use Rattle.dh_extents.proofs.extents.+place_in_bank.Goals as goal
 
 pub overflow_mul-index : goal.overflow_mul-index
 overflow_mul-index t c = Fits-of_lt (no_more _ _ (index_word c.args.dims.now _ c.in-len1-up.len_at_least c.requires.dims c.args.row c.args.bank c.measure-inner.result.rows c.measure-inner.result.banks c.measure-inner.ensures.1.0 c.measure-inner.ensures.0 c.requires.row c.requires.bank) (first_part _ (c.args.bank / c.measure-inner.result.banks)))

@@ -11,7 +11,7 @@ use Rattle.dh_tree.specs.declared.tables.Dim.{Dim}
 use Rattle.dh_tree.specs.Elements.{banks_of, rows_of}
 use Rattle.dh_tree.specs.Shapes.{IsDim}
 use Rattle.dh_tree.specs.Tables.{elements_of, most_elements}
-use Rattle.dh_net.specs.Extents.{AreDims}
+use Rattle.dh_extents.specs.Extents.{AreDims}
 
 -- the dimensions behind the first
 abbrev pub behind : List Dim → List Dim
@@ -68,7 +68,7 @@ rows_fit (d ∷ ds) h = mul-le-mul (div-le_self d.size d.banks) (rows_fit ds h.1
 pub few_fits : (n : ℕ) → n ≤ most_elements → n < 2 ^ 64
 few_fits n h = omega (arith, h)
 
-quotient_below : (i size banks : ℕ) → i < size → 1 ≤ banks → size % banks ≡ 0 → i / banks < size / banks
+pub quotient_below : (i size banks : ℕ) → i < size → 1 ≤ banks → size % banks ≡ 0 → i / banks < size / banks
 quotient_below i size banks l b e = div_below i banks (size / banks) (some banks b) (subst (λ (n : ℕ). i < n) (sym (div-mul_cancel banks (dvd_of_mod-eq-zero banks e))) l)
   where
     some : (n : ℕ) → 1 ≤ n → 0 < n

@@ -6,7 +6,7 @@ use Rattle.dh_tree.specs.declared.tables.MemEntry.{MemEntry}
 use Rattle.dh_tree.specs.Elements.{banks_of, rows_of}
 use Rattle.dh_tree.specs.Shapes.{IsDim, IsMemory}
 use Rattle.dh_tree.specs.Tables.{elements_of, most_elements}
-use Rattle.dh_net.specs.declared.extents.Extent.{Extent}
+use Rattle.dh_extents.specs.declared.extents.Extent.{Extent}
 
 -- dimensions that a memory can have
 pub record AreDims (ds : List Dim) : Type 0 where
