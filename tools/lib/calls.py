@@ -4,6 +4,7 @@ A tool ends with status 2 and one line on standard error where it cannot do its 
 files of its own with the bytes that it has read, so that both see the same program, whatever its file is called."""
 import argparse
 import os
+import shutil
 import signal
 import subprocess
 import sys
@@ -17,10 +18,9 @@ PROGRAM_BYTES = 1048576
 DATA_BYTES = 16777216
 # Statuses of the program.
 DONE, REFUSED, USAGE, FAULTED, GOING, BAD_DATA, TOO_LARGE, READ_FAULT, WRITE_FAULT, NO_MEMORY = range(10)
-# The script `dahlia` ends so where it cannot build the program.
-NOT_BUILT = 70
-FIND = """the program is that of --program, else that of the environment variable DAHLIA, else the script dahlia of the
-checkout that this tool stands in, which proves and builds the program on its first use"""
+BUILT = os.path.join(TOP, 'crates', 'dahlia', 'out', 'dahlia')
+FIND = """the program is that of --program, else that of the environment variable DAHLIA, else the one that is built in the
+checkout that this tool stands in, else the `dahlia` that is found by PATH. No tool builds it: ./dahlia does"""
 
 
 class Trouble(Exception):
@@ -64,8 +64,10 @@ def read_file(name, most):
 
 def program_path(option):
     """The program that is to be called."""
-    named = option or os.environ.get('DAHLIA')
-    path = os.path.abspath(named or os.path.join(TOP, 'dahlia'))
+    named = option or os.environ.get('DAHLIA') or (BUILT if os.path.exists(BUILT) else shutil.which('dahlia'))
+    if not named:
+        raise Trouble('no program is built: ./dahlia builds it, and --program or DAHLIA names another')
+    path = os.path.abspath(named)
     if not os.path.isfile(path):
         raise Trouble(f'no program at {shown(path)}')
     if not os.access(path, os.X_OK):
@@ -100,8 +102,6 @@ class Program:
         if status < 0:
             name = signal.Signals(-status).name if -status in set(signal.Signals) else f'signal {-status}'
             raise Trouble(f'the program {shown(self.path)} was ended by {name}')
-        if status == NOT_BUILT:
-            raise Trouble(f'the program {shown(self.path)} could not be built')
         if status == NO_MEMORY:
             raise Trouble(f'the program {shown(self.path)} had not enough memory')
         if status not in range(10) or status in (USAGE, READ_FAULT, WRITE_FAULT):
