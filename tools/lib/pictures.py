@@ -4,6 +4,8 @@ each in a lane of its own."""
 from xml.sax.saxutils import escape
 
 SIGN, LINE, PAD, GAP, LANE, EDGE = 7.3, 17, 9, 26, 16, 14
+# Of reads, of writes and of registers that are set a box has so many lines at most.
+MOST_LINES = 16
 STYLE = """\
 text { font: 12px monospace; fill: #222 } .title { font-weight: bold; font-size: 14px } .head { font-weight: bold }
 .box { fill: #fff; stroke: #456; stroke-width: 1.2 } .bar { fill: #dde6ee } .end { fill: #456 } .white { fill: #fff }
@@ -52,13 +54,22 @@ def fault_line(faults):
     return 'fault', f"fault OutOfRange at {', '.join(places[:4])}{more}"
 
 
+def some(lines, what):
+    """The lines, or the first of them and how many more there are."""
+    if len(lines) <= MOST_LINES:
+        return lines
+    return lines[:MOST_LINES - 1] + [(lines[0][0], f'   … and {len(lines) - MOST_LINES + 1} more {what}')]
+
+
 def box_of(graph, number, following):
     """The box of a state. A way without a test to the next state has no line of its own."""
     if number in graph.done:
         return Box(number, ('done', f'state {number}'), [], [])
     step = graph.steps[number]
-    lines = [access_line(access) for access in step.accesses]
-    lines += [('setting', f'{step.clocks - 1}  {setting}') for setting in step.settings]
+    accesses = [access_line(access) for access in step.accesses]
+    lines = some([line for line in accesses if line[0] == 'read'], 'reads')
+    lines += some([line for line in accesses if line[0] == 'write'], 'writes')
+    lines += some([('setting', f'{step.clocks - 1}  {setting}') for setting in step.settings], 'registers')
     lines += [fault_line(step.faults)] if step.faults else []
     ways = []
     for test, state in step.ways:

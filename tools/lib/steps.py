@@ -214,12 +214,12 @@ class Graph:
 
     @staticmethod
     def named(found, writer):
-        """The ways with their tests as texts, a state with the fewest answers first. The last is behind all others."""
+        """The ways with their tests as texts, that with the fewest and plainest first. The last is behind all others."""
         by_state = {}
         for asked, state in found:
             texts = [writer.text(question) if value else writer.negated(question, 0) for question, value in asked]
             by_state.setdefault(state, []).append(' and '.join(texts))
         if len(by_state) == 1:
             return [('', found[0][1])]
-        ordered = sorted(by_state.items(), key=lambda way: (len(way[1]), -way[0]))
+        ordered = sorted(by_state.items(), key=lambda way: (len(way[1]), way[1][0].startswith('!'), way[0]))
         return [(cut(' or '.join(tests)), state) for state, tests in ordered[:-1]] + [(None, ordered[-1][0])]
