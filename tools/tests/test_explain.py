@@ -72,7 +72,7 @@ class Reading(unittest.TestCase):
         for row in rows:
             rule = row['Rule'].strip('`')
             with self.subTest(rule=rule):
-                self.assertIs(language.rule(rule)['Rule'], row['Rule'])
+                self.assertEqual(language.rule(rule), row)
                 told = ' '.join(block.text for block in language.paragraphs(rule, row))
                 self.assertIn(f'`{rule.split()[0]}', told)
                 self.assertTrue(row['Nearest accepted program'])
