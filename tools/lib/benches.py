@@ -219,27 +219,39 @@ int main(int count, char **words) {
 """
 
 
+def harness_clock(ports):
+    """The lines of one clock: at the edge all banks read, then all write, in order of ports; then the kernel moves."""
+    lines = [f'    auto {p}_held = kernel.{p}_in;' for _, p in ports]
+    lines += [f'    {name}.read(kernel.{p}_en && !kernel.{p}_we, kernel.{p}_row, {p}_held);' for name, p in ports]
+    lines += [f'    {name}.write(kernel.{p}_en && kernel.{p}_we, kernel.{p}_row, kernel.{p}_out);' for name, p in ports]
+    lines += ['    kernel.clk = 1;', '    kernel.eval();'] + [f'    kernel.{p}_in = {p}_held;' for _, p in ports]
+    return lines + ['    kernel.clk = 0;', '    kernel.eval();', '    clocks++;', '    steps += kernel.tick;']
+
+
+def harness_comparison(expected):
+    """The lines that compare the outcome, the clocks and the steps."""
+    return f"""\
+  if (kernel.done != {expected.done} || kernel.fault != {expected.fault}U) {{
+    failures++;
+    std::printf("done %u, fault %u; expected: done {expected.done}, fault {expected.fault}\\n", (unsigned)kernel.done,
+                (unsigned)kernel.fault);
+  }}
+  if (clocks != {expected.clocks}ULL || steps != {expected.steps}ULL) {{
+    failures++;
+    std::printf("%llu clocks, %llu steps; expected: {expected.clocks} clocks, {expected.steps} steps\\n", clocks, steps);
+  }}
+""".splitlines()
+
+
 def harness(memories, expected):
-    """The harness: at each edge all banks read, then all write, in order of ports."""
+    """The harness. The clock is low at first."""
     banks = banks_of(memories)
-    ports = [(name, f'{name}_p{port}', port) for memory, _, name in banks for port in range(memory.ports)]
+    ports = [(name, f'{name}_p{port}') for memory, _, name in banks for port in range(memory.ports)]
     lines = [line.replace('MOST_TOLD', str(MOST_TOLD)) for line in HARNESS_HEAD.splitlines()]
     lines += [f'  Bank {name}("{memory.name}", {bank}, "{name}", {memory.rows});' for memory, bank, name in banks]
-    lines += [f'  kernel.{p}_in = 0;' for _, p, _ in ports]
-    lines += ['  kernel.clk = 0;', '  kernel.eval();',
-              f'  while (!kernel.done && kernel.fault == 0 && clocks < {expected.most}ULL) {{']
-    for _, p, _ in ports:
-        lines.append(f'    auto {p}_held = kernel.{p}_in;')
-    lines += [f'    {name}.read(kernel.{p}_en && !kernel.{p}_we, kernel.{p}_row, {p}_held);' for name, p, _ in ports]
-    lines += [f'    {name}.write(kernel.{p}_en && kernel.{p}_we, kernel.{p}_row, kernel.{p}_out);' for name, p, _ in ports]
-    lines += ['    kernel.clk = 1;', '    kernel.eval();'] + [f'    kernel.{p}_in = {p}_held;' for _, p, _ in ports]
-    lines += ['    kernel.clk = 0;', '    kernel.eval();', '    clocks++;', '    steps += kernel.tick;', '  }']
-    lines += [f'  if (kernel.done != {expected.done} || kernel.fault != {expected.fault}U) {{', '    failures++;',
-              f'    std::printf("done %u, fault %u; expected: done {expected.done}, fault {expected.fault}\\n",',
-              '                (unsigned)kernel.done, (unsigned)kernel.fault);', '  }',
-              f'  if (clocks != {expected.clocks}ULL || steps != {expected.steps}ULL) {{', '    failures++;',
-              f'    std::printf("%llu clocks, %llu steps; expected: {expected.clocks} clocks, {expected.steps} steps\\n", clocks, steps);',
-              '  }']
+    lines += [f'  kernel.{p}_in = 0;' for _, p in ports] + ['  kernel.clk = 0;', '  kernel.eval();']
+    lines.append(f'  while (!kernel.done && kernel.fault == 0 && clocks < {expected.most}ULL) {{')
+    lines += harness_clock(ports) + ['  }'] + harness_comparison(expected)
     lines += [f'  {name}.compare();' for _, _, name in banks]
     lines += ['  kernel.final();', f'  if (failures == 0) std::printf("passed: {summary(expected)}\\n");',
               '  else std::printf("FAILED: %llu differences\\n", failures);', '  return failures != 0;', '}', '']

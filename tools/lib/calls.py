@@ -150,8 +150,8 @@ def run(name, main):
     except Trouble as trouble:
         print(f'{name}: {trouble}', file=sys.stderr)
         status = UNUSABLE
-    except MemoryError:
-        print(f'{name}: not enough memory', file=sys.stderr)
+    except (MemoryError, RecursionError) as fault:
+        print(f"{name}: {'not enough memory' if isinstance(fault, MemoryError) else 'nested too deep'}", file=sys.stderr)
         status = UNUSABLE
     except OSError as fault:
         if isinstance(fault, BrokenPipeError):

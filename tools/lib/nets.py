@@ -21,7 +21,7 @@ FORMS = [
 ]
 # The registers of every net: the clock of the step, that a step has ended, the fault, the state.
 CLOCK, TICK, FAULT, STATE = range(4)
-DEEP = 300
+DEEP = 200
 
 
 class Cell:
@@ -94,8 +94,13 @@ class Net:
         parts = {end: re.findall(r"w\d+ \? (\S+) :", assigned[f'{port}_{end}']) for end in ('we', 'row', 'out')}
         if any(len(part) != len(enables) for part in parts.values()):
             raise Trouble(f'the text has a port {port} whose drivers differ in number')
-        return [Driver(enable, we.endswith("'d1"), self.first[int(row[1:])], self.first[int(out[1:])] if out[0] == 'w' else None)
-                for enable, we, row, out in zip(enables, parts['we'], parts['row'], parts['out'])]
+        wires = [[self.first[int(wire[1:])] if wire[0] == 'w' else None for wire in parts[end]] for end in ('row', 'out')]
+        return [Driver(enable, we.endswith("'d1"), row, out) for enable, we, row, out in zip(enables, parts['we'], *wires)]
+
+    def tested_states(self):
+        """How many states the net tells apart."""
+        state = {number for number, cell in self.cells.items() if cell.form == 'reg' and cell.detail == STATE}
+        return len({cell.operands for cell in self.cells.values() if cell.form == '==' and state & set(cell.operands)})
 
     def find_standing(self):
         """The wires that stay as they are through a step: those without the clock, the fault and the state. (What
@@ -256,16 +261,19 @@ class View:
             wire = left if known else right
         return wire
 
+    def is_negation(self, cell):
+        """Whether a cell is the negation of its left operand."""
+        return cell.form == '==' and self.net.cells[cell.operands[0]].width == 1 and self.value(cell.operands[1]) == 0
+
     def question(self, wire):
         """A wire, without its negations, that stays through the step, and on whose value an unknown one depends."""
         for _ in range(DEEP):
             cell = self.net.cells[wire]
             if wire in self.net.standing:
-                if cell.form == '==' and cell.width == 1 and self.value(cell.operands[1]) == 0 \
-                        and self.net.cells[cell.operands[0]].width == 1:
-                    wire = cell.operands[0]
-                    continue
-                return wire
+                if not self.is_negation(cell):
+                    return wire
+                wire = cell.operands[0]
+                continue
             unknown = [operand for operand in cell.operands if self.value(operand) is None]
             if not unknown:
                 return None

@@ -71,7 +71,7 @@ class Writer:
             return self.expression(cell.operands[0], depth, as_row)
         left, right = cell.operands[0], cell.operands[-1]
         narrow = self.net.cells[left].width == 1
-        if cell.form == '==' and narrow and self.view.value(right) == 0:
+        if self.view.is_negation(cell):
             return self.negated(left, depth)
         for this, other in ((left, right), (right, left)):
             if cell.form in ('&', '|') and narrow and self.view.value(this) is not None:
@@ -85,7 +85,7 @@ class Writer:
     def negated(self, wire, depth):
         """What is true where a wire is 0."""
         cell = self.net.cells[wire]
-        if cell.form == '==' and self.net.cells[cell.operands[0]].width == 1 and self.view.value(cell.operands[1]) == 0:
+        if self.view.is_negation(cell):
             return self.expression(cell.operands[0], depth)
         return '!' + self.expression(wire, depth + 1)
 
@@ -107,6 +107,8 @@ class Graph:
     def __init__(self, net, most):
         self.net, self.steps, self.done = net, {}, set()
         self.start = net.initial[STATE]
+        if net.tested_states() > most:
+            raise Trouble(f'the kernel has {net.tested_states()} states: --most N draws more than {most}')
         waiting = [self.start]
         while waiting:
             number = waiting.pop()
@@ -115,8 +117,6 @@ class Graph:
             if View(net, number, 0).value(net.done) == 1:
                 self.done.add(number)
                 continue
-            if len(self.steps) >= most:
-                raise Trouble(f'the kernel has more than {most} states: --most N draws more')
             self.steps[number] = self.step(number)
             waiting += [state for _, state in self.steps[number].ways]
         self.order = sorted(self.steps) + sorted(self.done)
@@ -168,31 +168,33 @@ class Graph:
 
     def accesses(self, view, last, reads):
         """The accesses of a step, in order of clocks; notes in `reads` what each port reads."""
-        found = []
-        anywhen = view.at(None)
+        found, anywhen = [], view.at(None)
         active = [(port, driver) for port, drivers in sorted(self.net.ports.items()) for driver in drivers
                   if anywhen.value(driver.enable) != 0]
         for clock in range(last + 1):
             now = view if clock == last else view.at(clock)
-            for (memory, bank, port), driver in active:
-                enabled = now.value(driver.enable)
-                if enabled == 0:
-                    continue
-                writer = Writer(now, reads)
-                row = now.value(now.settled(driver.row))
-                place = element(self.net.memories[memory], bank, writer.text(driver.row, True) if row is None else row)
-                question = None if enabled == 1 else now.question(driver.enable)
-                test = '' if question is None else self.test(now, driver.enable, question, writer)
-                if not driver.writes:
-                    reads[(memory, bank, port)] = place
-                found.append(Access(clock, driver.writes, place, writer.text(driver.data) if driver.writes else '', test))
+            for port, driver in active:
+                if now.value(driver.enable) != 0:
+                    access = self.access(now, clock, port, driver, Writer(now, reads))
+                    found.append(access)
+                    if not driver.writes:
+                        reads[port] = access.place
         return found
+
+    def access(self, view, clock, port, driver, writer):
+        """What a driver does that may be active."""
+        row = view.value(view.settled(driver.row))
+        place = element(self.net.memories[port[0]], port[1], writer.text(driver.row, True) if row is None else row)
+        question = view.question(driver.enable) if view.value(driver.enable) is None else None
+        test = '' if question is None else self.test(view, driver.enable, question, writer)
+        return Access(clock, driver.writes, place, writer.text(driver.data) if driver.writes else '', test)
 
     def test(self, view, enable, question, writer):
         """The test of an enable that hangs on a question; more of it is not told."""
         yes, no = (view.assuming(question, value).value(enable) for value in (1, 0))
-        text = writer.text(question)
-        return text + ('' if yes == 1 else ' ..') if no == 0 else f'!({text})' + ('' if no == 1 else ' ..') if yes == 0 else '..'
+        if no == 0:
+            return writer.text(question) + ('' if yes == 1 else ' ..')
+        return writer.negated(question, 0) + ('' if no == 1 else ' ..') if yes == 0 else '..'
 
     def ways(self, view, writer):
         """The ways out of a state: the tests that it asks, and the states behind their answers."""

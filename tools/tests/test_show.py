@@ -23,6 +23,11 @@ def answer(*words):
     return subprocess.run([PROGRAM, *words], stdout=subprocess.PIPE).stdout.decode()
 
 
+def unnumbered(text):
+    """A text without the numbers of registers, which another compiler may give otherwise."""
+    return re.sub(r'\br\d+', 'r', text)
+
+
 def graph_of(path, most=200):
     return Graph(Net(answer('lower', path)), most)
 
@@ -53,9 +58,9 @@ class Graphs(ToolCase):
 
     def test_a_loop_and_its_fault(self):
         graph = graph_of(example('dot_product.fuse'))
-        self.assertEqual(graph.steps[1].ways, [('r8 == 3', 2), (None, 1)])
+        self.assertEqual([(unnumbered(test or 'else'), state) for test, state in graph.steps[1].ways], [('r == 3', 2), ('else', 1)])
         self.assertEqual(graph.steps[1].faults, ['fault OutOfRange 11:17'])
-        self.assertEqual([access.place for access in graph.steps[1].accesses], ['a{0}[r8]', 'a{1}[r8]', 'b{0}[r8]', 'b{1}[r8]'])
+        self.assertEqual([unnumbered(access.place) for access in graph.steps[1].accesses], ['a{0}[r]', 'a{1}[r]', 'b{0}[r]', 'b{1}[r]'])
 
     def test_a_choice_a_while_and_a_read_in_an_index(self):
         graph = self.graph('decl A: ubit<8>[4]; decl B: ubit<8>{2}[4]; let x: ubit<8> = 0; '
@@ -69,7 +74,7 @@ class Graphs(ToolCase):
     def test_a_write_that_waits_for_a_test(self):
         graph = self.graph('decl A: ubit<8>[4]; let c: ubit<8> = 3 --- if (c < 2) { A[1] := 7; }')
         access, = graph.steps[1].accesses
-        self.assertEqual((access.place, access.data, re.sub(r'r\d+', 'r', access.test)), ('A[1]', '7', 'r < 2'))
+        self.assertEqual((access.place, access.data, unnumbered(access.test)), ('A[1]', '7', 'r < 2'))
 
     def test_elements_of_several_dimensions_and_banks(self):
         graph = self.graph('decl A: ubit<8>[4 bank 2][3]; A[3][1] := 7;')
@@ -128,7 +133,7 @@ class Pictures(ToolCase):
 
     def test_more_states_than_are_drawn(self):
         path = self.write('p.fuse', 'let x = 0;' + '--- x := 1;' * 30)
-        self.refused('show', path, '--most', '20', says='more than 20 states')
+        self.refused('show', path, '--most', '20', says='has 31 states')
         self.refused('show', path, '--most', 'x', says='--most wants a number')
         self.assertEqual(run_tool('show', path)[0], 0)
 
