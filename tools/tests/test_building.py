@@ -16,7 +16,7 @@ from support import PROGRAM, TOP
 RT = """#!/bin/sh
 echo "$PWD $*" >>"$ROOM/calls"
 while IFS= read -r line; do
-    case $line in sleep) sleep 60 ;; *) echo "$line" >&2 ;; esac
+    case $line in sleep) sleep 300 ;; *) echo "$line" >&2 ;; esac
 done <"$ROOM/lines"
 [ ! -e "$ROOM/fails" ] || exit 1
 mkdir -p out && cp "$PROGRAM_TO_BUILD" out/dahlia
@@ -65,7 +65,7 @@ class Building(unittest.TestCase):
     def run_piped(self, *words):
         """The status, the output and the lines on standard error of a call whose output is no terminal."""
         with self.start(*words, stdout=subprocess.PIPE, stderr=subprocess.PIPE) as call:
-            out, error = call.communicate(timeout=60)
+            out, error = call.communicate(timeout=300)
         return call.returncode, out.decode(), error.decode().split('\n')[:-1]
 
     def crates(self):
@@ -135,7 +135,7 @@ class Building(unittest.TestCase):
         with self.start(stdout=subprocess.DEVNULL, stderr=theirs):
             os.close(theirs)
             seen = b''
-            while select.select([ours], [], [], 60)[0]:
+            while select.select([ours], [], [], 300)[0]:
                 try:
                     piece = os.read(ours, 4096)
                 except OSError:
@@ -177,7 +177,7 @@ class Building(unittest.TestCase):
             while b'proving' not in seen:
                 seen += os.read(call.stderr.fileno(), 4096)
             os.killpg(call.pid, signal.SIGINT)
-            out, error = call.communicate(timeout=60)
+            out, error = call.communicate(timeout=300)
         self.assertEqual((130, b''), (call.returncode, out))
         self.assertIn(b'dahlia: the build was interrupted', error)
         self.assertEqual([], os.listdir(os.path.join(self.room, 'temporary')))

@@ -25,7 +25,7 @@ CHANGES = [
 def simulated(name, folder=EXAMPLES):
     """The status and the output of `simulate` over a program of a folder and its data."""
     words = ['simulate', os.path.join(folder, f'{name}.fuse'), os.path.join(EXAMPLES, f'{name}.json')]
-    done = subprocess.run([PROGRAM, *words], stdout=subprocess.PIPE, timeout=60, check=False)
+    done = subprocess.run([PROGRAM, *words], stdout=subprocess.PIPE, timeout=300, check=False)
     return done.returncode, done.stdout.decode().strip()
 
 
@@ -99,7 +99,7 @@ class Examples(unittest.TestCase):
         with tempfile.TemporaryDirectory() as folder:
             os.symlink(EXAMPLES, os.path.join(folder, 'examples'))
             os.symlink(PROGRAM, os.path.join(folder, 'dahlia'))
-            done = subprocess.run(['sh', '-c', '\n'.join(commands)], cwd=folder, stdout=subprocess.PIPE, timeout=60, check=False)
+            done = subprocess.run(['sh', '-c', '\n'.join(commands)], cwd=folder, stdout=subprocess.PIPE, timeout=300, check=False)
         self.assertEqual(wanted, done.stdout.decode().split('\n')[:-1])
 
 

@@ -12,7 +12,7 @@ FILES = {'bin/dahlia': 0o755, 'share/man/man1/dahlia.1': 0o644, 'share/bash-comp
 
 
 def make(*words, top=TOP):
-    return subprocess.run(['make', '-C', top, *words], stdout=subprocess.PIPE, stderr=subprocess.STDOUT, timeout=60, check=False)
+    return subprocess.run(['make', '-C', top, *words], stdout=subprocess.PIPE, stderr=subprocess.STDOUT, timeout=300, check=False)
 
 
 def files_below(folder):
