@@ -10,7 +10,7 @@ import tempfile
 import time
 import unittest
 
-from support import PROGRAM, TOP
+from support import PATIENCE, PROGRAM, TOP
 
 # Plays a build: says the lines of the file `lines`, of which `sleep` takes a while, and leaves the program.
 RT = """#!/bin/sh
@@ -65,7 +65,7 @@ class Building(unittest.TestCase):
     def run_piped(self, *words):
         """The status, the output and the lines on standard error of a call whose output is no terminal."""
         with self.start(*words, stdout=subprocess.PIPE, stderr=subprocess.PIPE) as call:
-            out, error = call.communicate(timeout=300)
+            out, error = call.communicate(timeout=PATIENCE)
         return call.returncode, out.decode(), error.decode().split('\n')[:-1]
 
     def crates(self):
@@ -135,7 +135,7 @@ class Building(unittest.TestCase):
         with self.start(stdout=subprocess.DEVNULL, stderr=theirs):
             os.close(theirs)
             seen = b''
-            while select.select([ours], [], [], 300)[0]:
+            while select.select([ours], [], [], PATIENCE)[0]:
                 try:
                     piece = os.read(ours, 4096)
                 except OSError:
@@ -177,7 +177,7 @@ class Building(unittest.TestCase):
             while b'proving' not in seen:
                 seen += os.read(call.stderr.fileno(), 4096)
             os.killpg(call.pid, signal.SIGINT)
-            out, error = call.communicate(timeout=300)
+            out, error = call.communicate(timeout=PATIENCE)
         self.assertEqual((130, b''), (call.returncode, out))
         self.assertIn(b'dahlia: the build was interrupted', error)
         self.assertEqual([], os.listdir(os.path.join(self.room, 'temporary')))

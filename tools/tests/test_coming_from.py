@@ -6,7 +6,7 @@ import subprocess
 import tempfile
 import unittest
 
-from support import PROGRAM, TOP
+from support import PATIENCE, PROGRAM, TOP
 
 DOCUMENT = os.path.join(TOP, 'docs', 'COMING_FROM.md')
 BLOCK = re.compile(r'^```\n(.*?)\n```\n(.*?)$', re.M | re.S)
@@ -26,7 +26,7 @@ def answer(job, text, data=None):
             with open(path, 'w', encoding='utf-8', newline='') as file:
                 file.write(content)
         words = [PROGRAM, job, *(paths if data is not None else paths[:1])]
-        done = subprocess.run(words, stdout=subprocess.PIPE, timeout=300, check=False)
+        done = subprocess.run(words, stdout=subprocess.PIPE, timeout=PATIENCE, check=False)
     return done.returncode, done.stdout.decode()
 
 

@@ -7,7 +7,7 @@ import subprocess
 import tempfile
 import unittest
 
-from support import PROGRAM, TOP
+from support import PATIENCE, PROGRAM, TOP
 
 BASH = shutil.which('bash')
 COMPLETION = os.path.join(TOP, 'tools', 'completion', 'dahlia.bash')
@@ -22,7 +22,7 @@ $(complete -p dahlia | sed 's/.*-F \\([^ ]*\\).*/\\1/')
 
 def usage():
     """The jobs of the usage line, each with its words."""
-    line = subprocess.run([PROGRAM], stdout=subprocess.PIPE, timeout=300, check=False).stdout.decode()
+    line = subprocess.run([PROGRAM], stdout=subprocess.PIPE, timeout=PATIENCE, check=False).stdout.decode()
     return {job.split()[0]: job for job in line.strip().removeprefix('usage: dahlia ').split(' | ')}
 
 
@@ -38,14 +38,14 @@ class Completion(unittest.TestCase):
 
     def offered(self, *words):
         """What bash offers for the last of these words."""
-        done = subprocess.run([BASH, '--norc', '-c', ASKS, COMPLETION, 'dahlia', *words], cwd=self.folder.name, timeout=300,
+        done = subprocess.run([BASH, '--norc', '-c', ASKS, COMPLETION, 'dahlia', *words], cwd=self.folder.name, timeout=PATIENCE,
                               stdout=subprocess.PIPE, stderr=subprocess.PIPE, check=False)
         self.assertEqual(b'', done.stderr)
         return sorted(done.stdout.decode().split('\n')[:-1])
 
     def is_taken(self, *words):
         """Whether the program takes these words, and does not answer with the usage line."""
-        done = subprocess.run([PROGRAM, *words], cwd=self.folder.name, stdout=subprocess.DEVNULL, timeout=300, check=False)
+        done = subprocess.run([PROGRAM, *words], cwd=self.folder.name, stdout=subprocess.DEVNULL, timeout=PATIENCE, check=False)
         return done.returncode != 2
 
     def test_jobs_are_those_that_the_program_takes(self):

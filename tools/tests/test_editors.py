@@ -10,7 +10,7 @@ import subprocess
 import tempfile
 import unittest
 
-from support import PROGRAM, TOP
+from support import PATIENCE, PROGRAM, TOP
 
 EDITORS = os.path.join(TOP, 'editors')
 GRAMMAR = os.path.join(EDITORS, 'textmate', 'dahlia.tmLanguage.json')
@@ -94,7 +94,7 @@ def vim_classes(text):
                        f"edit {source}\nlet answer = [&filetype, &commentstring]\n{VIM_ASKS}"
                        f"call writefile(answer, '{answer}')\nqall!\n")
         subprocess.run([VIM, '-u', 'NONE', '-i', 'NONE', '-n', '-es', '-S', script], stdin=subprocess.DEVNULL,
-                       stdout=subprocess.DEVNULL, stderr=subprocess.DEVNULL, timeout=300, check=False)
+                       stdout=subprocess.DEVNULL, stderr=subprocess.DEVNULL, timeout=PATIENCE, check=False)
         with open(answer, encoding='utf-8') as file:
             first, comment, *lines = file.read().split('\n')[:-1]
     assert (first, comment) == ('dahlia', '// %s'), (first, comment)
@@ -121,7 +121,7 @@ def is_no_token(text):
     with tempfile.NamedTemporaryFile('w', suffix='.fuse', encoding='utf-8', newline='') as file:
         file.write(text)
         file.flush()
-        done = subprocess.run([PROGRAM, 'check', file.name], stdout=subprocess.PIPE, timeout=300, check=False)
+        done = subprocess.run([PROGRAM, 'check', file.name], stdout=subprocess.PIPE, timeout=PATIENCE, check=False)
     return done.stdout.startswith(b'refused K1 Lex 1:1\n')
 
 

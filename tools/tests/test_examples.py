@@ -9,7 +9,7 @@ import subprocess
 import tempfile
 import unittest
 
-from support import PROGRAM, TOP
+from support import PATIENCE, PROGRAM, TOP
 
 EXAMPLES = os.path.join(TOP, 'examples')
 # A change of a program that the page speaks of, and what `simulate` then comes to: the clocks, or the line.
@@ -25,7 +25,7 @@ CHANGES = [
 def simulated(name, folder=EXAMPLES):
     """The status and the output of `simulate` over a program of a folder and its data."""
     words = ['simulate', os.path.join(folder, f'{name}.fuse'), os.path.join(EXAMPLES, f'{name}.json')]
-    done = subprocess.run([PROGRAM, *words], stdout=subprocess.PIPE, timeout=300, check=False)
+    done = subprocess.run([PROGRAM, *words], stdout=subprocess.PIPE, timeout=PATIENCE, check=False)
     return done.returncode, done.stdout.decode().strip()
 
 
@@ -99,7 +99,7 @@ class Examples(unittest.TestCase):
         with tempfile.TemporaryDirectory() as folder:
             os.symlink(EXAMPLES, os.path.join(folder, 'examples'))
             os.symlink(PROGRAM, os.path.join(folder, 'dahlia'))
-            done = subprocess.run(['sh', '-c', '\n'.join(commands)], cwd=folder, stdout=subprocess.PIPE, timeout=300, check=False)
+            done = subprocess.run(['sh', '-c', '\n'.join(commands)], cwd=folder, stdout=subprocess.PIPE, timeout=PATIENCE, check=False)
         self.assertEqual(wanted, done.stdout.decode().split('\n')[:-1])
 
 

@@ -6,13 +6,13 @@ import subprocess
 import tempfile
 import unittest
 
-from support import PROGRAM, TOP
+from support import PATIENCE, PROGRAM, TOP
 
 FILES = {'bin/dahlia': 0o755, 'share/man/man1/dahlia.1': 0o644, 'share/bash-completion/completions/dahlia': 0o644}
 
 
 def make(*words, top=TOP):
-    return subprocess.run(['make', '-C', top, *words], stdout=subprocess.PIPE, stderr=subprocess.STDOUT, timeout=300, check=False)
+    return subprocess.run(['make', '-C', top, *words], stdout=subprocess.PIPE, stderr=subprocess.STDOUT, timeout=PATIENCE, check=False)
 
 
 def files_below(folder):

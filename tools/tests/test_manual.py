@@ -5,7 +5,7 @@ import shutil
 import subprocess
 import unittest
 
-from support import PROGRAM, TOP
+from support import PATIENCE, PROGRAM, TOP
 
 PAGE = os.path.join(TOP, 'docs', 'dahlia.1')
 EXAMPLES = os.path.join(TOP, 'examples')
@@ -13,7 +13,7 @@ EXAMPLES = os.path.join(TOP, 'examples')
 
 def answered(*words):
     """The status and the output of the program, which runs in examples/."""
-    done = subprocess.run([PROGRAM, *words], cwd=EXAMPLES, stdout=subprocess.PIPE, timeout=300, check=False)
+    done = subprocess.run([PROGRAM, *words], cwd=EXAMPLES, stdout=subprocess.PIPE, timeout=PATIENCE, check=False)
     return done.returncode, done.stdout.decode()
 
 
@@ -79,18 +79,18 @@ class Manual(unittest.TestCase):
         self.assertGreater(len(runs), 2)
         for command, wanted in runs:
             done = subprocess.run(['sh', '-c', f'"$PROGRAM" {command}'], cwd=EXAMPLES, env={**os.environ, 'PROGRAM': PROGRAM},
-                                  stdout=subprocess.PIPE, timeout=300, check=False)
+                                  stdout=subprocess.PIPE, timeout=PATIENCE, check=False)
             text = done.stdout.decode()
             self.assertEqual(wanted, text if text.endswith('\n') else text + '\n', command)
 
     @unittest.skipUnless(shutil.which('groff'), 'there is no groff')
     def test_groff_says_nothing(self):
-        done = subprocess.run(['groff', '-man', '-Tutf8', '-ww', '-z', PAGE], stderr=subprocess.PIPE, timeout=300, check=False)
+        done = subprocess.run(['groff', '-man', '-Tutf8', '-ww', '-z', PAGE], stderr=subprocess.PIPE, timeout=PATIENCE, check=False)
         self.assertEqual((0, b''), (done.returncode, done.stderr))
 
     @unittest.skipUnless(shutil.which('mandoc'), 'there is no mandoc')
     def test_mandoc_finds_no_error(self):
-        done = subprocess.run(['mandoc', '-Tlint', '-Werror', PAGE], stdout=subprocess.PIPE, timeout=300, check=False)
+        done = subprocess.run(['mandoc', '-Tlint', '-Werror', PAGE], stdout=subprocess.PIPE, timeout=PATIENCE, check=False)
         self.assertEqual((0, b''), (done.returncode, done.stdout))
 
 
