@@ -17,8 +17,8 @@ GRAMMAR = os.path.join(EDITORS, 'textmate', 'dahlia.tmLanguage.json')
 VIM = shutil.which('vim')
 GOOD_NUMBERS = ['0', '7', '42', '0x0', '0xfF09', '18446744073709551615']
 BAD_NUMBERS = ['01', '00', '0x', '0X1', '0xg', '12ab', '1_000', '7f']
-# Adds a line for each line of the file to `answer`: the names of the groups of its bytes, each with a comma behind it.
-VIM_ASKS = """
+# For each line of the file the names of the groups of its bytes, each with a comma behind it.
+VIM_COLOURS = """
 for line in range(1, line('$'))
   let names = []
   for column in range(1, len(getline(line)))
@@ -26,6 +26,15 @@ for line in range(1, line('$'))
   endfor
   call add(answer, join(names + [''], ','))
 endfor
+"""
+# What `:make` lists, and where the cursor stands then.
+VIM_MAKE = """
+compiler dahlia
+silent make
+for each in getqflist()
+  call add(answer, each.lnum . ':' . each.col . ' ' . fnamemodify(bufname(each.bufnr), ':t') . ' ' . each.text)
+endfor
+call add(answer, line('.') . ':' . col('.'))
 """
 
 
@@ -83,22 +92,22 @@ class Grammar:
         return lines
 
 
-def vim_classes(text):
-    """The name of each byte's group in Vim, or '', line by line; the file is detected by its name."""
+def vim_says(text, asks):
+    """The lines that these commands add to the list `answer` in Vim, where a file p.fuse with this text is open. The
+    folder editors/vim is found by a link, as a package of Vim."""
     with tempfile.TemporaryDirectory() as folder:
-        source, script, answer = (os.path.join(folder, name) for name in ('p.fuse', 'ask.vim', 'answer'))
+        source, script, answer, link = (os.path.join(folder, name) for name in ('p.fuse', 'ask.vim', 'answer', 'link'))
+        os.symlink(os.path.join(EDITORS, 'vim'), link)
         with open(source, 'w', encoding='utf-8', newline='') as file:
             file.write(text + '\n')
         with open(script, 'w', encoding='utf-8') as file:
-            file.write(f"set nocompatible runtimepath^={EDITORS}/vim encoding=utf-8\nfiletype plugin on\nsyntax on\n"
-                       f"edit {source}\nlet answer = [&filetype, &commentstring]\n{VIM_ASKS}"
-                       f"call writefile(answer, '{answer}')\nqall!\n")
+            file.write(f"set nocompatible runtimepath^={link} encoding=utf-8\nfiletype plugin on\nsyntax on\n"
+                       f"edit {source}\nlet answer = []\n{asks}call writefile(answer, '{answer}')\nqall!\n")
         subprocess.run([VIM, '-u', 'NONE', '-i', 'NONE', '-n', '-es', '-S', script], stdin=subprocess.DEVNULL,
-                       stdout=subprocess.DEVNULL, stderr=subprocess.DEVNULL, timeout=PATIENCE, check=False)
+                       stdout=subprocess.DEVNULL, stderr=subprocess.DEVNULL, timeout=PATIENCE, check=False,
+                       env={**os.environ, 'DAHLIA': PROGRAM})
         with open(answer, encoding='utf-8') as file:
-            first, comment, *lines = file.read().split('\n')[:-1]
-    assert (first, comment) == ('dahlia', '// %s'), (first, comment)
-    return [line.split(',')[:-1] for line in lines]
+            return file.read().split('\n')[:-1]
 
 
 @functools.lru_cache(None)
@@ -223,7 +232,17 @@ class TextMate(Colours, unittest.TestCase):
 @unittest.skipUnless(VIM, 'there is no vim')
 class Vim(Colours, unittest.TestCase):
     def classes(self, text):
-        return vim_classes(text)
+        return [line.split(',')[:-1] for line in vim_says(text, VIM_COLOURS)]
+
+    def test_the_file_is_known_by_its_name(self):
+        self.assertEqual(['dahlia', '// %s'], vim_says('', 'let answer = [&filetype, &commentstring]\n'))
+
+    def test_make_jumps_to_the_place_of_a_refusal(self):
+        listed, place = vim_says('decl A: ubit<8>[1];\nA[0] := 1; A[0] := 2;', VIM_MAKE)
+        self.assertRegex(listed, r'\A2:12 p\.fuse K19 PortsSpent: ')
+        self.assertEqual('2:12', place)
+        self.assertEqual(['1:1'], vim_says('decl A: ubit<8>[1];', VIM_MAKE))
+        self.assertRegex(vim_says('decl A: ubit<8>{9}[1];', VIM_MAKE)[0], r'\A0:0 p\.fuse too large Ports: 9')
 
 
 if __name__ == '__main__':
