@@ -122,6 +122,24 @@ class Building(unittest.TestCase):
         told = f'{left[-1]} s' if left[-1] < 90 else f'{(left[-1] + 30) // 60} min'
         self.assertIn(f'dahlia: proving dahlia, crate {len(self.order)} of {len(self.order)}, about {told} left', self.run_piped()[2])
 
+    def test_the_estimate_goes_by_the_time_that_crates_took(self):
+        self.write('bin/date', '#!/bin/sh\necho . >>"$ROOM/clock"\nwc -l <"$ROOM/clock"\n')
+        os.chmod(os.path.join(self.room, 'bin', 'date'), 0o755)
+        table = '| `dh_value` | 1 | 40 |\n| `dh_base` | 1 | 60 |\n| `dh_tree` | 1 | 500 |\n| `dahlia` | 1 | 400 |\n'
+        self.write('a checkout/docs/PROVING.md', table)
+        self.write('a checkout/crates.txt', 'dh_base:\ndh_value: std\ndh_tree: dh_value dh_base\ndahlia: dh_tree\n')
+        self.play(map(begins, ['dh_value', 'dh_base', 'dh_tree', 'dahlia']))
+        told = [line.rsplit(', ', 1)[1] for line in self.run_piped()[2] if ' proving ' in line]
+        # The clock goes on by a second each time that it is asked: at dh_tree 1 s for the 100 of two crates.
+        self.assertEqual(['about 17 min left', 'about 16 min left', 'about 9 s left', 'about 1 s left'], told)
+
+    def test_without_a_table_each_crate_is_a_small_one(self):
+        os.remove(os.path.join(self.top, 'docs', 'PROVING.md'))
+        self.play([begins('dahlia')])
+        status, _, error = self.run_piped()
+        self.assertEqual(2, status)
+        self.assertIn(f'dahlia: proving dahlia, crate {len(self.order)} of {len(self.order)}, about 15 s left', error)
+
     def test_other_lines_of_rt_are_passed_over(self):
         self.play([begins('std'), 'rt: chose --jobs', 'so far', '', 'rt: waiting for another rt to finish in here'])
         status, _, error = self.run_piped()
@@ -147,11 +165,12 @@ class Building(unittest.TestCase):
         return seen.decode().replace('\r\n', '\n').split('\n')
 
     def test_one_line_that_is_rewritten_on_a_terminal(self):
-        self.play([begins(self.order[0]), 'so far: 3 of 9 functions checked', begins(self.order[1])])
+        self.play(['so far: 1 of 9 functions checked', begins(self.order[0]), 'so far: 3 of 9 functions checked',
+                   'so far: all functions checked', begins(self.order[1])])
         lines = self.run_on_a_terminal()
         one = next(line for line in lines if 'proving' in line).split('\r\x1b[K')
         self.assertEqual(f'dahlia: proving {self.order[0]}, crate 1 of {len(self.order)}', one[2].rsplit(', ', 1)[0])
-        self.assertEqual(f'{one[2]} [3/9]', one[3])
+        self.assertRegex(one[3], rf"\A{one[2].rsplit(', ', 1)[0]}, about \d+ (s|min) left \[3/9\]\Z")
         self.assertIn(f'proving {self.order[1]}, crate 2 ', one[4])
         self.assertTrue(one[-1].startswith('dahlia: built in '))
 
