@@ -1,6 +1,6 @@
 -- The phases of a command of the code, as they are gathered: of an `if`, a `while` and a `for` from what was read
 -- of their blocks, of parts command by command.
-use Rattle.std.proofs.Common.{◌≡◌, ℕ, ◌+◌, ◌<◌, ◌≤◌, List, [], ◌∷◌, ◌++◌, length, get_or, drop, map, Option, None, Box, refl, ap, sym, ◌∙◌, append_assoc}
+use Rattle.std.proofs.Common.{◌≡◌, ℕ, ◌+◌, ◌<◌, ◌≤◌, List, [], ◌∷◌, ◌++◌, length, get_or, drop, map, Option, None, Some, option_map, Box, refl, ap, sym, ◌∙◌, append_assoc}
 use Rattle.std.proofs.lemmas.List.{drop_all, map-append}
 use Rattle.std.specs.Prelude.{Vec}
 use Rattle.std.specs.Global.{Global}
@@ -17,10 +17,8 @@ use Rattle.dh_tree.specs.Seen.{term_seen, placed, unrolled, action_form_seen, ac
 use Rattle.dh_meaning.specs.Sites.{nothing_around}
 use Rattle.dh_meaning.specs.Phases.{form_phases, turn_count}
 use Rattle.dh_phases.specs.declared.phasing.Phase.{Phase}
-use Rattle.dh_phases.specs.declared.phasing.Phase.TheVariants.{Straight}
 use Rattle.dh_phases.specs.NumberedPhases.{Numbered, in_loop, at_once, all_numbered, numbered, phase_seen, phases_seen}
 use Rattle.dh_phases.specs.Phasing.{phases_in, phases_in_groups, phases_in_other, one_phase, turn_phases, choice_phases, straight_commands, done_by, current_after, gathered, folded_last, folded_phases}
-use Rattle.dh_phases.proofs.SeenPhases.{straight_is}
 use Rattle.dh_phases.proofs.PhasesNumbered.{parts_in, choice_is, loop_is, turns_are, groups_are}
 
 -- the phases of a command of the code
@@ -111,23 +109,31 @@ popped_is : (body popped : List Phase) (last : Phase) (fold : List Numbered) →
 popped_is body popped last fold taken =
     sym (last_folded (phases_seen popped) (phase_seen last) fold) ∙ ap (λ l. folded_phases l fold) (sym (ap phases_seen taken ∙ map-append phase_seen popped (last ∷ [])))
 
-pub straight_folded : (body popped : List Phase) (last : Phase) (commands : Vec ℕ Global) (fold done new : List Numbered) (current : List ℕ) → body ≡ popped ++ last ∷ [] → last ≡ Straight commands
-    → done ≡ phases_seen popped ++ done_by commands.items fold → current ≡ current_after commands.items fold → new ≡ done ++ one_phase current → new ≡ folded_phases (phases_seen body) fold
-straight_folded body popped last commands fold done new current taken is joins left ends =
+-- what is told of a value that may lack, where it is there and where it is not
+pub told_some : {A B : Type 0} (f : A → B) (r : Option A) (a : A) (told : Option B) → r ≡ Some a → option_map f r ≡ told → told ≡ Some (f a)
+told_some f r a told is e = sym e ∙ ap (option_map f) is
+
+pub told_none : {A B : Type 0} (f : A → B) (r : Option A) (told : Option B) → r ≡ None → option_map f r ≡ told → told ≡ None
+told_none f r told is e = sym e ∙ ap (option_map f) is
+
+pub straight_folded : (body popped : List Phase) (last : Phase) (commands none begun : List ℕ) (fold done new : List Numbered) (current : List ℕ) → body ≡ popped ++ last ∷ [] → straight_commands (phase_seen last) ≡ Some commands
+    → none ≡ [] → begun ≡ none ++ commands → done ≡ phases_seen popped ++ done_by begun fold → current ≡ current_after begun fold → new ≡ done ++ one_phase current → new ≡ folded_phases (phases_seen body) fold
+straight_folded body popped last commands none begun fold done new current taken straight empty begins joins left ends =
+    let same : begun ≡ commands = begins ∙ ap (λ l. l ++ commands) empty in
     ends
     ∙ (ap (λ d. d ++ one_phase current) joins
-    ∙ (ap (λ o. (phases_seen popped ++ done_by commands.items fold) ++ one_phase o) left
-    ∙ (append_assoc (phases_seen popped) (done_by commands.items fold) (one_phase (current_after commands.items fold))
-    ∙ (ap (λ p. phases_seen popped ++ folded_last p (straight_commands p) fold) (sym (ap phase_seen is ∙ straight_is commands))
-    ∙ popped_is body popped last fold taken))))
+    ∙ (ap (λ o. (phases_seen popped ++ done_by begun fold) ++ one_phase o) left
+    ∙ (append_assoc (phases_seen popped) (done_by begun fold) (one_phase (current_after begun fold))
+    ∙ (ap (λ cs. phases_seen popped ++ folded_last (phase_seen last) (Some cs) fold) same
+    ∙ (ap (λ s. phases_seen popped ++ folded_last (phase_seen last) s fold) (sym straight)
+    ∙ popped_is body popped last fold taken)))))
 
-pub other_folded : (body popped : List Phase) (last phase : Phase) (fold new : List Numbered) → body ≡ popped ++ last ∷ [] → last ≡ phase → straight_commands (phase_seen phase) ≡ None
-    → new ≡ phases_seen popped ++ phase_seen phase ∷ fold → new ≡ folded_phases (phases_seen body) fold
-other_folded body popped last phase fold new taken is other all =
+pub other_folded : (body popped : List Phase) (last : Phase) (fold new : List Numbered) → body ≡ popped ++ last ∷ [] → straight_commands (phase_seen last) ≡ None
+    → new ≡ phases_seen popped ++ phase_seen last ∷ fold → new ≡ folded_phases (phases_seen body) fold
+other_folded body popped last fold new taken other all =
     all
-    ∙ (ap (λ s. phases_seen popped ++ folded_last (phase_seen phase) s fold) (sym other)
-    ∙ (ap (λ p. phases_seen popped ++ folded_last (phase_seen p) (straight_commands (phase_seen p)) fold) (sym is)
-    ∙ popped_is body popped last fold taken))
+    ∙ (ap (λ s. phases_seen popped ++ folded_last (phase_seen last) s fold) (sym other)
+    ∙ popped_is body popped last fold taken)
 
 -- phases behind a phase behind phases
 pub phases_behind : (body pushed new fold : List Phase) (last : Phase) → pushed ≡ body ++ last ∷ [] → new ≡ pushed ++ fold → phases_seen new ≡ phases_seen body ++ phase_seen last ∷ phases_seen fold

@@ -203,7 +203,6 @@ fn followed(
 
 /// The phases of a turn: the commands of `combine` join the last phase of the body where both are straight; else
 /// they are a phase of their own.
-#[tactic(auto, using(crate::proofs::SeenPhases::phases_are))]
 fn fold(
     alloc: Global,
     mut body: Vec<Phase>,
@@ -213,49 +212,16 @@ fn fold(
 {
     match body.pop() {
         None => Ok(fold),
-        Some(Phase::Straight { commands }) => {
-            let mut current = commands;
-            join(alloc, &mut body, &mut current, fold)?;
-            end_phase(alloc, &mut body, &mut current)?;
-            Ok(body)
-        }
-        Some(Phase::Turns {
-            command,
-            count,
-            body: turn,
-        }) => followed(
-            body,
-            Phase::Turns {
-                command,
-                count,
-                body: turn,
-            },
-            fold,
-        ),
-        Some(Phase::Loop {
-            command,
-            body: turn,
-        }) => followed(
-            body,
-            Phase::Loop {
-                command,
-                body: turn,
-            },
-            fold,
-        ),
-        Some(Phase::Choice {
-            command,
-            then,
-            other,
-        }) => followed(
-            body,
-            Phase::Choice {
-                command,
-                then,
-                other,
-            },
-            fold,
-        ),
+        Some(last) => match straight_commands(&last) {
+            Some(commands) => {
+                let mut current = Vec::new(alloc);
+                current.extend_from_slice(commands)?;
+                join(alloc, &mut body, &mut current, fold)?;
+                end_phase(alloc, &mut body, &mut current)?;
+                Ok(body)
+            }
+            None => followed(body, last, fold),
+        },
     }
 }
 
