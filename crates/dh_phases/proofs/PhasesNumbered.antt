@@ -12,7 +12,7 @@ use Rattle.dh_meaning.specs.Phases as source
 use Rattle.dh_meaning.specs.Phases.{Located, Phase, straight, turns, repeated, decided, of_list, one_straight, joined, folded, turn_count, located, phases, form_phases, other_phases, groups_phases, parts_phases}
 use Rattle.dh_phases.specs.NumberedPhases as seen
 use Rattle.dh_phases.specs.NumberedPhases.{Numbered, in_turns, by_choice, at_once, numbered_then, all_numbered, number_of, phase_numbered, phases_numbered, numbered}
-use Rattle.dh_phases.specs.Phasing.{phases_in, phases_in_groups, phases_in_other, one_phase, are_straight, turn_phases, choice_phases, done_by, current_after, gathered, folded_phases}
+use Rattle.dh_phases.specs.Phasing.{phases_in, phases_in_groups, phases_in_other, one_phase, are_straight, turn_phases, choice_phases, gathered, folded_phases}
 
 list_is : (ps : List Phase) → phases_numbered (of_list ps) ≡ all_numbered (numbered ps)
 list_is [] = refl

@@ -17,7 +17,7 @@ use Rattle.dh_tree.specs.Seen.{term_seen, placed, unrolled, action_form_seen, ac
 use Rattle.dh_meaning.specs.Sites.{nothing_around}
 use Rattle.dh_meaning.specs.Phases.{form_phases, turn_count}
 use Rattle.dh_phases.specs.declared.phasing.Phase.{Phase}
-use Rattle.dh_phases.specs.NumberedPhases.{Numbered, in_loop, at_once, all_numbered, numbered, phase_seen, phases_seen}
+use Rattle.dh_phases.specs.NumberedPhases.{Numbered, in_loop, all_numbered, numbered, phase_seen, phases_seen}
 use Rattle.dh_phases.specs.Phasing.{phases_in, phases_in_groups, phases_in_other, one_phase, turn_phases, choice_phases, straight_commands, done_by, current_after, gathered, folded_last, folded_phases}
 use Rattle.dh_phases.proofs.PhasesNumbered.{parts_in, choice_is, loop_is, turns_are, groups_are}
 

@@ -203,11 +203,7 @@ fn followed(
 
 /// The phases of a turn: the commands of `combine` join the last phase of the body where both are straight; else
 /// they are a phase of their own.
-fn fold(
-    alloc: Global,
-    mut body: Vec<Phase>,
-    fold: Vec<Phase>,
-) -> Result<Vec<Phase>, NoMemory>
+fn fold(alloc: Global, mut body: Vec<Phase>, fold: Vec<Phase>) -> Result<Vec<Phase>, NoMemory>
     ensures { GivesPhases result (turn_of body fold) }
 {
     match body.pop() {
