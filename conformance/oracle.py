@@ -5,8 +5,8 @@
     oracle.py [--with FORM,..] WORD .. answers words as `dahlia` does; of `lower` the first line alone
 
 It is written from docs/LANGUAGE.md, in Python and by definitions (conformance/model). FORM is one of
-views, functions, threads, division and masks: forms that `dahlia` may refuse as not built. The last line
-of --cases is 'N agree, N differ, N not judged'; status 1 where an answer differs."""
+views, functions, threads, division, masks, batch and workload: forms and jobs that `dahlia` may not have
+built. The last line of --cases is 'N agree, N differ, N not judged'; status 1 where an answer differs."""
 import collections
 import glob
 import json
@@ -19,8 +19,8 @@ from model import FORMS, CannotJudge
 from model.jobs import answer
 
 BUILT = ()
-# In tables that number the stages of the language, the forms that a stage adds.
-STAGES = {8: 'views', 9: 'functions', 10: 'threads', 15: 'division', 16: 'masks'}
+# In tables that number the stages of the language, the stage from which a form is there.
+STAGES = {'views': 8, 'functions': 9, 'workload': 9, 'threads': 10, 'batch': 13, 'division': 15, 'masks': 16}
 # A longer text takes Python too long.
 LONGEST = 60000
 
@@ -29,7 +29,7 @@ def forms_of(case):
     """The forms that are built where a case holds."""
     if 'stage' not in case:
         return BUILT
-    return tuple(form for stage, form in STAGES.items() if stage <= case['stage'])
+    return tuple(form for form, stage in STAGES.items() if stage <= case['stage'])
 
 
 def judged(case):

@@ -4,8 +4,8 @@ It answers what `dahlia` answers, slowly and by definitions: a rule on ports by 
 paths, a run step by step over the tree, a length by levels. conformance/oracle.py compares it with the
 answers of the cases. It also knows the forms that are not built yet (FORMS), each behind a switch."""
 
-# Forms of the grammar that a program is refused for while they are not built.
-FORMS = ('views', 'functions', 'threads', 'division', 'masks')
+# Forms of the grammar that a program is refused for while they are not built, and jobs that are not built.
+FORMS = ('views', 'functions', 'threads', 'division', 'masks', 'batch', 'workload')
 
 
 class Refused(Exception):

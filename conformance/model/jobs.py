@@ -1,10 +1,12 @@
 """What the program answers to its words: a status and a text."""
+import json
 import re
 
 from . import CannotJudge, Refused, TooLarge, calls, events, kinds, least, lengths, names, phases, ports, rules, \
     shapes
 from .data import BadData, read, report, zeros
 from .grammar import parse
+from .runs import Run
 from .tokens import lex, within_limits
 from .trees import all_commands, bodies_of, commands_in
 
@@ -84,7 +86,6 @@ def within_plan(tree, forms):
 
 def interpret(tree, content, steps, forms):
     """The report of a run over the tree."""
-    from .runs import Run
     flat = Flat(tree, forms)
     memories = read(flat.outside, content)
     memories.update((entity, zeros(entity)) for entity in flat.local)
@@ -98,7 +99,6 @@ def interpret(tree, content, steps, forms):
 
 def simulate(tree, content, clocks, forms):
     """The report of a run of the net."""
-    from .runs import Run
     flat = Flat(tree, forms)
     memories = read(flat.outside, content)
     memories.update((entity, zeros(entity)) for entity in flat.local)
@@ -123,59 +123,144 @@ def outcome_status(outcome):
     return 0 if outcome == 'done' else 4 if outcome == 'going' else 3
 
 
-def job_of(words):
+def batch(tree, names_of_data, files, forms):
+    """The reports of the data files of a list; the status is that of the first that is not done."""
+    status, text = 0, ''
+    for number, name in enumerate(names_of_data, 1):
+        if name not in files:
+            return 7, ''
+        if len(files[name]) > 16777216:
+            raise TooLarge('Data', 16777217)
+        try:
+            one, line = simulate(tree, files[name], 10000000, forms)
+        except BadData as bad:
+            return 5, f'data {number}: bad data {bad}\n'
+        status, text = status or one, text + line
+    return status, text
+
+
+def names_in(content):
+    """The names of a list, one in each line."""
+    if len(content) > 65536:
+        raise TooLarge('ListBytes', 65537)
+    try:
+        lines = content.decode().split('\n')
+    except UnicodeDecodeError:
+        raise BadData('NotText') from None
+    lines = [line[:-1] if line.endswith('\r') else line for line in lines[:-1]] + lines[-1:]
+    found = [line for line in lines if line]
+    if len(found) > 64:
+        raise TooLarge('List', len(found))
+    return found
+
+
+WORKLOAD = """decl A: ubit<32>[N][N bank 4];
+decl B: ubit<32>[N bank 4][N];
+decl C: ubit<32>[N][N];
+for (let i = 0..N) {
+  for (let j = 0..N) {
+    let acc: ubit<32> = 0;
+    ---
+    for (let k = 0..N) unroll 4 {
+      let v = A[i][k] * B[k][j];
+    } combine {
+      acc += v;
+    }
+    ---
+    C[i][j] := acc;
+  }
+}
+"""
+
+
+def workload(number):
+    """The summary of a matrix product."""
+    size = 4 * number
+    if number > 3:
+        raise CannotJudge('a long run')
+
+    def matrix(element):
+        return [[element(i * size + j) for j in range(size)] for i in range(size)]
+
+    data = {'A': matrix(lambda at: at % 7), 'B': matrix(lambda at: at % 5), 'C': matrix(lambda at: 0)}
+    content = json.dumps({name: {'data': rows} for name, rows in data.items()}).encode()
+    tree = checked(WORKLOAD.replace('N', str(size)).encode(), ())
+    result = json.loads(simulate(tree, content, 2 ** 64 - 1, ())[1])
+    total = sum(sum(row) for row in result['memories']['C']['data'])
+    return 0, '{"clocks":%d,"steps":%d,"sum":%d}\n' % (result['clocks'], result['steps'], total)
+
+
+JOBS = {'check': (1, {}), 'lower': (1, {}), 'interpret': (2, {'--steps': 1000000, '--unchecked': None}),
+        'simulate': (2, {'--clocks': 10000000}), 'batch': (2, {}), 'workload': (1, {}), 'plan-size': (1, {})}
+
+
+def number_in(word, most):
+    """The number that a word is, or None."""
+    right = re.fullmatch('0|[1-9][0-9]*', word, re.ASCII) and len(word) <= 13 and int(word) <= most
+    return int(word) if right else None
+
+
+def job_of(words, forms):
     """The job that the words are: its name, its files and its options, or None."""
-    options = {'check': {}, 'lower': {}, 'interpret': {'--steps': 1000000, '--unchecked': None},
-               'simulate': {'--clocks': 10000000}}
-    if not words or words[0] not in options:
+    job = words[0] if words else None
+    if job not in JOBS or (job in ('batch', 'workload') and job not in forms):
         return None
-    job, allowed, rest = words[0], options[words[0]], list(words[1:])
-    files = 2 if job in ('interpret', 'simulate') else 1
+    (files, allowed), rest = JOBS[job], list(words[1:])
     named, rest = rest[:files], rest[files:]
     if len(named) < files or any(not word or word.startswith('-') for word in named):
         return None
     chosen = {}
     while rest:
         word = rest.pop(0)
+        if word in ('--multipliers', '--chain') and 'batch' in forms:
+            raise CannotJudge('limits of a schedule')
         if word not in allowed or word in chosen:
             return None
         chosen[word] = True
         if allowed[word] is not None:
-            number = rest.pop(0) if rest else ''
-            if not re.fullmatch('0|[1-9][0-9]*', number, re.ASCII) or len(number) > 13 or int(number) > MOST:
+            chosen[word] = number_in(rest.pop(0) if rest else '', MOST)
+            if chosen[word] is None:
                 return None
-            chosen[word] = int(number)
     return job, named, {**allowed, **chosen}
 
 
 def answer(words, files, forms):
     """The status and the text that answer some words, or a part of it: of `lower` the first line. `files` maps
     names to contents."""
-    job = job_of(words)
+    job = job_of(words, forms)
+    if job and job[0] == 'workload':
+        number = number_in(job[1][0], 32)
+        return workload(number) if number else (2, USAGE)
     if job is None:
         return 2, USAGE
-    name, named, options = job
-    if named[0] not in files:
-        return 7, ''
     try:
-        tree = checked(files[named[0]], forms, not options.get('--unchecked'))
-        if name in ('lower', 'simulate'):
-            within_plan(tree, forms)
-        if name == 'check':
-            return 0, 'ok\n'
-        if name == 'lower':
-            return 0, '// dahlia netlist 1\n'
-        if named[1] not in files:
-            return 7, ''
-        content = files[named[1]]
-        if len(content) > 16777216:
-            raise TooLarge('Data', 16777217)
-        if name == 'interpret':
-            return interpret(tree, content, options['--steps'], forms)
-        return simulate(tree, content, options['--clocks'], forms)
+        return answer_to(*job, files, forms)
     except Refused as refused:
         return 1, 'refused K%d %s %d:%d\n' % (refused.rule, RULES[refused.rule - 1], *refused.place)
     except TooLarge as large:
         return 6, f'too large {large.limit} {large.count}\n'
     except BadData as bad:
         return 5, f'bad data {bad}\n'
+
+
+def answer_to(job, named, options, files, forms):
+    """The answer to a job with files."""
+    if named[0] not in files:
+        return 7, ''
+    tree = checked(files[named[0]], forms, not options.get('--unchecked'))
+    if job == 'plan-size':
+        return 0, f'{ports.plan_size(Flat(tree, forms))}\n'
+    if job in ('lower', 'simulate', 'batch'):
+        within_plan(tree, forms)
+    if job in ('check', 'lower'):
+        return 0, 'ok\n' if job == 'check' else '// dahlia netlist 1\n'
+    if named[1] not in files:
+        return 7, ''
+    content = files[named[1]]
+    if job == 'batch':
+        return batch(tree, names_in(content), files, forms)
+    if len(content) > 16777216:
+        raise TooLarge('Data', 16777217)
+    if job == 'interpret':
+        return interpret(tree, content, options['--steps'], forms)
+    return simulate(tree, content, options['--clocks'], forms)

@@ -63,7 +63,7 @@ class Phaser:
             return self.loop(c, copies)
         if form == 'call':
             return self.call(c)
-        if form == 'memory' or (form == 'view' and c.sort in ('shrink', 'split')):
+        if form in ('memory', 'passed') or (form == 'view' and c.sort in ('shrink', 'split')):
             return []
         return [straight([c])]
 
