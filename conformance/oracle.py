@@ -109,6 +109,7 @@ def run(words):
 
 
 def main():
+    """Answers words, or judges cases."""
     sys.setrecursionlimit(20000)
     if sys.argv[1:2] == ['--cases']:
         tables = sys.argv[2:] or sorted(glob.glob(os.path.join(HERE, 'cases', '*.json')))

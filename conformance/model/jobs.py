@@ -180,6 +180,7 @@ def workload(number):
         raise CannotJudge('a long run')
 
     def matrix(element):
+        """The rows of a matrix, by the number of an element."""
         return [[element(i * size + j) for j in range(size)] for i in range(size)]
 
     data = {'A': matrix(lambda at: at % 7), 'B': matrix(lambda at: at % 5), 'C': matrix(lambda at: 0)}

@@ -1,7 +1,6 @@
 """Ports: rules 19 and 20, and the size of a plan."""
 from . import CannotJudge, TooLarge
 from .events import events_of, may_meet
-from .shapes import product
 from .trees import bodies_of, commands_in, expressions_in, expressions_of
 
 # Up to so many accesses of one memory, the sets of which any two may meet are gone through one by one.
@@ -119,8 +118,3 @@ def within_plan(flat):
     size = plan_size(flat)
     if size > 200000:
         raise TooLarge('Plan', size)
-
-
-def copies_of(loops):
-    """The number of copies inside some loops."""
-    return product(loop.factor for loop in loops)
