@@ -15,19 +15,20 @@ use Rattle.dh_cells.specs.PlainCircuits.{one_cell}
 use Rattle.dh_cells.specs.Settled.{BeginsWith}
 use Rattle.dh_cells.proofs.CellsAppended.{get_last, get_either, begins_longer, width_later, fits_later}
 use Rattle.dh_sim.proofs.Keeping.{wide_fits}
-use Rattle.dh_join.specs.AddedCells.{AreCells, Grows, ShowsChoices, AreDepths, CellAdded, EitherAdded, ChoiceAdded}
+use Rattle.dh_join.specs.AddedCells.{AreCells, IsChoice, Grows, ShowsChoices, AreDepths, CellAdded, EitherAdded, ChoiceAdded}
 
 -- Growth.
 
 pub grows_none : (cells : List Cell) (most : ℕ) → Grows cells cells most
-grows_none cells most = record { begins = λ i c at. at; valid = λ table registers all. all; few = omega arith }
+grows_none cells most = record { begins = λ i c at. at; added = λ i c at. inl at; valid = λ table registers all. all; few = omega arith }
 
 pub grows_more : (old new : List Cell) (m n : ℕ) → m ≤ n → Grows old new m → Grows old new n
-grows_more old new m n less g = record { begins = g.begins; valid = g.valid; few = (let few = g.few in omega (arith, few, less)) }
+grows_more old new m n less g = record { begins = g.begins; added = g.added; valid = g.valid; few = (let few = g.few in omega (arith, few, less)) }
 
 pub grows_then : (a b c : List Cell) (m n : ℕ) → Grows a b m → Grows b c n → Grows a c (m + n)
 grows_then a b c m n g h = record {
   begins = λ i d at. h.begins i d (g.begins i d at);
+  added = λ i d at. elim (h.added i d at) [ | inl before ↦ g.added i d before | inr new ↦ inr new ];
   valid = λ table registers all. h.valid table registers (g.valid table registers all);
   few = (let x = g.few in let y = h.few in omega (arith, x, y));
 }
@@ -37,11 +38,15 @@ cell_later : (table : List MemEntry) (registers : List Register) (old new : List
 cell_later table registers old new i c e h =
     record { least = h.least; greatest = h.greatest; form = fits_later table registers old new i c.width c.form e h.form }
 
-grows_one : (cells : List Cell) (c : Cell)
+grows_one : (cells : List Cell) (c : Cell) → IsChoice c.form
     → ((table : List MemEntry) (registers : List Register) → AreCells table registers cells → IsCell table registers cells (length cells) c)
     → Grows cells (cells ++ c ∷ []) 1
-grows_one cells c next = record {
+grows_one cells c choice next = record {
   begins = begins_longer cells c;
+  added = λ i x at. elim (get_either cells c i x at) [
+    | inl old ↦ inl old
+    | inr last ↦ inr (subst (λ (y : Cell). IsChoice y.form) last.1 choice)
+  ];
   valid = λ table registers all i x at.
       elim (get_either cells c i x at) [
         | inl old ↦ cell_later table registers cells (cells ++ c ∷ []) i x (begins_longer cells c) (all i x old)
@@ -95,7 +100,7 @@ either_made cells a b left right =
     let c = one_cell 1 (Or a b) in
     let e = begins_longer cells c in
     record {
-      grows = grows_one cells c (λ table registers all. record {
+      grows = grows_one cells c tt (λ table registers all. record {
         least = omega arith;
         greatest = omega arith;
         form = record {
@@ -128,7 +133,7 @@ choice_made cells width test a b chosen left right =
     let c = one_cell width (Mux test a b) in
     let found = cell_of cells a width left in
     record {
-      grows = grows_one cells c (λ table registers all.
+      grows = grows_one cells c tt (λ table registers all.
           let cell = all a found.0 found.1.0 in record {
             least = subst (λ (w : ℕ). 1 ≤ w) found.1.1 cell.least;
             greatest = subst (λ (w : ℕ). w ≤ 64) found.1.1 cell.greatest;

@@ -2,7 +2,7 @@
 -- The first active one of a list is that of its front, or where the front has none that of its back. So what stands for
 -- a front and what stands for a back make what stands for the whole, and one cell of each tree chooses between them.
 -- Each such driver takes at most three cells, and there is one fewer of them than of drivers.
-use Rattle.std.proofs.Common.{◌≡◌, ℕ, zero, suc, ◌+◌, ◌*◌, ◌-◌, ◌<◌, ◌≤◌, ◌^◌, Bool, true, false, Some, None, List, [], ◌∷◌, ◌++◌, length, take, drop, refl, sym, ap, subst, ◌∙◌, arith, length-append}
+use Rattle.std.proofs.Common.{◌≡◌, ℕ, zero, suc, ◌+◌, ◌*◌, ◌-◌, ◌<◌, ◌≤◌, ◌^◌, Bool, true, false, Some, None, List, [], ◌∷◌, ◌++◌, length, take, drop, get_or, refl, sym, ap, subst, ◌∙◌, arith, length-append}
 use Rattle.std.specs.Prelude.{Option, slice_get, slice_index, if◌then◌else◌, ◌&&◌, ◌||◌, not}
 use Rattle.std.specs.List.{AllByRecursion}
 use Rattle.std.proofs.lemmas.List.{take-append-drop}
@@ -148,13 +148,28 @@ found_both old new p write first second joined one other h = record {
 }
 
 -- the same where they go by other names
-pub found_both_as : (old new : List Cell) (p : Port) (write : Bool) (one other : Option Driver) (first second joined : Driver) → one ≡ Some first → other ≡ Some second
-    → IsOneOf old p write one → IsOneOf old p write other → JoinsTwo old new p first second joined → JoinsFound old new p write one other (Some joined)
-found_both_as old new p write one other first second joined a b is_one is_other h =
-    let x : IsOneOf old p write (Some first) = subst (λ (o : Option Driver). IsOneOf old p write o) a is_one in
-    let y : IsOneOf old p write (Some second) = subst (λ (o : Option Driver). IsOneOf old p write o) b is_other in
-    subst (λ (o : Option Driver). JoinsFound old new p write o other (Some joined)) (sym a)
-    (subst (λ (o : Option Driver). JoinsFound old new p write (Some first) o (Some joined)) (sym b) (found_both old new p write first second joined x.1 y.1 h))
+pub one_as : (cells : List Cell) (p : Port) (write : Bool) (o q : Option Driver) → o ≡ q → IsOneOf cells p write o → IsOneOf cells p write q
+one_as cells p write o q same h = subst (λ (x : Option Driver). IsOneOf cells p write x) same h
+
+pub found_second_as : (cells : List Cell) (p : Port) (write : Bool) (first second : Option Driver) → first ≡ None → IsOneOf cells p write second
+    → JoinsFound cells cells p write first second second
+found_second_as cells p write first second none there =
+    subst (λ (o : Option Driver). JoinsFound cells cells p write o second second) (sym none) (found_second cells p write second there)
+
+pub found_first_as : (cells : List Cell) (p : Port) (write : Bool) (first second : Option Driver) → second ≡ None → IsOneOf cells p write first
+    → JoinsFound cells cells p write first second first
+found_first_as cells p write first second none there =
+    subst (λ (o : Option Driver). JoinsFound cells cells p write first o first) (sym none) (found_first cells p write first there)
+
+pub found_former_as : (old new : List Cell) (p : Port) (write : Bool) (first : Option Driver) (former : Driver) (second joined : Option Driver) → first ≡ Some former
+    → JoinsFound old new p write (Some former) second joined → JoinsFound old new p write first second joined
+found_former_as old new p write first former second joined is h = subst (λ (o : Option Driver). JoinsFound old new p write o second joined) (sym is) h
+
+pub found_both_as : (old new : List Cell) (p : Port) (write : Bool) (first : Driver) (other : Option Driver) (second joined : Driver) → other ≡ Some second
+    → IsOneOf old p write (Some first) → IsOneOf old p write other → JoinsTwo old new p first second joined → JoinsFound old new p write (Some first) other (Some joined)
+found_both_as old new p write first other second joined is one two h =
+    subst (λ (o : Option Driver). JoinsFound old new p write (Some first) o (Some joined)) (sym is)
+    (found_both old new p write first second joined one.1 (one_as old p write other (Some second) is two).1 h)
 
 -- Lists.
 
@@ -220,6 +235,18 @@ module _ (cells : List Cell) (p : Port) (d : Driver) (drives : IsDriver cells p 
     deep = λ depths most height e few h. one_deep depths most height (is_kind write d) h.0;
   }
 
+-- the same of lists of none and of one
+pub stands_empty : (cells : List Cell) (p : Port) (write : Bool) (ds : List Driver) → length ds < 1 → StandsFor cells cells p write ds None
+stands_empty cells p write [] none = stands_none cells p write
+stands_empty cells p write (d ∷ ds) none = absurd (omega (arith, none))
+
+pub stands_single : (cells : List Cell) (p : Port) (write : Bool) (ds : List Driver) (d other : Driver) (found : Option Driver) → 1 ≤ length ds → length ds < 2 → d ≡ get_or ds 0 other
+    → found ≡ picked write d → DrivePort cells p ds → StandsFor cells cells p write ds found
+stands_single cells p write [] d other found some few is picks drives = absurd (omega (arith, some))
+stands_single cells p write (x ∷ []) d other found some few is picks drives =
+    subst (λ (o : Option Driver). StandsFor cells cells p write (x ∷ []) o) (sym (picks ∙ ap (λ (y : Driver). picked write y) is)) (stands_one cells p x (drives 0 x refl) write)
+stands_single cells p write (x ∷ y ∷ ds) d other found some few is picks drives = absurd (omega (arith, few))
+
 -- the two parts of a list
 first_of_parts : (write : Bool) (wires : List ℕ) (xs ys : List Driver)
     → first_active write wires (xs ++ ys) ≡ former (first_active write wires xs) (first_active write wires ys)
@@ -231,8 +258,11 @@ first_of_parts write wires (d ∷ xs) ys = by (is_active wires d && is_kind writ
     by true e = refl
     by false e = e
 
-count_parts : (write : Bool) (xs ys : List Driver) → count_kind write (xs ++ ys) ≡ count_kind write xs + count_kind write ys
-count_parts write [] ys = refl
+pub count_parts : (write : Bool) (xs ys : List Driver) → count_kind write (xs ++ ys) ≡ count_kind write xs + count_kind write ys
+count_parts write [] ys = plain (count_kind write ys)
+  where
+    plain : (n : ℕ) → n ≡ 0 + n
+    plain n = omega arith
 count_parts write (d ∷ xs) ys = let rest = count_parts write xs ys in omega (arith, rest)
 
 pub all_front : {A : Type 0} (P : A → Type 0) (xs ys : List A) → AllByRecursion P (xs ++ ys) → AllByRecursion P xs

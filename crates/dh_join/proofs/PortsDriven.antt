@@ -2,8 +2,8 @@
 -- Where no two drivers of a port are active, its first active one is the first active one that reads or the first active
 -- one that writes, and there is at most one of the two. So one driver that stands for those that read, and one for those
 -- that write, do what all do; both are active only where a port of the given net clashes.
-use Rattle.std.proofs.Common.{◌≡◌, ℕ, zero, suc, ◌+◌, ◌<◌, ◌≤◌, ◌==◌, Bool, true, false, Some, None, List, [], ◌∷◌, ◌++◌, length, refl, sym, ap, subst, ◌∙◌, arith}
-use Rattle.std.specs.Prelude.{Option, slice_get, slice_index, nat_lt, if◌then◌else◌, ◌&&◌, ◌||◌, ◌⊎◌, inl, inr, not}
+use Rattle.std.proofs.Common.{◌≡◌, ℕ, zero, suc, ◌+◌, ◌<◌, ◌≤◌, ◌==◌, Bool, true, false, inl, inr, Some, None, List, [], ◌∷◌, ◌++◌, length, refl, sym, ap, subst, ◌∙◌, arith}
+use Rattle.std.specs.Prelude.{Option, slice_get, slice_index, nat_lt, if◌then◌else◌, ◌&&◌, ◌||◌, ◌⊎◌, not}
 use Rattle.std.specs.List.{AllByRecursion}
 use Rattle.dh_net.specs.Clock.{is_active, any_active, has_clash, has_stray, served}
 use Rattle.dh_net.specs.declared.nets.Driver.{Driver}
@@ -22,6 +22,11 @@ or_cases false u e = inr e
 not_so : (t u : Bool) → (t ≡ true → u ≡ true) → u ≡ false → t ≡ false
 not_so true u so e = absurd (let yes_is : u ≡ true = so refl in let no : true ≡ false = sym yes_is ∙ e in cc)
 not_so false u so e = refl
+
+-- the driver, where there is one, reads
+abbrev pub Reads : Option Driver → Type 0
+Reads None = Unit {0}
+Reads (Some x) = x.write ≡ false
 
 -- What all drivers do, by the first active ones of each kind.
 
@@ -182,19 +187,18 @@ module _ (ws : List ℕ) where
   reads_only true false rest off e = e
   reads_only false k rest off e = e
 
-  abbrev pub Reads : Option Driver → Type 0
-  Reads None = Unit {0}
-  Reads (Some x) = x.write ≡ false
-
-  write_in : (read write w : Option Driver) (C : Bool) → Reads read → StandsAs ws write w → ((b : Driver) → w ≡ Some b → C ≡ true)
-      → any_write ws (drivers_in read ++ drivers_in write) ≡ true → C ≡ true
-  write_in None None w C off h so e = absurd (cc)
-  write_in None (Some y) w C off h so e =
+  write_last : (write w : Option Driver) (C : Bool) → StandsAs ws write w → ((b : Driver) → w ≡ Some b → C ≡ true) → any_write ws (drivers_in write) ≡ true → C ≡ true
+  write_last None w C h so e = absurd (cc)
+  write_last (Some y) w C h so e =
       elim (or_cases (is_active ws y && y.write) false e) [
         | inl here ↦ (let b = active_found y w h (and_left (is_active ws y) y.write here) in so b.0 b.1.0)
         | inr none ↦ absurd (cc)
       ]
-  write_in (Some x) write w C off h so e = write_in None write w C tt h so (reads_only (is_active ws x) x.write (any_write ws (drivers_in write)) off e)
+
+  write_in : (read write w : Option Driver) (C : Bool) → Reads read → StandsAs ws write w → ((b : Driver) → w ≡ Some b → C ≡ true)
+      → any_write ws (drivers_in read ++ drivers_in write) ≡ true → C ≡ true
+  write_in None write w C off h so e = write_last write w C h so e
+  write_in (Some x) write w C off h so e = write_last write w C h so (reads_only (is_active ws x) x.write (any_write ws (drivers_in write)) off e)
 
   pub drives_kinds : (ds : List Driver) (read write : Option Driver) → StandsAs ws read (first_active false ws ds) → StandsAs ws write (first_active true ws ds) → Reads read
       → DrivesAs ws ds ws (drivers_in read ++ drivers_in write)

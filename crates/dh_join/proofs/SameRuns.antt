@@ -231,6 +231,8 @@ module _ (old new : Net) (h : IsDrivenBy old new) where
     few = λ q ds es given there. (joined_at q ds es given there).1.few;
     zero_reads = λ all. zeros old.drivers new.drivers h.joined.long (λ q ds es given there own. (joined_at q ds es given there).1.zero own) all;
     same = shows_same;
+    begins = h.joined.grows.begins;
+    added = h.joined.grows.added;
     small = h.joined.grows.few;
     deep = λ depths d q ds es given there most height small all. (joined_at q ds es given there).1.deep depths most height d small all;
   }

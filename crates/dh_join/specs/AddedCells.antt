@@ -1,6 +1,6 @@
 -- Cells that are added behind those of a net, and what their wires show. Each fact is said for every way in which
 -- wires solve the equations of the cells, so that it holds still when more cells are added.
-use Rattle.std.specs.Prelude.{◌≡◌, ℕ, ◌+◌, ◌≤◌, ◌==◌, ◌||◌, suc, max, if◌then◌else◌, bit_or, List, [], ◌∷◌, ◌++◌, length, slice_get, slice_index, Some}
+use Rattle.std.specs.Prelude.{◌≡◌, ℕ, ◌+◌, ◌≤◌, ◌==◌, ◌||◌, ◌⊎◌, suc, max, if◌then◌else◌, bit_or, List, [], ◌∷◌, ◌++◌, length, slice_get, slice_index, Some}
 use Rattle.dh_tree.specs.declared.tables.MemEntry.{MemEntry}
 use Rattle.dh_net.specs.Laws.{WiresFit}
 use Rattle.dh_net.specs.Valid.{HasWidth, IsCell}
@@ -15,9 +15,16 @@ use Rattle.dh_cells.specs.Settled.{BeginsWith}
 abbrev pub AreCells : List MemEntry → List Register → List Cell → Type 0
 AreCells table registers cells = (i : ℕ) (c : Cell) → slice_get cells i ≡ Some c → IsCell table registers cells i c
 
--- at most so many cells were added, each a cell of whatever net has the others
+-- a cell of `|` or `? :`
+abbrev pub IsChoice : CellForm → Type 0
+IsChoice (Or a b) = Unit {0}
+IsChoice (Mux c a b) = Unit {0}
+IsChoice form = ⊥
+
+-- at most so many cells of these forms were added, each a cell of whatever net has the others
 pub record Grows (old new : List Cell) (most : ℕ) : Type 0 where
   pub begins : BeginsWith new old
+  pub added : (i : ℕ) (c : Cell) → slice_get new i ≡ Some c → (slice_get old i ≡ Some c) ⊎ IsChoice c.form
   pub valid : (table : List MemEntry) (registers : List Register) → AreCells table registers old → AreCells table registers new
   pub few : length new ≤ length old + most
 

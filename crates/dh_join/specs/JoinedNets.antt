@@ -1,13 +1,15 @@
 -- A net whose ports have few drivers, and that does what a given one does as long as none of its ports has clashed.
-use Rattle.std.specs.Prelude.{◌≡◌, ℕ, ◌+◌, ◌*◌, ◌^◌, ◌<◌, ◌≤◌, true, false, List, length, slice_get, slice_index, Some}
+use Rattle.std.specs.Prelude.{◌≡◌, ℕ, ◌+◌, ◌*◌, ◌^◌, ◌<◌, ◌≤◌, ◌⊎◌, true, false, List, length, slice_get, slice_index, Some}
 use Rattle.std.specs.List.{AllByRecursion}
 use Rattle.dh_tree.specs.Tables.{Fits}
 use Rattle.dh_net.specs.Clock.{State, Settles, ClocksTo, start_of, has_clashes, strays}
 use Rattle.dh_net.specs.Plays.{Run, Plays}
 use Rattle.dh_net.specs.Valid.{IsValid, HasReadsZero}
+use Rattle.dh_net.specs.declared.nets.Cell.{Cell}
 use Rattle.dh_net.specs.declared.nets.Driver.{Driver}
 use Rattle.dh_net.specs.declared.nets.Net.{Net}
-use Rattle.dh_join.specs.AddedCells.{AreDepths}
+use Rattle.dh_cells.specs.Settled.{BeginsWith}
+use Rattle.dh_join.specs.AddedCells.{IsChoice, AreDepths}
 use Rattle.dh_join.specs.JoinedDrivers.{IsWithin}
 use Rattle.dh_join.specs.JoinedPorts.{AreFew, any_write, joined_in}
 
@@ -42,7 +44,9 @@ pub record IsJoined (old new : Net) : Type 0 where
       → (clocks : ℕ) (s t : State) (ws vs : List ℕ) → HadNoClash old start clocks
       → ClocksTo old clocks (start_of old start) s → Settles old s ws → ClocksTo new clocks (start_of new start) t → Settles new t vs
       → ShowsTheSame old new s t ws vs
-  -- at most three new cells for each driver that is joined
+  -- the old cells stand where they stood; at most three new ones, each of `|` or `? :`, for each driver that is joined
+  pub begins : BeginsWith new.cells old.cells
+  pub added : (i : ℕ) (c : Cell) → slice_get new.cells i ≡ Some c → (slice_get old.cells i ≡ Some c) ⊎ IsChoice c.form
   pub small : length new.cells ≤ length old.cells + 3 * joined_in old.drivers
   -- the wires of a port's drivers are deeper by the height of a tree of them
   pub deep : (depths : List ℕ) → AreDepths new.cells depths

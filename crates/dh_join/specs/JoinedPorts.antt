@@ -97,4 +97,5 @@ pub record JoinedSoFar (old new : List Cell) (ports : List Port) (given joined :
   pub grows : Grows old new most
   pub few : most + 3 * joined_in left ≤ 3 * joined_in given
   pub long : length joined ≡ count
+  pub within : count ≤ length given
   pub each : AllJoinedIn new ports given joined

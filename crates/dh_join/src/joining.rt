@@ -7,9 +7,9 @@ ghost use Rattle.dh_join.specs.JoinedNets.{IsJoined};
 ghost use Rattle.dh_join.specs.JoinedPorts.{PortsJoined};
 
 use crate::ports::join_ports;
-use dh_base::{Items, NoMemory};
-use dh_net::{Cell, Driver, Net, list_ports};
-use dh_tree::copy_table;
+use dh_base::{FaultKind, Items, NoMemory, Place};
+use dh_net::{Cell, Driver, Net, Register, list_ports};
+use dh_tree::{MemTable, copy_table};
 use std::alloc::Global;
 
 /// The drivers of a net's ports, joined by cells that are added behind the cells of the net.
@@ -20,11 +20,42 @@ fn drive_net(
 ) -> Result<Items<Items<Driver>>, NoMemory>
     requires valid { IsValid net.now }
     requires cells { cells.old ≡ net.now.cells }
-    ensures { IfOk result (λ lists. PortsJoined cells.old cells.new (ports_of net.now.table)
-        net.now.drivers lists) }
+    ensures { IfOk result (λ drivers. PortsJoined net.now.cells cells.new (ports_of net.now.table)
+        net.now.drivers drivers) }
 {
-    let ports = list_ports(alloc, net.table.as_slice())?;
-    join_ports(alloc, cells, ports.as_slice(), net.drivers.as_slice())
+    let table = net.table.as_slice();
+    let ports = list_ports(alloc, table)?;
+    let listed = ports.as_slice();
+    let lists = net.drivers.as_slice();
+    join_ports(alloc, cells, listed, lists)
+}
+
+/// The net with these cells and drivers.
+fn joined_net(
+    net: &Net,
+    table: MemTable,
+    faults: Items<(FaultKind, Place)>,
+    registers: Items<Register>,
+    cells: Items<Cell>,
+    drivers: Items<Items<Driver>>,
+) -> Net
+    requires valid { IsValid net.now }
+    requires table { table ≡ net.now.table }
+    requires faults { faults ≡ net.now.faults }
+    requires registers { registers ≡ net.now.registers }
+    requires joined { PortsJoined net.now.cells cells (ports_of net.now.table) net.now.drivers drivers }
+    ensures { IsJoined net.now result }
+{
+    Net {
+        table,
+        faults,
+        registers,
+        cells,
+        drivers,
+        tick: net.tick,
+        done: net.done,
+        fault: net.fault,
+    }
 }
 
 /// A net that does what this one does, whose ports have few drivers: the drivers of a port that has more than four are
@@ -42,16 +73,9 @@ pub fn join_drivers(alloc: Global, net: &Net) -> Result<Net, NoMemory>
     let table = copy_table(alloc, net.table.as_slice())?;
     let faults = Vec::from_slice(alloc, net.faults.as_slice())?;
     let registers = Vec::from_slice(alloc, net.registers.as_slice())?;
-    let mut cells = Items::from_vec(Vec::from_slice(alloc, net.cells.as_slice())?);
+    let copies = Vec::from_slice(alloc, net.cells.as_slice())?;
+    let mut cells = Items::from_vec(copies);
     let drivers = drive_net(alloc, &mut cells, net)?;
-    Ok(Net {
-        table,
-        faults: Items::from_vec(faults),
-        registers: Items::from_vec(registers),
-        cells,
-        drivers,
-        tick: net.tick,
-        done: net.done,
-        fault: net.fault,
-    })
+    let (faults, registers) = (Items::from_vec(faults), Items::from_vec(registers));
+    Ok(joined_net(net, table, faults, registers, cells, drivers))
 }

@@ -1,9 +1,9 @@
 //! The drivers of ports, joined in balanced trees of choices.
 
-ghost use Rattle.std.specs.Prelude.{◌≡◌, ◌++◌, IfOk, length};
+ghost use Rattle.std.specs.Prelude.{◌≡◌, ◌++◌, IfOk, OnOk, Some, length};
 ghost use Rattle.dh_net.specs.Parts.{DrivePort};
 ghost use Rattle.dh_net.specs.Valid.{IsDriver};
-ghost use Rattle.dh_join.specs.JoinedDrivers.{DataAdded, IsOneOf, JoinsFound, JoinsTwo, StandsFor, drivers_in, picked};
+ghost use Rattle.dh_join.specs.JoinedDrivers.{DataAdded, IsOneOf, JoinsFound, JoinsTwo, StandsFor, drivers_in, is_kind as kind_told, picked};
 ghost use Rattle.dh_join.specs.JoinedPorts.{BothJoined, DriveAll, PortJoined, PortsJoined};
 
 use crate::choices::{push_choice, push_either};
@@ -68,6 +68,27 @@ fn join_data(
     }
 }
 
+/// What stands for the drivers of two parts of a list, where the first has one that does.
+fn join_former(
+    cells: &mut Items<Cell>,
+    port: Port,
+    write: bool,
+    former: Driver,
+    second: Option<Driver>,
+) -> Result<Option<Driver>, NoMemory>
+    requires former { IsOneOf cells.old port write (Some former) }
+    requires second { IsOneOf cells.old port write second }
+    ensures { IfOk result (λ joined. JoinsFound cells.old cells.new port write (Some former) second joined) }
+{
+    match second {
+        None => Ok(Some(former)),
+        Some(latter) => {
+            let joined = join_two(cells, port, former, latter)?;
+            Ok(Some(joined))
+        }
+    }
+}
+
 /// What stands for the drivers of two parts of a list, by what stands for those of each.
 fn join_found(
     cells: &mut Items<Cell>,
@@ -80,21 +101,24 @@ fn join_found(
     requires second { IsOneOf cells.old port write second }
     ensures { IfOk result (λ joined. JoinsFound cells.old cells.new port write first second joined) }
 {
-    let Some(former) = first else {
-        return Ok(second);
-    };
-    let Some(latter) = second else {
-        return Ok(first);
-    };
-    let joined = join_two(cells, port, former, latter)?;
-    Ok(Some(joined))
+    match first {
+        None => Ok(second),
+        Some(former) => join_former(cells, port, write, former, second),
+    }
+}
+
+/// Whether the driver writes, or reads.
+fn is_kind(write: bool, driver: Driver) -> bool
+    ensures { result ≡ kind_told write driver }
+{
+    if write { driver.write } else { !driver.write }
 }
 
 /// The driver, where it is of this kind.
 fn pick(write: bool, driver: Driver) -> Option<Driver>
     ensures { result ≡ picked write driver }
 {
-    if driver.write == write {
+    if is_kind(write, driver) {
         Some(driver)
     } else {
         None
@@ -124,6 +148,19 @@ fn join_kind(
     }
 }
 
+/// Adds the driver that was found, if one was.
+fn push_found(drivers: &mut Items<Driver>, found: Option<Driver>) -> Result<(), NoMemory>
+    ensures { OnOk result (drivers.new ≡ drivers.old ++ drivers_in found) }
+{
+    match found {
+        None => Ok(()),
+        Some(driver) => {
+            drivers.push(driver)?;
+            Ok(())
+        }
+    }
+}
+
 /// The drivers that were found of two.
 fn list_found(
     alloc: Global,
@@ -133,12 +170,8 @@ fn list_found(
     ensures { IfOk result (λ drivers. drivers ≡ drivers_in read ++ drivers_in write) }
 {
     let mut drivers = Items::new(alloc);
-    if let Some(driver) = read {
-        drivers.push(driver)?;
-    }
-    if let Some(driver) = write {
-        drivers.push(driver)?;
-    }
+    push_found(&mut drivers, read)?;
+    push_found(&mut drivers, write)?;
     Ok(drivers)
 }
 
@@ -157,6 +190,14 @@ fn join_both(
     list_found(alloc, read, write)
 }
 
+/// The same drivers.
+fn copied(alloc: Global, drivers: &[Driver]) -> Result<Items<Driver>, NoMemory>
+    ensures { IfOk result (λ kept. kept ≡ drivers.now) }
+{
+    let kept = Vec::from_slice(alloc, drivers)?;
+    Ok(Items::from_vec(kept))
+}
+
 /// The drivers of a port where they are few, else one that reads and one that writes in their place.
 fn join_port(
     alloc: Global,
@@ -167,11 +208,12 @@ fn join_port(
     requires { DrivePort cells.old port drivers.now }
     ensures { IfOk result (λ joined. PortJoined cells.old cells.new port drivers.now joined) }
 {
-    if drivers.len() <= MOST_KEPT {
-        let kept = Vec::from_slice(alloc, drivers)?;
-        return Ok(Items::from_vec(kept));
+    let count = drivers.len();
+    if count <= MOST_KEPT {
+        copied(alloc, drivers)
+    } else {
+        join_both(alloc, cells, port, drivers)
     }
-    join_both(alloc, cells, port, drivers)
 }
 
 /// The same of all ports.
