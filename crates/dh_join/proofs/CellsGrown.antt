@@ -1,7 +1,7 @@
 -- Cells that are added leave what was known as it was: a cell stands at the same place of a longer list, so what solves
 -- the equations of more cells solves those of fewer. And what one cell more of a choice shows, and how deep it is.
-use Rattle.std.proofs.Common.{◌≡◌, ℕ, zero, suc, ◌+◌, ◌<◌, ◌≤◌, ◌^◌, ◌==◌, ◌||◌, max, inl, inr, Some, List, [], ◌∷◌, ◌++◌, length, refl, sym, ap, subst, ◌∙◌, arith, length-append}
-use Rattle.std.specs.Prelude.{slice_get, slice_index, option_map, bit_or, if◌then◌else◌, Bool, true, false}
+use Rattle.std.proofs.Common.{◌≡◌, ℕ, zero, suc, ◌+◌, ◌<◌, ◌≤◌, ◌^◌, ◌==◌, ◌||◌, max, inl, inr, List, [], ◌∷◌, ◌++◌, length, refl, sym, ap, subst, arith, length-append}
+use Rattle.std.specs.Prelude.{slice_index, option_map, bit_or, if◌then◌else◌, Bool, true, false}
 use Rattle.std.proofs.lemmas.Option.{slice_get_within}
 use Rattle.dh_tree.specs.declared.tables.MemEntry.{MemEntry}
 use Rattle.dh_net.specs.Valid.{HasWidth, IsCell, IsDriver}
@@ -28,7 +28,7 @@ grows_more old new m n less g = record { begins = g.begins; added = g.added; val
 pub grows_then : (a b c : List Cell) (m n : ℕ) → Grows a b m → Grows b c n → Grows a c (m + n)
 grows_then a b c m n g h = record {
   begins = λ i d at. h.begins i d (g.begins i d at);
-  added = λ i d at. elim (h.added i d at) [ | inl before ↦ g.added i d before | inr new ↦ inr new ];
+  added = λ i d at. elim (h.added i d at) [ inl before ↦ g.added i d before | inr new ↦ inr new ];
   valid = λ table registers all. h.valid table registers (g.valid table registers all);
   few = (let x = g.few in let y = h.few in omega (arith, x, y));
 }

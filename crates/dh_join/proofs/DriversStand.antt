@@ -2,21 +2,21 @@
 -- The first active one of a list is that of its front, or where the front has none that of its back. So what stands for
 -- a front and what stands for a back make what stands for the whole, and one cell of each tree chooses between them.
 -- Each such driver takes at most three cells, and there is one fewer of them than of drivers.
-use Rattle.std.proofs.Common.{◌≡◌, ℕ, zero, suc, ◌+◌, ◌*◌, ◌-◌, ◌<◌, ◌≤◌, ◌^◌, Bool, true, false, Some, None, List, [], ◌∷◌, ◌++◌, length, take, drop, get_or, refl, sym, ap, subst, ◌∙◌, arith, length-append}
-use Rattle.std.specs.Prelude.{Option, slice_get, slice_index, if◌then◌else◌, ◌&&◌, ◌||◌, not}
+use Rattle.std.proofs.Common.{◌≡◌, ℕ, zero, suc, ◌+◌, ◌*◌, ◌<◌, ◌≤◌, ◌^◌, Bool, true, false, Some, None, List, [], ◌∷◌, ◌++◌, length, take, drop, get_or, refl, sym, ap, subst, ◌∙◌, arith, length-append}
+use Rattle.std.specs.Prelude.{Option, slice_index, if◌then◌else◌, ◌&&◌, ◌||◌, not}
 use Rattle.std.specs.List.{AllByRecursion}
 use Rattle.std.proofs.lemmas.List.{take-append-drop}
 use Rattle.dh_net.specs.Clock.{is_active}
 use Rattle.dh_net.specs.Parts.{DrivePort}
-use Rattle.dh_net.specs.Valid.{HasWidth, IsDriver, ReadsZero}
+use Rattle.dh_net.specs.Valid.{IsDriver, ReadsZero}
 use Rattle.dh_net.specs.declared.nets.Cell.{Cell}
 use Rattle.dh_net.specs.declared.nets.Driver.{Driver}
 use Rattle.dh_net.specs.declared.ports.Port.{Port}
 use Rattle.dh_cells.specs.Settled.{BeginsWith}
-use Rattle.dh_cells.proofs.CellsAppended.{get_longer, width_later}
-use Rattle.dh_join.specs.AddedCells.{Grows, ShowsChoices, AreDepths, EitherAdded, ChoiceAdded}
+use Rattle.dh_cells.proofs.CellsAppended.{width_later}
+use Rattle.dh_join.specs.AddedCells.{ShowsChoices, AreDepths, EitherAdded, ChoiceAdded}
 use Rattle.dh_join.specs.JoinedDrivers.{is_kind, count_kind, picked, first_active, former, DoesAs, DoesWhat, StandsAs, IsOneOf, IsZero, spared, IsWithin, FoundWithin, JoinsTwo, DataAdded, JoinsFound, StandsFor}
-use Rattle.dh_join.proofs.CellsGrown.{grows_none, grows_more, grows_then, shows_fewer, depths_fewer, driver_later}
+use Rattle.dh_join.proofs.CellsGrown.{grows_none, grows_then, shows_fewer, depths_fewer, driver_later}
 
 -- Two drivers.
 

@@ -2,13 +2,13 @@
 -- Where no two drivers of a port are active, its first active one is the first active one that reads or the first active
 -- one that writes, and there is at most one of the two. So one driver that stands for those that read, and one for those
 -- that write, do what all do; both are active only where a port of the given net clashes.
-use Rattle.std.proofs.Common.{◌≡◌, ℕ, zero, suc, ◌+◌, ◌<◌, ◌≤◌, ◌==◌, Bool, true, false, inl, inr, Some, None, List, [], ◌∷◌, ◌++◌, length, refl, sym, ap, subst, ◌∙◌, arith}
-use Rattle.std.specs.Prelude.{Option, slice_get, slice_index, nat_lt, if◌then◌else◌, ◌&&◌, ◌||◌, ◌⊎◌, not}
+use Rattle.std.proofs.Common.{◌≡◌, ℕ, ◌==◌, Bool, true, false, inl, inr, Some, None, List, [], ◌∷◌, ◌++◌, refl, sym, ap, subst, ◌∙◌}
+use Rattle.std.specs.Prelude.{Option, slice_index, nat_lt, if◌then◌else◌, ◌&&◌, ◌||◌, ◌⊎◌, not}
 use Rattle.std.specs.List.{AllByRecursion}
 use Rattle.dh_net.specs.Clock.{is_active, any_active, has_clash, has_stray, served}
 use Rattle.dh_net.specs.declared.nets.Driver.{Driver}
 use Rattle.dh_join.specs.JoinedDrivers.{is_kind, drivers_in, first_active, former, DoesAs, DoesWhat, StandsAs}
-use Rattle.dh_join.specs.JoinedPorts.{any_write, ServesAs, SameService, DrivesAs}
+use Rattle.dh_join.specs.JoinedPorts.{any_write, SameService, DrivesAs}
 
 -- truths
 or_true : (t u : Bool) → u ≡ true → (t || u) ≡ true
@@ -100,7 +100,7 @@ module _ (ws : List ℕ) where
       by true false so h = refl
       by false k so h = so h
 
--- What one driver for each kind does.
+  -- What one driver for each kind does.
 
   -- a driver that is active does what some driver does
   active_found : (x : Driver) (r : Option Driver) → DoesWhat ws x r → is_active ws x ≡ true → (a : Driver) × ((r ≡ Some a) × DoesAs ws x a)

@@ -1,6 +1,6 @@
 -- The drivers of one port, and then of all ports one after the other: what is known of a port that is joined stays so
 -- when cells are added for those behind it.
-use Rattle.std.proofs.Common.{◌≡◌, ℕ, zero, suc, ◌+◌, ◌*◌, ◌<◌, ◌≤◌, ◌^◌, Bool, true, false, inl, inr, Some, None, List, [], ◌∷◌, ◌++◌, length, drop, get_or, refl, sym, ap, subst, ◌∙◌, arith, length-append, append-nil}
+use Rattle.std.proofs.Common.{◌≡◌, ℕ, zero, suc, ◌+◌, ◌*◌, ◌<◌, ◌≤◌, Bool, true, false, inl, inr, Some, None, List, [], ◌∷◌, ◌++◌, length, drop, get_or, refl, sym, ap, subst, ◌∙◌, arith, length-append, append-nil}
 use Rattle.std.specs.Prelude.{Option, slice_get, nat_le, if◌then◌else◌, not}
 use Rattle.std.specs.List.{AllByRecursion}
 use Rattle.std.proofs.lemmas.Bool.Decides.{nat_tests}
@@ -19,9 +19,9 @@ use Rattle.dh_net.specs.declared.ports.Port.{Port}
 use Rattle.dh_net.proofs.PortWalks.{small_memories}
 use Rattle.dh_cells.specs.Settled.{BeginsWith}
 use Rattle.dh_cells.proofs.CellsAppended.{get_either}
-use Rattle.dh_join.specs.AddedCells.{Grows, ShowsChoices, AreDepths}
-use Rattle.dh_join.specs.JoinedDrivers.{is_kind, count_kind, drivers_in, first_active, StandsAs, IsOneOf, IsZero, spared, IsWithin, FoundWithin, StandsFor}
-use Rattle.dh_join.specs.JoinedPorts.{most_kept, AreFew, joined_of, joined_in, DrivesAs, JoinedIn, BothJoined, PortJoined, DriveAll, AllJoinedIn, PortsJoined, JoinedSoFar}
+use Rattle.dh_join.specs.AddedCells.{Grows}
+use Rattle.dh_join.specs.JoinedDrivers.{is_kind, count_kind, drivers_in, IsOneOf, IsZero, IsWithin, FoundWithin, StandsFor}
+use Rattle.dh_join.specs.JoinedPorts.{joined_of, joined_in, JoinedIn, BothJoined, PortJoined, DriveAll, PortsJoined, JoinedSoFar}
 use Rattle.dh_join.proofs.CellsGrown.{grows_none, grows_more, grows_then, shows_fewer, depths_fewer, driver_later}
 use Rattle.dh_join.proofs.DriversStand.{count_parts, all_both, drives_later}
 use Rattle.dh_join.proofs.PortsDriven.{Reads, drives_kinds, drives_own}

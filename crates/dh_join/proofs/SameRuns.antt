@@ -1,20 +1,17 @@
 -- Clock by clock the joined net does what the given one does, as long as that has had no clash.
 -- Both begin in one state. In a state that both have, each port is driven the same, so without a clash a clock leads both
 -- to one state. That wires fit, which a cell of `|` needs, holds in each state that a net comes to from memories that fit.
-use Rattle.std.proofs.Common.{◌≡◌, ℕ, zero, suc, ◌+◌, ◌*◌, ◌<◌, ◌≤◌, ◌^◌, Bool, true, false, inl, inr, Some, None, List, [], ◌∷◌, length, map, replicate, refl, sym, ap, subst, ◌∙◌, arith}
+use Rattle.std.proofs.Common.{◌≡◌, ℕ, zero, suc, ◌<◌, ◌≤◌, Bool, true, false, Some, None, List, [], ◌∷◌, length, map, replicate, refl, sym, ap, subst, ◌∙◌, arith}
 use Rattle.std.specs.Prelude.{Option, ◌↔◌, ◌≢◌, ◌||◌, slice_get, slice_index, if◌then◌else◌}
 use Rattle.std.specs.List.{AllByRecursion}
 use Rattle.std.proofs.lemmas.Option.{slice_get_within}
-use Rattle.dh_base.specs.declared.outcomes.FaultKind.{FaultKind}
-use Rattle.dh_base.specs.declared.places.Place.{Place}
 use Rattle.dh_tree.specs.Tables.{Fits}
 use Rattle.dh_tree.specs.declared.tables.MemEntry.{MemEntry}
 use Rattle.dh_net.specs.BankPorts.{ports_of}
 use Rattle.dh_net.specs.Clock.{State, Settles, Clocks, ClocksTo, start_of, has_clash, has_clashes, has_stray, has_strays, strays, served, row_value, with_row, held_by, held_after, written_by, memories_after}
-use Rattle.dh_net.specs.Ends.{entry_at, fault_shown}
-use Rattle.dh_net.specs.Plays.{Run, clocks_of, EndsAfter, FaultsWithin, Fit, ShowsRun, Plays}
-use Rattle.dh_net.specs.Valid.{HasWidth, IsValid, ReadsZero, HasReadsZero}
-use Rattle.dh_net.specs.declared.nets.Cell.{Cell}
+use Rattle.dh_net.specs.Ends.{entry_at}
+use Rattle.dh_net.specs.Plays.{Run, clocks_of, EndsAfter, FaultsWithin, ShowsRun, Plays}
+use Rattle.dh_net.specs.Valid.{HasWidth, IsValid, ReadsZero}
 use Rattle.dh_net.specs.declared.nets.Driver.{Driver}
 use Rattle.dh_net.specs.declared.nets.Net.{Net}
 use Rattle.dh_net.specs.declared.nets.Register.{Register}
@@ -22,9 +19,7 @@ use Rattle.dh_net.specs.declared.ports.Port.{Port}
 use Rattle.dh_net.proofs.Valuations.{cell_of, same_state, some_valuation, some_run}
 use Rattle.dh_sim.specs.Points.{IsSound}
 use Rattle.dh_sim.proofs.Keeping.{starts_sound, stays_sound}
-use Rattle.dh_join.specs.AddedCells.{AreDepths}
-use Rattle.dh_join.specs.JoinedDrivers.{IsWithin}
-use Rattle.dh_join.specs.JoinedPorts.{any_write, ServesAs, SameService, DrivesAs, joined_in, JoinedIn}
+use Rattle.dh_join.specs.JoinedPorts.{SameService, DrivesAs, JoinedIn}
 use Rattle.dh_join.specs.JoinedNets.{HadNoClash, ShowsTheSame, IsJoined}
 use Rattle.dh_join.proofs.WiresKept.{IsDrivenBy, item_at, new_valid, wires_same, drives_same}
 

@@ -1,19 +1,18 @@
 -- The joined net is valid, and in a state that both nets have its wires show on old cells what those of the old net do.
 -- The old cells stand where they stood. So the first wires of the new net solve the equations of the old one, and are
 -- those that the old net has.
-use Rattle.std.proofs.Common.{◌≡◌, ℕ, zero, suc, ◌<◌, ◌≤◌, inl, inr, Some, None, List, [], ◌∷◌, length, take, get_or, refl, sym, ap, subst, ◌∙◌, arith}
-use Rattle.std.specs.Prelude.{slice_get, slice_index, true}
+use Rattle.std.proofs.Common.{◌≡◌, ℕ, zero, suc, ◌<◌, ◌≤◌, inl, inr, Some, List, [], ◌∷◌, length, take, refl, sym, ap, subst, ◌∙◌, arith}
+use Rattle.std.specs.Prelude.{slice_get, slice_index}
 use Rattle.std.specs.List.{AllByRecursion}
 use Rattle.std.proofs.lemmas.List.{get_or-take, length-take-le}
 use Rattle.std.proofs.lemmas.Option.{slice_get_cases, slice_get_within}
 use Rattle.dh_tree.specs.declared.tables.MemEntry.{MemEntry}
 use Rattle.dh_tree.specs.Shapes.{IsProgramTable}
 use Rattle.dh_net.specs.BankPorts.{ports_of}
-use Rattle.dh_net.specs.Clock.{State, form_value, IsValuation, Settles}
-use Rattle.dh_net.specs.Laws.{FitsNet, WiresFit}
-use Rattle.dh_net.specs.Valid.{HasWidth, IsCell, IsRegister, IsDriver, IsValid}
+use Rattle.dh_net.specs.Clock.{State, form_value, Settles}
+use Rattle.dh_net.specs.Laws.{FitsNet}
+use Rattle.dh_net.specs.Valid.{HasWidth, IsRegister, IsDriver, IsValid}
 use Rattle.dh_net.specs.declared.nets.Cell.{Cell}
-use Rattle.dh_net.specs.declared.nets.CellForm.{CellForm}
 use Rattle.dh_net.specs.declared.nets.CellForm.TheVariants.{Or, Mux}
 use Rattle.dh_net.specs.declared.nets.Driver.{Driver}
 use Rattle.dh_net.specs.declared.nets.Net.{Net}
@@ -23,8 +22,8 @@ use Rattle.dh_net.proofs.Valuations.{cell_of, one_valuation, reads_before, wires
 use Rattle.dh_cells.specs.PlainCircuits.{one_cell, circuit_of}
 use Rattle.dh_cells.specs.Settled.{BeginsWith}
 use Rattle.dh_cells.proofs.CellsAppended.{width_later, measured_by_fit, value_later}
-use Rattle.dh_join.specs.AddedCells.{AreCells, Grows, ShowsChoices}
-use Rattle.dh_join.specs.JoinedPorts.{joined_in, JoinedIn, PortsJoined, DrivesAs}
+use Rattle.dh_join.specs.AddedCells.{AreCells, ShowsChoices}
+use Rattle.dh_join.specs.JoinedPorts.{PortsJoined, DrivesAs}
 use Rattle.dh_join.proofs.PortsDriven.{Agrees, drives_agree, drives_then}
 
 -- what the new net is by the old one and the drivers that were joined

@@ -27,13 +27,7 @@ fn join_two(
     ensures { IfOk result (λ joined. JoinsTwo cells.old cells.new port first second joined) }
 {
     let enable = push_either(cells, first.enable, second.enable)?;
-    let row = push_choice(
-        cells,
-        port.row_width,
-        first.enable,
-        first.row,
-        second.row,
-    )?;
+    let row = push_choice(cells, port.row_width, first.enable, first.row, second.row)?;
     let data_ = join_data(cells, port, first, second)?;
     Ok(Driver {
         enable,
@@ -53,16 +47,10 @@ fn join_data(
     requires first { IsDriver cells.old port first }
     requires second { IsDriver cells.old port second }
     requires kind { second.write ≡ first.write }
-    ensures { IfOk result (λ data. DataAdded cells.old cells.new port first second data) }
+    ensures { IfOk result (λ wire. DataAdded cells.old cells.new port first second wire) }
 {
     if first.write {
-        push_choice(
-            cells,
-            port.width,
-            first.enable,
-            first.data_,
-            second.data_,
-        )
+        push_choice(cells, port.width, first.enable, first.data_, second.data_)
     } else {
         Ok(0)
     }
