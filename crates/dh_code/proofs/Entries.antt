@@ -17,7 +17,7 @@ use Rattle.dh_code.specs.Banks.{HasBank}
 use Rattle.dh_code.specs.declared.spending.Bank.{Bank}
 use Rattle.dh_code.specs.declared.evaluating.Stop.{Stop}
 use Rattle.dh_code.specs.declared.evaluating.Stop.TheVariants as stop
-use Rattle.dh_code.specs.Banks.{AreDims, AreFirsts, first_bank, all_banks}
+use Rattle.dh_code.specs.Banks.{AreFirsts, first_bank, all_banks}
 use Rattle.dh_code.specs.Scenes.{Spends}
 use Rattle.dh_code.specs.Spent.{rows_now, left_now, ReadsRow, WritesRow, HaveSpent}
 use Rattle.dh_extents.proofs.DimSizes.{banks_fit, elements_some}
