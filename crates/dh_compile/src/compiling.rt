@@ -16,7 +16,7 @@ ghost use Rattle.dh_compile.specs.Compiled.{Compiles, IsNetOfProgram};
 use dh_backend::{NetParts, parts_of};
 use dh_base::{Limit, NoMemory};
 use dh_build::build;
-use dh_inline::inline;
+use dh_inline::{Flat, inline};
 use dh_net::Net;
 use dh_plan::Plan;
 use dh_ports::Accepted;
@@ -67,14 +67,22 @@ fn net_of_plan(alloc: Global, plan: &Plan) -> Result<Net, NoMemory>
     net_of_parts(alloc, &parts)
 }
 
+/// The net of a flat program that is to be compiled.
+fn net_of_flat(alloc: Global, flat: &Flat) -> Result<Net, NoMemory>
+    requires { IsToCompile (program_seen flat.now.program.now) }
+    ensures { IfOk result (IsNetOfProgram (program_seen flat.now.program.now)) }
+{
+    let plan = unroll(alloc, flat)?;
+    net_of_plan(alloc, &plan)
+}
+
 /// The net of a program that is to be compiled.
 fn net_of(alloc: Global, program: &Typed) -> Result<Net, NoMemory>
     requires { IsToCompile (program_seen program.now) }
     ensures { IfOk result (IsNetOfProgram (program_seen program.now)) }
 {
     let flat = inline(program);
-    let plan = unroll(alloc, &flat)?;
-    net_of_plan(alloc, &plan)
+    net_of_flat(alloc, &flat)
 }
 
 /// Compiles an accepted program. The net is valid, its table is the program's, and from all fitting memories it plays

@@ -22,3 +22,7 @@ flat_itself p ready = record {
   size = refl;
   whole = λ none. refl;
 }
+
+-- functions are not built, so the flat program is the program itself
+pub same_program : (p q : Program) → IsReady p → IsFlatOf p q → q ≡ p
+same_program p q ready flat = flat.whole (has_no_functions p ready)

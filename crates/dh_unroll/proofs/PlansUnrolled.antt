@@ -1,5 +1,6 @@
 -- What the pass makes of a program is a plan of it, told of the program's own tree.
 use Rattle.std.proofs.Common.{◌≡◌, [], subst}
+use Rattle.dh_tree.specs.declared.trees.typed.Typed.{Typed}
 use Rattle.dh_tree.specs.declared.trees.programs.Tree.{Tree}
 use Rattle.dh_tree.specs.Memories.{table_of}
 use Rattle.dh_tree.specs.Seen.{program_seen}
@@ -44,3 +45,7 @@ plan_unrolled t phased plan meets asked m parts =
       views = h.views;
       registers = sized m.scene m.count phased plan a m.made m.phased_is put;
     }) asked parts
+
+-- `t` and `s` are one program as the code holds it
+pub unrolled_same : (s t : Typed) (plan : PlainPlan) → s ≡ t → IsUnrolled (program_seen s) plan → IsUnrolled (program_seen t) plan
+unrolled_same s t plan same h = subst (λ (x : Typed). IsUnrolled (program_seen x) plan) same h
