@@ -1,0 +1,3 @@
+pub mod SweptValues
+pub mod SweptValid
+pub mod SweptRuns

@@ -1,0 +1,3 @@
+pub mod RenamedWires
+pub mod SweptNets
+pub mod SweptLaws
