@@ -1,3 +1,6 @@
 pub mod SweptValues
 pub mod SweptValid
 pub mod SweptRuns
+pub mod MarksSet
+pub mod CellsKept
+pub mod NetSwept

@@ -3,13 +3,11 @@ use Rattle.std.proofs.Common.{◌≡◌, ℕ, zero, suc, ◌<◌, ◌≤◌, ◌
 use Rattle.std.specs.Prelude.{Option, ◌↔◌, ◌≢◌, nat_lt, slice_get, slice_index, option_map}
 use Rattle.std.specs.List.{AllByRecursion}
 use Rattle.std.proofs.lemmas.List.{length-map}
-use Rattle.dh_base.specs.declared.outcomes.FaultKind.{FaultKind}
-use Rattle.dh_base.specs.declared.places.Place.{Place}
 use Rattle.dh_tree.specs.declared.tables.MemEntry.{MemEntry}
 use Rattle.dh_net.specs.BankPorts.{ports_of}
-use Rattle.dh_net.specs.Clock.{State, Settles, Clocks, ClocksTo, start_of, is_active, any_active, has_clash, has_clashes, has_stray, has_strays, strays, served, row_value, with_row, held_by, held_after, written_by, memories_after}
-use Rattle.dh_net.specs.Ends.{entry_at, fault_shown}
-use Rattle.dh_net.specs.Plays.{Run, clocks_of, EndsAfter, FaultsWithin, Fit, ShowsRun, Plays}
+use Rattle.dh_net.specs.Clock.{State, Settles, Clocks, ClocksTo, start_of, is_active, any_active, has_clash, has_clashes, has_stray, has_strays, served, row_value, with_row, held_by, held_after, written_by, memories_after}
+use Rattle.dh_net.specs.Ends.{entry_at}
+use Rattle.dh_net.specs.Plays.{Run, clocks_of, EndsAfter, FaultsWithin, ShowsRun, Plays}
 use Rattle.dh_net.specs.Valid.{IsValid}
 use Rattle.dh_net.specs.declared.nets.Driver.{Driver}
 use Rattle.dh_net.specs.declared.nets.Net.{Net}
@@ -216,4 +214,4 @@ module _ (old new : Net) (valid : IsValid old) (h : IsSwept old new) where
       w clocks n s some.0 back some.1 fit q k l.0 e.0 l.1.0 e.1.0 (ap (λ (x : Driver). x.write) (sym e.1.1) ∙ on) was
 
   pub does_the_same : DoesTheSame old new
-  does_the_same = record { valid = new_valid; zero_reads = swept_reads old new h valid; plays = plays_as; writes = writes_as }
+  does_the_same = record { valid = new_valid; table = h.table; faults = h.faults; zero_reads = swept_reads old new h valid; plays = plays_as; writes = writes_as }

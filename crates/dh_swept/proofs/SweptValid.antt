@@ -1,5 +1,5 @@
 -- A net that keeps all cells that are needed is valid where the whole net is.
-use Rattle.std.proofs.Common.{◌≡◌, ℕ, zero, suc, ◌<◌, Bool, true, false, if◌then◌else◌, Some, None, List, [], ◌∷◌, length, map, refl, sym, ap, subst, ◌∙◌}
+use Rattle.std.proofs.Common.{◌≡◌, ℕ, zero, suc, Bool, true, false, if◌then◌else◌, Some, None, List, [], ◌∷◌, length, map, refl, sym, ap, subst, ◌∙◌}
 use Rattle.std.specs.Prelude.{Option, slice_get, option_map}
 use Rattle.std.specs.List.{AllByRecursion}
 use Rattle.std.proofs.lemmas.List.{length-map}
@@ -7,7 +7,7 @@ use Rattle.std.proofs.lemmas.Option.{slice_get-map}
 use Rattle.dh_tree.specs.declared.tables.MemEntry.{MemEntry}
 use Rattle.dh_tree.specs.Shapes.{IsProgramTable}
 use Rattle.dh_net.specs.BankPorts.{ports_of}
-use Rattle.dh_net.specs.Valid.{HasWidth, IsOperand, AreOperands, IsAnyOperand, FormFits, IsCell, IsRegister, IsDriver, IsPort, IsValid, ReadsZero, HasReadsZero}
+use Rattle.dh_net.specs.Valid.{HasWidth, IsOperand, AreOperands, FormFits, IsCell, IsRegister, IsDriver, IsValid, ReadsZero, HasReadsZero}
 use Rattle.dh_net.specs.declared.nets.Cell.{Cell}
 use Rattle.dh_net.specs.declared.nets.CellForm.{CellForm}
 use Rattle.dh_net.specs.declared.nets.CellForm.TheVariants.{Const, Reg, Data, Add, Sub, Mul, And, Or, Xor, Shl, ShrU, ShrS, LtU, LtS, Eq, Mux, Zero, Sign, Low}

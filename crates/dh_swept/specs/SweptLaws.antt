@@ -1,5 +1,5 @@
 -- What a net does of which some cells are kept: what the whole net does.
-use Rattle.std.specs.Prelude.{List, ℕ}
+use Rattle.std.specs.Prelude.{◌≡◌, List, ℕ}
 use Rattle.dh_net.specs.declared.nets.Net.{Net}
 use Rattle.dh_net.specs.Plays.{Run, Plays}
 use Rattle.dh_net.specs.Valid.{IsValid, HasReadsZero}
@@ -8,6 +8,8 @@ use Rattle.dh_swept.specs.SweptNets.{IsSwept}
 
 pub record DoesTheSame (old new : Net) : Type 0 where
   pub valid : IsValid new
+  pub table : new.table ≡ old.table
+  pub faults : new.faults ≡ old.faults
   pub zero_reads : HasReadsZero new
   pub plays : (r : Run) (start : List (List ℕ)) → Plays old r start → Plays new r start
   pub writes : (r : Run) (start : List (List ℕ)) → WritesLast old r start → WritesLast new r start
