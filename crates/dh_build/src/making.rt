@@ -12,10 +12,30 @@ use crate::sizing::size_up;
 use dh_base::NoMemory;
 use dh_net::Net;
 use dh_plan::{Binding, Graph, Plan};
+use dh_swept::sweep;
 use std::alloc::Global;
 
+/// The net of a plan of one thread, with a cell for whatever may be asked of its values.
+fn whole_net(
+    alloc: Global,
+    plan: &Plan,
+    graph: &Graph,
+    binding: &Binding,
+    clocks: &[u64],
+    lengths: &[u64],
+) -> Result<Net, NoMemory>
+    requires { CanBuild (plan_seen plan.now) graph.now (timing_of clocks.now lengths.now)
+        (uses_seen binding.now) }
+    ensures { IfOk result (λ net. PlaysPlan (plan_seen plan.now) lengths.now net) }
+{
+    let states = graph.states.as_slice();
+    let first = &graph.groups.as_slice()[0].first;
+    let sizes = size_up(alloc, plan, states.len() as u64, clocks, lengths)?;
+    build_thread(alloc, plan, binding, states, first, &sizes)
+}
+
 /// Makes the net of a plan of one thread by what the passes before make of it: its graph, the ports of its operations,
-/// and its schedule, a clock for each operation and a length for each block.
+/// and its schedule, a clock for each operation and a length for each block. It has no cell that nothing needs.
 ///
 /// # Errors
 ///
@@ -33,8 +53,8 @@ pub fn build(
     ensures plays { IfOk result (λ net. PlaysPlan (plan_seen plan.now) lengths.now net) }
     ensures zero_reads { IfOk result (λ net. HasReadsZero net) }
 {
-    let states = graph.states.as_slice();
-    let first = &graph.groups.as_slice()[0].first;
-    let sizes = size_up(alloc, plan, states.len() as u64, clocks, lengths)?;
-    build_thread(alloc, plan, binding, states, first, &sizes)
+    match whole_net(alloc, plan, graph, binding, clocks, lengths) {
+        Ok(net) => sweep(alloc, net),
+        Err(fault) => Err(fault),
+    }
 }
