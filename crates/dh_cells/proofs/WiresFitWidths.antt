@@ -100,10 +100,12 @@ adds_push d table widths cells new wire width form view more last all next =
     (subst (λ (n : ℕ). Adds before (with_cell before (one_cell width form)) n width (form_shown before width form)) (sym last)
     (adds_cell before (one_cell width form) all (subst (λ (y : PlainCircuit). IsNext y width form) (sym view) next))))
 
--- a constant that is there shows its bits
-pub constant_there : (d : PlainCircuit) (wire width bits : ℕ) → AreCells d → slice_get d.cells wire ≡ Some (one_cell width (Const bits)) → Adds d d wire width (number_shown bits)
-constant_there d wire width bits all at =
-    let cell = all wire (one_cell width (Const bits)) at in
+-- a cell that is there shows what it computes
+pub cell_there : (d : PlainCircuit) (wire width : ℕ) (form : CellForm) → AreCells d → slice_get d.cells wire ≡ Some (one_cell width form) → Adds d d wire width (form_shown d width form)
+cell_there d wire width form all at =
+    let cell = all wire (one_cell width form) at in
+    let inside = slice_get_within d.cells wire (one_cell width form) at in
+    let measured = measured_by_fit d.table (blank_registers d.widths) d.cells wire width form (omega (arith, inside)) cell.form in
     record {
       grows = grows_none d;
       shows = record {
@@ -111,17 +113,17 @@ constant_there d wire width bits all at =
           wide = ap (option_map (λ (y : Cell). y.width)) at;
           least = cell.least;
           greatest = cell.greatest;
-          fits = λ x s. fit_below d all x s (suc wire) wire (one_cell width (Const bits)) (omega arith) at;
+          fits = λ x s. fit_below d all x s (suc wire) wire (one_cell width form) (omega arith) at;
         };
-        is = λ x s. s.cells wire (one_cell width (Const bits)) at tt;
+        is = λ x s. s.cells wire (one_cell width form) at measured;
       };
     }
 
 -- the same of a cell that was looked up, where the circuit and its cells go by other names
-pub constant_found : (d : PlainCircuit) (table : List MemEntry) (widths : List ℕ) (cells list : List Cell) (wire width bits : ℕ) (cell : Cell)
+pub cell_found : (d : PlainCircuit) (table : List MemEntry) (widths : List ℕ) (cells list : List Cell) (wire width : ℕ) (form : CellForm) (cell : Cell)
     → circuit_of table widths cells ≡ d → AreCells (circuit_of table widths cells) → list ≡ cells → wire < length list → cell ≡ get_or list wire cell
-    → cell ≡ one_cell width (Const bits) → Adds d d wire width (number_shown bits)
-constant_found d table widths cells list wire width bits cell view all same inside is constant =
+    → cell ≡ one_cell width form → Adds d d wire width (form_shown d width form)
+cell_found d table widths cells list wire width form cell view all same inside is found =
     let at : slice_get list wire ≡ Some cell = slice_get_read list _ wire cell refl inside is in
-    let there : slice_get cells wire ≡ Some (one_cell width (Const bits)) = ap (λ (l : List Cell). slice_get l wire) (sym same) ∙ (at ∙ ap (λ (y : Cell). Some y) constant) in
-    subst (λ (y : PlainCircuit). Adds y y wire width (number_shown bits)) view (constant_there (circuit_of table widths cells) wire width bits all there)
+    let there : slice_get cells wire ≡ Some (one_cell width form) = ap (λ (l : List Cell). slice_get l wire) (sym same) ∙ (at ∙ ap (λ (y : Cell). Some y) found) in
+    subst (λ (y : PlainCircuit). Adds y y wire width (form_shown y width form)) view (cell_there (circuit_of table widths cells) wire width form all there)

@@ -1,7 +1,6 @@
 //! A circuit: the cells of a net that is being built. Each cell that is added drives a new wire.
 
 ghost use Rattle.std.specs.Prelude.{◌≡◌, [], ◌^◌, ◌<◌, ◌≤◌, ◌↔◌, slice_get, Some, IfOk, IfSome, IsTrue};
-ghost use Rattle.dh_net.specs.declared.nets.CellForm.TheVariants.{Const};
 ghost use Rattle.dh_net.specs.Valid.{IsPort};
 ghost use Rattle.dh_value.specs.Words.{IsWidth};
 ghost use Rattle.dh_cells.specs.PlainCircuits.{AreCells, IsNext, SuitRegisters, circuit_of, one_cell};
@@ -15,21 +14,25 @@ use indexmap::IndexMap;
 use std::alloc::Global;
 use std::marker::Model;
 
-/// A constant: bits of a width.
+/// What a cell goes by in the table of cells: its width, the number of its form, and the numbers that stand in that.
 #[derive(Clone, Copy, PartialEq, Eq, Hash)]
-struct Constant {
+struct CellKey {
     width: u8,
-    bits: u64,
+    sort: u8,
+    a: u64,
+    b: u64,
+    c: u64,
 }
 
-/// The memories of a net, the widths of its registers, and its cells so far. Each cell has its operands before it.
+/// The memories of a net, the widths of its registers, and its cells so far. Each cell has its operands before it, and a
+/// cell that was made is not made again.
 #[derive(Drop)]
 pub struct Circuit {
     table: MemTable,
     widths: Items<u8>,
     cells: Items<Cell>,
-    // The wires of constants that were made.
-    constants: IndexMap<Constant, u64>,
+    // The wires of cells that were made.
+    made: IndexMap<CellKey, u64>,
 }
 
 impl Model for Circuit {
@@ -42,11 +45,49 @@ impl Model for Circuit {
     ghost invariant = { λ c. AreCells (circuit_of c.table c.widths c.cells) };
 }
 
-// Whether the cell has this width and gives these bits.
-fn is_constant(cell: Cell, width: u8, bits: u64) -> bool
-    ensures { IsTrue result ↔ (cell ≡ one_cell width (Const bits)) }
+// Whether the cell has this width and this form.
+fn is_cell(cell: Cell, width: u8, form: CellForm) -> bool
+    ensures { IsTrue result ↔ (cell ≡ one_cell width form) }
 {
-    cell.width == width && cell.form == CellForm::Const { bits }
+    cell.width == width && cell.form == form
+}
+
+// The key of these numbers.
+fn key(width: u8, sort: u8, a: u64, b: u64, c: u64) -> CellKey {
+    CellKey {
+        width,
+        sort,
+        a,
+        b,
+        c,
+    }
+}
+
+// What a cell goes by. That no two cells go by one key need not be known, since a cell that is found is looked at.
+fn key_of(width: u8, form: CellForm) -> CellKey {
+    match form {
+        CellForm::Const { bits } => key(width, 0, bits, 0, 0),
+        CellForm::Reg { register } => key(width, 1, register, 0, 0),
+        CellForm::Data { memory, bank, port } => {
+            key(width, 2, memory as u64, bank as u64, port as u64)
+        }
+        CellForm::Add { a, b } => key(width, 3, a, b, 0),
+        CellForm::Sub { a, b } => key(width, 4, a, b, 0),
+        CellForm::Mul { a, b } => key(width, 5, a, b, 0),
+        CellForm::And { a, b } => key(width, 6, a, b, 0),
+        CellForm::Or { a, b } => key(width, 7, a, b, 0),
+        CellForm::Xor { a, b } => key(width, 8, a, b, 0),
+        CellForm::Shl { a, b } => key(width, 9, a, b, 0),
+        CellForm::ShrU { a, b } => key(width, 10, a, b, 0),
+        CellForm::ShrS { a, b } => key(width, 11, a, b, 0),
+        CellForm::LtU { a, b } => key(width, 12, a, b, 0),
+        CellForm::LtS { a, b } => key(width, 13, a, b, 0),
+        CellForm::Eq { a, b } => key(width, 14, a, b, 0),
+        CellForm::Mux { c, a, b } => key(width, 15, a, b, c),
+        CellForm::Zero { a } => key(width, 16, a, 0, 0),
+        CellForm::Sign { a } => key(width, 17, a, 0, 0),
+        CellForm::Low { a } => key(width, 18, a, 0, 0),
+    }
 }
 
 impl Circuit {
@@ -58,55 +99,53 @@ impl Circuit {
             table,
             widths,
             cells: Items::new(alloc),
-            constants: IndexMap::new(alloc),
+            made: IndexMap::new(alloc),
         }
     }
 
-    /// Adds a cell, and answers the wire that it drives.
+    /// The wire of a cell: the one that was made, or a new one.
     pub fn push(&mut self, width: u8, form: CellForm) -> Result<u64, NoMemory>
         requires { IsNext self.old width form }
         ensures { WireAdded result self.old self.new width (form_shown self.old width form) }
     {
-        let wire = self.cells.len() as u64;
-        self.cells.push(Cell { width, form })?;
-        Ok(wire)
-    }
-
-    /// A wire of these bits: the one that was made for them, or a new one.
-    pub fn push_constant(&mut self, width: u8, bits: u64) -> Result<u64, NoMemory>
-        requires width { IsWidth width }
-        requires fits { bits < 2 ^ width }
-        ensures { WireAdded result self.old self.new width (number_shown bits) }
-    {
-        match self.find_constant(width, bits) {
+        match self.find(width, form) {
             Some(wire) => Ok(wire),
-            None => self.make_constant(width, bits),
+            None => self.add(width, form),
         }
     }
 
-    // The wire that was made for these bits. Its cell is looked at, so that nothing has to be known of the table.
-    fn find_constant(&self, width: u8, bits: u64) -> Option<u64>
-        requires width { IsWidth width }
-        requires fits { bits < 2 ^ width }
-        ensures { IfSome result (λ wire. Adds self.now self.now wire width (number_shown bits)) }
+    // The wire that was made for a cell. The cell is looked at, so that nothing has to be known of the table.
+    fn find(&self, width: u8, form: CellForm) -> Option<u64>
+        ensures { IfSome result
+            (λ wire. Adds self.now self.now wire width (form_shown self.now width form)) }
     {
-        let wire = self.constants.get(&Constant { width, bits })?;
+        let wire = self.made.get(&key_of(width, form))?;
         let cell = self.cells.as_slice().get(*wire as usize)?;
-        if is_constant(*cell, width, bits) {
+        if is_cell(*cell, width, form) {
             Some(*wire)
         } else {
             None
         }
     }
 
-    fn make_constant(&mut self, width: u8, bits: u64) -> Result<u64, NoMemory>
+    // Adds a cell, and answers the wire that it drives.
+    fn add(&mut self, width: u8, form: CellForm) -> Result<u64, NoMemory>
+        requires { IsNext self.old width form }
+        ensures { WireAdded result self.old self.new width (form_shown self.old width form) }
+    {
+        let wire = self.cells.len() as u64;
+        self.cells.push(Cell { width, form })?;
+        self.made.insert(key_of(width, form), wire)?;
+        Ok(wire)
+    }
+
+    /// A wire of these bits.
+    pub fn push_constant(&mut self, width: u8, bits: u64) -> Result<u64, NoMemory>
         requires width { IsWidth width }
         requires fits { bits < 2 ^ width }
         ensures { WireAdded result self.old self.new width (number_shown bits) }
     {
-        let wire = self.push(width, CellForm::Const { bits })?;
-        self.constants.insert(Constant { width, bits }, wire)?;
-        Ok(wire)
+        self.push(width, CellForm::Const { bits })
     }
 
     /// Adds a wire that shows a register of this width.

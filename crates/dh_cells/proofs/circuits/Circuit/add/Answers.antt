@@ -1,5 +1,5 @@
 use Rattle.dh_cells.proofs.WiresFitWidths.{valid_push, adds_push}
-use Rattle.dh_cells.proofs.circuits.Circuit.push.Goals as goal
+use Rattle.dh_cells.proofs.circuits.Circuit.add.Goals as goal
 
 pub invariant_of-self-2 : goal.invariant_of-self-2
 invariant_of-self-2 c =
