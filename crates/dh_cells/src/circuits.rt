@@ -1,11 +1,12 @@
 //! A circuit: the cells of a net that is being built. Each cell that is added drives a new wire.
 
-ghost use Rattle.std.specs.Prelude.{◌≡◌, [], ◌^◌, ◌<◌, ◌≤◌, ◌↔◌, slice_get, Some, IfOk, IfSome, IsTrue};
+ghost use Rattle.std.specs.Prelude.{◌≡◌, [], ◌^◌, ◌<◌, ◌≤◌, ◌↔◌, false, slice_get, Some, IfOk, IfSome, IsTrue};
 ghost use Rattle.dh_net.specs.Valid.{IsPort};
 ghost use Rattle.dh_value.specs.Words.{IsWidth};
-ghost use Rattle.dh_cells.specs.PlainCircuits.{AreCells, IsNext, SuitRegisters, circuit_of, one_cell};
-ghost use Rattle.dh_cells.specs.Settled.{Adds, ValuationSettles, WireAdded};
-ghost use Rattle.dh_cells.specs.ShownValues.{form_shown, held_shown, number_shown, register_shown};
+ghost use Rattle.dh_cells.specs.NarrowShifts.{HasNarrowShifts, IsBelow, constant_at, form_bits};
+ghost use Rattle.dh_cells.specs.PlainCircuits.{IsMade, IsNext, SuitRegisters, circuit_of, one_cell};
+ghost use Rattle.dh_cells.specs.Settled.{Adds, IsSettled, IsWire, Signals, ValuationSettles, WireAdded, shown};
+ghost use Rattle.dh_cells.specs.ShownValues.{form_shown, held_shown, number_shown, register_shown, signs_shown};
 
 use dh_base::{Items, NoMemory};
 use dh_net::{Cell, CellForm};
@@ -36,13 +37,43 @@ pub struct Circuit {
 }
 
 impl Model for Circuit {
-    ghost use Rattle.dh_cells.specs.PlainCircuits.{PlainCircuit, circuit_of, AreCells};
+    ghost use Rattle.dh_cells.specs.PlainCircuits.{PlainCircuit, circuit_of, IsCircuit};
 
     ghost Value = { PlainCircuit };
 
     ghost view = { λ c. circuit_of c.table c.widths c.cells };
 
-    ghost invariant = { λ c. AreCells (circuit_of c.table c.widths c.cells) };
+    ghost invariant = { λ c. IsCircuit (circuit_of c.table c.widths c.cells) };
+}
+
+// The bits of an amount by which the widest word is shifted.
+const AMOUNT_WIDTH: u8 = 6;
+
+// The bits of a constant.
+fn bits_of(form: CellForm) -> Option<u64>
+    ensures { result ≡ form_bits form }
+{
+    match form {
+        CellForm::Const { bits } => Some(bits),
+        CellForm::Reg { .. }
+        | CellForm::Data { .. }
+        | CellForm::Add { .. }
+        | CellForm::Sub { .. }
+        | CellForm::Mul { .. }
+        | CellForm::And { .. }
+        | CellForm::Or { .. }
+        | CellForm::Xor { .. }
+        | CellForm::Shl { .. }
+        | CellForm::ShrU { .. }
+        | CellForm::ShrS { .. }
+        | CellForm::LtU { .. }
+        | CellForm::LtS { .. }
+        | CellForm::Eq { .. }
+        | CellForm::Mux { .. }
+        | CellForm::Zero { .. }
+        | CellForm::Sign { .. }
+        | CellForm::Low { .. } => None,
+    }
 }
 
 // Whether the cell has this width and this form.
@@ -106,7 +137,8 @@ impl Circuit {
     /// The wire of a cell: the one that was made, or a new one.
     pub fn push(&mut self, width: u8, form: CellForm) -> Result<u64, NoMemory>
         requires { IsNext self.old width form }
-        ensures { WireAdded result self.old self.new width (form_shown self.old width form) }
+        ensures shows { WireAdded result self.old self.new width (form_shown self.old width form) }
+        ensures made { IfOk result (λ wire. IsMade self.new wire width form) }
     {
         match self.find(width, form) {
             Some(wire) => Ok(wire),
@@ -116,8 +148,9 @@ impl Circuit {
 
     // The wire that was made for a cell. The cell is looked at, so that nothing has to be known of the table.
     fn find(&self, width: u8, form: CellForm) -> Option<u64>
-        ensures { IfSome result
+        ensures shows { IfSome result
             (λ wire. Adds self.now self.now wire width (form_shown self.now width form)) }
+        ensures made { IfSome result (λ wire. IsMade self.now wire width form) }
     {
         let wire = self.made.get(&key_of(width, form))?;
         let cell = self.cells.as_slice().get(*wire as usize)?;
@@ -131,12 +164,46 @@ impl Circuit {
     // Adds a cell, and answers the wire that it drives.
     fn add(&mut self, width: u8, form: CellForm) -> Result<u64, NoMemory>
         requires { IsNext self.old width form }
-        ensures { WireAdded result self.old self.new width (form_shown self.old width form) }
+        ensures shows { WireAdded result self.old self.new width (form_shown self.old width form) }
+        ensures made { IfOk result (λ wire. IsMade self.new wire width form) }
     {
         let wire = self.cells.len() as u64;
         self.cells.push(Cell { width, form })?;
         self.made.insert(key_of(width, form), wire)?;
         Ok(wire)
+    }
+
+    // The bits of a wire whose cell is a constant.
+    fn constant_of(&self, wire: u64) -> Option<u64>
+        ensures { result ≡ constant_at self.now.cells wire }
+    {
+        match self.cells.as_slice().get(wire as usize) {
+            Some(cell) => bits_of(cell.form),
+            None => None,
+        }
+    }
+
+    /// Whether a wire is a constant of at least this number.
+    pub fn is_constant_from(&self, wire: u64, least: u8) -> bool
+        ensures shows { IsTrue result → (x : Signals) → IsSettled self.now x → least ≤ shown x wire }
+        ensures below { result ≡ false → IsBelow self.now.cells wire least }
+    {
+        match self.constant_of(wire) {
+            Some(bits) => bits >= least as u64,
+            None => false,
+        }
+    }
+
+    /// Adds a wire of copies of the sign of another, of this width.
+    pub fn push_signs(&mut self, width: u8, a: u64) -> Result<u64, NoMemory>
+        requires { IsWire self.old a width }
+        ensures { WireAdded result self.old self.new width (signs_shown width a) }
+    {
+        let amount = CellForm::Const {
+            bits: width as u64 - 1,
+        };
+        let b = self.push(AMOUNT_WIDTH, amount)?;
+        self.push(width, CellForm::ShrS { a, b })
     }
 
     /// A wire of these bits.
@@ -179,6 +246,7 @@ impl Circuit {
         ensures cells { result.1 ≡ self.cells }
         ensures suit { SuitRegisters self }
         ensures settles { ValuationSettles self }
+        ensures shifts { HasNarrowShifts self.cells }
     {
         (self.table, self.cells)
     }

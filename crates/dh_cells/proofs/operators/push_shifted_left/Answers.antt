@@ -6,4 +6,4 @@ pub returns : goal.returns
 returns c =
     IfOk-weaker c.push.result _ _
     (λ wire h. shifted_made c.args.left_kind c.args.right_kind _ _ wire _ c.args.a c.args.b c.width.ensures c.requires.left h)
-    c.push.ensures
+    c.push.ensures.shows
