@@ -1,6 +1,6 @@
 //! A circuit: the cells of a net that is being built. Each cell that is added drives a new wire.
 
-ghost use Rattle.std.specs.Prelude.{◌≡◌, [], ◌^◌, ◌<◌, ◌≤◌, ◌↔◌, false, slice_get, Some, IfOk, IfSome, IsTrue};
+ghost use Rattle.std.specs.Prelude.{◌≡◌, [], ◌^◌, ◌<◌, ◌≤◌, false, slice_get, Some, IfOk, IfSome, IsTrue};
 ghost use Rattle.dh_net.specs.Valid.{IsPort};
 ghost use Rattle.dh_value.specs.Words.{IsWidth};
 ghost use Rattle.dh_cells.specs.NarrowShifts.{HasNarrowShifts, IsBelow, constant_at, form_bits};
@@ -15,16 +15,6 @@ use indexmap::IndexMap;
 use std::alloc::Global;
 use std::marker::Model;
 
-/// What a cell goes by in the table of cells: its width, the number of its form, and the numbers that stand in that.
-#[derive(Clone, Copy, PartialEq, Eq, Hash)]
-struct CellKey {
-    width: u8,
-    sort: u8,
-    a: u64,
-    b: u64,
-    c: u64,
-}
-
 /// The memories of a net, the widths of its registers, and its cells so far. Each cell has its operands before it, and a
 /// cell that was made is not made again.
 #[derive(Drop)]
@@ -33,7 +23,7 @@ pub struct Circuit {
     widths: Items<u8>,
     cells: Items<Cell>,
     // The wires of cells that were made.
-    made: IndexMap<CellKey, u64>,
+    made: IndexMap<Cell, u64>,
 }
 
 impl Model for Circuit {
@@ -76,51 +66,6 @@ fn bits_of(form: CellForm) -> Option<u64>
     }
 }
 
-// Whether the cell has this width and this form.
-fn is_cell(cell: Cell, width: u8, form: CellForm) -> bool
-    ensures { IsTrue result ↔ (cell ≡ one_cell width form) }
-{
-    cell.width == width && cell.form == form
-}
-
-// The key of these numbers.
-fn key(width: u8, sort: u8, a: u64, b: u64, c: u64) -> CellKey {
-    CellKey {
-        width,
-        sort,
-        a,
-        b,
-        c,
-    }
-}
-
-// What a cell goes by. That no two cells go by one key need not be known, since a cell that is found is looked at.
-fn key_of(width: u8, form: CellForm) -> CellKey {
-    match form {
-        CellForm::Const { bits } => key(width, 0, bits, 0, 0),
-        CellForm::Reg { register } => key(width, 1, register, 0, 0),
-        CellForm::Data { memory, bank, port } => {
-            key(width, 2, memory as u64, bank as u64, port as u64)
-        }
-        CellForm::Add { a, b } => key(width, 3, a, b, 0),
-        CellForm::Sub { a, b } => key(width, 4, a, b, 0),
-        CellForm::Mul { a, b } => key(width, 5, a, b, 0),
-        CellForm::And { a, b } => key(width, 6, a, b, 0),
-        CellForm::Or { a, b } => key(width, 7, a, b, 0),
-        CellForm::Xor { a, b } => key(width, 8, a, b, 0),
-        CellForm::Shl { a, b } => key(width, 9, a, b, 0),
-        CellForm::ShrU { a, b } => key(width, 10, a, b, 0),
-        CellForm::ShrS { a, b } => key(width, 11, a, b, 0),
-        CellForm::LtU { a, b } => key(width, 12, a, b, 0),
-        CellForm::LtS { a, b } => key(width, 13, a, b, 0),
-        CellForm::Eq { a, b } => key(width, 14, a, b, 0),
-        CellForm::Mux { c, a, b } => key(width, 15, a, b, c),
-        CellForm::Zero { a } => key(width, 16, a, 0, 0),
-        CellForm::Sign { a } => key(width, 17, a, 0, 0),
-        CellForm::Low { a } => key(width, 18, a, 0, 0),
-    }
-}
-
 impl Circuit {
     /// The circuit over these memories and registers of these widths, without a cell.
     pub fn new(alloc: Global, table: MemTable, widths: Items<u8>) -> Circuit
@@ -140,21 +85,21 @@ impl Circuit {
         ensures shows { WireAdded result self.old self.new width (form_shown self.old width form) }
         ensures made { IfOk result (λ wire. IsMade self.new wire width form) }
     {
-        match self.find(width, form) {
+        match self.find(Cell { width, form }) {
             Some(wire) => Ok(wire),
             None => self.add(width, form),
         }
     }
 
     // The wire that was made for a cell. The cell is looked at, so that nothing has to be known of the table.
-    fn find(&self, width: u8, form: CellForm) -> Option<u64>
-        ensures shows { IfSome result
-            (λ wire. Adds self.now self.now wire width (form_shown self.now width form)) }
-        ensures made { IfSome result (λ wire. IsMade self.now wire width form) }
+    fn find(&self, cell: Cell) -> Option<u64>
+        ensures shows { IfSome result (λ wire. Adds self.now self.now wire cell.width
+            (form_shown self.now cell.width cell.form)) }
+        ensures made { IfSome result (λ wire. IsMade self.now wire cell.width cell.form) }
     {
-        let wire = self.made.get(&key_of(width, form))?;
-        let cell = self.cells.as_slice().get(*wire as usize)?;
-        if is_cell(*cell, width, form) {
+        let wire = self.made.get(&cell)?;
+        let found = self.cells.as_slice().get(*wire as usize)?;
+        if *found == cell {
             Some(*wire)
         } else {
             None
@@ -168,8 +113,9 @@ impl Circuit {
         ensures made { IfOk result (λ wire. IsMade self.new wire width form) }
     {
         let wire = self.cells.len() as u64;
-        self.cells.push(Cell { width, form })?;
-        self.made.insert(key_of(width, form), wire)?;
+        let cell = Cell { width, form };
+        self.cells.push(cell)?;
+        self.made.insert(cell, wire)?;
         Ok(wire)
     }
 
