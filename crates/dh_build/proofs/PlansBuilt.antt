@@ -1,6 +1,8 @@
 -- The net that is built of a plan plays it.
 use Rattle.std.proofs.Common.{◌≡◌, ℕ, List, [], ◌∷◌, length, get_or, refl, sym, ap, subst, ◌∙◌, arith}
+use Rattle.dh_net.specs.declared.nets.Cell.{Cell}
 use Rattle.dh_net.specs.declared.nets.Net.{Net}
+use Rattle.dh_plan.specs.declared.graphs.Decision.{Decision}
 use Rattle.dh_plan.specs.declared.graphs.Graph.{Graph}
 use Rattle.dh_plan.specs.declared.graphs.Group.{Group}
 use Rattle.dh_plan.specs.declared.graphs.State.{State}
@@ -9,6 +11,7 @@ use Rattle.dh_plan.specs.LegalSchedules.{Timing, IsLegal}
 use Rattle.dh_plan.specs.PlainPlans.{PlainPlan}
 use Rattle.dh_plan.specs.PlayedPlans.{plan_run, PlaysPlan}
 use Rattle.dh_plan.specs.Ways.{Way}
+use Rattle.dh_cells.specs.NarrowShifts.{HasNarrowShifts}
 use Rattle.dh_lower.proofs.NetSimulates.{net_plays}
 use Rattle.dh_control.specs.ThreadHolds.{holds_thread}
 use Rattle.dh_control.specs.WayMoves.{way_of_decision}
@@ -17,7 +20,7 @@ use Rattle.dh_swept.specs.SweptLaws.{DoesTheSame}
 use Rattle.dh_build.specs.declared.building.Sizes.{Sizes}
 use Rattle.dh_build.specs.BuiltNets.{IsBuilt, making_of}
 use Rattle.dh_build.specs.BuiltParts.{CanMake}
-use Rattle.dh_build.specs.BuiltPlans.{AreSizesOf, CanBuild, timing_of}
+use Rattle.dh_build.specs.BuiltPlans.{AreSizesOf, CanBuild, IsBuiltNet, timing_of}
 use Rattle.dh_build.proofs.NetValid.{net_valid}
 use Rattle.dh_build.proofs.OneGroup.{one_group}
 use Rattle.dh_build.proofs.ThreadsBuilt.{net_of_thread}
@@ -82,12 +85,20 @@ module _ (plan : PlainPlan) (g : Graph) (t : Timing) (u : Uses) (can : CanBuild 
       pub plays_as : PlaysPlan plan t.lengths net
       plays_as = built_plays plan g t u group can one s sizes_here net built_here
 
+pub built_shifts : (plan : PlainPlan) (u : Uses) (states : List State) (first : Decision) (s : Sizes) (net : Net) → IsBuilt plan u states first s net → HasNarrowShifts net.cells
+built_shifts plan u states first s net built = subst (λ (l : List Cell). HasNarrowShifts l) (sym built.cells_are) built.shifts
+
 -- Without the cells that nothing needs the net plays it, too.
-pub plays_swept : (plan : PlainPlan) (lengths : List ℕ) (whole net : Net) → PlaysPlan plan lengths whole → DoesTheSame whole net → PlaysPlan plan lengths net
-plays_swept plan lengths whole net h same = record {
-  valid = same.valid;
-  table = same.table ∙ h.table;
-  faults = same.faults ∙ h.faults;
-  plays = λ start fits. same.plays (plan_run plan lengths start) start (h.plays start fits);
-  writes = λ start fits. same.writes (plan_run plan lengths start) start (h.writes start fits);
+pub built_swept : (plan : PlainPlan) (lengths : List ℕ) (whole net : Net) → PlaysPlan plan lengths whole → HasNarrowShifts whole.cells → DoesTheSame whole net
+    → IsBuiltNet plan lengths net
+built_swept plan lengths whole net h narrow same = record {
+  plays = record {
+    valid = same.valid;
+    table = same.table ∙ h.table;
+    faults = same.faults ∙ h.faults;
+    plays = λ start fits. same.plays (plan_run plan lengths start) start (h.plays start fits);
+    writes = λ start fits. same.writes (plan_run plan lengths start) start (h.writes start fits);
+  };
+  zero_reads = same.zero_reads;
+  shifts = same.shifts narrow;
 }

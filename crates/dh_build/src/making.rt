@@ -1,11 +1,11 @@
 //! The net of a plan: the last of the compiler's passes.
 
 ghost use Rattle.std.specs.Prelude.{IfOk};
-ghost use Rattle.dh_net.specs.Valid.{HasReadsZero};
 ghost use Rattle.dh_plan.specs.Passes.{uses_seen};
 ghost use Rattle.dh_plan.specs.PlayedPlans.{PlaysPlan};
 ghost use Rattle.dh_plan.specs.SeenPlans.{plan_seen};
-ghost use Rattle.dh_build.specs.BuiltPlans.{CanBuild, timing_of};
+ghost use Rattle.dh_cells.specs.NarrowShifts.{HasNarrowShifts};
+ghost use Rattle.dh_build.specs.BuiltPlans.{CanBuild, IsBuiltNet, timing_of};
 
 use crate::joining::build_thread;
 use crate::sizing::size_up;
@@ -26,7 +26,8 @@ fn whole_net(
 ) -> Result<Net, NoMemory>
     requires { CanBuild (plan_seen plan.now) graph.now (timing_of clocks.now lengths.now)
         (uses_seen binding.now) }
-    ensures { IfOk result (λ net. PlaysPlan (plan_seen plan.now) lengths.now net) }
+    ensures plays { IfOk result (λ net. PlaysPlan (plan_seen plan.now) lengths.now net) }
+    ensures shifts { IfOk result (λ net. HasNarrowShifts net.cells) }
 {
     let states = graph.states.as_slice();
     let first = &graph.groups.as_slice()[0].first;
@@ -50,8 +51,7 @@ pub fn build(
 ) -> Result<Net, NoMemory>
     requires { CanBuild (plan_seen plan.now) graph.now (timing_of clocks.now lengths.now)
         (uses_seen binding.now) }
-    ensures plays { IfOk result (λ net. PlaysPlan (plan_seen plan.now) lengths.now net) }
-    ensures zero_reads { IfOk result (λ net. HasReadsZero net) }
+    ensures { IfOk result (λ net. IsBuiltNet (plan_seen plan.now) lengths.now net) }
 {
     match whole_net(alloc, plan, graph, binding, clocks, lengths) {
         Ok(net) => sweep(alloc, net),

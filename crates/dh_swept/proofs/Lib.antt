@@ -1,5 +1,6 @@
 pub mod SweptValues
 pub mod SweptValid
+pub mod SweptShifts
 pub mod SweptRuns
 pub mod MarksSet
 pub mod CellsKept

@@ -19,6 +19,7 @@ use Rattle.dh_swept.specs.RenamedWires.{renamed_register, renamed_driver}
 use Rattle.dh_swept.specs.SweptLaws.{DoesTheSame}
 use Rattle.dh_swept.specs.SweptNets.{IsKept, KeepsDriver, IsSwept}
 use Rattle.dh_swept.proofs.SweptValid.{of_mapped, all_get, swept_valid, swept_reads}
+use Rattle.dh_swept.proofs.SweptShifts.{swept_shifts}
 use Rattle.dh_swept.proofs.SweptValues.{kept_wires, kept_shows, kept_settles}
 
 module _ (old new : Net) (h : IsSwept old new) (ws : List ℕ) where
@@ -214,4 +215,4 @@ module _ (old new : Net) (valid : IsValid old) (h : IsSwept old new) where
       w clocks n s some.0 back some.1 fit q k l.0 e.0 l.1.0 e.1.0 (ap (λ (x : Driver). x.write) (sym e.1.1) ∙ on) was
 
   pub does_the_same : DoesTheSame old new
-  does_the_same = record { valid = new_valid; table = h.table; faults = h.faults; zero_reads = swept_reads old new h valid; plays = plays_as; writes = writes_as }
+  does_the_same = record { valid = new_valid; table = h.table; faults = h.faults; zero_reads = swept_reads old new h valid; shifts = swept_shifts old new h; plays = plays_as; writes = writes_as }

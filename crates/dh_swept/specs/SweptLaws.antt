@@ -4,6 +4,7 @@ use Rattle.dh_net.specs.declared.nets.Net.{Net}
 use Rattle.dh_net.specs.Plays.{Run, Plays}
 use Rattle.dh_net.specs.Valid.{IsValid, HasReadsZero}
 use Rattle.dh_plan.specs.PlayedPlans.{WritesLast}
+use Rattle.dh_cells.specs.NarrowShifts.{HasNarrowShifts}
 use Rattle.dh_swept.specs.SweptNets.{IsSwept}
 
 pub record DoesTheSame (old new : Net) : Type 0 where
@@ -11,6 +12,7 @@ pub record DoesTheSame (old new : Net) : Type 0 where
   pub table : new.table ≡ old.table
   pub faults : new.faults ≡ old.faults
   pub zero_reads : HasReadsZero new
+  pub shifts : HasNarrowShifts old.cells → HasNarrowShifts new.cells
   pub plays : (r : Run) (start : List (List ℕ)) → Plays old r start → Plays new r start
   pub writes : (r : Run) (start : List (List ℕ)) → WritesLast old r start → WritesLast new r start
 

@@ -1,5 +1,5 @@
 //! Keeps those cells of a net that its registers, drivers or outputs need, by new numbers. The net does what it did.
-//! Stands on `dh_net` and `dh_plan`. Nothing of the program stands on this crate yet.
+//! Stands on `dh_cells` and `dh_plan`.
 #![tactic(auto)]
 
 mod keeping;
