@@ -16,7 +16,7 @@ use Rattle.dh_lower.proofs.NetSimulates.{net_plays}
 use Rattle.dh_control.specs.ThreadHolds.{holds_thread}
 use Rattle.dh_control.specs.WayMoves.{way_of_decision}
 use Rattle.dh_control.specs.WiredNets.{IsStraight}
-use Rattle.dh_swept.specs.SweptLaws.{DoesTheSame}
+use Rattle.dh_swept.specs.SweptLaws.{IsSweptOf}
 use Rattle.dh_build.specs.declared.building.Sizes.{Sizes}
 use Rattle.dh_build.specs.BuiltNets.{IsBuilt, making_of}
 use Rattle.dh_build.specs.BuiltParts.{CanMake}
@@ -89,16 +89,17 @@ pub built_shifts : (plan : PlainPlan) (u : Uses) (states : List State) (first : 
 built_shifts plan u states first s net built = subst (λ (l : List Cell). HasNarrowShifts l) (sym built.cells_are) built.shifts
 
 -- Without the cells that nothing needs the net plays it, too.
-pub built_swept : (plan : PlainPlan) (lengths : List ℕ) (whole net : Net) → PlaysPlan plan lengths whole → HasNarrowShifts whole.cells → DoesTheSame whole net
+pub built_swept : (plan : PlainPlan) (lengths : List ℕ) (whole net : Net) → PlaysPlan plan lengths whole → HasNarrowShifts whole.cells → IsSweptOf whole net
     → IsBuiltNet plan lengths net
-built_swept plan lengths whole net h narrow same = record {
+built_swept plan lengths whole net h narrow swept = record {
   plays = record {
-    valid = same.valid;
-    table = same.table ∙ h.table;
-    faults = same.faults ∙ h.faults;
-    plays = λ start fits. same.plays (plan_run plan lengths start) start (h.plays start fits);
-    writes = λ start fits. same.writes (plan_run plan lengths start) start (h.writes start fits);
+    valid = swept.same.valid;
+    table = swept.same.table ∙ h.table;
+    faults = swept.same.faults ∙ h.faults;
+    plays = λ start fits. swept.same.plays (plan_run plan lengths start) start (h.plays start fits);
+    writes = λ start fits. swept.same.writes (plan_run plan lengths start) start (h.writes start fits);
   };
-  zero_reads = same.zero_reads;
-  shifts = same.shifts narrow;
+  zero_reads = swept.same.zero_reads;
+  shifts = swept.same.shifts narrow;
+  needed = swept.needed;
 }

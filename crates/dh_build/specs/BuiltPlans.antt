@@ -12,6 +12,7 @@ use Rattle.dh_plan.specs.Passes.{MayBuild}
 use Rattle.dh_plan.specs.PlainPlans.{PlainPlan}
 use Rattle.dh_plan.specs.PlayedPlans.{PlaysPlan}
 use Rattle.dh_cells.specs.NarrowShifts.{HasNarrowShifts}
+use Rattle.dh_swept.specs.NeededCells.{NeedsAll}
 use Rattle.dh_build.specs.declared.building.Sizes.{Sizes}
 use Rattle.dh_build.specs.BuiltParts.{AreSizes}
 
@@ -40,9 +41,10 @@ pub record CanBuild (plan : PlainPlan) (g : Graph) (t : Timing) (u : Uses) : Typ
   -- the program's own group is the only one
   pub alone : length g.groups.items ≡ 1
 
--- What is promised of the net: it plays the plan, its reads have data 0, and no cell shifts by a constant of at least
--- its width.
+-- What is promised of the net: it plays the plan, its reads have data 0, no cell shifts by a constant of at least its
+-- width, and each cell is needed.
 pub record IsBuiltNet (plan : PlainPlan) (lengths : List ℕ) (net : Net) : Type 0 where
   pub plays : PlaysPlan plan lengths net
   pub zero_reads : HasReadsZero net
   pub shifts : HasNarrowShifts net.cells
+  pub needed : NeedsAll net

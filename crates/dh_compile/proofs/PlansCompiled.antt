@@ -55,6 +55,7 @@ net_of_program p plan parts net asked of h built = record {
   plays = parts_play_programs p plan parts net asked of h built.plays;
   zero_reads = built.zero_reads;
   shifts = built.shifts;
+  needed = built.needed;
   writes = writes_last p plan (plan_seen parts.plan) (times_seen parts.passed.times) net asked of h.addressed h.passed.least built.plays;
 }
 

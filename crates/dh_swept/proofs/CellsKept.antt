@@ -47,6 +47,7 @@ keeping_starts cells flags news to none nothing = record {
   marked_ones = λ j i at. absurd (let f : None ≡ Some i = at in cc);
   rises = λ j k a b at_j at_k less. absurd (let f : None ≡ Some a = at_j in cc);
   cells_are = λ j i c at there. absurd (let f : None ≡ Some i = at in cc);
+  back = λ j i at. absurd (let f : None ≡ Some i = at in cc);
   kept = λ wire less on. absurd (omega (arith, less));
 }
 
@@ -79,6 +80,7 @@ module _ (n : ℕ) (cells : List Cell) (flags : List Bool) (news : List Cell) (t
       marked_ones = h.marked_ones;
       rises = h.rises;
       cells_are = λ j i c at there. h.cells_are j i c at there ∙ ap (λ (x : Cell). Some x) (same_cell i c (let less = h.there j i at in omega (arith, less)) there);
+      back = λ j i at. sym (stays i (h.there j i at)) ∙ h.back j i at;
       kept = λ wire less on. elim (cases_eq wire n) [
         | inl same ↦ absurd (let no : false ≡ true = sym off ∙ (ap (λ (k : ℕ). get_or flags k false) (sym same) ∙ on) in cc)
         | inr other ↦ (let small : wire < n = omega (arith, less, other) in kept_before h.at wire small (h.kept wire small on))
@@ -119,6 +121,10 @@ module _ (n : ℕ) (cells : List Cell) (flags : List Bool) (news : List Cell) (t
               let is : d ≡ c = cc in
               ap (λ (k : ℕ). slice_get (news ++ renamed_cell (number_in to) c ∷ []) k) (new.0 ∙ h.long)
               ∙ (get_last news (renamed_cell (number_in to) c) ∙ ap (λ (x : Cell). Some x) (same_cell n c (omega arith) there ∙ ap (λ (x : Cell). renamed_cell (number_in (to ++ number ∷ [])) x) (sym is)))
+        ];
+        back = λ j i at. elim (get_either h.at n j i at) [
+          | inl old ↦ sym (stays i (h.there j i old)) ∙ h.back j i old
+          | inr new ↦ ap (λ (k : ℕ). number_in (to ++ number ∷ []) k) (sym new.1) ∙ (here ∙ (number_is ∙ (sym h.long ∙ sym new.0)))
         ];
         kept = λ wire less mark. elim (cases_eq wire n) [
           | inl same ↦

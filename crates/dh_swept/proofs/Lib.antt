@@ -5,3 +5,4 @@ pub mod SweptRuns
 pub mod MarksSet
 pub mod CellsKept
 pub mod NetSwept
+pub mod NeededKept

@@ -46,15 +46,15 @@ takes_earlier table rs cells i width (Zero a) h = (h.1.0.earlier, tt)
 takes_earlier table rs cells i width (Sign a) h = (h.1.0.earlier, tt)
 takes_earlier table rs cells i width (Low a) h = (h.1.0.earlier, tt)
 
-all_front : {A : Type 0} (P : A → Type 0) (xs ys : List A) → AllByRecursion P (xs ++ ys) → AllByRecursion P xs
+pub all_front : {A : Type 0} (P : A → Type 0) (xs ys : List A) → AllByRecursion P (xs ++ ys) → AllByRecursion P xs
 all_front P [] ys h = tt
 all_front P (x ∷ xs) ys h = (h.0, all_front P xs ys h.1)
 
-all_back : {A : Type 0} (P : A → Type 0) (xs ys : List A) → AllByRecursion P (xs ++ ys) → AllByRecursion P ys
+pub all_back : {A : Type 0} (P : A → Type 0) (xs ys : List A) → AllByRecursion P (xs ++ ys) → AllByRecursion P ys
 all_back P [] ys h = h
 all_back P (x ∷ xs) ys h = all_back P xs ys h.1
 
-all_both : {A : Type 0} (P : A → Type 0) (xs ys : List A) → AllByRecursion P xs → AllByRecursion P ys → AllByRecursion P (xs ++ ys)
+pub all_both : {A : Type 0} (P : A → Type 0) (xs ys : List A) → AllByRecursion P xs → AllByRecursion P ys → AllByRecursion P (xs ++ ys)
 all_both P [] ys h g = g
 all_both P (x ∷ xs) ys h g = (h.0, all_both P xs ys h.1 g)
 
@@ -109,7 +109,7 @@ module _ (net : Net) (s : Swept) (h : ArePartsOf net s) where
   abbrev to : ℕ → ℕ
   to = number_in h.to
 
-  marked_there : (wire : ℕ) → IsMarked h.flags wire → wire < length net.cells
+  pub marked_there : (wire : ℕ) → IsMarked h.flags wire → wire < length net.cells
   marked_there wire on =
       elim (cases_lt wire (length h.flags)) [
         | inl inside ↦ (let long = h.needed.long in omega (arith, inside, long))

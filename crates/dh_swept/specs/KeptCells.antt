@@ -18,4 +18,5 @@ pub record KeptBelow (n : ℕ) (cells : List Cell) (flags : List Bool) (news : L
   pub marked_ones : (j i : ℕ) → slice_get at j ≡ Some i → IsMarked flags i
   pub rises : (j k a b : ℕ) → slice_get at j ≡ Some a → slice_get at k ≡ Some b → a < b → j < k
   pub cells_are : (j i : ℕ) (c : Cell) → slice_get at j ≡ Some i → slice_get cells i ≡ Some c → slice_get news j ≡ Some (renamed_cell (number_in to) c)
+  pub back : (j i : ℕ) → slice_get at j ≡ Some i → number_in to i ≡ j
   pub kept : (wire : ℕ) → wire < n → IsMarked flags wire → IsKept at (number_in to) wire

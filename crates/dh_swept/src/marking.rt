@@ -113,6 +113,7 @@ fn no_marks(alloc: Global, count: usize) -> Result<Vec<bool>, NoMemory>
 /// Marks what a net needs.
 fn mark_net(flags: &mut [bool], net: &Net)
     requires long { length flags.old ≡ length net.now.cells }
+    requires none { flags.old ≡ replicate (length net.now.cells) false }
     requires can { CanMark net.now }
     ensures { MarksNeeded net.now flags.new }
 {

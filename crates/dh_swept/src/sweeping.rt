@@ -3,7 +3,7 @@
 ghost use Rattle.std.specs.Prelude.{IfOk};
 ghost use Rattle.dh_net.specs.Valid.{IsValid};
 ghost use Rattle.dh_swept.specs.SweptParts.{ArePartsOf};
-ghost use Rattle.dh_swept.specs.SweptLaws.{DoesTheSame};
+ghost use Rattle.dh_swept.specs.SweptLaws.{IsSweptOf};
 
 use crate::keeping::{keep_cells, number_of, rename_drivers, rename_registers};
 use crate::marking::needed_cells;
@@ -56,7 +56,7 @@ fn sweep_parts(alloc: Global, net: &Net) -> Result<Swept, NoMemory>
 fn join_swept(net: Net, swept: Swept) -> Net
     requires valid { IsValid net }
     requires parts { ArePartsOf net swept }
-    ensures { DoesTheSame net result }
+    ensures { IsSweptOf net result }
 {
     Net {
         table: net.table,
@@ -70,15 +70,15 @@ fn join_swept(net: Net, swept: Swept) -> Net
     }
 }
 
-/// The net without the cells that no register, driver or output needs. It does the same: it is valid, and plays what the
-/// net plays. Time is linear.
+/// The net without the cells that no register, driver or output needs, and with all others. It does the same: it is
+/// valid, and plays what the net plays. Time is linear.
 ///
 /// # Errors
 ///
 /// `NoMemory` where an allocation was refused.
 pub fn sweep(alloc: Global, net: Net) -> Result<Net, NoMemory>
     requires { IsValid net }
-    ensures { IfOk result (λ swept. DoesTheSame net swept) }
+    ensures { IfOk result (λ swept. IsSweptOf net swept) }
 {
     match sweep_parts(alloc, &net) {
         Ok(swept) => Ok(join_swept(net, swept)),
