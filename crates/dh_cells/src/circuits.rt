@@ -1,6 +1,6 @@
 //! A circuit: the cells of a net that is being built. Each cell that is added drives a new wire.
 
-ghost use Rattle.std.specs.Prelude.{◌≡◌, [], ◌^◌, ◌<◌, ◌≤◌, false, slice_get, Some, IfOk, IfSome, IsTrue};
+ghost use Rattle.std.specs.Prelude.{◌≡◌, [], ◌^◌, ◌<◌, ◌≤◌, ◌↔◌, false, slice_get, Some, IfOk, IfSome, IsTrue};
 ghost use Rattle.dh_net.specs.Valid.{IsPort};
 ghost use Rattle.dh_value.specs.Words.{IsWidth};
 ghost use Rattle.dh_cells.specs.NarrowShifts.{HasNarrowShifts, IsBelow, constant_at, form_bits};
@@ -66,6 +66,13 @@ fn bits_of(form: CellForm) -> Option<u64>
     }
 }
 
+// Whether the cell has this width and this form.
+fn is_cell(cell: Cell, width: u8, form: CellForm) -> bool
+    ensures { IsTrue result ↔ (cell ≡ one_cell width form) }
+{
+    cell.width == width && cell.form == form
+}
+
 impl Circuit {
     /// The circuit over these memories and registers of these widths, without a cell.
     pub fn new(alloc: Global, table: MemTable, widths: Items<u8>) -> Circuit
@@ -99,7 +106,7 @@ impl Circuit {
     {
         let wire = self.made.get(&cell)?;
         let found = self.cells.as_slice().get(*wire as usize)?;
-        if *found == cell {
+        if is_cell(*found, cell.width, cell.form) {
             Some(*wire)
         } else {
             None

@@ -5,8 +5,8 @@ use Rattle.dh_cells.proofs.circuits.Circuit.push_signs.Goals as goal
 pub push-requires : goal.push-requires
 push-requires c = amount_next _ c.args.a c.args.width c.requires
 
-pub push-2-requires : goal.push-2-requires
-push-2-requires c = signs_next _ _ c.args.a c.in_ok-b.b c.args.width _ c.requires c.in_ok-b.ensures.shows c.in_ok-b.ensures.made
+pub push-requires-2 : goal.push-requires-2
+push-requires-2 c = signs_next _ _ c.args.a c.in_ok-b.b c.args.width _ c.requires c.in_ok-b.ensures.shows c.in_ok-b.ensures.made
 
 pub returns : goal.returns
 returns c =
