@@ -4,7 +4,7 @@ ghost use Rattle.std.specs.Prelude.{◌≡◌, [], ◌^◌, ◌<◌, ◌≤◌, 
 ghost use Rattle.dh_net.specs.Valid.{IsPort};
 ghost use Rattle.dh_value.specs.Words.{IsWidth};
 ghost use Rattle.dh_cells.specs.NarrowShifts.{HasNarrowShifts, IsBelow, constant_at, form_bits};
-ghost use Rattle.dh_cells.specs.PlainCircuits.{IsMade, IsNext, SuitRegisters, circuit_of, one_cell};
+ghost use Rattle.dh_cells.specs.PlainCircuits.{IsMade, IsNext, SuitRegisters, circuit_of};
 ghost use Rattle.dh_cells.specs.Settled.{Adds, IsSettled, IsWire, Signals, ValuationSettles, WireAdded, shown};
 ghost use Rattle.dh_cells.specs.ShownValues.{form_shown, held_shown, number_shown, register_shown, signs_shown};
 
@@ -66,11 +66,11 @@ fn bits_of(form: CellForm) -> Option<u64>
     }
 }
 
-// Whether the cell has this width and this form.
-fn is_cell(cell: Cell, width: u8, form: CellForm) -> bool
-    ensures { IsTrue result ↔ (cell ≡ one_cell width form) }
+// Whether both are one cell.
+fn is_same(found: Cell, cell: Cell) -> bool
+    ensures { IsTrue result ↔ (found ≡ cell) }
 {
-    cell.width == width && cell.form == form
+    found == cell
 }
 
 impl Circuit {
@@ -106,7 +106,7 @@ impl Circuit {
     {
         let wire = self.made.get(&cell)?;
         let found = self.cells.as_slice().get(*wire as usize)?;
-        if is_cell(*found, cell.width, cell.form) {
+        if is_same(*found, cell) {
             Some(*wire)
         } else {
             None
