@@ -43,6 +43,7 @@ near w p least small = by (nat_lt p (2 ^ (w - 1))) refl
   where
     above : (p m h : ℕ) → p < m → m ≡ h + h → h ≤ p → (pos p -ℤ pos m ≡ negsuc (m - 1 - p)) × (m - 1 - p < h)
     above p m h small twice more = (omega (arith, ints), omega arith)
+
     by : (t : Bool) → nat_lt p (2 ^ (w - 1)) ≡ t → (a : ℕ) × ((((if t then pos p else pos p -ℤ pos (2 ^ w)) ≡ pos a) ⊎ ((if t then pos p else pos p -ℤ pos (2 ^ w)) ≡ negsuc a)) × (a < 2 ^ (w - 1)))
     by true is = (p, (inl refl, grind (arith, nat_tests)))
     by false is =

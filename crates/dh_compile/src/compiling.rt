@@ -77,8 +77,8 @@ fn net_of(alloc: Global, program: &Typed) -> Result<Net, NoMemory>
 /// Compiles an accepted program. The net is valid, its table is the program's, and from all fitting memories it plays
 /// the checked run of the program: no clock drives a bank beyond its ports, at its nth tick it holds the memories
 /// after n steps, and it shows done, or a fault with its place, exactly once the run has ended so. A driver that
-/// writes is active only in the last clock of a step without fault. No cell shifts by a constant of at least its width, and
-/// each cell is needed.
+/// writes is active only in the last clock of a step without fault. No cell shifts by a constant of at least its width,
+/// and each cell is needed.
 ///
 /// # Errors
 ///

@@ -118,12 +118,12 @@ module _ (net : Net) (s : Swept) (h : ArePartsOf net s) (new : Net) (registers :
               (
                 out_back new.fault net.fault (fault ∙ h.fault) marks.1.1.0 has.1.1.0,
                 all_both (λ (a : ℕ). taken_back h.flags (number_in h.to) needed a ≡ true) (next_wires net.registers) (all_drivers_wires net.drivers)
-                (nexts_back h.flags (number_in h.to) needed net.registers (all_front (IsMarked h.flags) (next_wires net.registers) (all_drivers_wires net.drivers) rest)
-                (subst (λ (rs : List Register). AllByRecursion (λ (a : ℕ). needed a ≡ true) (next_wires rs)) (registers ∙ h.registers)
-                (all_front (λ (a : ℕ). needed a ≡ true) (next_wires new.registers) (all_drivers_wires new.drivers) others)))
-                (ports_back h.flags (number_in h.to) needed net.drivers (all_back (IsMarked h.flags) (next_wires net.registers) (all_drivers_wires net.drivers) rest)
-                (subst (λ (dss : List (List Driver)). AllByRecursion (λ (a : ℕ). needed a ≡ true) (all_drivers_wires dss)) (drivers ∙ h.drivers)
-                (all_back (λ (a : ℕ). needed a ≡ true) (next_wires new.registers) (all_drivers_wires new.drivers) others))),
+                    (nexts_back h.flags (number_in h.to) needed net.registers (all_front (IsMarked h.flags) (next_wires net.registers) (all_drivers_wires net.drivers) rest)
+                    (subst (λ (rs : List Register). AllByRecursion (λ (a : ℕ). needed a ≡ true) (next_wires rs)) (registers ∙ h.registers)
+                    (all_front (λ (a : ℕ). needed a ≡ true) (next_wires new.registers) (all_drivers_wires new.drivers) others)))
+                    (ports_back h.flags (number_in h.to) needed net.drivers (all_back (IsMarked h.flags) (next_wires net.registers) (all_drivers_wires net.drivers) rest)
+                    (subst (λ (dss : List (List Driver)). AllByRecursion (λ (a : ℕ). needed a ≡ true) (all_drivers_wires dss)) (drivers ∙ h.drivers)
+                    (all_back (λ (a : ℕ). needed a ≡ true) (next_wires new.registers) (all_drivers_wires new.drivers) others))),
               ),
             ),
           );
