@@ -16,6 +16,7 @@ ghost use Rattle.dh_compile.specs.Compiled.{Compiles, IsNetOfProgram};
 use dh_backend::{NetParts, parts_of};
 use dh_base::{Limit, NoMemory};
 use dh_build::build;
+use dh_join::join_drivers;
 use dh_net::Net;
 use dh_plan::Plan;
 use dh_ports::Accepted;
@@ -36,8 +37,8 @@ pub enum CompileFault {
     NoMemory,
 }
 
-/// The net of what it is made of.
-fn net_of_parts(alloc: Global, parts: &NetParts) -> Result<Net, NoMemory>
+/// The net of what it is made of, with a driver for each operation that has a port.
+fn whole_net(alloc: Global, parts: &NetParts) -> Result<Net, NoMemory>
     requires { CanBuild (plan_seen parts.now.plan) parts.now.passed.graph
         (times_seen parts.now.passed.times) (uses_seen parts.now.passed.binding) }
     ensures plays { IfOk result (λ net. PlaysPlan (plan_seen parts.now.plan)
@@ -54,6 +55,20 @@ fn net_of_parts(alloc: Global, parts: &NetParts) -> Result<Net, NoMemory>
         clocks.as_slice(),
         lengths.as_slice(),
     )
+}
+
+/// The net of what it is made of, with few drivers for each port.
+fn net_of_parts(alloc: Global, parts: &NetParts) -> Result<Net, NoMemory>
+    requires { CanBuild (plan_seen parts.now.plan) parts.now.passed.graph
+        (times_seen parts.now.passed.times) (uses_seen parts.now.passed.binding) }
+    ensures plays { IfOk result (λ net. PlaysPlan (plan_seen parts.now.plan)
+        parts.now.passed.times.lengths net) }
+    ensures zero_reads { IfOk result (λ net. HasReadsZero net) }
+{
+    match whole_net(alloc, parts) {
+        Ok(net) => join_drivers(alloc, &net),
+        Err(fault) => Err(fault),
+    }
 }
 
 /// The net of a program's plan.
