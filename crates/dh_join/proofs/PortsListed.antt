@@ -9,7 +9,7 @@ use Rattle.dh_base.proofs.ListItems.{at_item}
 use Rattle.dh_tree.specs.Shapes.{IsProgramTable}
 use Rattle.dh_tree.specs.declared.tables.MemEntry.{MemEntry}
 use Rattle.dh_net.specs.BankPorts.{ports_of}
-use Rattle.dh_net.specs.Extents.{IsSmallMemory}
+use Rattle.dh_extents.specs.Extents.{IsSmallMemory}
 use Rattle.dh_net.specs.Parts.{DrivePort}
 use Rattle.dh_net.specs.Valid.{IsDriver, IsValid, ReadsZero}
 use Rattle.dh_net.specs.declared.nets.Cell.{Cell}
