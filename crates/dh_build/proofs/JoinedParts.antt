@@ -51,6 +51,7 @@ net_joined plan u states first s start d j net over h g = record {
   parts = h.parts;
   suit = g.suit;
   settles = g.settles;
+  shifts = g.shifts;
   table_is = g.table_is;
   cells_are = g.cells_are;
   fault_names = g.faults_are ∙ h.joints.fault_names;

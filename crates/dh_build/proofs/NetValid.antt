@@ -12,7 +12,7 @@ use Rattle.dh_tree.specs.declared.tables.MemEntry.{MemEntry}
 use Rattle.dh_tree.specs.Shapes.{IsProgramTable}
 use Rattle.dh_meaning.specs.Effects.{kind_in}
 use Rattle.dh_net.specs.BankPorts.{ports_of}
-use Rattle.dh_net.specs.Valid.{HasWidth, IsCell, IsDriver, IsRegister, IsValid, ReadsZero, HasReadsZero}
+use Rattle.dh_net.specs.Valid.{HasWidth, IsCell, IsDriver, IsRegister, IsValid}
 use Rattle.dh_net.specs.declared.nets.Cell.{Cell}
 use Rattle.dh_net.specs.declared.nets.Driver.{Driver}
 use Rattle.dh_net.specs.declared.nets.Net.{Net}
@@ -74,10 +74,6 @@ module _ (d : PlainCircuit) (plan : PlainPlan) (kinds : List Kind) (wires : List
   of_user (v ∷ vs) [] h k e at = absurd h
   of_user (v ∷ vs) (x ∷ ds) h zero e at = (let same : x ≡ e = cc in (v, (inl refl, subst (λ (y : Driver). DrivesUser d plan kinds wires times v y) same h.0)))
   of_user (v ∷ vs) (x ∷ ds) h (suc k) e at = (let rest = of_user vs ds h.1 k e at in (rest.0, (inr rest.1.0, rest.1.1)))
-
-all_here : {A : Type 0} (P : A → Type 0) (xs : List A) → ((i : ℕ) (x : A) → slice_get xs i ≡ Some x → P x) → AllByRecursion P xs
-all_here P [] h = tt
-all_here P (x ∷ xs) h = (h 0 x refl, all_here P xs (λ i y at. h (suc i) y at))
 
 module _ (plan : PlainPlan) (u : Uses) (states : List State) (first : Decision) (s : Sizes) (net : Net) (can : CanMake plan u states) (sizes : AreSizes plan (length states) s) (straight : IsStraight (length states) (way_of_decision first))
     (built : IsBuilt plan u states first s net) where
@@ -222,11 +218,3 @@ module _ (plan : PlainPlan) (u : Uses) (states : List State) (first : Decision) 
     done = subst (λ (n : ℕ). HasWidth net.cells n 1) (sym built.done_is) (in_net _ 1 (wire_stays built.parts.second built.d _ 1 behind_second built.parts.control_made.done_wire));
     fault = subst (λ (n : ℕ). HasWidth net.cells n 32) (sym built.fault_is) (in_net _ 32 (wire_stays built.parts.first built.d _ 32 behind_first built.parts.shown_added.own.fault.there));
   }
-
-  pub net_reads_zero : HasReadsZero net
-  net_reads_zero =
-      all_here (λ (ds : List Driver). AllByRecursion ReadsZero ds) net.drivers
-      (λ q ds list_at.
-      let inside = slice_get_within net.drivers q ds list_at in
-      let long = built.drivers.long in
-      all_here ReadsZero ds (λ k e at. (of_port q ds (omega (arith, inside, long)) list_at k e at).1.1.drive.zero))

@@ -1,24 +1,27 @@
 -- The net that is built of a plan plays it.
 use Rattle.std.proofs.Common.{◌≡◌, ℕ, List, [], ◌∷◌, length, get_or, refl, sym, ap, subst, ◌∙◌, arith}
-use Rattle.dh_net.specs.Valid.{HasReadsZero}
+use Rattle.dh_net.specs.declared.nets.Cell.{Cell}
 use Rattle.dh_net.specs.declared.nets.Net.{Net}
+use Rattle.dh_plan.specs.declared.graphs.Decision.{Decision}
 use Rattle.dh_plan.specs.declared.graphs.Graph.{Graph}
 use Rattle.dh_plan.specs.declared.graphs.Group.{Group}
 use Rattle.dh_plan.specs.declared.graphs.State.{State}
 use Rattle.dh_plan.specs.BoundPorts.{Uses}
 use Rattle.dh_plan.specs.LegalSchedules.{Timing, IsLegal}
 use Rattle.dh_plan.specs.PlainPlans.{PlainPlan}
-use Rattle.dh_plan.specs.PlayedPlans.{PlaysPlan}
+use Rattle.dh_plan.specs.PlayedPlans.{plan_run, PlaysPlan}
 use Rattle.dh_plan.specs.Ways.{Way}
+use Rattle.dh_cells.specs.NarrowShifts.{HasNarrowShifts}
 use Rattle.dh_lower.proofs.NetSimulates.{net_plays}
 use Rattle.dh_control.specs.ThreadHolds.{holds_thread}
 use Rattle.dh_control.specs.WayMoves.{way_of_decision}
 use Rattle.dh_control.specs.WiredNets.{IsStraight}
+use Rattle.dh_swept.specs.SweptLaws.{IsSweptOf}
 use Rattle.dh_build.specs.declared.building.Sizes.{Sizes}
 use Rattle.dh_build.specs.BuiltNets.{IsBuilt, making_of}
 use Rattle.dh_build.specs.BuiltParts.{CanMake}
-use Rattle.dh_build.specs.BuiltPlans.{AreSizesOf, CanBuild, timing_of}
-use Rattle.dh_build.proofs.NetValid.{net_valid, net_reads_zero}
+use Rattle.dh_build.specs.BuiltPlans.{AreSizesOf, CanBuild, IsBuiltNet, timing_of}
+use Rattle.dh_build.proofs.NetValid.{net_valid}
 use Rattle.dh_build.proofs.OneGroup.{one_group}
 use Rattle.dh_build.proofs.ThreadsBuilt.{net_of_thread}
 
@@ -59,9 +62,6 @@ module _ (plan : PlainPlan) (g : Graph) (t : Timing) (u : Uses) (group : Group) 
         (record { sound = can.may.sound; addressed = can.may.addressed; flows = can.may.graph.does; legal = own_legal; ports = can.may.bound.ports })
         (net_of_thread plan u g group s net can.may.graph one can_make sizes.are built (net_valid plan u g.states.items group.first s net can_make sizes.are straight built)))
 
-    pub built_reads : HasReadsZero net
-    built_reads = net_reads_zero plan u g.states.items group.first s net can_make sizes.are straight built
-
 -- The same by lists that are those of the graph.
 
 module _ (plan : PlainPlan) (g : Graph) (t : Timing) (u : Uses) (can : CanBuild plan g t u) (groups : List Group) (groups_are : groups ≡ g.groups.items) (other : Group) where
@@ -85,5 +85,21 @@ module _ (plan : PlainPlan) (g : Graph) (t : Timing) (u : Uses) (can : CanBuild 
       pub plays_as : PlaysPlan plan t.lengths net
       plays_as = built_plays plan g t u group can one s sizes_here net built_here
 
-      pub reads_as : HasReadsZero net
-      reads_as = built_reads plan g t u group can one s sizes_here net built_here
+pub built_shifts : (plan : PlainPlan) (u : Uses) (states : List State) (first : Decision) (s : Sizes) (net : Net) → IsBuilt plan u states first s net → HasNarrowShifts net.cells
+built_shifts plan u states first s net built = subst (λ (l : List Cell). HasNarrowShifts l) (sym built.cells_are) built.shifts
+
+-- Without the cells that nothing needs the net plays it, too.
+pub built_swept : (plan : PlainPlan) (lengths : List ℕ) (whole net : Net) → PlaysPlan plan lengths whole → HasNarrowShifts whole.cells → IsSweptOf whole net
+    → IsBuiltNet plan lengths net
+built_swept plan lengths whole net h narrow swept = record {
+  plays = record {
+    valid = swept.same.valid;
+    table = swept.same.table ∙ h.table;
+    faults = swept.same.faults ∙ h.faults;
+    plays = λ start fits. swept.same.plays (plan_run plan lengths start) start (h.plays start fits);
+    writes = λ start fits. swept.same.writes (plan_run plan lengths start) start (h.writes start fits);
+  };
+  zero_reads = swept.same.zero_reads;
+  shifts = swept.same.shifts narrow;
+  needed = swept.needed;
+}

@@ -38,7 +38,6 @@ drives_stay d e kinds wires t o bits bank driver g h = record {
   row_wire = wire_stays d e driver.row bits g h.row_wire;
   data_is = h.data_is;
   writes = h.writes;
-  zero = h.zero;
   enable_is = λ x first ws s words. h.enable_is x first ws (settled_fewer d e x g s) words;
   says = λ x first ws p s words width. h.says x first ws p (settled_fewer d e x g s) words width;
 }

@@ -9,6 +9,7 @@ use Rattle.dh_plan.specs.BoundPorts.{Uses}
 use Rattle.dh_plan.specs.PlainPlans.{PlainPlan}
 use Rattle.dh_plan.specs.PlanRuns.{first_registers}
 use Rattle.dh_plan.specs.Ways.{Flow, Stop, Way, resolve}
+use Rattle.dh_cells.specs.NarrowShifts.{HasNarrowShifts}
 use Rattle.dh_cells.specs.PlainCircuits.{PlainCircuit, SuitRegisters}
 use Rattle.dh_cells.specs.Settled.{ValuationSettles}
 use Rattle.dh_lower.specs.NetOfPlan.{Making}
@@ -86,6 +87,7 @@ pub record IsBuilt (plan : PlainPlan) (u : Uses) (states : List State) (first : 
   pub parts : PartsAdded start d plan u states s made_of
   pub suit : SuitRegisters d
   pub settles : ValuationSettles d
+  pub shifts : HasNarrowShifts d.cells
   pub table_is : net.table ≡ d.table
   pub cells_are : net.cells ≡ d.cells
   pub fault_names : net.faults ≡ plan.faults

@@ -2,12 +2,17 @@
 use Rattle.std.specs.Prelude.{◌≡◌, ℕ, ◌<◌, ◌^◌, List, length}
 use Rattle.std.specs.List.{AllByRecursion}
 use Rattle.dh_value.specs.Words.{IsKind}
+use Rattle.dh_net.specs.declared.nets.Net.{Net}
+use Rattle.dh_net.specs.Valid.{HasReadsZero}
 use Rattle.dh_plan.specs.declared.graphs.Graph.{Graph}
 use Rattle.dh_plan.specs.declared.schedules.Limits.{Limits}
 use Rattle.dh_plan.specs.BoundPorts.{Uses}
 use Rattle.dh_plan.specs.LegalSchedules.{Timing, IsLegal}
 use Rattle.dh_plan.specs.Passes.{MayBuild}
 use Rattle.dh_plan.specs.PlainPlans.{PlainPlan}
+use Rattle.dh_plan.specs.PlayedPlans.{PlaysPlan}
+use Rattle.dh_cells.specs.NarrowShifts.{HasNarrowShifts}
+use Rattle.dh_swept.specs.NeededCells.{NeedsAll}
 use Rattle.dh_build.specs.declared.building.Sizes.{Sizes}
 use Rattle.dh_build.specs.BuiltParts.{AreSizes}
 
@@ -35,3 +40,11 @@ pub record CanBuild (plan : PlainPlan) (g : Graph) (t : Timing) (u : Uses) : Typ
   pub few_faults : length plan.faults < 2 ^ 32
   -- the program's own group is the only one
   pub alone : length g.groups.items ≡ 1
+
+-- What is promised of the net: it plays the plan, its reads have data 0, no cell shifts by a constant of at least its
+-- width, and each cell is needed.
+pub record IsBuiltNet (plan : PlainPlan) (lengths : List ℕ) (net : Net) : Type 0 where
+  pub plays : PlaysPlan plan lengths net
+  pub zero_reads : HasReadsZero net
+  pub shifts : HasNarrowShifts net.cells
+  pub needed : NeedsAll net

@@ -6,6 +6,7 @@ use Rattle.dh_plan.specs.declared.graphs.Decision.{Decision}
 use Rattle.dh_plan.specs.declared.graphs.State.{State}
 use Rattle.dh_plan.specs.BoundPorts.{Uses}
 use Rattle.dh_plan.specs.PlainPlans.{PlainPlan}
+use Rattle.dh_cells.specs.NarrowShifts.{HasNarrowShifts}
 use Rattle.dh_cells.specs.PlainCircuits.{PlainCircuit, SuitRegisters}
 use Rattle.dh_cells.specs.Settled.{ValuationSettles}
 use Rattle.dh_control.specs.WayMoves.{way_of_decision}
@@ -35,6 +36,7 @@ pub record JointsAdded (old new : PlainCircuit) (plan : PlainPlan) (u : Uses) (s
 pub record IsJoined (d : PlainCircuit) (j : Joints) (net : Net) : Type 0 where
   pub suit : SuitRegisters d
   pub settles : ValuationSettles d
+  pub shifts : HasNarrowShifts d.cells
   pub table_is : net.table ≡ d.table
   pub cells_are : net.cells ≡ d.cells
   pub faults_are : net.faults ≡ j.faults

@@ -12,10 +12,11 @@ use Rattle.dh_net.specs.Clock.{State}
 use Rattle.dh_net.specs.Laws.{FitsNet}
 use Rattle.dh_net.proofs.Valuations.{FitBelow, form_fits, below_suc}
 use Rattle.dh_tree.specs.declared.tables.MemEntry.{MemEntry}
-use Rattle.dh_cells.specs.PlainCircuits.{PlainCircuit, circuit_of, one_cell, with_cell, blank_register, blank_registers, AreCells, IsNext}
+use Rattle.dh_cells.specs.PlainCircuits.{PlainCircuit, circuit_of, one_cell, with_cell, blank_register, blank_registers, AreCells, IsCircuit, IsMade, IsNext}
 use Rattle.dh_cells.specs.Settled.{Signals, IsSettled, Adds}
 use Rattle.dh_cells.specs.ShownValues.{form_shown, number_shown}
 use Rattle.dh_cells.proofs.CellsAppended.{get_last, measured_by_fit, measured_later, value_later, cells_more, grows_one, grows_none}
+use Rattle.dh_cells.proofs.NarrowCells.{circuit_more}
 
 -- the circuit as a net without drivers
 abbrev net_of : PlainCircuit → Net
@@ -84,26 +85,28 @@ adds_cell d c all next =
 
 -- the same where the circuit and the new cells go by other names
 pub valid_push : (d : PlainCircuit) (table : List MemEntry) (widths : List ℕ) (cells new : List Cell) (width : ℕ) (form : CellForm)
-    → circuit_of table widths cells ≡ d → new ≡ cells ++ one_cell width form ∷ [] → AreCells (circuit_of table widths cells) → IsNext d width form
-    → AreCells (circuit_of table widths new)
+    → circuit_of table widths cells ≡ d → new ≡ cells ++ one_cell width form ∷ [] → IsCircuit (circuit_of table widths cells) → IsNext d width form
+    → IsCircuit (circuit_of table widths new)
 valid_push d table widths cells new width form view more all next =
-    subst (λ (y : List Cell). AreCells (circuit_of table widths y)) (sym more)
-    (cells_more (circuit_of table widths cells) (one_cell width form) all (subst (λ (y : PlainCircuit). IsNext y width form) (sym view) next))
+    subst (λ (y : List Cell). IsCircuit (circuit_of table widths y)) (sym more)
+    (circuit_more (circuit_of table widths cells) (one_cell width form) all (subst (λ (y : PlainCircuit). IsNext y width form) (sym view) next))
 
 pub adds_push : (d : PlainCircuit) (table : List MemEntry) (widths : List ℕ) (cells new : List Cell) (wire width : ℕ) (form : CellForm)
-    → circuit_of table widths cells ≡ d → new ≡ cells ++ one_cell width form ∷ [] → wire ≡ length cells → AreCells (circuit_of table widths cells)
+    → circuit_of table widths cells ≡ d → new ≡ cells ++ one_cell width form ∷ [] → wire ≡ length cells → IsCircuit (circuit_of table widths cells)
     → IsNext d width form → Adds d (circuit_of table widths new) wire width (form_shown d width form)
 adds_push d table widths cells new wire width form view more last all next =
     let before = circuit_of table widths cells in
     subst (λ (y : PlainCircuit). Adds y (circuit_of table widths new) wire width (form_shown y width form)) view
     (subst (λ (y : List Cell). Adds before (circuit_of table widths y) wire width (form_shown before width form)) (sym more)
     (subst (λ (n : ℕ). Adds before (with_cell before (one_cell width form)) n width (form_shown before width form)) (sym last)
-    (adds_cell before (one_cell width form) all (subst (λ (y : PlainCircuit). IsNext y width form) (sym view) next))))
+    (adds_cell before (one_cell width form) all.cells (subst (λ (y : PlainCircuit). IsNext y width form) (sym view) next))))
 
--- a constant that is there shows its bits
-pub constant_there : (d : PlainCircuit) (wire width bits : ℕ) → AreCells d → slice_get d.cells wire ≡ Some (one_cell width (Const bits)) → Adds d d wire width (number_shown bits)
-constant_there d wire width bits all at =
-    let cell = all wire (one_cell width (Const bits)) at in
+-- a cell that is there shows what it computes
+pub cell_there : (d : PlainCircuit) (wire width : ℕ) (form : CellForm) → AreCells d → slice_get d.cells wire ≡ Some (one_cell width form) → Adds d d wire width (form_shown d width form)
+cell_there d wire width form all at =
+    let cell = all wire (one_cell width form) at in
+    let inside = slice_get_within d.cells wire (one_cell width form) at in
+    let measured = measured_by_fit d.table (blank_registers d.widths) d.cells wire width form (omega (arith, inside)) cell.form in
     record {
       grows = grows_none d;
       shows = record {
@@ -111,17 +114,30 @@ constant_there d wire width bits all at =
           wide = ap (option_map (λ (y : Cell). y.width)) at;
           least = cell.least;
           greatest = cell.greatest;
-          fits = λ x s. fit_below d all x s (suc wire) wire (one_cell width (Const bits)) (omega arith) at;
+          fits = λ x s. fit_below d all x s (suc wire) wire (one_cell width form) (omega arith) at;
         };
-        is = λ x s. s.cells wire (one_cell width (Const bits)) at tt;
+        is = λ x s. s.cells wire (one_cell width form) at measured;
       };
     }
 
 -- the same of a cell that was looked up, where the circuit and its cells go by other names
-pub constant_found : (d : PlainCircuit) (table : List MemEntry) (widths : List ℕ) (cells list : List Cell) (wire width bits : ℕ) (cell : Cell)
-    → circuit_of table widths cells ≡ d → AreCells (circuit_of table widths cells) → list ≡ cells → wire < length list → cell ≡ get_or list wire cell
-    → cell ≡ one_cell width (Const bits) → Adds d d wire width (number_shown bits)
-constant_found d table widths cells list wire width bits cell view all same inside is constant =
+pub cell_found : (d : PlainCircuit) (table : List MemEntry) (widths : List ℕ) (cells list : List Cell) (wire width : ℕ) (form : CellForm) (cell : Cell)
+    → circuit_of table widths cells ≡ d → IsCircuit (circuit_of table widths cells) → list ≡ cells → wire < length list → cell ≡ get_or list wire cell
+    → cell ≡ one_cell width form → Adds d d wire width (form_shown d width form)
+cell_found d table widths cells list wire width form cell view all same inside is found =
     let at : slice_get list wire ≡ Some cell = slice_get_read list _ wire cell refl inside is in
-    let there : slice_get cells wire ≡ Some (one_cell width (Const bits)) = ap (λ (l : List Cell). slice_get l wire) (sym same) ∙ (at ∙ ap (λ (y : Cell). Some y) constant) in
-    subst (λ (y : PlainCircuit). Adds y y wire width (number_shown bits)) view (constant_there (circuit_of table widths cells) wire width bits all there)
+    let there : slice_get cells wire ≡ Some (one_cell width form) = ap (λ (l : List Cell). slice_get l wire) (sym same) ∙ (at ∙ ap (λ (y : Cell). Some y) found) in
+    subst (λ (y : PlainCircuit). Adds y y wire width (form_shown y width form)) view (cell_there (circuit_of table widths cells) wire width form all.cells there)
+
+-- and it was made
+pub made_found : (d : PlainCircuit) (table : List MemEntry) (widths : List ℕ) (cells list : List Cell) (wire width : ℕ) (form : CellForm) (cell : Cell)
+    → circuit_of table widths cells ≡ d → list ≡ cells → wire < length list → cell ≡ get_or list wire cell → cell ≡ one_cell width form → IsMade d wire width form
+made_found d table widths cells list wire width form cell view same inside is found =
+    let at : slice_get list wire ≡ Some cell = slice_get_read list _ wire cell refl inside is in
+    subst (λ (y : PlainCircuit). IsMade y wire width form) view (ap (λ (l : List Cell). slice_get l wire) (sym same) ∙ (at ∙ ap (λ (y : Cell). Some y) found))
+
+-- so was the cell that was appended
+pub made_push : (table : List MemEntry) (widths : List ℕ) (cells new : List Cell) (wire width : ℕ) (form : CellForm) → new ≡ cells ++ one_cell width form ∷ [] → wire ≡ length cells
+    → IsMade (circuit_of table widths new) wire width form
+made_push table widths cells new wire width form more last =
+    ap (λ (n : ℕ). slice_get new n) last ∙ (ap (λ (l : List Cell). slice_get l (length cells)) more ∙ get_last cells (one_cell width form))

@@ -1,7 +1,7 @@
 -- What a few cells in a row make.
 -- Each call tells its new wire for every way to settle the cells up to it, and what settles all cells settles those.
 -- So the value of the last wire follows by putting the values of the wires before it in their places.
-use Rattle.std.proofs.Common.{◌≡◌, ℕ, ◌<◌, ◌%◌, ◌^◌, ◌⊎◌, Bool, not, if◌then◌else◌, bit_and, bit_or, int_lt, length, refl, sym, ap, subst, ◌∙◌, arith}
+use Rattle.std.proofs.Common.{◌≡◌, ℕ, ◌<◌, ◌%◌, ◌^◌, ◌⊎◌, Bool, true, false, not, if◌then◌else◌, bit_and, bit_or, int_lt, length, refl, sym, ap, subst, ◌∙◌, arith}
 use Rattle.std.specs.Prelude.{◌==◌}
 use Rattle.std.specs.Ordering.{int_eq}
 use Rattle.dh_value.specs.declared.kinds.Kind.{Kind}
@@ -43,7 +43,7 @@ pub adds_none : (d : PlainCircuit) (wire w : ℕ) (value : Signals → ℕ) → 
 adds_none d wire w value there is = record { grows = grows_none d; shows = record { there = there; is = is } }
 
 -- a wire that is there is one before the next cell
-wire_before : (d : PlainCircuit) (wire w : ℕ) → IsWire d wire w → wire < length d.cells
+pub wire_before : (d : PlainCircuit) (wire w : ℕ) → IsWire d wire w → wire < length d.cells
 wire_before d wire w h = let found = cell_of d.cells wire w h.wide in slice_get_within d.cells wire found.0 found.1.0
 
 pub sum_next : (d : PlainCircuit) (a b w : ℕ) → IsWire d a w → IsWire d b w → IsNext d w (Add a b)
@@ -51,6 +51,7 @@ sum_next d a b w p q = record {
   least = p.least;
   greatest = p.greatest;
   fits = record { left = record { earlier = wire_before d a w p; wide = p.wide }; right = record { earlier = wire_before d b w q; wide = q.wide } };
+  shifts = tt;
 }
 
 -- Truths.
@@ -127,6 +128,14 @@ at_most_made k d e f wire m a b mid made =
     adds_as d f wire 1 1 _ (at_most_shown k a b) refl opposite λ x s. ap (λ (t : Bool). bit t) (at_most (value_in k (shown x a)) (value_in k (shown x b)))
 
 -- Choices.
+
+either_same : (t : Bool) (n m : ℕ) → n ≡ m → n ≡ (if t then n else m)
+either_same true n m e = refl
+either_same false n m e = e
+
+-- a choice between a wire and itself
+pub choice_same : (d : PlainCircuit) (test a b w : ℕ) → a ≡ b → IsWire d a w → Adds d d a w (choice_shown test a b)
+choice_same d test a b w e there = adds_none d a w (choice_shown test a b) there λ x s. either_same (is_one x test) (shown x a) (shown x b) (ap (λ (n : ℕ). shown x n) e)
 
 pub guarded_made : (d e f : PlainCircuit) (wire guard a z w : ℕ) → Adds d e z w (number_shown 0) → Adds e f wire w (choice_shown guard a z)
     → Adds d f wire w (guarded_shown guard a)

@@ -1,3 +1,4 @@
+pub mod NarrowShifts
 pub mod PlainCircuits
 pub mod Settled
 pub mod ShownValues

@@ -6,6 +6,7 @@ use Rattle.dh_net.specs.Valid.{FormFits, IsCell}
 use Rattle.dh_net.specs.declared.nets.Cell.{Cell}
 use Rattle.dh_net.specs.declared.nets.CellForm.{CellForm}
 use Rattle.dh_net.specs.declared.nets.Register.{Register}
+use Rattle.dh_cells.specs.NarrowShifts.{ShiftsLess, HasNarrowShifts}
 
 -- the memories, the widths of the registers, and the cells so far
 pub record PlainCircuit : Type 0 where
@@ -34,11 +35,21 @@ blank_registers widths = map blank_register widths
 abbrev pub AreCells : PlainCircuit → Type 0
 AreCells d = (i : ℕ) (c : Cell) → slice_get d.cells i ≡ Some c → IsCell d.table (blank_registers d.widths) d.cells i c
 
+-- the wire is that of a cell of this width and form
+abbrev pub IsMade : PlainCircuit → (wire width : ℕ) → CellForm → Type 0
+IsMade d wire width form = slice_get d.cells wire ≡ Some (one_cell width form)
+
+-- what always holds of a circuit
+pub record IsCircuit (d : PlainCircuit) : Type 0 where
+  pub cells : AreCells d
+  pub shifts : HasNarrowShifts d.cells
+
 -- the next cell may be this one
 pub record IsNext (d : PlainCircuit) (width : ℕ) (form : CellForm) : Type 0 where
   pub least : 1 ≤ width
   pub greatest : width ≤ 64
   pub fits : FormFits d.table (blank_registers d.widths) d.cells (length d.cells) width form
+  pub shifts : ShiftsLess d.cells width form
 
 -- with registers of the circuit's widths its cells are those of a valid net
 abbrev pub SuitRegisters : PlainCircuit → Type 0

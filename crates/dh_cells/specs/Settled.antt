@@ -64,6 +64,10 @@ pub record IsWire (d : PlainCircuit) (wire width : ℕ) : Type 0 where
   pub greatest : width ≤ 64
   pub fits : (x : Signals) → IsSettled d x → shown x wire < 2 ^ width
 
+-- the wire is there, of any width
+abbrev pub IsAmount : PlainCircuit → (wire : ℕ) → Type 0
+IsAmount d wire = (width : ℕ) × IsWire d wire width
+
 -- the wire has this width, and always shows this value
 pub record Shows (d : PlainCircuit) (wire width : ℕ) (value : Signals → ℕ) : Type 0 where
   pub there : IsWire d wire width

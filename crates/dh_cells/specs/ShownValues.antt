@@ -1,12 +1,13 @@
 -- The values that wires show, by what registers, ports and other wires show.
-use Rattle.std.specs.Prelude.{ℕ, ◌+◌, ◌%◌, ◌^◌, ◌==◌, ◌&&◌, ◌||◌, not, Bool, false, if◌then◌else◌, int_lt, int_le, List, [], ◌∷◌, slice_index}
+use Rattle.std.specs.Prelude.{ℕ, ◌+◌, ◌-◌, ◌%◌, ◌^◌, ◌==◌, ◌&&◌, ◌||◌, not, Bool, false, if◌then◌else◌, int_lt, int_le, List, [], ◌∷◌, slice_index}
 use Rattle.dh_tree.specs.declared.tables.MemEntry.{MemEntry}
 use Rattle.dh_value.specs.declared.kinds.Kind.{Kind}
 use Rattle.dh_value.specs.declared.operators.Op.{Op}
+use Rattle.dh_value.specs.declared.operators.Op.TheVariants.{Shr}
 use Rattle.dh_value.specs.Operations.{binary_of}
 use Rattle.dh_value.specs.Words.{value_in, with_bits, word_of}
 use Rattle.dh_net.specs.BankPorts.{port_number}
-use Rattle.dh_net.specs.Clock.{form_value}
+use Rattle.dh_net.specs.Clock.{form_value, shifted_signed}
 use Rattle.dh_net.specs.declared.nets.CellForm.{CellForm}
 use Rattle.dh_cells.specs.declared.trees.Tested.{Tested}
 use Rattle.dh_cells.specs.PlainCircuits.{PlainCircuit}
@@ -74,6 +75,10 @@ operator_shown op left_kind right_kind a b = λ x. (binary_of op (with_bits left
 -- the same of one kind
 abbrev pub alike_shown : Op → Kind → (a b : ℕ) → Signals → ℕ
 alike_shown op k a b = operator_shown op k k a b
+
+-- copies of the sign of a word of this width: what is left of it when all its other bits are shifted out
+abbrev pub signs_shown : (width a : ℕ) → Signals → ℕ
+signs_shown width a = λ x. shifted_signed Shr width (shown x a) (width - 1)
 
 -- whether the one value of a kind is not greater than the other
 abbrev pub at_most_shown : Kind → (a b : ℕ) → Signals → ℕ

@@ -47,7 +47,7 @@ fn push_extended(circuit: &mut Circuit, from: Kind, to: Kind, wire: u64) -> Resu
     }
 }
 
-/// Adds a wire of this width that shows `a` where the test is 1, else `b`.
+/// Adds a wire of this width that shows `a` where the test is 1, else `b`. Where both are one wire it is that.
 pub fn push_choice(
     circuit: &mut Circuit,
     width: u8,
@@ -60,7 +60,11 @@ pub fn push_choice(
     requires right { IsWire circuit.old b width }
     ensures { WireAdded result circuit.old circuit.new width (choice_shown test a b) }
 {
-    circuit.push(width, CellForm::Mux { c: test, a, b })
+    if a == b {
+        Ok(a)
+    } else {
+        circuit.push(width, CellForm::Mux { c: test, a, b })
+    }
 }
 
 /// Adds a wire of this width that shows `a` where the guard is 1, else 0.

@@ -1,12 +1,12 @@
 //! A circuit: the cells of a net that is being built. Each cell that is added drives a new wire.
 
-ghost use Rattle.std.specs.Prelude.{◌≡◌, [], ◌^◌, ◌<◌, ◌≤◌, ◌↔◌, slice_get, Some, IfOk, IfSome, IsTrue};
-ghost use Rattle.dh_net.specs.declared.nets.CellForm.TheVariants.{Const};
+ghost use Rattle.std.specs.Prelude.{◌≡◌, [], ◌^◌, ◌<◌, ◌≤◌, ◌↔◌, false, slice_get, Some, IfOk, IfSome, IsTrue};
 ghost use Rattle.dh_net.specs.Valid.{IsPort};
 ghost use Rattle.dh_value.specs.Words.{IsWidth};
-ghost use Rattle.dh_cells.specs.PlainCircuits.{AreCells, IsNext, SuitRegisters, circuit_of, one_cell};
-ghost use Rattle.dh_cells.specs.Settled.{Adds, ValuationSettles, WireAdded};
-ghost use Rattle.dh_cells.specs.ShownValues.{form_shown, held_shown, number_shown, register_shown};
+ghost use Rattle.dh_cells.specs.NarrowShifts.{HasNarrowShifts, IsBelow, constant_at, form_bits};
+ghost use Rattle.dh_cells.specs.PlainCircuits.{IsMade, IsNext, SuitRegisters, circuit_of};
+ghost use Rattle.dh_cells.specs.Settled.{Adds, IsSettled, IsWire, Signals, ValuationSettles, WireAdded, shown};
+ghost use Rattle.dh_cells.specs.ShownValues.{form_shown, held_shown, number_shown, register_shown, signs_shown};
 
 use dh_base::{Items, NoMemory};
 use dh_net::{Cell, CellForm};
@@ -15,38 +15,62 @@ use indexmap::IndexMap;
 use std::alloc::Global;
 use std::marker::Model;
 
-/// A constant: bits of a width.
-#[derive(Clone, Copy, PartialEq, Eq, Hash)]
-struct Constant {
-    width: u8,
-    bits: u64,
-}
-
-/// The memories of a net, the widths of its registers, and its cells so far. Each cell has its operands before it.
+/// The memories of a net, the widths of its registers, and its cells so far. Each cell has its operands before it, and a
+/// cell that was made is not made again.
 #[derive(Drop)]
 pub struct Circuit {
     table: MemTable,
     widths: Items<u8>,
     cells: Items<Cell>,
-    // The wires of constants that were made.
-    constants: IndexMap<Constant, u64>,
+    // The wires of cells that were made.
+    made: IndexMap<Cell, u64>,
 }
 
 impl Model for Circuit {
-    ghost use Rattle.dh_cells.specs.PlainCircuits.{PlainCircuit, circuit_of, AreCells};
+    ghost use Rattle.dh_cells.specs.PlainCircuits.{PlainCircuit, circuit_of, IsCircuit};
 
     ghost Value = { PlainCircuit };
 
     ghost view = { λ c. circuit_of c.table c.widths c.cells };
 
-    ghost invariant = { λ c. AreCells (circuit_of c.table c.widths c.cells) };
+    ghost invariant = { λ c. IsCircuit (circuit_of c.table c.widths c.cells) };
 }
 
-// Whether the cell has this width and gives these bits.
-fn is_constant(cell: Cell, width: u8, bits: u64) -> bool
-    ensures { IsTrue result ↔ (cell ≡ one_cell width (Const bits)) }
+// The bits of an amount by which the widest word is shifted.
+const AMOUNT_WIDTH: u8 = 6;
+
+// The bits of a constant.
+fn bits_of(form: CellForm) -> Option<u64>
+    ensures { result ≡ form_bits form }
 {
-    cell.width == width && cell.form == CellForm::Const { bits }
+    match form {
+        CellForm::Const { bits } => Some(bits),
+        CellForm::Reg { .. }
+        | CellForm::Data { .. }
+        | CellForm::Add { .. }
+        | CellForm::Sub { .. }
+        | CellForm::Mul { .. }
+        | CellForm::And { .. }
+        | CellForm::Or { .. }
+        | CellForm::Xor { .. }
+        | CellForm::Shl { .. }
+        | CellForm::ShrU { .. }
+        | CellForm::ShrS { .. }
+        | CellForm::LtU { .. }
+        | CellForm::LtS { .. }
+        | CellForm::Eq { .. }
+        | CellForm::Mux { .. }
+        | CellForm::Zero { .. }
+        | CellForm::Sign { .. }
+        | CellForm::Low { .. } => None,
+    }
+}
+
+// Whether both are one cell.
+fn is_same(found: Cell, cell: Cell) -> bool
+    ensures { IsTrue result ↔ (found ≡ cell) }
+{
+    found == cell
 }
 
 impl Circuit {
@@ -58,55 +82,90 @@ impl Circuit {
             table,
             widths,
             cells: Items::new(alloc),
-            constants: IndexMap::new(alloc),
+            made: IndexMap::new(alloc),
         }
     }
 
-    /// Adds a cell, and answers the wire that it drives.
+    /// The wire of a cell: the one that was made, or a new one.
     pub fn push(&mut self, width: u8, form: CellForm) -> Result<u64, NoMemory>
         requires { IsNext self.old width form }
-        ensures { WireAdded result self.old self.new width (form_shown self.old width form) }
+        ensures shows { WireAdded result self.old self.new width (form_shown self.old width form) }
+        ensures made { IfOk result (λ wire. IsMade self.new wire width form) }
     {
-        let wire = self.cells.len() as u64;
-        self.cells.push(Cell { width, form })?;
-        Ok(wire)
-    }
-
-    /// A wire of these bits: the one that was made for them, or a new one.
-    pub fn push_constant(&mut self, width: u8, bits: u64) -> Result<u64, NoMemory>
-        requires width { IsWidth width }
-        requires fits { bits < 2 ^ width }
-        ensures { WireAdded result self.old self.new width (number_shown bits) }
-    {
-        match self.find_constant(width, bits) {
+        match self.find(Cell { width, form }) {
             Some(wire) => Ok(wire),
-            None => self.make_constant(width, bits),
+            None => self.add(width, form),
         }
     }
 
-    // The wire that was made for these bits. Its cell is looked at, so that nothing has to be known of the table.
-    fn find_constant(&self, width: u8, bits: u64) -> Option<u64>
-        requires width { IsWidth width }
-        requires fits { bits < 2 ^ width }
-        ensures { IfSome result (λ wire. Adds self.now self.now wire width (number_shown bits)) }
+    // The wire that was made for a cell. The cell is looked at, so that nothing has to be known of the table.
+    fn find(&self, cell: Cell) -> Option<u64>
+        ensures shows { IfSome result (λ wire. Adds self.now self.now wire cell.width
+            (form_shown self.now cell.width cell.form)) }
+        ensures made { IfSome result (λ wire. IsMade self.now wire cell.width cell.form) }
     {
-        let wire = self.constants.get(&Constant { width, bits })?;
-        let cell = self.cells.as_slice().get(*wire as usize)?;
-        if is_constant(*cell, width, bits) {
+        let wire = self.made.get(&cell)?;
+        let found = self.cells.as_slice().get(*wire as usize)?;
+        if is_same(*found, cell) {
             Some(*wire)
         } else {
             None
         }
     }
 
-    fn make_constant(&mut self, width: u8, bits: u64) -> Result<u64, NoMemory>
+    // Adds a cell, and answers the wire that it drives.
+    fn add(&mut self, width: u8, form: CellForm) -> Result<u64, NoMemory>
+        requires { IsNext self.old width form }
+        ensures shows { WireAdded result self.old self.new width (form_shown self.old width form) }
+        ensures made { IfOk result (λ wire. IsMade self.new wire width form) }
+    {
+        let wire = self.cells.len() as u64;
+        let cell = Cell { width, form };
+        self.cells.push(cell)?;
+        self.made.insert(cell, wire)?;
+        Ok(wire)
+    }
+
+    // The bits of a wire whose cell is a constant.
+    fn constant_of(&self, wire: u64) -> Option<u64>
+        ensures { result ≡ constant_at self.now.cells wire }
+    {
+        match self.cells.as_slice().get(wire as usize) {
+            Some(cell) => bits_of(cell.form),
+            None => None,
+        }
+    }
+
+    /// Whether a wire is a constant of at least this number.
+    pub fn is_constant_from(&self, wire: u64, least: u8) -> bool
+        ensures shows { IsTrue result → (x : Signals) → IsSettled self.now x → least ≤ shown x wire }
+        ensures below { result ≡ false → IsBelow self.now.cells wire least }
+    {
+        match self.constant_of(wire) {
+            Some(bits) => bits >= least as u64,
+            None => false,
+        }
+    }
+
+    /// Adds a wire of copies of the sign of another, of this width.
+    pub fn push_signs(&mut self, width: u8, a: u64) -> Result<u64, NoMemory>
+        requires { IsWire self.old a width }
+        ensures { WireAdded result self.old self.new width (signs_shown width a) }
+    {
+        let amount = CellForm::Const {
+            bits: width as u64 - 1,
+        };
+        let b = self.push(AMOUNT_WIDTH, amount)?;
+        self.push(width, CellForm::ShrS { a, b })
+    }
+
+    /// A wire of these bits.
+    pub fn push_constant(&mut self, width: u8, bits: u64) -> Result<u64, NoMemory>
         requires width { IsWidth width }
         requires fits { bits < 2 ^ width }
         ensures { WireAdded result self.old self.new width (number_shown bits) }
     {
-        let wire = self.push(width, CellForm::Const { bits })?;
-        self.constants.insert(Constant { width, bits }, wire)?;
-        Ok(wire)
+        self.push(width, CellForm::Const { bits })
     }
 
     /// Adds a wire that shows a register of this width.
@@ -140,6 +199,7 @@ impl Circuit {
         ensures cells { result.1 ≡ self.cells }
         ensures suit { SuitRegisters self }
         ensures settles { ValuationSettles self }
+        ensures shifts { HasNarrowShifts self.cells }
     {
         (self.table, self.cells)
     }

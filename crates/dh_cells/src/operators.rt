@@ -4,8 +4,9 @@ ghost use Rattle.std.specs.Prelude.{◌≡◌};
 ghost use Rattle.dh_value.specs.Operations.{AreAlike, AreIntegers, AreTruths, IsShift, Suits, result_of};
 ghost use Rattle.dh_value.specs.Words.{width_of};
 ghost use Rattle.dh_value.specs.declared.operators.Op.TheVariants as op;
-ghost use Rattle.dh_cells.specs.Settled.{IsWire, WireAdded};
-ghost use Rattle.dh_cells.specs.ShownValues.{alike_shown, at_most_shown, less_shown, operator_shown};
+ghost use Rattle.dh_net.specs.declared.nets.CellForm.TheVariants.{ShrS, ShrU};
+ghost use Rattle.dh_cells.specs.Settled.{IsAmount, IsWire, WireAdded};
+ghost use Rattle.dh_cells.specs.ShownValues.{alike_shown, at_most_shown, form_shown, less_shown, operator_shown};
 
 use crate::circuits::Circuit;
 use crate::truths::{push_both, push_either, push_not};
@@ -106,6 +107,7 @@ fn push_product(circuit: &mut Circuit, kind: Kind, a: u64, b: u64) -> Result<u64
     circuit.push(width(kind), CellForm::Mul { a, b })
 }
 
+// A shift to the left. A constant of at least the width leaves nothing.
 fn push_shifted_left(
     circuit: &mut Circuit,
     left_kind: Kind,
@@ -119,9 +121,15 @@ fn push_shifted_left(
     ensures { WireAdded result circuit.old circuit.new (width_of left_kind)
         (operator_shown op.Shl left_kind right_kind a b) }
 {
-    circuit.push(width(left_kind), CellForm::Shl { a, b })
+    let bits = width(left_kind);
+    if circuit.is_constant_from(b, bits) {
+        circuit.push_constant(bits, 0)
+    } else {
+        circuit.push(bits, CellForm::Shl { a, b })
+    }
 }
 
+// A shift to the right.
 fn push_shifted_right(
     circuit: &mut Circuit,
     left_kind: Kind,
@@ -136,9 +144,35 @@ fn push_shifted_right(
         (operator_shown op.Shr left_kind right_kind a b) }
 {
     match left_kind {
-        Kind::Signed(bits) => circuit.push(bits, CellForm::ShrS { a, b }),
-        Kind::Bool => circuit.push(1, CellForm::ShrU { a, b }),
-        Kind::Unsigned(bits) => circuit.push(bits, CellForm::ShrU { a, b }),
+        Kind::Signed(bits) => push_shifted_signed(circuit, bits, a, b),
+        Kind::Bool => push_shifted_unsigned(circuit, 1, a, b),
+        Kind::Unsigned(bits) => push_shifted_unsigned(circuit, bits, a, b),
+    }
+}
+
+// A shift to the right of an unsigned word. A constant of at least the width leaves nothing.
+fn push_shifted_unsigned(circuit: &mut Circuit, bits: u8, a: u64, b: u64) -> Result<u64, NoMemory>
+    requires left { IsWire circuit.old a bits }
+    requires right { IsAmount circuit.old b }
+    ensures { WireAdded result circuit.old circuit.new bits (form_shown circuit.old bits (ShrU a b)) }
+{
+    if circuit.is_constant_from(b, bits) {
+        circuit.push_constant(bits, 0)
+    } else {
+        circuit.push(bits, CellForm::ShrU { a, b })
+    }
+}
+
+// A shift to the right of a word in two's complement. A constant of at least the width leaves copies of the sign.
+fn push_shifted_signed(circuit: &mut Circuit, bits: u8, a: u64, b: u64) -> Result<u64, NoMemory>
+    requires left { IsWire circuit.old a bits }
+    requires right { IsAmount circuit.old b }
+    ensures { WireAdded result circuit.old circuit.new bits (form_shown circuit.old bits (ShrS a b)) }
+{
+    if circuit.is_constant_from(b, bits) {
+        circuit.push_signs(bits, a)
+    } else {
+        circuit.push(bits, CellForm::ShrS { a, b })
     }
 }
 

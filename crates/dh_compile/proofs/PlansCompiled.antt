@@ -1,6 +1,6 @@
 -- Of a program's plan, and of what its net is made of, to the program.
 use Rattle.std.proofs.Common.{◌≡◌, ℕ, ◌<◌, ◌≤◌, List, sym, subst, ◌∙◌, arith}
-use Rattle.std.specs.Prelude.{[], min, Result, Ok, Err, IfOk}
+use Rattle.std.specs.Prelude.{[], min}
 use Rattle.std.specs.List.{AllByRecursion}
 use Rattle.dh_tree.specs.declared.tables.MemEntry.{MemEntry}
 use Rattle.dh_tree.specs.Memories.{table_of}
@@ -9,7 +9,6 @@ use Rattle.dh_tree.specs.Tables.{Fits}
 use Rattle.dh_meaning.specs.CoreOf.{core_of}
 use Rattle.dh_net.specs.declared.nets.Net.{Net}
 use Rattle.dh_net.specs.Plays.{Run}
-use Rattle.dh_net.specs.Valid.{HasReadsZero}
 use Rattle.dh_plan.specs.DoneProgram.{IsPlanOf, IsAddressingOf}
 use Rattle.dh_plan.specs.LegalSchedules.{Timing, IsLeastSchedule}
 use Rattle.dh_plan.specs.Passes.{IsToCompile, IsTooLarge, uses_seen}
@@ -28,14 +27,9 @@ use Rattle.dh_backend.specs.SuitedPlans.{IsCompiled}
 use Rattle.dh_backend.specs.declared.parts.NetParts.{NetParts}
 use Rattle.dh_backend.proofs.Unstuck.{accepted_never_stuck}
 use Rattle.dh_backend.proofs.PartsPlay.{parts_play_programs}
-use Rattle.dh_build.specs.BuiltPlans.{CanBuild}
+use Rattle.dh_build.specs.BuiltPlans.{CanBuild, IsBuiltNet}
 use Rattle.dh_unroll.specs.Unrolled.{IsUnrolled}
 use Rattle.dh_compile.specs.Compiled.{IsNetOfProgram}
-
--- what holds of the value where two things do
-pub ok_both : {X Y : Type 0} (r : Result X Y) (P Q R : X → Type 0) → ((x : X) → P x → Q x → R x) → IfOk r P → IfOk r Q → IfOk r R
-ok_both (Ok x) P Q R so p q = so x p q
-ok_both (Err y) P Q R so p q = tt
 
 -- a net may be built of the parts
 pub parts_may_be_built : (plan : PlainPlan) (parts : NetParts) → ArePartsOf plan parts → CanBuild (plan_seen parts.plan) parts.passed.graph (times_seen parts.passed.times) (uses_seen parts.passed.binding)
@@ -54,13 +48,15 @@ writes_last p u q t net asked plan a schedule plays start fits =
     runs_same p u plan.slots t.lengths plan.table plan.sound.formed.counters.wide plan.sound.formed.counters_kept plan.phases times (accepted_never_stuck p asked.ready asked.ports) start in
     subst (λ (r : Run). WritesLast net r start) same ((plays_before u q t.lengths net a plays).writes start (subst (λ (l : List MemEntry). Fits l start) (sym plan.table) fits))
 
-pub net_of_program : (p : Program) (plan : PlainPlan) (parts : NetParts) (net : Net) → IsToCompile p → IsPlanOf p plan → ArePartsOf plan parts → PlaysPlan (plan_seen parts.plan) parts.passed.times.lengths net
-    → HasReadsZero net → IsNetOfProgram p net
-net_of_program p plan parts net asked of h plays zero = record {
+pub net_of_program : (p : Program) (plan : PlainPlan) (parts : NetParts) (net : Net) → IsToCompile p → IsPlanOf p plan → ArePartsOf plan parts → IsBuiltNet (plan_seen parts.plan) parts.passed.times.lengths net
+    → IsNetOfProgram p net
+net_of_program p plan parts net asked of h built = record {
   small = asked.small;
-  plays = parts_play_programs p plan parts net asked of h plays;
-  zero_reads = zero;
-  writes = writes_last p plan (plan_seen parts.plan) (times_seen parts.passed.times) net asked of h.addressed h.passed.least plays;
+  plays = parts_play_programs p plan parts net asked of h built.plays;
+  zero_reads = built.zero_reads;
+  shifts = built.shifts;
+  needed = built.needed;
+  writes = writes_last p plan (plan_seen parts.plan) (times_seen parts.passed.times) net asked of h.addressed h.passed.least built.plays;
 }
 
 -- Sizes.

@@ -3,15 +3,15 @@
 ghost use Rattle.std.specs.Prelude.{IfOk};
 ghost use Rattle.dh_tree.specs.PlainTrees.{Program};
 ghost use Rattle.dh_tree.specs.Seen.{program_seen};
-ghost use Rattle.dh_net.specs.Valid.{HasReadsZero};
+ghost use Rattle.dh_net.specs.Valid.{IsValid};
 ghost use Rattle.dh_plan.specs.DoneProgram.{IsPlanOf};
 ghost use Rattle.dh_plan.specs.Passes.{IsToCompile, uses_seen};
-ghost use Rattle.dh_plan.specs.PlayedPlans.{PlaysPlan};
 ghost use Rattle.dh_plan.specs.SeenPlans.{plan_seen};
 ghost use Rattle.dh_backend.specs.NetParts.{times_seen};
 ghost use Rattle.dh_backend.specs.SuitedPlans.{IsCompiled};
-ghost use Rattle.dh_build.specs.BuiltPlans.{CanBuild};
+ghost use Rattle.dh_build.specs.BuiltPlans.{CanBuild, IsBuiltNet};
 ghost use Rattle.dh_compile.specs.Compiled.{Compiles, IsNetOfProgram};
+ghost use Rattle.dh_compile.specs.JoinedSwept.{IsJoinedSwept};
 
 use dh_backend::{NetParts, parts_of};
 use dh_base::{Limit, NoMemory};
@@ -22,6 +22,7 @@ use dh_net::Net;
 use dh_plan::Plan;
 use dh_ports::Accepted;
 use dh_size::plan_size;
+use dh_swept::sweep;
 use dh_tree::Typed;
 use dh_unroll::unroll;
 use std::alloc::Global;
@@ -42,9 +43,8 @@ pub enum CompileFault {
 fn whole_net(alloc: Global, parts: &NetParts) -> Result<Net, NoMemory>
     requires { CanBuild (plan_seen parts.now.plan) parts.now.passed.graph
         (times_seen parts.now.passed.times) (uses_seen parts.now.passed.binding) }
-    ensures plays { IfOk result (λ net. PlaysPlan (plan_seen parts.now.plan)
+    ensures { IfOk result (λ net. IsBuiltNet (plan_seen parts.now.plan)
         parts.now.passed.times.lengths net) }
-    ensures zero_reads { IfOk result (λ net. HasReadsZero net) }
 {
     let passed = &parts.passed;
     let (clocks, lengths) = (&passed.times.clocks, &passed.times.lengths);
@@ -58,16 +58,26 @@ fn whole_net(alloc: Global, parts: &NetParts) -> Result<Net, NoMemory>
     )
 }
 
+/// The net with few drivers for each port, and without the cells that are not needed then.
+fn joined_net(alloc: Global, net: &Net) -> Result<Net, NoMemory>
+    requires { IsValid net.now }
+    ensures { IfOk result (IsJoinedSwept net.now) }
+{
+    match join_drivers(alloc, net) {
+        Ok(joined) => sweep(alloc, joined),
+        Err(fault) => Err(fault),
+    }
+}
+
 /// The net of what it is made of, with few drivers for each port.
 fn net_of_parts(alloc: Global, parts: &NetParts) -> Result<Net, NoMemory>
     requires { CanBuild (plan_seen parts.now.plan) parts.now.passed.graph
         (times_seen parts.now.passed.times) (uses_seen parts.now.passed.binding) }
-    ensures plays { IfOk result (λ net. PlaysPlan (plan_seen parts.now.plan)
+    ensures { IfOk result (λ net. IsBuiltNet (plan_seen parts.now.plan)
         parts.now.passed.times.lengths net) }
-    ensures zero_reads { IfOk result (λ net. HasReadsZero net) }
 {
     match whole_net(alloc, parts) {
-        Ok(net) => join_drivers(alloc, &net),
+        Ok(net) => joined_net(alloc, &net),
         Err(fault) => Err(fault),
     }
 }
@@ -95,7 +105,8 @@ fn net_of(alloc: Global, program: &Typed) -> Result<Net, NoMemory>
 /// Compiles an accepted program. The net is valid, its table is the program's, and from all fitting memories it plays
 /// the checked run of the program: no clock drives a bank beyond its ports, at its nth tick it holds the memories
 /// after n steps, and it shows done, or a fault with its place, exactly once the run has ended so. A driver that
-/// writes is active only in the last clock of a step without fault.
+/// writes is active only in the last clock of a step without fault. No cell shifts by a constant of at least its width, and
+/// each cell is needed.
 ///
 /// # Errors
 ///

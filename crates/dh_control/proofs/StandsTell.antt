@@ -164,7 +164,7 @@ last_clock n len some = grind (arith, some, nat_tests)
 pub less_next : (d : PlainCircuit) (a b w : ℕ) → IsWire d a w → IsWire d b w → IsNext d 1 (LtU a b)
 less_next d a b w p q =
     let both = sum_next d a b w p q in
-    record { least = (let n : 1 ≤ 1 = omega arith in n); greatest = (let n : 1 ≤ 64 = omega arith in n); fits = (refl, (w, both.fits)) }
+    record { least = (let n : 1 ≤ 1 = omega arith in n); greatest = (let n : 1 ≤ 64 = omega arith in n); fits = (refl, (w, both.fits)); shifts = tt }
 
 pub wait_made : (d e f g : PlainCircuit) (width clock active len last earlier wire : ℕ) → 1 ≤ len → Adds d e last width (number_shown (len - 1)) → Adds e f earlier 1 (form_shown e 1 (LtU clock last))
     → Adds f g wire 1 (both_shown active earlier) → Adds d g wire 1 (waits_shown clock active len)

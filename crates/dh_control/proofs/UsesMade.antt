@@ -89,7 +89,6 @@ read_driven d e f g kinds wires t o ms pairs r m now test before after is memory
       row_wire = subst (λ (w : ℕ). IsWire g w m.bits) (sym k.row_is) h.row_there;
       data_is = λ s value same. absurd (let z : Read r ≡ Write s value = sym is ∙ same in cc);
       writes = λ on. absurd (let z : true ≡ false = sym on ∙ k.write_is in cc);
-      zero = λ off. k.data_is;
       enable_is = λ x first ws s words.
           let takes = takes_of first ws kinds wires x o (Read r) is words in
           let in_f = settled_fewer f g x h.grows s in
@@ -135,7 +134,6 @@ write_driven d e f kinds wires t o ms pairs r value m test data_wire before afte
           let v : value ≡ other = cc in
           k.data_is ∙ (wire_is ∙ ap (λ n. slice_index wires n) v);
       writes = λ on. (r, (value, is));
-      zero = λ off. absurd (let z : false ≡ true = sym off ∙ k.write_is in cc);
       enable_is = λ x first ws s words.
           let takes = takes_of first ws kinds wires x o (Write r value) is words in
           let in_e = settled_fewer e f x h.grows s in

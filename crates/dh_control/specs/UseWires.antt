@@ -38,9 +38,8 @@ pub record DrivesUse (d : PlainCircuit) (kinds : List Kind) (wires : List ℕ) (
   pub enable_wire : IsWire d driver.enable 1
   pub row_wire : IsWire d driver.row bits
   pub data_is : (r : Reach) (value : ℕ) → o.form ≡ Write r value → driver.data_ ≡ slice_index wires value
-  -- it writes where the operation does, and has data 0 where it reads
+  -- it writes where the operation does
   pub writes : driver.write ≡ true → (r : Reach) × ((value : ℕ) × (o.form ≡ Write r value))
-  pub zero : driver.write ≡ false → driver.data_ ≡ 0
   pub enable_is : (x : Signals) (first : ℕ) (ws : List Word) → IsSettled d x → AreShownWords first ws kinds wires x (o ∷ [])
       → is_one x driver.enable ≡ ((form_time x t o.form && is_on first ws o.guard) && form_picks first ws bank o.form)
   pub says : (x : Signals) (first : ℕ) (ws : List Word) (p : Port) → IsSettled d x → AreShownWords first ws kinds wires x (o ∷ []) → p.row_width ≡ bits → SaysForm p x.wires first ws driver o.form

@@ -7,4 +7,4 @@ returns-then-wanted-had c = same_made c.args.from c.args.to _ c.args.wire _ _ c.
 
 pub returns-then-wanted-had-2 : goal.returns-then-wanted-had-2
 returns-then-wanted-had-2 c =
-    IfOk-weaker c.push.result _ _ (λ new h. low_made c.args.from c.args.to _ _ new c.args.wire _ _ c.width-wanted.ensures c.width-had.ensures c.if-wanted-had-2.true h) c.push.ensures
+    IfOk-weaker c.push.result _ _ (λ new h. low_made c.args.from c.args.to _ _ new c.args.wire _ _ c.width-wanted.ensures c.width-had.ensures c.if-wanted-had-2.true h) c.push.ensures.shows

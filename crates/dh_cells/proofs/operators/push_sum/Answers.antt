@@ -6,4 +6,4 @@ pub returns : goal.returns
 returns c =
     IfOk-weaker c.push.result _ _
     (λ wire h. sum_made c.args.kind _ _ wire _ c.args.a c.args.b c.width.ensures c.requires.left c.requires.right c.requires.integers h)
-    c.push.ensures
+    c.push.ensures.shows

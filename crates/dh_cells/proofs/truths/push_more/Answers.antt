@@ -15,4 +15,4 @@ push-requires c =
     sum_next _ c.args.wire c.in_ok-one.one c.args.width (wire_stays _ _ c.args.wire c.args.width c.in_ok-one.ensures.grows c.requires) c.in_ok-one.ensures.shows.there
 
 pub returns : goal.returns
-returns c = IfOk-weaker c.push.result _ _ (λ wire h. more_made _ _ _ wire c.args.wire c.in_ok-one.one c.args.width c.in_ok-one.ensures h) c.push.ensures
+returns c = IfOk-weaker c.push.result _ _ (λ wire h. more_made _ _ _ wire c.args.wire c.in_ok-one.one c.args.width c.in_ok-one.ensures h) c.push.ensures.shows

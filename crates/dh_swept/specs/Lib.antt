@@ -1,0 +1,6 @@
+pub mod RenamedWires
+pub mod SweptNets
+pub mod SweptLaws
+pub mod NeededCells
+pub mod KeptCells
+pub mod SweptParts

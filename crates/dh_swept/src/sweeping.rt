@@ -1,0 +1,87 @@
+//! A net without the cells that it does not need.
+
+ghost use Rattle.std.specs.Prelude.{IfOk};
+ghost use Rattle.dh_net.specs.Valid.{IsValid};
+ghost use Rattle.dh_swept.specs.SweptParts.{ArePartsOf};
+ghost use Rattle.dh_swept.specs.SweptLaws.{IsSweptOf};
+
+use crate::keeping::{keep_cells, number_of, rename_drivers, rename_registers};
+use crate::marking::needed_cells;
+use dh_base::{Items, NoMemory};
+use dh_net::{Cell, Driver, Net, Register};
+use std::alloc::Global;
+
+/// What is new of a net without the cells that it does not need.
+#[derive(Debug, Drop)]
+pub struct Swept {
+    /// Its registers.
+    pub registers: Items<Register>,
+    /// Its cells.
+    pub cells: Items<Cell>,
+    /// The drivers of its ports.
+    pub drivers: Items<Items<Driver>>,
+    /// Its outputs.
+    pub tick: u64,
+    pub done: u64,
+    pub fault: u64,
+}
+
+/// What is new of a net without the cells that it does not need.
+fn sweep_parts(alloc: Global, net: &Net) -> Result<Swept, NoMemory>
+    requires { IsValid net.now }
+    ensures { IfOk result (λ swept. ArePartsOf net.now swept) }
+{
+    let cells = net.cells.as_slice();
+    let flags = needed_cells(alloc, net)?;
+    let kept = keep_cells(alloc, cells, flags.as_slice())?;
+    let to = kept.to.as_slice();
+    let registers = rename_registers(alloc, to, net.registers.as_slice())?;
+    let drivers = rename_drivers(alloc, to, net.drivers.as_slice())?;
+    let (tick, done, fault) = (
+        number_of(to, net.tick),
+        number_of(to, net.done),
+        number_of(to, net.fault),
+    );
+    Ok(Swept {
+        registers,
+        cells: kept.cells,
+        drivers,
+        tick,
+        done,
+        fault,
+    })
+}
+
+/// The net with what is new of it.
+fn join_swept(net: Net, swept: Swept) -> Net
+    requires valid { IsValid net }
+    requires parts { ArePartsOf net swept }
+    ensures { IsSweptOf net result }
+{
+    Net {
+        table: net.table,
+        faults: net.faults,
+        registers: swept.registers,
+        cells: swept.cells,
+        drivers: swept.drivers,
+        tick: swept.tick,
+        done: swept.done,
+        fault: swept.fault,
+    }
+}
+
+/// The net without the cells that no register, driver or output needs, and with all others. It does the same: it is
+/// valid, and plays what the net plays. Time is linear.
+///
+/// # Errors
+///
+/// `NoMemory` where an allocation was refused.
+pub fn sweep(alloc: Global, net: Net) -> Result<Net, NoMemory>
+    requires { IsValid net }
+    ensures { IfOk result (λ swept. IsSweptOf net swept) }
+{
+    match sweep_parts(alloc, &net) {
+        Ok(swept) => Ok(join_swept(net, swept)),
+        Err(fault) => Err(fault),
+    }
+}
