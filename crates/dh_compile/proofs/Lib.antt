@@ -1,1 +1,2 @@
 pub mod PlansCompiled
+pub mod NetsJoined

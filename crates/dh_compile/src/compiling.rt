@@ -3,6 +3,7 @@
 ghost use Rattle.std.specs.Prelude.{IfOk};
 ghost use Rattle.dh_tree.specs.PlainTrees.{Program};
 ghost use Rattle.dh_tree.specs.Seen.{program_seen};
+ghost use Rattle.dh_net.specs.Valid.{IsValid};
 ghost use Rattle.dh_plan.specs.DoneProgram.{IsPlanOf};
 ghost use Rattle.dh_plan.specs.Passes.{IsToCompile, uses_seen};
 ghost use Rattle.dh_plan.specs.SeenPlans.{plan_seen};
@@ -10,15 +11,18 @@ ghost use Rattle.dh_backend.specs.NetParts.{times_seen};
 ghost use Rattle.dh_backend.specs.SuitedPlans.{IsCompiled};
 ghost use Rattle.dh_build.specs.BuiltPlans.{CanBuild, IsBuiltNet};
 ghost use Rattle.dh_compile.specs.Compiled.{Compiles, IsNetOfProgram};
+ghost use Rattle.dh_compile.specs.JoinedSwept.{IsJoinedSwept};
 
 use dh_backend::{NetParts, parts_of};
 use dh_base::{Limit, NoMemory};
 use dh_build::build;
 use dh_inline::{Flat, inline};
+use dh_join::join_drivers;
 use dh_net::Net;
 use dh_plan::Plan;
 use dh_ports::Accepted;
 use dh_size::plan_size;
+use dh_swept::sweep;
 use dh_tree::Typed;
 use dh_unroll::unroll;
 use std::alloc::Global;
@@ -35,8 +39,8 @@ pub enum CompileFault {
     NoMemory,
 }
 
-/// The net of what it is made of.
-fn net_of_parts(alloc: Global, parts: &NetParts) -> Result<Net, NoMemory>
+/// The net of what it is made of, with a driver for each operation that has a port.
+fn whole_net(alloc: Global, parts: &NetParts) -> Result<Net, NoMemory>
     requires { CanBuild (plan_seen parts.now.plan) parts.now.passed.graph
         (times_seen parts.now.passed.times) (uses_seen parts.now.passed.binding) }
     ensures { IfOk result (λ net. IsBuiltNet (plan_seen parts.now.plan)
@@ -52,6 +56,30 @@ fn net_of_parts(alloc: Global, parts: &NetParts) -> Result<Net, NoMemory>
         clocks.as_slice(),
         lengths.as_slice(),
     )
+}
+
+/// The net with few drivers for each port, and without the cells that are not needed then.
+fn joined_net(alloc: Global, net: &Net) -> Result<Net, NoMemory>
+    requires { IsValid net.now }
+    ensures { IfOk result (IsJoinedSwept net.now) }
+{
+    match join_drivers(alloc, net) {
+        Ok(joined) => sweep(alloc, joined),
+        Err(fault) => Err(fault),
+    }
+}
+
+/// The net of what it is made of, with few drivers for each port.
+fn net_of_parts(alloc: Global, parts: &NetParts) -> Result<Net, NoMemory>
+    requires { CanBuild (plan_seen parts.now.plan) parts.now.passed.graph
+        (times_seen parts.now.passed.times) (uses_seen parts.now.passed.binding) }
+    ensures { IfOk result (λ net. IsBuiltNet (plan_seen parts.now.plan)
+        parts.now.passed.times.lengths net) }
+{
+    match whole_net(alloc, parts) {
+        Ok(net) => joined_net(alloc, &net),
+        Err(fault) => Err(fault),
+    }
 }
 
 /// The net of a program's plan.
