@@ -1,0 +1,5 @@
+pub mod Numbers
+pub mod ViewElements
+pub mod ViewShapes
+pub mod Moved
+pub mod ReachedBanks

@@ -1,0 +1,30 @@
+//! Views without their expressions.
+
+use dh_base::Items;
+use dh_tree::Shape;
+
+/// The four sorts of views.
+#[derive(Clone, Copy, Debug, PartialEq, Eq)]
+pub enum ViewSort {
+    /// The same elements in fewer banks.
+    Shrink,
+    /// One dimension as two: which copy, and which element of its share.
+    Split,
+    /// The elements from a multiple of the factor on.
+    Suffix,
+    /// The elements from any offset on.
+    Shift,
+}
+
+/// A view: its shape, that of what it is a view of, and its factors.
+#[derive(Debug, Drop)]
+pub struct ViewMap {
+    /// Its own shape.
+    pub shape: Shape,
+    /// The shape of the memory or view that it is a view of.
+    pub parent: Shape,
+    /// Its sort.
+    pub sort: ViewSort,
+    /// Its factors, one for each dimension of the parent; none of a shift.
+    pub by: Items<u64>,
+}
