@@ -3,3 +3,5 @@ pub mod ViewElements
 pub mod ViewShapes
 pub mod Moved
 pub mod ReachedBanks
+pub mod Views
+pub mod ViewFactors
