@@ -1,6 +1,6 @@
 -- Where it is told what the files of a job hold, and no fault of reading was counted, two replies to the
 -- same words agree; and where the files are there, none of them is that a file could not be read.
-use Rattle.std.proofs.Common.{◌≡◌, ℕ, ◌⊎◌, List, [], ◌∷◌, Option, Some, None, refl, sym, ap, ◌∙◌, arith, inl, inr}
+use Rattle.std.proofs.Common.{Bool, ◌≡◌, ℕ, ◌⊎◌, List, [], ◌∷◌, Option, Some, None, refl, sym, ap, ◌∙◌, arith, inl, inr}
 use Rattle.dh_base.specs.Outside.{Told, Untold, Absent, Holds, FilesSeen, Rose, IsAbsent}
 use Rattle.dh_base.specs.declared.limits.Limit.TheVariants as limit
 use Rattle.dh_base.specs.declared.statuses.Status.{Status}
@@ -8,7 +8,6 @@ use Rattle.dh_base.specs.declared.statuses.Status.TheVariants as status
 use Rattle.dh_tree.specs.Memories.{table_of}
 use Rattle.dh_tree.specs.PlainTrees.{Program}
 use Rattle.dh_tree.specs.declared.tables.MemEntry.{MemEntry}
-use Rattle.dh_check.specs.Verdicts.{Asked}
 use Rattle.dh_data.specs.Reports.{report_text}
 use Rattle.dh_net.specs.declared.nets.Net.{Net}
 use Rattle.dh_compile.specs.Compiled.{IsNetOfProgram}
@@ -167,11 +166,11 @@ is_read : (old new : FilesSeen) (name : List ℕ) → (Rose old.faults new.fault
 is_read old new name calm h (inl rose) = calm rose
 is_read old new name calm h (inr a) = there (old.told name) h a
 
-program_had : (old new : InputsSeen) (asked : Asked) (file : List ℕ) (rest : Program → ReplySeen → Type 0) → (Rose old.files.faults new.files.faults → ⊥) → IsThere (old.files.told file)
-    → ((p : Program) → rest p unread → ⊥) → ProgramStage old new asked file rest unread → ⊥
-program_had old new asked file rest calm h f (inl (inl fails, idle)) = is_read old.files new.files file calm h fails.fails
-program_had old new asked file rest calm h f (inl (inr none, idle)) = none
-program_had old new asked file rest calm h f (inr (p, (is, r))) = f p r
+program_had : (old new : InputsSeen) (ports : Bool) (file : List ℕ) (rest : Program → ReplySeen → Type 0) → (Rose old.files.faults new.files.faults → ⊥) → IsThere (old.files.told file)
+    → ((p : Program) → rest p unread → ⊥) → ProgramStage old new ports file rest unread → ⊥
+program_had old new ports file rest calm h f (inl (inl fails, idle)) = is_read old.files new.files file calm h fails.fails
+program_had old new ports file rest calm h f (inl (inr none, idle)) = none
+program_had old new ports file rest calm h f (inr (p, (is, r))) = f p r
 
 data_had : (old new : InputsSeen) (data_ : List ℕ) (table : List MemEntry) (rest : List (List ℕ) → ReplySeen → Type 0) → (Rose old.files.faults new.files.faults → ⊥) → IsThere (old.files.told data_)
     → ((m : List (List ℕ)) → rest m unread → ⊥) → DataStage old new data_ table rest unread → ⊥

@@ -1,7 +1,7 @@
 -- Of a file whose contents are told one thing is so, where no fault of reading was counted: it is absent,
 -- it is too long, or its bytes have a meaning, of which there is one. Each stage of a job is answered by
 -- what is so of its file, so two replies of a stage agree as those of the rest do.
-use Rattle.std.proofs.Common.{◌≡◌, ℕ, ◌+◌, ◌≤◌, ◌⊎◌, List, length, Result, Ok, Err, refl, sym, ap, ◌∙◌, arith, subst, inl, inr}
+use Rattle.std.proofs.Common.{Bool, ◌≡◌, ℕ, ◌+◌, ◌≤◌, ◌⊎◌, List, length, Result, Ok, Err, refl, sym, ap, ◌∙◌, arith, subst, inl, inr}
 use Rattle.dh_base.specs.Limits.{greatest_of}
 use Rattle.dh_base.specs.Outside.{Told, Untold, Absent, Holds, FilesSeen, Rose, MayBe, IsAbsent, MayExceed}
 use Rattle.dh_base.specs.declared.limits.Limit.{Limit}
@@ -10,7 +10,7 @@ use Rattle.dh_base.specs.declared.statuses.Status.{Status}
 use Rattle.dh_base.specs.declared.statuses.Status.TheVariants as status
 use Rattle.dh_tree.specs.PlainTrees.{Program}
 use Rattle.dh_tree.specs.declared.tables.MemEntry.{MemEntry}
-use Rattle.dh_check.specs.Verdicts.{Asked, Verdict, accepts, refuses, exceeds, IsVerdict}
+use Rattle.dh_check.specs.Verdicts.{Verdict, accepts, refuses, exceeds, IsVerdict}
 use Rattle.dh_data.specs.DataFiles as data_files
 use Rattle.dh_data.specs.DataFiles.{Means}
 use Rattle.dh_data.specs.declared.data_files.DataFault.{DataFault}
@@ -154,27 +154,27 @@ refusal_said rest (accepts p) r h e = absurd h
 refusal_said rest (refuses rule place) r h e = e
 refusal_said rest (exceeds excess) r h e = e
 
-program_stage : (old new : InputsSeen) (asked : Asked) (file : List ℕ) (rest : Program → ReplySeen → Type 0) (r : ReplySeen) → (Rose old.files.faults new.files.faults → ⊥)
-    → ProgramStage old new asked file rest r → Stage Verdict old.files file limit.Source (IsVerdict asked) (ByVerdict rest) r ⊎ (r ≡ no_memory)
-program_stage old new asked file rest r calm (inl (inl h, idle)) = file_stage Verdict old.files new.files file limit.Source (IsVerdict asked) (ByVerdict rest) 1 r calm h
-program_stage old new asked file rest (replied s text) calm (inl (inr h, idle)) =
+program_stage : (old new : InputsSeen) (ports : Bool) (file : List ℕ) (rest : Program → ReplySeen → Type 0) (r : ReplySeen) → (Rose old.files.faults new.files.faults → ⊥)
+    → ProgramStage old new ports file rest r → Stage Verdict old.files file limit.Source (IsVerdict ports) (ByVerdict rest) r ⊎ (r ≡ no_memory)
+program_stage old new ports file rest r calm (inl (inl h, idle)) = file_stage Verdict old.files new.files file limit.Source (IsVerdict ports) (ByVerdict rest) 1 r calm h
+program_stage old new ports file rest (replied s text) calm (inl (inr h, idle)) =
     inl (record {
       found = meant h.verdict;
       so = record { bytes = h.comes.text; read = h.comes.read; meaning = h.comes.verdict };
       answered = refusal_said rest h.verdict (replied s text) h.refuses_it (same_reply s (verdict_status h.verdict) text (verdict_line h.verdict) h.status_is h.text_is);
     })
-program_stage old new asked file rest unread calm (inl (inr h, idle)) = absurd h
-program_stage old new asked file rest no_memory calm (inl (inr h, idle)) = inr refl
-program_stage old new asked file rest r calm (inr (p, (is, h))) = inl (record { found = meant (accepts p); so = record { bytes = is.text; read = is.read; meaning = is.verdict }; answered = h })
+program_stage old new ports file rest unread calm (inl (inr h, idle)) = absurd h
+program_stage old new ports file rest no_memory calm (inl (inr h, idle)) = inr refl
+program_stage old new ports file rest r calm (inr (p, (is, h))) = inl (record { found = meant (accepts p); so = record { bytes = is.text; read = is.read; meaning = is.verdict }; answered = h })
 
-pub programs_agree : (Agree : ReplySeen → ReplySeen → Type 0) → Agreement Agree → (old new : InputsSeen) (asked : Asked) (file : List ℕ) (rest : Program → ReplySeen → Type 0) (r s : ReplySeen)
+pub programs_agree : (Agree : ReplySeen → ReplySeen → Type 0) → Agreement Agree → (old new : InputsSeen) (ports : Bool) (file : List ℕ) (rest : Program → ReplySeen → Type 0) (r s : ReplySeen)
     → (Rose old.files.faults new.files.faults → ⊥) → IsTold (old.files.told file) → ((p : Program) (x y : ReplySeen) → rest p x → rest p y → Agree x y)
-    → ProgramStage old new asked file rest r → ProgramStage old new asked file rest s → Agree r s
-programs_agree Agree agreement old new asked file rest r s calm told agree h k =
-    agrees Verdict old.files file limit.Source (IsVerdict asked) one told Agree agreement (ByVerdict rest) by r s
-    (program_stage old new asked file rest r calm h) (program_stage old new asked file rest s calm k)
+    → ProgramStage old new ports file rest r → ProgramStage old new ports file rest s → Agree r s
+programs_agree Agree agreement old new ports file rest r s calm told agree h k =
+    agrees Verdict old.files file limit.Source (IsVerdict ports) one told Agree agreement (ByVerdict rest) by r s
+    (program_stage old new ports file rest r calm h) (program_stage old new ports file rest s calm k)
   where
-    one : (bytes : List ℕ) (v w : Verdict) → IsVerdict asked bytes v → IsVerdict asked bytes w → v ≡ w
+    one : (bytes : List ℕ) (v w : Verdict) → IsVerdict ports bytes v → IsVerdict ports bytes w → v ≡ w
     one bytes v w a b = b.only v a.judged
 
     by : (v : Verdict) (x y : ReplySeen) → ByVerdict rest v x → ByVerdict rest v y → Agree x y

@@ -1,6 +1,6 @@
 -- From the bytes of a file to a program or to memories. What is known of the second file is known since
 -- the call began: contents stay, and no count falls.
-use Rattle.std.proofs.Common.{◌≡◌, ℕ, ◌≤◌, List, Result, Ok, Err, ap, ◌∙◌, arith, subst, inl, inr}
+use Rattle.std.proofs.Common.{Bool, ◌≡◌, ℕ, ◌≤◌, List, Result, Ok, Err, ap, ◌∙◌, arith, subst, inl, inr}
 use Rattle.dh_base.specs.Limits.{greatest_of}
 use Rattle.dh_base.specs.Outside.{Told, FilesSeen, KeepsFiles, Rose, RoseBy, MayBe, IsAbsent, MayExceed, risen}
 use Rattle.dh_base.specs.declared.limits.Limit.{Limit}
@@ -9,7 +9,7 @@ use Rattle.dh_base.specs.declared.statuses.Status.TheVariants as status
 use Rattle.dh_tree.specs.declared.tables.MemEntry.{MemEntry}
 use Rattle.dh_tree.specs.declared.trees.typed.Typed.{Typed}
 use Rattle.dh_ports.specs.declared.accepted.Accepted.{Accepted}
-use Rattle.dh_check.specs.Verdicts.{Asked, refuses, exceeds, IsVerdict, FaultTells}
+use Rattle.dh_check.specs.Verdicts.{refuses, exceeds, IsVerdict, FaultTells}
 use Rattle.dh_check.specs.declared.checking.CheckFault.{CheckFault}
 use Rattle.dh_check.specs.declared.checking.CheckFault.TheVariants as check_fault
 use Rattle.dh_app.specs.Inputs.{HasRead, HasBegun}
@@ -23,29 +23,29 @@ use Rattle.dh_app.proofs.Lined.{says_as, none_said}
 -- ---- the program
 
 -- a text that a fault refuses
-pub fault_refuses : (asked : Asked) (text : List ℕ) (f : CheckFault) (r : ReplySeen) → FaultTells (IsVerdict asked text) f → SaysFault f r → Says (RefusesText asked text) r
-fault_refuses asked text (check_fault.Refused rule place) r tells h =
-    says_as (Line status.Refused (refused_line rule place)) (RefusesText asked text) r (λ s line l. record { verdict = refuses rule place; refuses_it = tt; judged = tells; status_is = l.0; line_is = l.1 }) h
-fault_refuses asked text (check_fault.TooLarge exceeded count) r tells h =
-    says_as (Line status.TooLarge (too_large_line exceeded count)) (RefusesText asked text) r (λ s line l. record { verdict = exceeds (record { limit = exceeded; count = count }); refuses_it = tt; judged = tells; status_is = l.0; line_is = l.1 }) h
-fault_refuses asked text check_fault.NoMemory r tells h = none_said (RefusesText asked text) r h
+pub fault_refuses : (ports : Bool) (text : List ℕ) (f : CheckFault) (r : ReplySeen) → FaultTells (IsVerdict ports text) f → SaysFault f r → Says (RefusesText ports text) r
+fault_refuses ports text (check_fault.Refused rule place) r tells h =
+    says_as (Line status.Refused (refused_line rule place)) (RefusesText ports text) r (λ s line l. record { verdict = refuses rule place; refuses_it = tt; judged = tells; status_is = l.0; line_is = l.1 }) h
+fault_refuses ports text (check_fault.TooLarge exceeded count) r tells h =
+    says_as (Line status.TooLarge (too_large_line exceeded count)) (RefusesText ports text) r (λ s line l. record { verdict = exceeds (record { limit = exceeded; count = count }); refuses_it = tt; judged = tells; status_is = l.0; line_is = l.1 }) h
+fault_refuses ports text check_fault.NoMemory r tells h = none_said (RefusesText ports text) r h
 
-refused_file : (old new : FilesSeen) (asked : Asked) (name text : List ℕ) (r : ReplySeen) → MayRead old name limit.Source text → HasRead old new 1 → Says (RefusesText asked text) r
-    → NotAccepted old new asked name r
-refused_file old new asked name text (replied s line) m k h =
+refused_file : (old new : FilesSeen) (ports : Bool) (name text : List ℕ) (r : ReplySeen) → MayRead old name limit.Source text → HasRead old new 1 → Says (RefusesText ports text) r
+    → NotAccepted old new ports name r
+refused_file old new ports name text (replied s line) m k h =
     record { verdict = h.verdict; refuses_it = h.refuses_it; comes = record { text = text; read = m; verdict = h.judged }; read = k; status_is = h.status_is; text_is = h.line_is }
-refused_file old new asked name text unread m k h = h
-refused_file old new asked name text no_memory m k h = k
+refused_file old new ports name text unread m k h = h
+refused_file old new ports name text no_memory m k h = k
 
-pub program_read : (old new : FilesSeen) (asked : Asked) (name text : List ℕ) (result : Result Accepted Reply) → MayRead old name limit.Source text → HasRead old new 1 → ProgramOf asked text result
-    → ProgramRead old new asked name result
-program_read old new asked name text (Ok p) m k h = (record { text = text; read = m; verdict = h }, k)
-program_read old new asked name text (Err r) m k h = inr (refused_file old new asked name text (reply_seen r) m k h)
+pub program_read : (old new : FilesSeen) (ports : Bool) (name text : List ℕ) (result : Result Accepted Reply) → MayRead old name limit.Source text → HasRead old new 1 → ProgramOf ports text result
+    → ProgramRead old new ports name result
+program_read old new ports name text (Ok p) m k h = (record { text = text; read = m; verdict = h }, k)
+program_read old new ports name text (Err r) m k h = inr (refused_file old new ports name text (reply_seen r) m k h)
 
-pub typed_read : (old new : FilesSeen) (asked : Asked) (name text : List ℕ) (result : Result Typed Reply) → MayRead old name limit.Source text → HasRead old new 1 → TypedOf asked text result
-    → TypedRead old new asked name result
-typed_read old new asked name text (Ok p) m k h = (record { text = text; read = m; verdict = h.0 }, (k, h.1))
-typed_read old new asked name text (Err r) m k h = inr (refused_file old new asked name text (reply_seen r) m k h)
+pub typed_read : (old new : FilesSeen) (ports : Bool) (name text : List ℕ) (result : Result Typed Reply) → MayRead old name limit.Source text → HasRead old new 1 → TypedOf ports text result
+    → TypedRead old new ports name result
+typed_read old new ports name text (Ok p) m k h = (record { text = text; read = m; verdict = h.0 }, (k, h.1))
+typed_read old new ports name text (Err r) m k h = inr (refused_file old new ports name text (reply_seen r) m k h)
 
 -- ---- the data
 

@@ -11,7 +11,7 @@ use Rattle.dh_base.specs.declared.statuses.Status.TheVariants as status
 use Rattle.dh_tree.specs.Memories.{table_of}
 use Rattle.dh_tree.specs.PlainTrees.{Program}
 use Rattle.dh_tree.specs.declared.tables.MemEntry.{MemEntry}
-use Rattle.dh_check.specs.Verdicts.{Asked, Verdict, accepts, refuses, exceeds}
+use Rattle.dh_check.specs.Verdicts.{Verdict, accepts, refuses, exceeds}
 use Rattle.dh_app.specs.Asking.{checked, interpreted, asked_by, file_at, data_at, word_at}
 use Rattle.dh_app.specs.CheckJob.{IsOk, ChecksFile}
 use Rattle.dh_app.specs.Engines.{EngineSeen, Asks}
@@ -79,12 +79,12 @@ verdict_shown (accepts p) = tt
 verdict_shown (refuses rule place) = tt
 verdict_shown (exceeds excess) = tt
 
-program_left : (old new : FilesSeen) (asked : Asked) (file : List ℕ) (r : ReplySeen) → NoProgram old new asked file r → Left old new r 1
-program_left old new asked file r (inl h) = file_left old new file limit.Source 1 r h
-program_left old new asked file (replied s text) (inr h) =
+program_left : (old new : FilesSeen) (ports : Bool) (file : List ℕ) (r : ReplySeen) → NoProgram old new ports file r → Left old new r 1
+program_left old new ports file r (inl h) = file_left old new file limit.Source 1 r h
+program_left old new ports file (replied s text) (inr h) =
     record { reads = h.read.reads; calm = h.read.faults; shows = shown_as s (verdict_status h.verdict) h.status_is (verdict_shown h.verdict) }
-program_left old new asked file unread (inr h) = absurd h
-program_left old new asked file no_memory (inr h) = record { reads = h.reads; calm = h.faults; shows = tt }
+program_left old new ports file unread (inr h) = absurd h
+program_left old new ports file no_memory (inr h) = record { reads = h.reads; calm = h.faults; shows = tt }
 
 data_left : (old new : FilesSeen) (data_ : List ℕ) (table : List MemEntry) (count : ℕ) (r : ReplySeen) → NoData old new data_ table count r → Left old new r count
 data_left old new data_ table count r (inl h) = file_left old new data_ limit.Data count r h
@@ -164,11 +164,11 @@ simulate_left words old new file data_ clocks r (inr (p, (is, inr (net, (plays, 
     two_left words old new (Simulate file data_ clocks) r data_ refl p is (data_left old.files new.files (word_at words data_) (table_of p) 2 r h.0) (inl h.1)
 simulate_left words old new file data_ clocks r (inr (p, (is, inr (net, (plays, inr (m, (held, (read, runs)))))))) =
     two_left words old new (Simulate file data_ clocks) r data_ refl p is (run_left old.files new.files old.engine new.engine p m clocks r read runs)
-    (asked (run_asks old.engine new.engine p m clocks r runs))
+    (ports (run_asks old.engine new.engine p m clocks r runs))
   where
-    asked : (new.engine ≡ old.engine) ⊎ Asks old.engine new.engine → AsksFor words old new (Some (Simulate file data_ clocks))
-    asked (inl e) = inl e
-    asked (inr a) = inr (record { program = p; is_program = is; memories = m; is_data = held; asks = a })
+    ports : (new.engine ≡ old.engine) ⊎ Asks old.engine new.engine → AsksFor words old new (Some (Simulate file data_ clocks))
+    ports (inl e) = inl e
+    ports (inr a) = inr (record { program = p; is_program = is; memories = m; is_data = held; asks = a })
 
 job_left : (words : List (List ℕ)) (old new : InputsSeen) (job : Job) (r : ReplySeen) → JobComes words old new job r → JobLeft words old new (Some job) r
 job_left words old new (Check file) r h = check_left words old new file r h

@@ -1,22 +1,19 @@
--- What a job is over, and what it asks of the text of its program: which forms may stand in it, and
--- whether its ports are judged.
+-- What a job is over, and what it asks of the text of its program: whether the ports of its memories are judged.
 use Rattle.std.specs.Prelude.{ℕ, Bool, true, false, List, [], Option, Some, None, slice_index_or}
-use Rattle.dh_check.specs.Verdicts.{Asked, asked_of}
-use Rattle.dh_check.specs.declared.checking.Forms.TheVariants.{Unchecked, Checked}
 use Rattle.dh_app.specs.declared.words.Job.{Job}
 use Rattle.dh_app.specs.declared.words.Job.TheVariants.{Check, Lower, Interpret, Simulate}
 
 -- what a check asks, and the compiler
-abbrev pub checked : Asked
-checked = asked_of Checked true
+abbrev pub checked : Bool
+checked = true
 
--- what the interpreter asks: with `--unchecked` it runs more forms, and does not ask for the ports
-abbrev pub interpreted : (unchecked : Bool) → Asked
+-- what the interpreter asks: with `--unchecked` it does not ask for the ports
+abbrev pub interpreted : (unchecked : Bool) → Bool
 interpreted false = checked
-interpreted true = asked_of Unchecked false
+interpreted true = false
 
 -- what a job asks
-abbrev pub asked_by : Job → Asked
+abbrev pub asked_by : Job → Bool
 asked_by (Check file) = checked
 asked_by (Lower file) = checked
 asked_by (Interpret file data_ steps unchecked) = interpreted unchecked

@@ -1,5 +1,5 @@
 -- What the parts of the top call promise one another.
-use Rattle.std.specs.Prelude.{◌≡◌, ℕ, ◌⊎◌, true, List, [], ◌∷◌, Result, Ok, Err, IfOk, Vec}
+use Rattle.std.specs.Prelude.{Bool, ◌≡◌, ℕ, ◌⊎◌, true, List, [], ◌∷◌, Result, Ok, Err, IfOk, Vec}
 use Rattle.std.specs.declared.alloc.Global.{Global}
 use Rattle.dh_base.specs.Outside.{FilesSeen, SinkSeen, Rose, Grew, GrewByPart}
 use Rattle.dh_base.specs.declared.limits.Limit.{Limit}
@@ -14,10 +14,9 @@ use Rattle.dh_tree.specs.Seen.{program_seen}
 use Rattle.dh_tree.specs.Tables.{Fits}
 use Rattle.dh_ports.specs.declared.accepted.Accepted.{Accepted}
 use Rattle.dh_net.specs.declared.nets.Net.{Net}
-use Rattle.dh_check.specs.Verdicts.{Asked, asked_of, Verdict, accepts, IsVerdict}
+use Rattle.dh_check.specs.Verdicts.{Verdict, accepts, IsVerdict}
 use Rattle.dh_check.specs.declared.checking.CheckFault.{CheckFault}
 use Rattle.dh_check.specs.declared.checking.CheckFault.TheVariants as check_fault
-use Rattle.dh_check.specs.declared.checking.Forms.{Forms}
 use Rattle.dh_compile.specs.Compiled.{IsNetOfProgram}
 use Rattle.dh_data.specs.DataFiles.{Holds, Means}
 use Rattle.dh_data.specs.declared.data_files.DataFault.{DataFault}
@@ -69,33 +68,33 @@ FileRead old new name l (Ok bytes) = MayRead old name l bytes.items × HasRead o
 FileRead old new name l (Err r) = NoFile old new name l 1 (reply_seen r)
 
 -- a text comes to a verdict that refuses it, whose line is the reply
-pub record RefusesText (asked : Asked) (text : List ℕ) (s : Status) (line : List ℕ) : Type 0 where
+pub record RefusesText (ports : Bool) (text : List ℕ) (s : Status) (line : List ℕ) : Type 0 where
   pub verdict : Verdict
   pub refuses_it : IsRefusal verdict
-  pub judged : IsVerdict asked text verdict
+  pub judged : IsVerdict ports text verdict
   pub status_is : s ≡ verdict_status verdict
   pub line_is : line ≡ verdict_line verdict
 
-abbrev pub ProgramOf : Asked → (text : List ℕ) → Result Accepted Reply → Type 0
-ProgramOf asked text (Ok p) = IsVerdict asked text (accepts (program_seen p))
-ProgramOf asked text (Err r) = Says (RefusesText asked text) (reply_seen r)
+abbrev pub ProgramOf : Bool → (text : List ℕ) → Result Accepted Reply → Type 0
+ProgramOf ports text (Ok p) = IsVerdict ports text (accepts (program_seen p))
+ProgramOf ports text (Err r) = Says (RefusesText ports text) (reply_seen r)
 
 -- the same of a text whose ports are not judged
-abbrev pub TypedOf : Asked → (text : List ℕ) → Result Typed Reply → Type 0
-TypedOf asked text (Ok t) = IsVerdict asked text (accepts (program_seen t)) × IsReady (program_seen t)
-TypedOf asked text (Err r) = Says (RefusesText asked text) (reply_seen r)
+abbrev pub TypedOf : Bool → (text : List ℕ) → Result Typed Reply → Type 0
+TypedOf ports text (Ok t) = IsVerdict ports text (accepts (program_seen t)) × IsReady (program_seen t)
+TypedOf ports text (Err r) = Says (RefusesText ports text) (reply_seen r)
 
-abbrev pub ProgramRead : (old new : FilesSeen) → Asked → (file : List ℕ) → Result Accepted Reply → Type 0
-ProgramRead old new asked file (Ok p) = IsProgram old asked file (program_seen p) × HasRead old new 1
-ProgramRead old new asked file (Err r) = NoProgram old new asked file (reply_seen r)
+abbrev pub ProgramRead : (old new : FilesSeen) → Bool → (file : List ℕ) → Result Accepted Reply → Type 0
+ProgramRead old new ports file (Ok p) = IsProgram old ports file (program_seen p) × HasRead old new 1
+ProgramRead old new ports file (Err r) = NoProgram old new ports file (reply_seen r)
 
--- the same, where these forms may stand in the program and its ports are judged
-abbrev pub AcceptedRead : (old new : FilesSeen) → Forms → (file : List ℕ) → Result Accepted Reply → Type 0
-AcceptedRead old new forms file r = ProgramRead old new (asked_of forms true) file r
+-- the same, where its ports are judged
+abbrev pub AcceptedRead : (old new : FilesSeen) → (file : List ℕ) → Result Accepted Reply → Type 0
+AcceptedRead old new file r = ProgramRead old new true file r
 
-abbrev pub TypedRead : (old new : FilesSeen) → Asked → (file : List ℕ) → Result Typed Reply → Type 0
-TypedRead old new asked file (Ok t) = IsProgram old asked file (program_seen t) × (HasRead old new 1 × IsReady (program_seen t))
-TypedRead old new asked file (Err r) = NoProgram old new asked file (reply_seen r)
+abbrev pub TypedRead : (old new : FilesSeen) → Bool → (file : List ℕ) → Result Typed Reply → Type 0
+TypedRead old new ports file (Ok t) = IsProgram old ports file (program_seen t) × (HasRead old new 1 × IsReady (program_seen t))
+TypedRead old new ports file (Err r) = NoProgram old new ports file (reply_seen r)
 
 -- what `--unchecked` asks of the file
 abbrev pub UncheckedRead : (old new : FilesSeen) → (file : List ℕ) → Result Typed Reply → Type 0

@@ -1,6 +1,6 @@
 -- What a job reads: the text of its program, and the data for its memories. Each is a stage of the job,
 -- which ends it with a reply, or hands what was read to the rest of the job.
-use Rattle.std.specs.Prelude.{◌≡◌, ℕ, ◌+◌, ◌≤◌, ◌⊎◌, List, length, Result, Err}
+use Rattle.std.specs.Prelude.{Bool, ◌≡◌, ℕ, ◌+◌, ◌≤◌, ◌⊎◌, List, length, Result, Err}
 use Rattle.dh_base.specs.Limits.{greatest_of}
 use Rattle.dh_base.specs.Outside.{FilesSeen, Rose, RoseBy, MayBe, IsAbsent, MayExceed, risen}
 use Rattle.dh_base.specs.declared.limits.Limit.{Limit}
@@ -10,7 +10,7 @@ use Rattle.dh_base.specs.declared.statuses.Status.TheVariants as status
 use Rattle.dh_tree.specs.Tables.{Fits}
 use Rattle.dh_tree.specs.declared.tables.MemEntry.{MemEntry}
 use Rattle.dh_tree.specs.PlainTrees.{Program}
-use Rattle.dh_check.specs.Verdicts.{Asked, Verdict, accepts, refuses, exceeds, IsVerdict}
+use Rattle.dh_check.specs.Verdicts.{Verdict, accepts, refuses, exceeds, IsVerdict}
 use Rattle.dh_data.specs.DataFiles.{Holds, Means}
 use Rattle.dh_data.specs.declared.data_files.DataFault.{DataFault}
 use Rattle.dh_app.specs.Inputs.{InputsSeen, HasRead, IsIdle}
@@ -70,41 +70,41 @@ IsRefusal (accepts p) = ⊥
 IsRefusal (refuses rule place) = Unit {0}
 IsRefusal (exceeds excess) = Unit {0}
 
--- by what is asked of it, the text of the file comes to this verdict, and to no other
-pub record ComesTo (files : FilesSeen) (asked : Asked) (file : List ℕ) (v : Verdict) : Type 0 where
+-- by what is ports of it, the text of the file comes to this verdict, and to no other
+pub record ComesTo (files : FilesSeen) (ports : Bool) (file : List ℕ) (v : Verdict) : Type 0 where
   pub text : List ℕ
   pub read : MayRead files file limit.Source text
-  pub verdict : IsVerdict asked text v
+  pub verdict : IsVerdict ports text v
 
--- the file is the text of this program, accepted by what is asked of it
-abbrev pub IsProgram : FilesSeen → Asked → (file : List ℕ) → Program → Type 0
-IsProgram files asked file p = ComesTo files asked file (accepts p)
+-- the file is the text of this program, accepted by what is ports of it
+abbrev pub IsProgram : FilesSeen → Bool → (file : List ℕ) → Program → Type 0
+IsProgram files ports file p = ComesTo files ports file (accepts p)
 
 -- the program breaks a rule or exceeds a limit, and the reply says which
-pub record SaysRefused (old new : FilesSeen) (asked : Asked) (file : List ℕ) (s : Status) (text : List ℕ) : Type 0 where
+pub record SaysRefused (old new : FilesSeen) (ports : Bool) (file : List ℕ) (s : Status) (text : List ℕ) : Type 0 where
   pub verdict : Verdict
   pub refuses_it : IsRefusal verdict
-  pub comes : ComesTo old asked file verdict
+  pub comes : ComesTo old ports file verdict
   pub read : HasRead old new 1
   pub status_is : s ≡ verdict_status verdict
   pub text_is : text ≡ verdict_line verdict
 
 -- the program was not accepted
-abbrev pub NotAccepted : (old new : FilesSeen) → Asked → (file : List ℕ) → ReplySeen → Type 0
-NotAccepted old new asked file (replied s text) = SaysRefused old new asked file s text
-NotAccepted old new asked file unread = ⊥
-NotAccepted old new asked file no_memory = HasRead old new 1
+abbrev pub NotAccepted : (old new : FilesSeen) → Bool → (file : List ℕ) → ReplySeen → Type 0
+NotAccepted old new ports file (replied s text) = SaysRefused old new ports file s text
+NotAccepted old new ports file unread = ⊥
+NotAccepted old new ports file no_memory = HasRead old new 1
 
 -- the file gave no program
-abbrev pub NoProgram : (old new : FilesSeen) → Asked → (file : List ℕ) → ReplySeen → Type 0
-NoProgram old new asked file r = NoFile old new file limit.Source 1 r ⊎ NotAccepted old new asked file r
+abbrev pub NoProgram : (old new : FilesSeen) → Bool → (file : List ℕ) → ReplySeen → Type 0
+NoProgram old new ports file r = NoFile old new file limit.Source 1 r ⊎ NotAccepted old new ports file r
 
--- a job reads the file of its program first: it gives none, and no other file is read and no engine asked;
+-- a job reads the file of its program first: it gives none, and no other file is read and no engine ports;
 -- or it gives one, and the rest of the job follows
-abbrev pub ProgramStage : (old new : InputsSeen) → Asked → (file : List ℕ) → (rest : Program → ReplySeen → Type 0) → ReplySeen → Type 0
-ProgramStage old new asked file rest r =
-    (NoProgram old.files new.files asked file r × IsIdle old new)
-    ⊎ ((p : Program) × (IsProgram old.files asked file p × rest p r))
+abbrev pub ProgramStage : (old new : InputsSeen) → Bool → (file : List ℕ) → (rest : Program → ReplySeen → Type 0) → ReplySeen → Type 0
+ProgramStage old new ports file rest r =
+    (NoProgram old.files new.files ports file r × IsIdle old new)
+    ⊎ ((p : Program) × (IsProgram old.files ports file p × rest p r))
 
 -- ---- the data
 
@@ -141,7 +141,7 @@ NotTaken old new data_ table count no_memory = HasRead old new count
 abbrev pub NoData : (old new : FilesSeen) → (data_ : List ℕ) → List MemEntry → (count : ℕ) → ReplySeen → Type 0
 NoData old new data_ table count r = NoFile old new data_ limit.Data count r ⊎ NotTaken old new data_ table count r
 
--- a job reads the file of its data second: it gives no memories of the table, and no engine is asked; or
+-- a job reads the file of its data second: it gives no memories of the table, and no engine is ports; or
 -- it gives memories, and the rest of the job follows
 abbrev pub DataStage : (old new : InputsSeen) → (data_ : List ℕ) → List MemEntry → (rest : List (List ℕ) → ReplySeen → Type 0) → ReplySeen → Type 0
 DataStage old new data_ table rest r =

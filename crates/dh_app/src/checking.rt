@@ -9,7 +9,6 @@ use crate::lines::ok_line;
 use crate::replies::{Reply, reply_with};
 use crate::sources::read_program;
 use dh_base::{Files, Status};
-use dh_check::Forms;
 use std::alloc::Global;
 
 /// Says whether the program of a file breaks a rule or exceeds a limit, and which and where.
@@ -18,7 +17,7 @@ pub fn check_file<F: Files>(alloc: Global, file: &str, files: &mut F) -> Reply
     ensures comes { WithAnyEngine (F.seen files.old) (F.seen files.new) (λ old new.
         ChecksFile old new file.now (reply_seen result)) }
 {
-    match read_program(alloc, file, files, Forms::Checked) {
+    match read_program(alloc, file, files) {
         Ok(_) => ok_reply(alloc),
         Err(reply) => reply,
     }

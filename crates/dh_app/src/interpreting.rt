@@ -16,7 +16,7 @@ use crate::replies::Reply;
 use crate::reporting::report_ending;
 use crate::sources::{read_memories, read_program, read_typed};
 use dh_base::{Files, NoMemory, Outcome};
-use dh_check::{Forms, ready_programs_have_tables};
+use dh_check::ready_programs_have_tables;
 use dh_data::Ending;
 use dh_runnable::ready_programs_are_runnable;
 use dh_sem::Interp;
@@ -44,7 +44,7 @@ pub fn interpret<F: Files>(
             Err(reply) => reply,
         }
     } else {
-        match read_program(alloc, file, files, Forms::Checked) {
+        match read_program(alloc, file, files) {
             Ok(accepted) => interpret_typed(alloc, accepted.typed(), data_, steps, files),
             Err(reply) => reply,
         }

@@ -11,7 +11,7 @@ use crate::compiling::net_of;
 use crate::replies::{Answer, Reply};
 use crate::sources::read_program;
 use dh_base::{Files, NoMemory, Status};
-use dh_check::{Accepted, Forms};
+use dh_check::Accepted;
 use dh_net::Net;
 use std::alloc::Global;
 
@@ -21,7 +21,7 @@ pub fn lower<F: Files>(alloc: Global, file: &str, files: &mut F) -> Reply
     ensures comes { WithAnyEngine (F.seen files.old) (F.seen files.new) (λ old new.
         LowersFile old new file.now (reply_seen result)) }
 {
-    match read_program(alloc, file, files, Forms::Checked) {
+    match read_program(alloc, file, files) {
         Ok(accepted) => lower_program(alloc, &accepted),
         Err(reply) => reply,
     }

@@ -26,7 +26,7 @@ use std::alloc::Global;
 /// text of its net: the text of a net that plays the program from all fitting memories, and of no
 /// other net. `interpret FILE DATA` runs the program of the one file from the memories of the other by
 /// the checked semantics, and writes the report of how the run stands after the steps that it is given;
-/// with `--unchecked` more forms may stand in the program, and its ports are not judged before the run.
+/// with `--unchecked` the ports of its memories are not judged before the run.
 /// `simulate FILE DATA` compiles the program of the one file, has the engine run the net
 /// from the memories of the other, and writes the report of the engine's answer.
 ///

@@ -17,7 +17,7 @@ use crate::replies::Reply;
 use crate::reporting::report_ending;
 use crate::sources::{read_memories, read_program};
 use dh_base::{Files, NoMemory};
-use dh_check::{Accepted, Forms};
+use dh_check::Accepted;
 use dh_data::Ending;
 use dh_net::Net;
 use dh_tree::{MemTable, Memories};
@@ -38,7 +38,7 @@ pub fn simulate<F: Files, E: Engine>(
         (F.seen files.new) (E.seen engine.new)
         (λ old new. SimulatesFiles old new file.now data_.now clocks (reply_seen result)) }
 {
-    match read_program(alloc, file, files, Forms::Checked) {
+    match read_program(alloc, file, files) {
         Ok(accepted) => simulate_program(alloc, &accepted, data_, clocks, files, engine),
         Err(reply) => reply,
     }

@@ -4,7 +4,6 @@ ghost use Rattle.std.specs.Prelude.{◌≤◌, length, true, IfOk};
 ghost use Rattle.dh_base.specs.Outside.{KeepsFiles};
 ghost use Rattle.dh_tree.specs.Shapes.{IsProgramTable};
 ghost use Rattle.dh_tree.specs.Tables.{Fits};
-ghost use Rattle.dh_check.specs.Verdicts.{asked_of};
 ghost use Rattle.dh_app.specs.Asking.{interpreted};
 ghost use Rattle.dh_app.specs.Parts.{SaysFault, FileRead, ProgramOf, AcceptedRead, TypedOf, UncheckedRead, DataOf, SecondRead};
 ghost use Rattle.dh_app.specs.Replies.{reply_seen};
@@ -12,7 +11,7 @@ ghost use Rattle.dh_app.specs.Replies.{reply_seen};
 use crate::lines::{bad_data_line, refused_line, too_large_line};
 use crate::replies::{Reply, reply_with, too_large};
 use dh_base::{Excess, FileFault, Files, Limit, Status};
-use dh_check::{Accepted, CheckFault, Forms, check, check_without_ports};
+use dh_check::{Accepted, CheckFault, check, check_without_ports};
 use dh_tree::{MemTable, Memories, Typed};
 use std::alloc::Global;
 
@@ -34,18 +33,13 @@ fn read_file<F: Files>(
     }
 }
 
-/// The program of a file, accepted with these forms, or the line of its verdict.
-pub fn read_program<F: Files>(
-    alloc: Global,
-    name: &str,
-    files: &mut F,
-    forms: Forms,
-) -> Result<Accepted, Reply>
+/// The program of a file, accepted, or the line of its verdict.
+pub fn read_program<F: Files>(alloc: Global, name: &str, files: &mut F) -> Result<Accepted, Reply>
     ensures files { KeepsFiles (F.seen files.old) (F.seen files.new) }
-    ensures read { AcceptedRead (F.seen files.old) (F.seen files.new) forms name.now result }
+    ensures read { AcceptedRead (F.seen files.old) (F.seen files.new) name.now result }
 {
     let text = read_file(alloc, name, Limit::Source, files)?;
-    program_of(alloc, text.as_slice(), forms)
+    program_of(alloc, text.as_slice())
 }
 
 /// The program of a file, whose ports are not judged, or the line of its verdict.
@@ -58,11 +52,11 @@ pub fn read_typed<F: Files>(alloc: Global, name: &str, files: &mut F) -> Result<
 }
 
 /// The program of a text, or the line of its verdict.
-fn program_of(alloc: Global, text: &[u8], forms: Forms) -> Result<Accepted, Reply>
+fn program_of(alloc: Global, text: &[u8]) -> Result<Accepted, Reply>
     requires { length text.now ≤ 1048576 }
-    ensures program { ProgramOf (asked_of forms true) text.now result }
+    ensures program { ProgramOf true text.now result }
 {
-    match check(alloc, text, forms) {
+    match check(alloc, text) {
         Ok(accepted) => Ok(accepted),
         Err(fault) => Err(fault_line(alloc, fault)),
     }
@@ -73,7 +67,7 @@ fn typed_of(alloc: Global, text: &[u8]) -> Result<Typed, Reply>
     requires { length text.now ≤ 1048576 }
     ensures { TypedOf (interpreted true) text.now result }
 {
-    match check_without_ports(alloc, text, Forms::Unchecked) {
+    match check_without_ports(alloc, text) {
         Ok(typed) => Ok(typed),
         Err(fault) => Err(fault_line(alloc, fault)),
     }

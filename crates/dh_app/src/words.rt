@@ -26,7 +26,7 @@ pub enum Job {
         data_: u32,
         /// The most logical steps that the run may take.
         steps: u64,
-        /// Whether the program may have more forms and spend any ports, of which the run then tells.
+        /// Whether the program may spend any ports, of which the run then tells.
         unchecked: bool,
     },
     /// Compile the program of a file, run its net from the memories of another, and report.

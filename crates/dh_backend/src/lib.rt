@@ -1,6 +1,5 @@
 //! From the plan of a program to what its netlist is made of: banks and rows, the graph of states, the schedule without
 //! limits and the ports of operations, each by the pass that makes it; and the laws that tie these to the program.
-//! Nothing of the program stands on this crate yet.
 #![tactic(auto)]
 
 mod examples;

@@ -14,7 +14,7 @@ use Rattle.dh_value.specs.Operations.{Suits, binary_of, result_of, truth}
 use Rattle.dh_value.proofs.Residues.{residue-lt}
 use Rattle.dh_value.proofs.WordLaws.{word_again}
 use Rattle.dh_tree.specs.declared.trees.expressions.Ref.{Ref}
-use Rattle.dh_tree.specs.Meaning.{wider}
+use Rattle.dh_tree.specs.WiderKinds.{wider}
 use Rattle.dh_tree.specs.PlainTrees.{Term, term}
 use Rattle.dh_meaning.specs.Bindings.{kind_found}
 use Rattle.dh_meaning.specs.Core.{CoreTerm}

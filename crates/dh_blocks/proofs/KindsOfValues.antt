@@ -16,7 +16,7 @@ use Rattle.dh_value.proofs.Values.{integer_width}
 use Rattle.dh_value.proofs.WordLaws.{binary_is_word, binary_kind, truth_is_word, word_again, word_of_is_word}
 use Rattle.std.proofs.lemmas.Nat.{pow_pos}
 use Rattle.dh_tree.specs.declared.trees.expressions.Ref.{Ref}
-use Rattle.dh_tree.specs.Meaning.{wider}
+use Rattle.dh_tree.specs.WiderKinds.{wider}
 use Rattle.dh_tree.specs.PlainTrees.{Term, term, number, truth_value, named, accessed, in_bank, applied, converted}
 use Rattle.dh_meaning.specs.AccessNumbers.{term_accesses}
 use Rattle.dh_meaning.specs.Bindings.{kind_or_first, kind_found}

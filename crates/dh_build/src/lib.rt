@@ -1,6 +1,6 @@
 //! The last joint of the compiler's passes: the net of a plan of one thread, of its data path, its control and the
 //! drivers of its ports.
-//! Stands on `dh_control` and `dh_datapath`. Nothing of the program stands on this crate yet.
+//! Stands on `dh_control` and `dh_datapath`.
 #![tactic(auto)]
 
 mod assembling;

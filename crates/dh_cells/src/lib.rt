@@ -1,7 +1,7 @@
 //! Circuits: cells of a net, added one by one, each with what its wire shows. Words are held on wires as their bits.
 //! A circuit takes the memories and the widths of the registers; what it gives are wires, each told for every way in
 //! which registers, ports and cells can settle (`specs/Settled`), and in the end cells of a valid net.
-//! Stands on `dh_net`. Nothing of the program stands on this crate yet.
+//! Stands on `dh_net`.
 #![tactic(auto)]
 
 mod choices;

@@ -1,7 +1,7 @@
 //! What blocks of a plan touch and charge: laws on what was put down for commands, for no step. Which registers a block
 //! sees and sets; that accesses of a plan meet as those of the program; that a bank is read and written as often as there
 //! are distinct keys of accesses on it; and so that no access of a block or of a plan charges a bank more than in the
-//! program. Stands on `dh_laid`, `dh_blocks` and below. Nothing of the program stands on this crate yet.
+//! program. Stands on `dh_laid`, `dh_blocks` and below.
 #![tactic(auto)]
 
 mod laws;

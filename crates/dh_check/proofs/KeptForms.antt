@@ -87,3 +87,7 @@ steps_end holds stepped cs k parts i l =
     or_assoc holds stepped (all_hold parts i)
     ∙ (ap (λ b. holds || (b || all_hold parts i)) (or_none stepped)
     ∙ ap (λ (xs : List Command). holds || ((stepped || part_holds (actions (map action_seen xs))) || all_hold parts i)) (sym (drop_all k cs l)))
+
+-- two lists, one after the other
+pub two_kept : (kept first second : Option Breach) (xs ys : List Breach) → first ≡ least_of kept xs → second ≡ least_of first ys → second ≡ least_of kept (xs ++ ys)
+two_kept kept first second xs ys e f = f ∙ (ap (λ k. least_of k ys) e ∙ sym (least_append kept xs ys))

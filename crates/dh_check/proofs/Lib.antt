@@ -1,9 +1,7 @@
 pub mod StepsHeld
 pub mod KeptForms
-pub mod KeptUnchecked
 pub mod OneVerdict
 pub mod Passing
 pub mod Texts
-pub mod TablesReady
 pub mod Checked
 pub mod Shaped

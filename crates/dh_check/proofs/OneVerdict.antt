@@ -19,8 +19,8 @@ use Rattle.dh_tree.specs.Placements.{placement_breaches}
 use Rattle.dh_tree.specs.Resolved.{resolved}
 use Rattle.dh_tree.proofs.FirstBreaches.{least_is_one, least_not_none}
 use Rattle.dh_ports.proofs.PlacesOnce.{one_first, none_first}
-use Rattle.dh_check.specs.Acceptance.{unbuilt_by}
-use Rattle.dh_check.specs.Verdicts.{Verdict, refuses, tokens_excess, Passes, JudgedPorts, Asked, JudgedLast, JudgedLimits, JudgedTyped, JudgedTree, JudgedToken, JudgedTokens, Judged, IsVerdict}
+use Rattle.dh_tree.specs.Forms.{unbuilt_forms}
+use Rattle.dh_check.specs.Verdicts.{Verdict, refuses, tokens_excess, Passes, JudgedPorts, JudgedLast, JudgedLimits, JudgedTyped, JudgedTree, JudgedToken, JudgedTokens, Judged, IsVerdict}
 
 -- of two verdicts one is possible
 abbrev OneOf : (Verdict → Type 0) → Type 0
@@ -51,10 +51,10 @@ typed_once ports p =
     passes_once (kind_breaches p) (λ v. Passes (index_breaches_of p) v (JudgedLimits ports p (first_excess p) v))
     (passes_once (index_breaches_of p) (λ v. JudgedLimits ports p (first_excess p) v) (limits_once ports p (first_excess p)))
 
-tree_once : (asked : Asked) (p : Program) → OneOf (JudgedTree asked p)
-tree_once asked p =
-    passes_once (unbuilt_by asked.forms p) (λ v. Passes (breaches_of p) v (JudgedTyped asked.ports (typed (resolved p)) v))
-    (passes_once (breaches_of p) (λ v. JudgedTyped asked.ports (typed (resolved p)) v) (typed_once asked.ports (typed (resolved p))))
+tree_once : (ports : Bool) (p : Program) → OneOf (JudgedTree ports p)
+tree_once ports p =
+    passes_once (unbuilt_forms p) (λ v. Passes (breaches_of p) v (JudgedTyped ports (typed (resolved p)) v))
+    (passes_once (breaches_of p) (λ v. JudgedTyped ports (typed (resolved p)) v) (typed_once ports (typed (resolved p))))
 
 token_once : (tokens : List Token) (v w : Verdict) → JudgedToken tokens v → JudgedToken tokens w → v ≡ w
 token_once tokens v w h k =
@@ -64,23 +64,23 @@ token_once tokens v w h k =
     ∙ (ap (λ (t : Token). refuses (rule_at k.before t) t.place) same.1
     ∙ sym k.verdict))
 
-tokens_once : (asked : Asked) (tokens : List Token) (o : Option Excess) → OneOf (JudgedTokens asked tokens o)
-tokens_once asked tokens (Some x) v w e f = e ∙ sym f
-tokens_once asked tokens None v w (inl h) (inl k) = token_once tokens v w h k
-tokens_once asked tokens None v w (inl h) (inr (q, (s, k))) = absurd (spelled_in_place q tokens h.before h.token h.after s h.out_of_place)
-tokens_once asked tokens None v w (inr (p, (s, h))) (inl k) = absurd (spelled_in_place p tokens k.before k.token k.after s k.out_of_place)
-tokens_once asked tokens None v w (inr (p, (s, h))) (inr (q, (t, k))) =
-    let P : Program → Type 0 = λ x. JudgedTree asked x w in
-    tree_once asked p v w h (subst P (sym (one_tree p q tokens s t)) k)
+tokens_once : (ports : Bool) (tokens : List Token) (o : Option Excess) → OneOf (JudgedTokens ports tokens o)
+tokens_once ports tokens (Some x) v w e f = e ∙ sym f
+tokens_once ports tokens None v w (inl h) (inl k) = token_once tokens v w h k
+tokens_once ports tokens None v w (inl h) (inr (q, (s, k))) = absurd (spelled_in_place q tokens h.before h.token h.after s h.out_of_place)
+tokens_once ports tokens None v w (inr (p, (s, h))) (inl k) = absurd (spelled_in_place p tokens k.before k.token k.after s k.out_of_place)
+tokens_once ports tokens None v w (inr (p, (s, h))) (inr (q, (t, k))) =
+    let P : Program → Type 0 = λ x. JudgedTree ports x w in
+    tree_once ports p v w h (subst P (sym (one_tree p q tokens s t)) k)
 
-one_verdict : (asked : Asked) (text : List _) → OneOf (Judged asked text)
-one_verdict asked text v w (inl (a, (h, e))) (inl (b, (k, f))) = e ∙ (ap (λ place. refuses Lex place) (one_breach text a b h k) ∙ sym f)
-one_verdict asked text v w (inl (a, (h, e))) (inr (ts, (k, f))) = absurd (not_both text ts a k h)
-one_verdict asked text v w (inr (ts, (h, e))) (inl (b, (k, f))) = absurd (not_both text ts b h k)
-one_verdict asked text v w (inr (ts, (h, e))) (inr (us, (k, f))) =
-    let P : List Token → Type 0 = λ x. JudgedTokens asked x (tokens_excess x) w in
-    tokens_once asked ts (tokens_excess ts) v w e (subst P (sym (one_list text ts us h k)) f)
+one_verdict : (ports : Bool) (text : List _) → OneOf (Judged ports text)
+one_verdict ports text v w (inl (a, (h, e))) (inl (b, (k, f))) = e ∙ (ap (λ place. refuses Lex place) (one_breach text a b h k) ∙ sym f)
+one_verdict ports text v w (inl (a, (h, e))) (inr (ts, (k, f))) = absurd (not_both text ts a k h)
+one_verdict ports text v w (inr (ts, (h, e))) (inl (b, (k, f))) = absurd (not_both text ts b h k)
+one_verdict ports text v w (inr (ts, (h, e))) (inr (us, (k, f))) =
+    let P : List Token → Type 0 = λ x. JudgedTokens ports x (tokens_excess x) w in
+    tokens_once ports ts (tokens_excess ts) v w e (subst P (sym (one_list text ts us h k)) f)
 
 -- what a text comes to it comes to alone
-pub is_verdict : (asked : Asked) (text : List _) (v : Verdict) → Judged asked text v → IsVerdict asked text v
-is_verdict asked text v h = record { judged = h; only = λ w k. one_verdict asked text w v k h }
+pub is_verdict : (ports : Bool) (text : List _) (v : Verdict) → Judged ports text v → IsVerdict ports text v
+is_verdict ports text v h = record { judged = h; only = λ w k. one_verdict ports text w v k h }

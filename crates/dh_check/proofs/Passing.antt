@@ -14,7 +14,6 @@ use Rattle.dh_tree.specs.LeastBreach.{IsLeast, breach}
 use Rattle.dh_tree.specs.PlainTrees.{Program}
 use Rattle.dh_tree.specs.Breaches.{breaches_of, KeepsNames}
 use Rattle.dh_tree.specs.Forms.{unbuilt_forms}
-use Rattle.dh_tree.specs.UncheckedForms.{unchecked_forms}
 use Rattle.dh_tree.specs.KindBreaches.{kind_breaches, KeepsKinds}
 use Rattle.dh_tree.specs.Kinds.{typed, HasKinds}
 use Rattle.dh_tree.specs.Excesses.{first_excess}
@@ -24,19 +23,15 @@ use Rattle.dh_tree.specs.Ready.{most_tokens, IsReady}
 use Rattle.dh_tree.specs.NameCounts.{HasFewNames}
 use Rattle.dh_tree.specs.Resolved.{resolved, HasEntities}
 use Rattle.dh_tree.specs.Seen.{program_seen}
-use Rattle.dh_tree.specs.Written.{IsOfText, IsWritten}
+use Rattle.dh_tree.specs.Written.{IsOfText}
 use Rattle.dh_tree.proofs.ResolvedForms as resolving
 use Rattle.dh_tree.proofs.ResolvedTexts as resolving_texts
 use Rattle.dh_tree.proofs.TypedForms as typing
 use Rattle.dh_tree.proofs.TypedTexts as typing_texts
-use Rattle.dh_tree.proofs.UncheckedBuilt.{forms_built}
-use Rattle.dh_check.specs.declared.checking.Forms.{Forms}
-use Rattle.dh_check.specs.declared.checking.Forms.TheVariants.{Unchecked, Checked, Compiled}
 use Rattle.dh_check.specs.declared.checking.CheckFault.{CheckFault}
 use Rattle.dh_check.specs.declared.checking.CheckFault.TheVariants as fault
-use Rattle.dh_check.specs.Acceptance.{unbuilt_by}
 use Rattle.dh_check.specs.Ready.{of_pass, GoesOn, Stops, TellsShapes, TellsNamed, TellsTree}
-use Rattle.dh_check.specs.Verdicts.{Verdict, refuses, exceeds, Passes, JudgedLast, JudgedLimits, JudgedTyped, JudgedTree, asked_of}
+use Rattle.dh_check.specs.Verdicts.{Verdict, refuses, exceeds, Passes, JudgedLast, JudgedLimits, JudgedTyped, JudgedTree}
 
 -- a pass that keeps a breach refuses, and one that keeps none lets the next follow
 refused_at : (bs : List Breach) (r : Rule) (place : Place) (next : Type 0) → IsLeast bs (breach r place) → Passes bs (refuses r place) next
@@ -83,10 +78,10 @@ named_stops p t s e same again keeps h =
     subst (λ (x : Program). Stops (λ ports v. JudgedTyped ports x v) e) same (shapes_stop t e keeps (subst (λ (x : Program). TellsShapes {A = Unit {0}} x (Err e)) again h))
 
 -- what has passed them is ready, and goes on to its ports
-is_ready : (p t : Program) → t ≡ typed p → IsOfText most_tokens p → unchecked_forms p ≡ [] → KeepsNames t → HasEntities t → HasKinds t → KeepsKinds t → TellsShapes {A = Unit {0}} t (Ok tt) → IsReady t
+is_ready : (p t : Program) → t ≡ typed p → IsOfText most_tokens p → unbuilt_forms p ≡ [] → KeepsNames t → HasEntities t → HasKinds t → KeepsKinds t → TellsShapes {A = Unit {0}} t (Ok tt) → IsReady t
 is_ready p t same of_text built names entities kinds suits shapes = record {
   of_text = subst (λ (x : Program). IsOfText most_tokens x) (sym same) (typing.of_text_kept most_tokens p (typing_texts.widths_kept p of_text.widths) of_text);
-  built = ap unchecked_forms same ∙ (typing_texts.unchecked_forms_kept p ∙ built);
+  built = ap unbuilt_forms same ∙ (typing_texts.unbuilt_forms_kept p ∙ built);
   names = names;
   entities = entities;
   kinds = kinds;
@@ -96,7 +91,7 @@ is_ready p t same of_text built names entities kinds suits shapes = record {
   placements = shapes.1.1;
 }
 
-pub named_ready : (p t s : Program) → t ≡ typed p → s ≡ t → IsOfText most_tokens p → unchecked_forms p ≡ [] → KeepsNames t → HasEntities t → HasKinds t → KeepsKinds t → TellsShapes {A = Unit {0}} s (Ok tt)
+pub named_ready : (p t s : Program) → t ≡ typed p → s ≡ t → IsOfText most_tokens p → unbuilt_forms p ≡ [] → KeepsNames t → HasEntities t → HasKinds t → KeepsKinds t → TellsShapes {A = Unit {0}} s (Ok tt)
     → (t ≡ typed p) × (IsReady (typed p) × GoesOn (λ ports v. JudgedTyped ports (typed p) v) (typed p))
 named_ready p t s same again of_text built names entities kinds suits h =
     let shapes : TellsShapes {A = Unit {0}} t (Ok tt) = subst (λ (x : Program). TellsShapes {A = Unit {0}} x (Ok tt)) again h in (
@@ -108,68 +103,42 @@ named_ready p t s same again of_text built names entities kinds suits h =
     )
 
 -- the passes over a tree
-forms_passed : (forms : Forms) (ports : Bool) (p : Program) (v : Verdict) → unbuilt_by forms p ≡ [] → Passes (breaches_of p) v (JudgedTyped ports (typed (resolved p)) v)
-    → JudgedTree (asked_of forms ports) p v
-forms_passed forms ports p v e h = passed (unbuilt_by forms p) v (Passes (breaches_of p) v (JudgedTyped ports (typed (resolved p)) v)) e h
+forms_passed : (ports : Bool) (p : Program) (v : Verdict) → unbuilt_forms p ≡ [] → Passes (breaches_of p) v (JudgedTyped ports (typed (resolved p)) v)
+    → JudgedTree ports p v
+forms_passed ports p v e h = passed (unbuilt_forms p) v (Passes (breaches_of p) v (JudgedTyped ports (typed (resolved p)) v)) e h
 
-pub forms_stop : (forms : Forms) (p : Program) (b : Breach) → IsLeast (unbuilt_by forms p) b → Stops (λ ports v. JudgedTree (asked_of forms ports) p v) (fault.Refused b.rule b.place)
-forms_stop forms p b h =
-    λ ports. refused_at (unbuilt_by forms p) b.rule b.place (Passes (breaches_of p) (refuses b.rule b.place) (JudgedTyped ports (typed (resolved p)) (refuses b.rule b.place))) h
+pub forms_stop : (p : Program) (b : Breach) → IsLeast (unbuilt_forms p) b → Stops (λ ports v. JudgedTree ports p v) (fault.Refused b.rule b.place)
+forms_stop p b h =
+    λ ports. refused_at (unbuilt_forms p) b.rule b.place (Passes (breaches_of p) (refuses b.rule b.place) (JudgedTyped ports (typed (resolved p)) (refuses b.rule b.place))) h
 
-pub names_stop : (forms : Forms) (p : Program) (e : PassFault) → unbuilt_by forms p ≡ [] → names.Answers p (Err e) → Stops (λ ports v. JudgedTree (asked_of forms ports) p v) (of_pass e)
-names_stop forms p pass.NoMemory none h = λ ports. tt
-names_stop forms p (pass.Refused r place) none h =
-    λ ports. forms_passed forms ports p (refuses r place) none (refused_at (breaches_of p) r place (JudgedTyped ports (typed (resolved p)) (refuses r place)) h)
+pub names_stop : (p : Program) (e : PassFault) → unbuilt_forms p ≡ [] → names.Answers p (Err e) → Stops (λ ports v. JudgedTree ports p v) (of_pass e)
+names_stop p pass.NoMemory none h = λ ports. tt
+names_stop p (pass.Refused r place) none h =
+    λ ports. forms_passed ports p (refuses r place) none (refused_at (breaches_of p) r place (JudgedTyped ports (typed (resolved p)) (refuses r place)) h)
 
-tree_named : (forms : Forms) (ports : Bool) (p q : Program) (v : Verdict) → unbuilt_by forms p ≡ [] → q ≡ resolved p → KeepsNames p → JudgedTyped ports (typed q) v
-    → JudgedTree (asked_of forms ports) p v
-tree_named forms ports p q v e same keeps h =
+tree_named : (ports : Bool) (p q : Program) (v : Verdict) → unbuilt_forms p ≡ [] → q ≡ resolved p → KeepsNames p → JudgedTyped ports (typed q) v
+    → JudgedTree ports p v
+tree_named ports p q v e same keeps h =
     let P : Program → Type 0 = λ y. JudgedTyped ports (typed y) v in
-    forms_passed forms ports p v e (inr (keeps, subst P same h))
+    forms_passed ports p v e (inr (keeps, subst P same h))
 
--- what resolving and typing take over
-built_typed : (forms : Forms) (p : Program) → unbuilt_by forms (typed p) ≡ unbuilt_by forms p
-built_typed Unchecked p = typing_texts.unchecked_forms_kept p
-built_typed Checked p = typing_texts.unchecked_forms_kept p
-built_typed Compiled p = typing.forms_kept p
-
-built_resolved : (forms : Forms) (p : Program) → unbuilt_by forms (resolved p) ≡ unbuilt_by forms p
-built_resolved Unchecked p = resolving_texts.unchecked_forms_kept p
-built_resolved Checked p = resolving_texts.unchecked_forms_kept p
-built_resolved Compiled p = resolving.forms_kept p
-
-written_after : (p q t : Program) → q ≡ resolved p → t ≡ typed q → (unbuilt_forms p ≡ [] → IsWritten most_tokens p) → unbuilt_forms t ≡ [] → IsWritten most_tokens t
-written_after p q t same is written built =
-    let first : IsWritten most_tokens p = written (sym (ap unbuilt_forms is ∙ (typing.forms_kept q ∙ (ap unbuilt_forms same ∙ resolving.forms_kept p))) ∙ built) in
-    let second : IsWritten most_tokens q = subst (λ (x : Program). IsWritten most_tokens x) (sym same) (resolving.written_kept most_tokens p (resolving_texts.widths_kept p first.of_text.widths) first) in
-    subst (λ (x : Program). IsWritten most_tokens x) (sym is) (typing.written_kept most_tokens q (typing_texts.widths_kept q second.of_text.widths) second)
-
-pub tells_tree : (forms : Forms) (p q : Program) (r : Result Typed CheckFault) → unbuilt_by forms p ≡ [] → q ≡ resolved p → KeepsNames p
-    → (unbuilt_forms p ≡ [] → IsWritten most_tokens p) → TellsNamed q r → TellsTree forms p r
-tells_tree forms p q (Ok t) e same keeps written h = (
-  record {
-    ready = subst (λ (x : Program). IsReady x) (sym h.0) h.1.0;
-    built = ap (unbuilt_by forms) h.0 ∙ (built_typed forms q ∙ (ap (unbuilt_by forms) same ∙ (built_resolved forms p ∙ e)));
-    written = written_after p q (program_seen t) same h.0 written;
-  },
-  λ ports v j. tree_named forms ports p q v e same keeps (h.1.1 ports v (subst (λ (x : Program). JudgedLast ports x v) h.0 j)),
+pub tells_tree : (p q : Program) (r : Result Typed CheckFault) → unbuilt_forms p ≡ [] → q ≡ resolved p → KeepsNames p
+    → TellsNamed q r → TellsTree p r
+tells_tree p q (Ok t) e same keeps h = (
+  subst (λ (x : Program). IsReady x) (sym h.0) h.1.0,
+  λ ports v j. tree_named ports p q v e same keeps (h.1.1 ports v (subst (λ (x : Program). JudgedLast ports x v) h.0 j)),
 )
-tells_tree forms p q (Err (fault.Refused rule place)) e same keeps written h = λ ports. tree_named forms ports p q (refuses rule place) e same keeps (h ports)
-tells_tree forms p q (Err (fault.TooLarge limit count)) e same keeps written h =
-    λ ports. tree_named forms ports p q (exceeds (record { limit = limit; count = count })) e same keeps (h ports)
-tells_tree forms p q (Err fault.NoMemory) e same keeps written h = λ ports. tt
+tells_tree p q (Err (fault.Refused rule place)) e same keeps h = λ ports. tree_named ports p q (refuses rule place) e same keeps (h ports)
+tells_tree p q (Err (fault.TooLarge limit count)) e same keeps h =
+    λ ports. tree_named ports p q (exceeds (record { limit = limit; count = count })) e same keeps (h ports)
+tells_tree p q (Err fault.NoMemory) e same keeps h = λ ports. tt
 
 -- what names are resolved in
 pub of_text_still : (p q : Program) → q ≡ resolved p → IsOfText most_tokens p → IsOfText most_tokens q
 of_text_still p q same h = subst (λ (x : Program). IsOfText most_tokens x) (sym same) (resolving.of_text_kept most_tokens p (resolving_texts.widths_kept p h.widths) h)
 
-unchecked_by : (forms : Forms) (p : Program) → unbuilt_by forms p ≡ [] → unchecked_forms p ≡ []
-unchecked_by Unchecked p h = h
-unchecked_by Checked p h = h
-unchecked_by Compiled p h = forms_built p h
-
-pub built_still : (forms : Forms) (p q : Program) → unbuilt_by forms p ≡ [] → q ≡ resolved p → unchecked_forms q ≡ []
-built_still forms p q e same = ap unchecked_forms same ∙ (resolving_texts.unchecked_forms_kept p ∙ unchecked_by forms p e)
+pub built_still : (p q : Program) → unbuilt_forms p ≡ [] → q ≡ resolved p → unbuilt_forms q ≡ []
+built_still p q e same = ap unbuilt_forms same ∙ (resolving_texts.unbuilt_forms_kept p ∙ e)
 
 pub few_names : (p : Program) → IsOfText most_tokens p → HasFewNames p
 few_names p h = let w = h.names in omega (arith, w)

@@ -9,38 +9,35 @@ use Rattle.dh_lexer.specs.declared.tokens.Token.{Token}
 use Rattle.dh_lexer.specs.LexedText.{HasTokens, Lexed, AreEnded}
 use Rattle.dh_parser.specs.Programs.{Parses, Spells, rule_at}
 use Rattle.dh_parser.proofs.TextsSound.{texts_are_sound}
-use Rattle.dh_parser.proofs.WrittenTexts.{written}
-use Rattle.dh_tree.specs.Forms.{unbuilt_forms}
 use Rattle.dh_tree.specs.PlainTrees.{Program}
-use Rattle.dh_tree.specs.Written.{IsOfText, IsWritten}
+use Rattle.dh_tree.specs.Written.{IsOfText}
 use Rattle.dh_tree.specs.declared.trees.typed.Typed.{Typed}
-use Rattle.dh_check.specs.declared.checking.Forms.{Forms}
 use Rattle.dh_check.specs.declared.checking.CheckFault.{CheckFault}
 use Rattle.dh_check.specs.declared.checking.CheckFault.TheVariants as fault
 use Rattle.dh_tree.specs.Ready.{most_tokens}
 use Rattle.dh_check.specs.Ready.{of_pass, Stops, TellsTree, TellsText}
-use Rattle.dh_check.specs.Verdicts.{Verdict, refuses, exceeds, tokens_excess, JudgedTree, JudgedTokens, IsVerdict, asked_of, Asked}
+use Rattle.dh_check.specs.Verdicts.{Verdict, refuses, exceeds, tokens_excess, JudgedTree, JudgedTokens, IsVerdict}
 use Rattle.dh_check.proofs.OneVerdict.{is_verdict}
 
-pub no_tokens : (forms : Forms) (text : List ℕ) (e : PassFault) → Lexed text (Err e) → Stops (λ ports v. IsVerdict (asked_of forms ports) text v) (of_pass e)
-no_tokens forms text pass.NoMemory h = λ ports. tt
-no_tokens forms text (pass.Refused rule place) h = λ ports. is_verdict (asked_of forms ports) text (refuses rule place) (inl (place, (h.1.0, ap (λ r. refuses r place) h.0)))
+pub no_tokens : (text : List ℕ) (e : PassFault) → Lexed text (Err e) → Stops (λ ports v. IsVerdict ports text v) (of_pass e)
+no_tokens text pass.NoMemory h = λ ports. tt
+no_tokens text (pass.Refused rule place) h = λ ports. is_verdict ports text (refuses rule place) (inl (place, (h.1.0, ap (λ r. refuses r place) h.0)))
 
 -- the passes over the tokens `ts`; `l` are these as the code holds them
-judged_tokens : (asked : Asked) (text : List ℕ) (ts l : List Token) (o : Option Excess) (v : Verdict) → l ≡ ts → HasTokens text ts → tokens_excess l ≡ o → JudgedTokens asked l o v → IsVerdict asked text v
-judged_tokens asked text ts l o v same has e h =
-    let P : Option Excess → Type 0 = λ x. JudgedTokens asked l x v in
-    is_verdict asked text v (inr (l, (subst (λ (x : List Token). HasTokens text x) (sym same) has, subst P (sym e) h)))
+judged_tokens : (ports : Bool) (text : List ℕ) (ts l : List Token) (o : Option Excess) (v : Verdict) → l ≡ ts → HasTokens text ts → tokens_excess l ≡ o → JudgedTokens ports l o v → IsVerdict ports text v
+judged_tokens ports text ts l o v same has e h =
+    let P : Option Excess → Type 0 = λ x. JudgedTokens ports l x v in
+    is_verdict ports text v (inr (l, (subst (λ (x : List Token). HasTokens text x) (sym same) has, subst P (sym e) h)))
 
-pub tokens_exceed : (forms : Forms) (text : List ℕ) (ts l : List Token) (x : Excess) → l ≡ ts → HasTokens text ts → tokens_excess l ≡ Some x
-    → Stops (λ ports v. IsVerdict (asked_of forms ports) text v) (fault.TooLarge x.limit x.count)
-tokens_exceed forms text ts l x same has e = λ ports. judged_tokens (asked_of forms ports) text ts l (Some x) (exceeds x) same has e refl
+pub tokens_exceed : (text : List ℕ) (ts l : List Token) (x : Excess) → l ≡ ts → HasTokens text ts → tokens_excess l ≡ Some x
+    → Stops (λ ports v. IsVerdict ports text v) (fault.TooLarge x.limit x.count)
+tokens_exceed text ts l x same has e = λ ports. judged_tokens ports text ts l (Some x) (exceeds x) same has e refl
 
-pub token_refused : (forms : Forms) (text : List ℕ) (ts l : List Token) (f : PassFault) → l ≡ ts → HasTokens text ts → tokens_excess l ≡ None → Parses l (Err f)
-    → Stops (λ ports v. IsVerdict (asked_of forms ports) text v) (of_pass f)
-token_refused forms text ts l pass.NoMemory same has e h = λ ports. tt
-token_refused forms text ts l (pass.Refused rule place) same has e h =
-    λ ports. judged_tokens (asked_of forms ports) text ts l None (refuses rule place) same has e (inl (record {
+pub token_refused : (text : List ℕ) (ts l : List Token) (f : PassFault) → l ≡ ts → HasTokens text ts → tokens_excess l ≡ None → Parses l (Err f)
+    → Stops (λ ports v. IsVerdict ports text v) (of_pass f)
+token_refused text ts l pass.NoMemory same has e h = λ ports. tt
+token_refused text ts l (pass.Refused rule place) same has e h =
+    λ ports. judged_tokens ports text ts l None (refuses rule place) same has e (inl (record {
       before = h.before;
       token = h.token;
       after = h.after;
@@ -48,15 +45,15 @@ token_refused forms text ts l (pass.Refused rule place) same has e h =
       verdict = ap (λ r. refuses r place) h.by_rule ∙ ap (λ at. refuses (rule_at h.before h.token) at) h.at_place;
     }))
 
-tree_verdict : (asked : Asked) (text : List ℕ) (ts l : List Token) (p : Program) (v : Verdict) → l ≡ ts → HasTokens text ts → tokens_excess l ≡ None → Spells p l → JudgedTree asked p v → IsVerdict asked text v
-tree_verdict asked text ts l p v same has e spells h = judged_tokens asked text ts l None v same has e (inr (p, (spells, h)))
+tree_verdict : (ports : Bool) (text : List ℕ) (ts l : List Token) (p : Program) (v : Verdict) → l ≡ ts → HasTokens text ts → tokens_excess l ≡ None → Spells p l → JudgedTree ports p v → IsVerdict ports text v
+tree_verdict ports text ts l p v same has e spells h = judged_tokens ports text ts l None v same has e (inr (p, (spells, h)))
 
-pub tells_text : (forms : Forms) (text : List ℕ) (ts l : List Token) (p : Program) (r : Result Typed CheckFault) → l ≡ ts → HasTokens text ts → tokens_excess l ≡ None → Spells p l → TellsTree forms p r
-    → TellsText forms text r
-tells_text forms text ts l p (Ok t) same has e spells h = (h.0, λ ports v j. tree_verdict (asked_of forms ports) text ts l p v same has e spells (h.1 ports v j))
-tells_text forms text ts l p (Err (fault.Refused rule place)) same has e spells h = λ ports. tree_verdict (asked_of forms ports) text ts l p _ same has e spells (h ports)
-tells_text forms text ts l p (Err (fault.TooLarge limit count)) same has e spells h = λ ports. tree_verdict (asked_of forms ports) text ts l p _ same has e spells (h ports)
-tells_text forms text ts l p (Err fault.NoMemory) same has e spells h = λ ports. tt
+pub tells_text : (text : List ℕ) (ts l : List Token) (p : Program) (r : Result Typed CheckFault) → l ≡ ts → HasTokens text ts → tokens_excess l ≡ None → Spells p l → TellsTree p r
+    → TellsText text r
+tells_text text ts l p (Ok t) same has e spells h = (h.0, λ ports v j. tree_verdict ports text ts l p v same has e spells (h.1 ports v j))
+tells_text text ts l p (Err (fault.Refused rule place)) same has e spells h = λ ports. tree_verdict ports text ts l p _ same has e spells (h ports)
+tells_text text ts l p (Err (fault.TooLarge limit count)) same has e spells h = λ ports. tree_verdict ports text ts l p _ same has e spells (h ports)
+tells_text text ts l p (Err fault.NoMemory) same has e spells h = λ ports. tt
 
 -- a number of tokens within a greater one
 wider_text : (n m : ℕ) (p : Program) → n ≤ m → IsOfText n p → IsOfText m p
@@ -71,14 +68,6 @@ wider_text n m p within h = record {
   numbers = h.numbers;
 }
 
-wider : (n m : ℕ) (p : Program) → n ≤ m → IsWritten n p → IsWritten m p
-wider n m p within w = record {
-  of_text = wider_text n m p within w.of_text;
-  first_number = w.first_number;
-  counted = w.counted;
-  accesses = let h = w.accesses in omega (arith, h, within);
-}
-
 few_tokens : (text : List ℕ) (ts l : List Token) → l ≡ ts → length text ≤ 1048576 → length ts ≤ length text + 1 → length l ≤ most_tokens
 few_tokens text ts l same within few =
     let e : length l ≡ length ts = ap length same in
@@ -87,8 +76,3 @@ few_tokens text ts l same within few =
 pub of_text : (text : List ℕ) (ts l : List Token) (p : Program) → l ≡ ts → length text ≤ 1048576 → length ts ≤ length text + 1 → AreEnded ts → Spells p l → IsOfText most_tokens p
 of_text text ts l p same within few ended spells =
     wider_text (length l) most_tokens p (few_tokens text ts l same within few) (texts_are_sound p l spells (subst (λ (x : List Token). AreEnded x) (sym same) ended))
-
-pub written_text : (text : List ℕ) (ts l : List Token) (p : Program) → l ≡ ts → length text ≤ 1048576 → length ts ≤ length text + 1 → AreEnded ts → Spells p l → unbuilt_forms p ≡ []
-    → IsWritten most_tokens p
-written_text text ts l p same within few ended spells built =
-    wider (length l) most_tokens p (few_tokens text ts l same within few) (written p l spells (subst (λ (x : List Token). AreEnded x) (sym same) ended) built)

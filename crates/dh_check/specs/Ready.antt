@@ -13,9 +13,7 @@ use Rattle.dh_tree.specs.Indices.{index_breaches_of}
 use Rattle.dh_tree.specs.Placements.{placement_breaches}
 use Rattle.dh_tree.specs.Ready.{IsReady}
 use Rattle.dh_tree.specs.Seen.{program_seen}
-use Rattle.dh_check.specs.Acceptance.{unbuilt_by, IsWrittenIfBuilt}
-use Rattle.dh_check.specs.Verdicts.{Verdict, FaultTells, JudgedLast, JudgedTyped, JudgedTree, IsVerdict, asked_of}
-use Rattle.dh_check.specs.declared.checking.Forms.{Forms}
+use Rattle.dh_check.specs.Verdicts.{Verdict, FaultTells, JudgedLast, JudgedTyped, JudgedTree, IsVerdict}
 use Rattle.dh_check.specs.declared.checking.CheckFault.{CheckFault}
 use Rattle.dh_check.specs.declared.checking.CheckFault.TheVariants as fault
 
@@ -57,20 +55,14 @@ abbrev pub TellsNamed : Program → Result Typed CheckFault → Type 0
 TellsNamed p (Ok t) = (program_seen t ≡ typed p) × (IsReady (typed p) × GoesOn (λ ports v. JudgedTyped ports (typed p) v) (typed p))
 TellsNamed p (Err e) = Stops (λ ports v. JudgedTyped ports (typed p) v) e
 
--- a program that is ready, and that is built for a command
-pub record IsReadyBy (forms : Forms) (p : Program) : Type 0 where
-  pub ready : IsReady p
-  pub built : unbuilt_by forms p ≡ []
-  pub written : IsWrittenIfBuilt p
-
 -- of a tree: forms, names, and the rest
-abbrev pub TellsReady : Forms → (Bool → Verdict → Type 0) → Result Typed CheckFault → Type 0
-TellsReady forms tells (Ok t) = IsReadyBy forms (program_seen t) × GoesOn tells (program_seen t)
-TellsReady forms tells (Err e) = Stops tells e
+abbrev pub TellsReady : (Bool → Verdict → Type 0) → Result Typed CheckFault → Type 0
+TellsReady tells (Ok t) = IsReady (program_seen t) × GoesOn tells (program_seen t)
+TellsReady tells (Err e) = Stops tells e
 
-abbrev pub TellsTree : Forms → Program → Result Typed CheckFault → Type 0
-TellsTree forms p result = TellsReady forms (λ ports v. JudgedTree (asked_of forms ports) p v) result
+abbrev pub TellsTree : Program → Result Typed CheckFault → Type 0
+TellsTree p result = TellsReady (λ ports v. JudgedTree ports p v) result
 
 -- of a text: its tokens and their limits, its tree, and the rest
-abbrev pub TellsText : Forms → List ℕ → Result Typed CheckFault → Type 0
-TellsText forms text result = TellsReady forms (λ ports v. IsVerdict (asked_of forms ports) text v) result
+abbrev pub TellsText : List ℕ → Result Typed CheckFault → Type 0
+TellsText text result = TellsReady (λ ports v. IsVerdict ports text v) result

@@ -14,6 +14,7 @@ use Rattle.dh_tree.specs.declared.breaches.Breach.{Breach}
 use Rattle.dh_tree.specs.LeastBreach.{IsLeast}
 use Rattle.dh_tree.specs.PlainTrees.{Program}
 use Rattle.dh_tree.specs.Breaches.{breaches_of}
+use Rattle.dh_tree.specs.Forms.{unbuilt_forms}
 use Rattle.dh_tree.specs.Resolved.{resolved}
 use Rattle.dh_tree.specs.Kinds.{typed}
 use Rattle.dh_tree.specs.KindBreaches.{kind_breaches}
@@ -24,8 +25,6 @@ use Rattle.dh_tree.specs.Ready.{IsReady}
 use Rattle.dh_meets.specs.Ports.{IsFirstPortBreach, KeepsPortRules}
 use Rattle.dh_tree.specs.Seen.{program_seen}
 use Rattle.dh_tree.specs.declared.trees.typed.Typed.{Typed}
-use Rattle.dh_check.specs.Acceptance.{unbuilt_by}
-use Rattle.dh_check.specs.declared.checking.Forms.{Forms}
 use Rattle.dh_ports.specs.declared.accepted.Accepted.{Accepted}
 use Rattle.dh_check.specs.declared.checking.CheckFault.{CheckFault}
 use Rattle.dh_check.specs.declared.checking.CheckFault.TheVariants as fault
@@ -53,12 +52,7 @@ Passes breaches v next = ((b : Breach) × (IsLeast breaches b × (v ≡ refuses 
 abbrev pub JudgedPorts : Program → Verdict → Type 0
 JudgedPorts p v = ((b : Breach) × (IsFirstPortBreach p b × (v ≡ refuses b.rule b.place))) ⊎ (KeepsPortRules p × (v ≡ accepts p))
 
--- what is asked of a text: which forms may stand in it, and whether the ports of memories are judged
-pub record Asked : Type 0 where
-  pub forms : Forms
-  pub ports : Bool
-
--- the pass over ports, where it is asked for
+-- the pass over ports, where the ports of memories are judged
 abbrev pub JudgedLast : Bool → Program → Verdict → Type 0
 JudgedLast true p v = JudgedPorts p v
 JudgedLast false p v = v ≡ accepts p
@@ -77,8 +71,8 @@ abbrev pub JudgedTyped : Bool → Program → Verdict → Type 0
 JudgedTyped ports p v = Passes (kind_breaches p) v (Passes (index_breaches_of p) v (JudgedLimits ports p (first_excess p) v))
 
 -- the forms that are built, then names, then the rest
-abbrev pub JudgedTree : Asked → Program → Verdict → Type 0
-JudgedTree asked p v = Passes (unbuilt_by asked.forms p) v (Passes (breaches_of p) v (JudgedTyped asked.ports (typed (resolved p)) v))
+abbrev pub JudgedTree : Bool → Program → Verdict → Type 0
+JudgedTree ports p v = Passes (unbuilt_forms p) v (Passes (breaches_of p) v (JudgedTyped ports (typed (resolved p)) v))
 
 -- a token is out of place
 pub record JudgedToken (tokens : List Token) (v : Verdict) : Type 0 where
@@ -88,20 +82,20 @@ pub record JudgedToken (tokens : List Token) (v : Verdict) : Type 0 where
   pub out_of_place : OutOfPlace tokens before token after
   pub verdict : v ≡ refuses (rule_at before token) token.place
 
-abbrev pub JudgedTokens : Asked → List Token → Option Excess → Verdict → Type 0
-JudgedTokens asked tokens (Some e) v = v ≡ exceeds e
-JudgedTokens asked tokens None v = JudgedToken tokens v ⊎ ((p : Program) × (Spells p tokens × JudgedTree asked p v))
+abbrev pub JudgedTokens : Bool → List Token → Option Excess → Verdict → Type 0
+JudgedTokens ports tokens (Some e) v = v ≡ exceeds e
+JudgedTokens ports tokens None v = JudgedToken tokens v ⊎ ((p : Program) × (Spells p tokens × JudgedTree ports p v))
 
 -- what a text comes to
-abbrev pub Judged : Asked → List ℕ → Verdict → Type 0
-Judged asked text v =
+abbrev pub Judged : Bool → List ℕ → Verdict → Type 0
+Judged ports text v =
     ((place : Place) × (IsBreach text place × (v ≡ refuses Lex place)))
-    ⊎ ((tokens : List Token) × (HasTokens text tokens × JudgedTokens asked tokens (tokens_excess tokens) v))
+    ⊎ ((tokens : List Token) × (HasTokens text tokens × JudgedTokens ports tokens (tokens_excess tokens) v))
 
 -- what a text comes to, and nothing else
-pub record IsVerdict (asked : Asked) (text : List ℕ) (v : Verdict) : Type 0 where
-  pub judged : Judged asked text v
-  pub only : (w : Verdict) → Judged asked text w → w ≡ v
+pub record IsVerdict (ports : Bool) (text : List ℕ) (v : Verdict) : Type 0 where
+  pub judged : Judged ports text v
+  pub only : (w : Verdict) → Judged ports text w → w ≡ v
 
 -- a fault that tells what the text comes to, or that memory was refused
 abbrev pub FaultTells : (Verdict → Type 0) → CheckFault → Type 0
@@ -119,12 +113,9 @@ abbrev pub TellsTypedBy : (Verdict → Type 0) → Result Typed CheckFault → T
 TellsTypedBy tells (Ok t) = tells (accepts (program_seen t)) × IsReady (program_seen t)
 TellsTypedBy tells (Err e) = FaultTells tells e
 
-abbrev pub asked_of : Forms → Bool → Asked
-asked_of forms ports = record { forms = forms; ports = ports }
-
 -- an answer tells what the text comes to, or memory was refused
-abbrev pub Checks : Forms → List ℕ → Result Accepted CheckFault → Type 0
-Checks forms text result = TellsBy (IsVerdict (asked_of forms true) text) result
+abbrev pub Checks : List ℕ → Result Accepted CheckFault → Type 0
+Checks text result = TellsBy (IsVerdict true text) result
 
-abbrev pub ChecksWithoutPorts : Forms → List ℕ → Result Typed CheckFault → Type 0
-ChecksWithoutPorts forms text result = TellsTypedBy (IsVerdict (asked_of forms false) text) result
+abbrev pub ChecksWithoutPorts : List ℕ → Result Typed CheckFault → Type 0
+ChecksWithoutPorts text result = TellsTypedBy (IsVerdict false text) result

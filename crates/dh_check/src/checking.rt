@@ -1,21 +1,19 @@
 //! The passes over a text, in order.
 
-ghost use Rattle.std.specs.Prelude.{◌≡◌, ◌≤◌, [], length, None, IfOk};
+ghost use Rattle.std.specs.Prelude.{◌≡◌, ◌≤◌, [], length, IfOk};
 ghost use Rattle.dh_shape.specs.Above.{TellsExcess};
-ghost use Rattle.dh_tree.specs.UncheckedForms.{unchecked_forms};
-ghost use Rattle.dh_tree.specs.LeastBreach.{least_of};
+ghost use Rattle.dh_tree.specs.Forms.{unbuilt_forms};
 ghost use Rattle.dh_tree.specs.Seen.{program_seen};
 ghost use Rattle.dh_tree.specs.Written.{IsOfText};
 ghost use Rattle.dh_tree.specs.Excesses as excesses;
 ghost use Rattle.dh_tree.specs.Ready.{most_tokens};
-ghost use Rattle.dh_check.specs.Acceptance.{unbuilt_by, CompilesBy, IsWrittenIfBuilt, IsSound};
+ghost use Rattle.dh_check.specs.Acceptance.{IsSound};
 ghost use Rattle.dh_check.specs.declared.checking.CheckFault.TheVariants as fault;
 ghost use Rattle.dh_check.specs.Ready.{of_pass, TellsBreach, TellsText, TellsTree, TellsNamed, TellsShapes};
 ghost use Rattle.dh_check.specs.Verdicts.{Checks, ChecksWithoutPorts, counted_excess, tokens_excess};
 
 use crate::forms::first_unbuilt;
 use crate::laws::ready_programs_have_tables;
-use crate::unchecked_forms::first_unchecked;
 use dh_base::{Excess, Limit, PassFault, Place, Rule};
 use dh_lexer::{Counts, Token, counts, lex};
 use dh_names::resolve;
@@ -28,17 +26,6 @@ use dh_tree::{Breach, Named, Tree, Typed};
 use dh_types::type_program;
 use dh_views::shapes;
 use std::alloc::Global;
-
-/// Which forms may stand in a text, by the command that asks.
-#[derive(Clone, Copy, Debug, PartialEq, Eq)]
-pub enum Forms {
-    /// Those of the interpreter without the check of ports.
-    Unchecked,
-    /// Those of the check.
-    Checked,
-    /// Those of the compiler.
-    Compiled,
-}
 
 /// Why a text is no accepted program.
 #[derive(Clone, Copy, Debug, PartialEq, Eq)]
@@ -124,16 +111,15 @@ fn first_excess(counts: Counts) -> Option<Excess>
 ///
 /// `Refused` with the rule that is broken and its place; `TooLarge` with the limit and the count above
 /// it, at most 1,000,000,000; `NoMemory` where an allocation was refused.
-pub fn check(alloc: Global, text: &[u8], forms: Forms) -> Result<Accepted, CheckFault>
+pub fn check(alloc: Global, text: &[u8]) -> Result<Accepted, CheckFault>
     requires { length text.now ≤ 1048576 }
-    ensures verdict { Checks forms text.now result }
-    ensures compilable { IfOk result (λ a. CompilesBy forms (program_seen a)) }
+    ensures verdict { Checks text.now result }
     ensures sound { IfOk result (λ a. IsSound (program_seen a)) }
 {
     ready_programs_have_tables();
     ready_accesses_are_told();
     accepted_programs_are_never_stuck();
-    let typed = ready(alloc, text, forms)?;
+    let typed = ready(alloc, text)?;
     let accepted = check_ports(alloc, typed)?;
     Ok(accepted)
 }
@@ -143,22 +129,22 @@ pub fn check(alloc: Global, text: &[u8], forms: Forms) -> Result<Accepted, Check
 /// # Errors
 ///
 /// As `check`, without the rules on ports.
-pub fn check_without_ports(alloc: Global, text: &[u8], forms: Forms) -> Result<Typed, CheckFault>
+pub fn check_without_ports(alloc: Global, text: &[u8]) -> Result<Typed, CheckFault>
     requires { length text.now ≤ 1048576 }
-    ensures { ChecksWithoutPorts forms text.now result }
+    ensures { ChecksWithoutPorts text.now result }
 {
-    ready(alloc, text, forms)
+    ready(alloc, text)
 }
 
 /// The passes over a text before that over ports.
-fn ready(alloc: Global, text: &[u8], forms: Forms) -> Result<Typed, CheckFault>
+fn ready(alloc: Global, text: &[u8]) -> Result<Typed, CheckFault>
     requires { length text.now ≤ 1048576 }
-    ensures { TellsText forms text.now result }
+    ensures { TellsText text.now result }
 {
     let tokens = lex(alloc, text)?;
     within_limits(tokens.as_slice())?;
     let tree = parse(alloc, tokens.as_slice())?;
-    ready_tree(alloc, tree, forms)
+    ready_tree(alloc, tree)
 }
 
 /// The limits on tokens.
@@ -171,33 +157,22 @@ fn within_limits(tokens: &[Token]) -> Result<(), Excess>
     }
 }
 
-/// The first form of a program that is not built for the command that asks, if there is one.
-fn first_unbuilt_by(forms: Forms, tree: &Tree) -> Option<Breach>
-    ensures { result ≡ least_of None (unbuilt_by forms (program_seen tree.now)) }
+/// The forms of a program that may stand in it.
+fn built(tree: &Tree) -> Result<(), Breach>
+    ensures { TellsBreach (unbuilt_forms (program_seen tree.now)) result }
 {
-    match forms {
-        Forms::Unchecked | Forms::Checked => first_unchecked(tree),
-        Forms::Compiled => first_unbuilt(tree),
-    }
-}
-
-/// The forms of a program that may stand in it, by the command that asks.
-fn built_for(forms: Forms, tree: &Tree) -> Result<(), Breach>
-    ensures { TellsBreach (unbuilt_by forms (program_seen tree.now)) result }
-{
-    match first_unbuilt_by(forms, tree) {
+    match first_unbuilt(tree) {
         Some(breach) => Err(breach),
         None => Ok(()),
     }
 }
 
 /// The passes over a tree before that over ports.
-fn ready_tree(alloc: Global, tree: Tree, forms: Forms) -> Result<Typed, CheckFault>
-    requires of_text { IsOfText most_tokens (program_seen tree) }
-    requires written { IsWrittenIfBuilt (program_seen tree) }
-    ensures { TellsTree forms (program_seen tree) result }
+fn ready_tree(alloc: Global, tree: Tree) -> Result<Typed, CheckFault>
+    requires { IsOfText most_tokens (program_seen tree) }
+    ensures { TellsTree (program_seen tree) result }
 {
-    match built_for(forms, &tree) {
+    match built(&tree) {
         Ok(()) => {
             let named = resolve(alloc, tree)?;
             ready_named(alloc, named)
@@ -213,7 +188,7 @@ fn ready_tree(alloc: Global, tree: Tree, forms: Forms) -> Result<Typed, CheckFau
 /// The passes over a tree whose names are resolved, before that over ports.
 fn ready_named(alloc: Global, named: Named) -> Result<Typed, CheckFault>
     requires of_text { IsOfText most_tokens (program_seen named) }
-    requires built { unchecked_forms (program_seen named) ≡ [] }
+    requires built { unbuilt_forms (program_seen named) ≡ [] }
     ensures { TellsNamed (program_seen named) result }
 {
     let typed = type_program(alloc, named)?;

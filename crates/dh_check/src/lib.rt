@@ -5,8 +5,7 @@
 mod checking;
 mod forms;
 mod laws;
-mod unchecked_forms;
 
-pub use checking::{CheckFault, Forms, check, check_without_ports};
+pub use checking::{CheckFault, check, check_without_ports};
 pub use dh_ports::Accepted;
 pub use laws::ready_programs_have_tables;

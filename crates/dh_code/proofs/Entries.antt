@@ -21,7 +21,8 @@ use Rattle.dh_code.specs.Scenes.{Spends}
 use Rattle.dh_code.specs.Spent.{rows_now, left_now, ReadsRow, WritesRow, HaveSpent}
 use Rattle.dh_code.proofs.DimSizes.{banks_fit, elements_some}
 use Rattle.dh_tree.specs.Memories.{Memory, number_in, same_entity}
-use Rattle.dh_tree.specs.Meaning.{entity_number, memory_of}
+use Rattle.dh_tree.specs.Memories.{memory_of}
+use Rattle.dh_tree.specs.Scopes.{entity_number}
 use Rattle.dh_tree.specs.declared.trees.expressions.Ref.{Ref}
 use Rattle.dh_code.proofs.BanksSpent.{number_within, banks_read, banks_stuck, banks_written, banks_full}
 

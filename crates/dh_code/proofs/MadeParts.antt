@@ -10,7 +10,7 @@ use Rattle.dh_value.specs.Operations.{result_of}
 use Rattle.dh_value.proofs.Values.{integer_width}
 use Rattle.dh_value.proofs.WordLaws.{truth_is_word}
 use Rattle.dh_tree.specs.declared.tables.MemEntry.{MemEntry}
-use Rattle.dh_tree.specs.Meaning.{wider}
+use Rattle.dh_tree.specs.WiderKinds.{wider}
 use Rattle.dh_tree.specs.Shapes.{IsMemory}
 use Rattle.dh_meaning.specs.Core.{Reach, CoreTerm, literal, truth_literal, variable, read, binary, convert, by_indices, by_row, CoreTerms, no_terms, term_and}
 use Rattle.dh_meaning.specs.Core as core

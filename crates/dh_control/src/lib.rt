@@ -2,7 +2,7 @@
 //! fault, what becomes of the registers at the end of a step, and the drivers of what operations read and write.
 //! Takes wires of the plan's values, and says of all that it adds what it shows whatever registers and ports hold.
 //! A net whose wires show what `IsWired` asks is the net of its plan (`wired_nets_are_nets`), so it plays it.
-//! Stands on `dh_cells` and `dh_lower`. Nothing of the program stands on this crate yet.
+//! Stands on `dh_cells` and `dh_lower`.
 #![tactic(auto)]
 
 mod checking;

@@ -1,7 +1,7 @@
 //! The wires of a plan's values: of each operation of a block one wire, which shows its value.
 //! Takes a plan, the ports that its operations use and a circuit with the plan's registers, and adds the wires
 //! (`push_blocks`): of each register, of operators, conversions, choices and guards, and of what ports hold by a select.
-//! Stands on `dh_cells` and `dh_lower`. Nothing of the program stands on this crate yet.
+//! Stands on `dh_cells` and `dh_lower`.
 #![tactic(auto)]
 
 mod blocks;

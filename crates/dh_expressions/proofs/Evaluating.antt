@@ -14,7 +14,7 @@ use Rattle.dh_value.specs.declared.words.Word.{Word}
 use Rattle.dh_value.specs.Words as words
 use Rattle.dh_value.specs.Words.{IsKind, with_bits, word_of}
 use Rattle.dh_value.specs.Operations.{binary_of, truth}
-use Rattle.dh_tree.specs.Meaning.{wider}
+use Rattle.dh_tree.specs.WiderKinds.{wider}
 use Rattle.dh_tree.specs.PlainTrees as plain
 use Rattle.dh_tree.specs.Seen.{form_seen, term_seen, terms}
 use Rattle.dh_tree.specs.declared.trees.expressions.Expr.{Expr}

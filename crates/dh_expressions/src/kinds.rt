@@ -3,7 +3,7 @@
 ghost use Rattle.std.specs.Prelude.{◌≡◌, ◌%◌, ◌^◌};
 ghost use Rattle.dh_value.specs.Words.{IsKind, IsWidth, with_bits};
 ghost use Rattle.dh_value.specs.Operations.{truth as truth_of};
-ghost use Rattle.dh_tree.specs.Meaning.{wider as wider_of};
+ghost use Rattle.dh_tree.specs.WiderKinds.{wider as wider_of};
 ghost use Rattle.dh_meaning.specs.Bindings.{kind_or_first};
 ghost use Rattle.dh_meaning.specs.CoreOf.{entity_number};
 ghost use Rattle.dh_meaning.specs.Effects.{bits_of};

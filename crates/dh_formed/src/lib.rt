@@ -2,7 +2,7 @@
 //! its block, of the kinds that it needs; how many multiplications, probes, reads and writes there are, and of which
 //! registers and elements; and that each value is there at the clock of its level. These are laws on the exact
 //! relations that the contracts of `dh_expressions` state (`MadeTerm`, `MadeWrite` and others). Stands on
-//! `dh_expressions`, `dh_plan` and below. Nothing of the program stands on this crate yet.
+//! `dh_expressions`, `dh_plan` and below.
 #![tactic(auto)]
 
 mod laws;

@@ -1,7 +1,7 @@
 //! The lengths of phases in clocks, of programs that were worked out by hand or simulated elsewhere.
 
 use crate::texts::LONGEST;
-use dh_check::{Forms, check_without_ports};
+use dh_check::check_without_ports;
 use dh_lengths::phase_lengths;
 use std::alloc::Global;
 use std::test::Fail;
@@ -12,7 +12,7 @@ fn lengths_of(alloc: Global, text: &str) -> Result<Vec<u64>, Fail> {
     if bytes.len() > LONGEST {
         return Err("too long")?;
     }
-    let typed = check_without_ports(alloc, bytes, Forms::Unchecked)?;
+    let typed = check_without_ports(alloc, bytes)?;
     Ok(phase_lengths(alloc, &typed)?)
 }
 

@@ -1,7 +1,7 @@
 //! The phases of programs, by the numbers of their commands.
 
 use crate::texts::{LONGEST, stores};
-use dh_check::{Forms, check_without_ports};
+use dh_check::check_without_ports;
 use dh_phases::{Phase, phases};
 use std::alloc::Global;
 use std::test::Fail;
@@ -12,7 +12,7 @@ fn phases_of(alloc: Global, text: &str) -> Result<Vec<Phase>, Fail> {
     if bytes.len() > LONGEST {
         return Err("too long")?;
     }
-    let typed = check_without_ports(alloc, bytes, Forms::Unchecked)?;
+    let typed = check_without_ports(alloc, bytes)?;
     let whole = typed.tree().body.id;
     Ok(phases(alloc, &typed, whole)?)
 }

@@ -2,7 +2,7 @@
 //! accesses with the banks that they charge.
 
 use crate::texts::LONGEST;
-use dh_check::{Forms, check_without_ports};
+use dh_check::check_without_ports;
 use dh_size::plan_size;
 use std::alloc::Global;
 use std::test::Fail;
@@ -13,7 +13,7 @@ fn size_of(alloc: Global, text: &str) -> Result<u64, Fail> {
     if bytes.len() > LONGEST {
         return Err("too long")?;
     }
-    let typed = check_without_ports(alloc, bytes, Forms::Unchecked)?;
+    let typed = check_without_ports(alloc, bytes)?;
     Ok(plan_size(alloc, &typed)?)
 }
 

@@ -4,7 +4,7 @@ use Rattle.std.proofs.lemmas.List.{reverse-append, reverse-reverse}
 use Rattle.dh_tree.specs.Seen.{program_seen}
 use Rattle.dh_meaning.specs.CoreOf.{core_phase, core_phases}
 use Rattle.dh_meaning.specs.Phases as source
-use Rattle.dh_meaning.specs.Phases.{Located, straight, turns, repeated, decided, of_list}
+use Rattle.dh_meaning.specs.Phases.{straight, turns, repeated, decided, of_list}
 use Rattle.dh_plan.specs.declared.plans.Node as declared
 use Rattle.dh_plan.specs.Correspondence.{Round}
 use Rattle.dh_plan.specs.PlainPlans.{Node, block_node}

@@ -11,12 +11,12 @@ use Rattle.dh_tree.specs.declared.trees.commands.Command.{Command}
 use Rattle.dh_tree.specs.declared.trees.expressions.Ref.{Ref}
 use Rattle.dh_tree.specs.Seen.{action_seen, all_parts_seen, maybe_block_seen, program_seen}
 use Rattle.dh_tree.specs.PlainTrees as tree
-use Rattle.dh_tree.specs.PlainTrees.{Action, ActionForm, action, blocks, counts, decides, repeats, Groups, MaybeAction, Placed, Program, Unrolled, no_action, one_action}
+use Rattle.dh_tree.specs.PlainTrees.{Action, ActionForm, action, blocks, counts, decides, repeats, MaybeAction, Placed, Program, Unrolled, one_action}
 use Rattle.dh_meaning.specs.AccessNumbers.{accesses_of, groups_accesses, other_accesses, term_accesses}
 use Rattle.dh_meaning.specs.Core.{Turning}
 use Rattle.dh_meaning.specs.CoreOf.{Known, core_phases, entity_number, form_of, test_of, turning_of}
 use Rattle.dh_meaning.specs.Phases as source
-use Rattle.dh_meaning.specs.Phases.{Located, located, repeated, decided, turns, of_list, are_straight, choice_phases, folded, form_phases, groups_phases, one_command, other_phases, phases, turn_count, turn_phases}
+use Rattle.dh_meaning.specs.Phases.{Located, located, repeated, decided, turns, of_list, are_straight, choice_phases, folded, groups_phases, one_command, other_phases, phases, turn_count, turn_phases}
 use Rattle.dh_meaning.specs.Sites.{Around, in_arm, in_loop, loop_of, nothing_around}
 use Rattle.dh_plan.specs.Correspondence.{Round}
 use Rattle.dh_plan.specs.PlainPlans.{Node, Nodes}

@@ -10,7 +10,7 @@ use Rattle.dh_tree.specs.Seen.{action_seen, all_parts_seen, program_seen}
 use Rattle.dh_meaning.specs.AccessNumbers.{accesses_of, groups_accesses, term_accesses}
 use Rattle.dh_meaning.specs.CoreOf.{core_phase, core_phases, entity_number}
 use Rattle.dh_meaning.specs.Phases as source
-use Rattle.dh_meaning.specs.Phases.{groups_phases, of_list, other_phases, phases}
+use Rattle.dh_meaning.specs.Phases.{groups_phases, of_list, phases}
 use Rattle.dh_meaning.specs.Sites.{Around, nothing_around}
 use Rattle.dh_plan.specs.Correspondence.{Round}
 use Rattle.dh_plan.specs.PlainPlans.{Node, choice_node, loop_node, turns_node, Nodes}

@@ -3,8 +3,7 @@
 //! where an arm is taken back; that whole commands are so, with the arms of an `if`; which accesses are theirs, and that
 //! no others are touched; that nothing is checked or set; how often they multiply and probe, and how often they read
 //! and write; and that all accesses with operations are laid, from block to block. These are
-//! laws on the exact relations that the contracts of `dh_commands` state (`MadeCommand` and others). Stands on `dh_commands`, `dh_formed` and below. Nothing of the program stands on this
-//! crate yet.
+//! laws on the exact relations that the contracts of `dh_commands` state (`MadeCommand` and others). Stands on `dh_commands`, `dh_formed` and below.
 #![tactic(auto)]
 
 mod laws;

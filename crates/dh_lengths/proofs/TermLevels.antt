@@ -8,7 +8,7 @@ use Rattle.dh_value.specs.declared.operators.Op.{Op}
 use Rattle.dh_value.specs.declared.operators.Op.TheVariants as op
 use Rattle.dh_tree.specs.declared.trees.expressions.Ref.{Ref}
 use Rattle.dh_tree.specs.declared.trees.expressions.Expr.{Expr}
-use Rattle.dh_tree.specs.Meaning.{wider}
+use Rattle.dh_tree.specs.WiderKinds.{wider}
 use Rattle.dh_tree.specs.PlainTrees as plain
 use Rattle.dh_tree.specs.PlainTrees.{Term, TermForm, Terms}
 use Rattle.dh_tree.specs.Seen.{form_seen, term_seen, terms}

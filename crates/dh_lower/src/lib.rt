@@ -4,7 +4,7 @@
 //! the values of blocks as these are there, ports serve their users one at a time and keep what was read, writes come
 //! by ports in the last clock, and states follow the places of the plan. `IsNetOf` speaks for each relation between
 //! registers and places, so no contract names the theorem but at instances: nets of one store and of one read.
-//! Stands on `dh_plan` and `dh_net`. Nothing of the program stands on this crate yet.
+//! Stands on `dh_plan` and `dh_net`.
 #![tactic(auto)]
 
 mod examples;

@@ -10,7 +10,7 @@ use Rattle.dh_value.specs.declared.operators.Op.TheVariants as op
 use Rattle.dh_tree.specs.declared.trees.expressions.Ref.{Ref}
 use Rattle.dh_meaning.specs.AccessNumbers.{term_accesses, terms_accesses, accesses_of, part_accesses}
 use Rattle.dh_meaning.specs.Bindings.{Binding, bindings_of, binding_in, kind_bound, depth_bound, kind_or_first, kind_found}
-use Rattle.dh_tree.specs.Meaning.{wider}
+use Rattle.dh_tree.specs.WiderKinds.{wider}
 use Rattle.dh_tree.specs.PlainTrees as plain
 use Rattle.dh_tree.specs.PlainTrees.{Action, action, ActionForm, lets, lets_memory, views, assigns, stores, reduces, calls, blocks, decides, repeats, counts, MaybeAction, no_action, one_action, Actions, no_actions, action_then, Groups, no_groups, group_then, Program}
 use Rattle.dh_tree.specs.Memories.{Memory, memories_of, number_in, table_of}

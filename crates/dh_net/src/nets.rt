@@ -17,7 +17,7 @@ pub struct Register {
 
 /// What a cell computes. `a`, `b` and `c` are wires of earlier cells, of the cell's width where nothing
 /// else is said.
-#[derive(Clone, Copy, Debug, PartialEq, Eq)]
+#[derive(Clone, Copy, Debug, PartialEq, Eq, Hash)]
 pub enum CellForm {
     /// These bits.
     Const { bits: u64 },
@@ -60,7 +60,7 @@ pub enum CellForm {
 }
 
 /// A cell. It drives the wire of its own number.
-#[derive(Clone, Copy, Debug, PartialEq, Eq)]
+#[derive(Clone, Copy, Debug, PartialEq, Eq, Hash)]
 pub struct Cell {
     /// Bits of its wire, from 1 to 64.
     pub width: u8,

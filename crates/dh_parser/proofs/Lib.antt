@@ -28,7 +28,6 @@ pub mod TextNames
 pub mod TextLocals
 pub mod TextNumbers
 pub mod TextsSound
-pub mod WrittenTexts
 pub mod OnePlace
 pub mod WholeExpressions
 pub mod WholeBlocks

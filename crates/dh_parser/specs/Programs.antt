@@ -14,9 +14,8 @@ use Rattle.dh_lexer.specs.LexedText.{AreEnded}
 use Rattle.dh_parser.specs.Grammar.{ProgramText}
 use Rattle.dh_parser.specs.Spelling.{spell_program}
 use Rattle.dh_parser.specs.Allowed.{ProgramFits}
-use Rattle.dh_tree.specs.Forms.{unbuilt_forms}
 use Rattle.dh_tree.specs.PlainTrees.{Program}
-use Rattle.dh_tree.specs.Written.{IsOfText, IsWritten}
+use Rattle.dh_tree.specs.Written.{IsOfText}
 use Rattle.dh_parser.specs.TreesOfTexts.{program_of}
 use Rattle.dh_parser.specs.Reading.{Outcome, good, bad, deep, the_program}
 
@@ -34,10 +33,6 @@ IsReadAgain p = the_program (spell_program p []) ≡ good p []
 -- a tree that these tokens spell is that of a text, if they end
 abbrev pub IsOfTextIfSpelled : Program → List Token → Type 0
 IsOfTextIfSpelled p tokens = Spells p tokens → AreEnded tokens → IsOfText (length tokens) p
-
--- a tree of the built forms that these tokens spell is one that is written, if they end
-abbrev pub IsWrittenIfSpelled : Program → List Token → Type 0
-IsWrittenIfSpelled p tokens = Spells p tokens → AreEnded tokens → unbuilt_forms p ≡ [] → IsWritten (length tokens) p
 
 -- the tokens of some program begin so
 pub record Begins (tokens : List Token) : Type 0 where

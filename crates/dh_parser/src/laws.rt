@@ -4,7 +4,7 @@ ghost use Rattle.std.specs.Prelude.{◌≡◌, List};
 ghost use Rattle.dh_lexer.specs.LexedText.{AreEnded};
 ghost use Rattle.dh_lexer.specs.declared.tokens.Token.{Token};
 ghost use Rattle.dh_tree.specs.PlainTrees.{Program};
-ghost use Rattle.dh_parser.specs.Programs.{IsSound, IsAnswered, IsPlaced, Spells, AtMostOneOutOfPlace, IsOfTextIfSpelled, IsReadAgain, IsWrittenIfSpelled, NoneOutOfPlaceIfSpelled};
+ghost use Rattle.dh_parser.specs.Programs.{IsSound, IsAnswered, IsPlaced, Spells, AtMostOneOutOfPlace, IsOfTextIfSpelled, IsReadAgain, NoneOutOfPlaceIfSpelled};
 ghost use Rattle.dh_parser.specs.Allowed.{ProgramFits};
 ghost use Rattle.dh_parser.specs.Grammar.{ProgramText};
 ghost use Rattle.dh_parser.specs.Reading.{the_program};
@@ -33,12 +33,10 @@ pub fn refused_tokens_are_out_of_place()
 {}
 
 /// What holds of the tree of any text, whatever rules it breaks: names are names, what a type does not
-/// write is 1, kinds have from 1 to 64 bits, and there are no more names than tokens. Of a text of the
-/// built forms also that commands are numbered in text order, and that there are no more accesses than
-/// tokens.
+/// write is 1, kinds have from 1 to 64 bits, commands are numbered in text order, and there are no more
+/// names than tokens.
 pub fn trees_of_texts_are_sound()
-    ensures all { (p : Program) (tokens : List Token) → IsOfTextIfSpelled p tokens }
-    ensures built { (p : Program) (tokens : List Token) → IsWrittenIfSpelled p tokens }
+    ensures { (p : Program) (tokens : List Token) → IsOfTextIfSpelled p tokens }
 {}
 
 /// A list of tokens has one token out of place at most, and none where a tree spells it.

@@ -1,6 +1,6 @@
 -- What was put down for a block is as the theorem of blocks asks.
-use Rattle.std.proofs.Common.{◌≡◌, inl, inr, ℕ, zero, suc, ◌+◌, ◌<◌, ◌≤◌, ◌^◌, Bool, true, false, List, [], ◌∷◌, ◌++◌, length, drop, Option, Some, None, refl, ap, sym, ◌∙◌, subst, append_assoc, append-nil, arith}
-use Rattle.std.specs.Prelude.{slice_get, slice_index, slice_index_or, slice_set}
+use Rattle.std.proofs.Common.{◌≡◌, ℕ, zero, suc, ◌+◌, ◌<◌, ◌≤◌, ◌^◌, Bool, true, false, List, [], ◌∷◌, ◌++◌, length, drop, Option, Some, None, refl, ap, sym, ◌∙◌, subst, append_assoc, append-nil, arith}
+use Rattle.std.specs.Prelude.{slice_get, slice_index, slice_set}
 use Rattle.std.specs.List.{AllByRecursion}
 use Rattle.std.proofs.Math.Seq.{drop-append_seam}
 use Rattle.dh_base.specs.declared.outcomes.FaultKind.{FaultKind}
@@ -9,7 +9,6 @@ use Rattle.dh_value.specs.declared.kinds.Kind.{Kind}
 use Rattle.dh_value.specs.declared.kinds.Kind.TheVariants as kind
 use Rattle.dh_value.specs.declared.operators.Op.TheVariants.{Both}
 use Rattle.dh_tree.specs.PlainTrees.{Term}
-use Rattle.dh_meaning.specs.AccessNumbers.{term_accesses}
 use Rattle.dh_meaning.specs.Phases.{Located}
 use Rattle.dh_plan.specs.declared.operations.Operation.{Operation}
 use Rattle.dh_plan.specs.declared.operations.OperationForm.TheVariants.{Compute, Set}
@@ -30,10 +29,9 @@ use Rattle.dh_laid.specs.BlockSites.{MadeEach}
 use Rattle.dh_laid.specs.LaidAccesses.{AreLaid}
 use Rattle.dh_laid.specs.LaidQuiet.{AddsQuiet, IsQuiet, StandsIn}
 use Rattle.dh_laid.proofs.CommandsQuiet.{commands_are_quiet, quiet_sets_none, terms_are_quiet}
-use Rattle.dh_blocks.specs.BlockMade.{DoEach, IsMade, IsPut, SetsNone, set_made, sets_made}
+use Rattle.dh_blocks.specs.BlockMade.{DoEach, IsMade, SetsNone, set_made, sets_made}
 use Rattle.dh_blocks.specs.TestMade.{IsTestMade, flag_made}
 use Rattle.dh_gathering.specs.declared.blocks.Made.{Made}
-use Rattle.dh_gathering.specs.Growing.{registers_given}
 use Rattle.dh_gathering.specs.MadeBlocks.{AddsFlag, DoesCommands, MadeStraight, MadeTest, StandsAt}
 use Rattle.dh_gathering.specs.PushedSets.{set_of, sets_of, settings}
 use Rattle.dh_gathering.proofs.BlocksPlanned.{first_is, none_at_begin, operations_are}

@@ -1,12 +1,12 @@
 -- The loops of a program count, each with an iterator of its own.
-use Rattle.std.proofs.Common.{◌≡◌, ◌⊎◌, inl, inr, ℕ, zero, suc, ◌<◌, ◌≤◌, List, [], ◌∷◌, ◌++◌, length, Option, Some, None, refl, ap, sym, ◌∙◌, subst, arith}
+use Rattle.std.proofs.Common.{◌≡◌, inl, inr, ℕ, zero, suc, ◌<◌, ◌≤◌, List, [], ◌∷◌, ◌++◌, length, Option, Some, None, refl, ap, sym, ◌∙◌, subst, arith}
 use Rattle.std.specs.Prelude.{slice_get}
 use Rattle.std.specs.List.{AllByRecursion}
 use Rattle.dh_tree.specs.declared.trees.counters.Counter.{Counter}
-use Rattle.dh_tree.specs.Counters.{counter_in, counters_of}
-use Rattle.dh_tree.specs.PlainTrees.{Action, Program}
+use Rattle.dh_tree.specs.Counters.{counters_of}
+use Rattle.dh_tree.specs.PlainTrees.{Program}
 use Rattle.dh_tree.specs.declared.trees.programs.Entity.{Entity}
-use Rattle.dh_tree.specs.Resolved.{HasEntities, resolved, resolved_action}
+use Rattle.dh_tree.specs.Resolved.{resolved_action}
 use Rattle.dh_tree.specs.Scopes.{at_end, body_scope, last_scope}
 use Rattle.dh_tree.specs.Seen.{program_seen}
 use Rattle.dh_meaning.specs.Core.{CorePhase, straightly, turning, looping, choosing, CorePhases, no_core_phases, phase_and, Turning}
@@ -16,7 +16,7 @@ use Rattle.dh_plan.specs.Correspondence.{Round}
 use Rattle.dh_plan.specs.PlanPhases.{IsIteratorOf}
 use Rattle.dh_expressions.specs.declared.scenes.Scene.{Scene}
 use Rattle.dh_blocks.specs.SlotsOfScene.{placing_in}
-use Rattle.dh_gathering.specs.LoopCounters.{AreOwnLoops, IsCounting, LoopsCount, LoopsCountIn, loops_in, loops_of}
+use Rattle.dh_gathering.specs.LoopCounters.{IsCounting, LoopsCount, LoopsCountIn, loops_in, loops_of}
 use Rattle.dh_gathering.specs.MadeBlocks.{IsAmong, counter_in as register_of}
 use Rattle.dh_phased.specs.ProgramLoops.{HasOwnLoops, LoopsAreOwn}
 use Rattle.dh_phased.proofs.CopiesSome.{placing_copies}

@@ -1,20 +1,18 @@
 -- Each block that was made of sound commands or of a sound test does its phase, and touches no more than that; so the nodes
 -- do the phases.
-use Rattle.std.proofs.Common.{◌≡◌, ℕ, List, [], ◌∷◌, ◌++◌, Bool, true, false, if◌then◌else◌, Some, None, refl, ap, sym, ◌∙◌, subst}
-use Rattle.std.specs.Prelude.{◌&&◌, Option, not, nat_lt}
-use Rattle.dh_tree.specs.declared.trees.counters.Counter.{Counter}
+use Rattle.std.proofs.Common.{◌≡◌, ℕ, List, [], ◌∷◌, ◌++◌, Some, None, ap, sym, ◌∙◌, subst}
+use Rattle.std.specs.Prelude.{Option}
 use Rattle.dh_tree.specs.PlainTrees.{Term}
-use Rattle.dh_meaning.specs.Core.{CoreCommands, CorePhase, CoreTerm, straightly, turning, looping, choosing, CorePhases, no_core_phases, phase_and, Turning}
-use Rattle.dh_meaning.specs.CoreOf.{core_commands, core_term, core_test, core_test_of, form_of, test_of}
+use Rattle.dh_meaning.specs.Core.{CoreCommands, CorePhase, CoreTerm, straightly, turning, looping, choosing, CorePhases, no_core_phases, phase_and}
+use Rattle.dh_meaning.specs.CoreOf.{core_commands, core_test_of}
 use Rattle.dh_meaning.specs.Effects.{commands, tests}
-use Rattle.dh_meaning.specs.Paths.{Path}
 use Rattle.dh_meaning.specs.Phases.{Located}
 use Rattle.dh_plan.specs.Correspondence.{Round}
 use Rattle.dh_plan.specs.PlainPlans.{Node, block_node, turns_node, loop_node, choice_node, threads_node, Nodes, no_nodes, node_then, PlainPlan}
 use Rattle.dh_plan.specs.PlanPhases.{AreNodesOf, DoesBlock, IsLoopRegister, IsNodeOf, SetsFlag, Touches, does_phases}
 use Rattle.dh_expressions.specs.declared.scenes.Around.{Around}
 use Rattle.dh_expressions.specs.declared.scenes.Scene.{Scene}
-use Rattle.dh_expressions.specs.Evaluated.{counter_of, known_in}
+use Rattle.dh_expressions.specs.Evaluated.{known_in}
 use Rattle.dh_laid.specs.BlockSites.{MadeEach}
 use Rattle.dh_laid.specs.LaidQuiet.{StandsIn}
 use Rattle.dh_blocks.specs.BlockMade.{IsMade, IsTop}

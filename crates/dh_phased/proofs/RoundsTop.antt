@@ -1,26 +1,19 @@
 -- The paths of a block are those inside the loops round it: their strides and their number were not cut, since there are
 -- as many guards.
-use Rattle.std.proofs.Common.{◌≡◌, ℕ, zero, suc, ◌+◌, ◌*◌, ◌-◌, ◌^◌, ◌<◌, ◌≤◌, min, Bool, true, false, if◌then◌else◌, List, [], ◌∷◌, ◌++◌, length, map, Option, Some, None, refl, ap, sym, ◌∙◌, subst, append-nil, append_assoc, arith}
+use Rattle.std.proofs.Common.{◌≡◌, ℕ, zero, suc, ◌+◌, ◌*◌, ◌-◌, ◌^◌, ◌<◌, ◌≤◌, min, Bool, true, false, if◌then◌else◌, List, [], ◌∷◌, ◌++◌, length, map, Option, None, refl, ap, sym, ◌∙◌, subst, append-nil, append_assoc, arith}
 use Rattle.std.specs.Prelude.{nat_le, nat_lt, replicate, slice_get}
 use Rattle.std.proofs.lemmas.Bool.Decides.{nat_tests}
 use Rattle.std.proofs.lemmas.List.{length-replicate}
 use Rattle.std.proofs.Math.Nat.{min-eq_left, mul-le-mul_right}
-use Rattle.dh_meaning.specs.Core.{Turning}
-use Rattle.dh_meaning.specs.CoreOf.{entity_number}
 use Rattle.dh_meaning.specs.Paths.{copies_in}
 use Rattle.dh_sound.specs.Blocks.{factors}
 use Rattle.dh_plan.specs.Correspondence.{Round}
 use Rattle.dh_expressions.specs.declared.paths.Level.{Level}
-use Rattle.dh_expressions.specs.declared.scenes.Around.{Around}
-use Rattle.dh_expressions.specs.declared.scenes.Scene.{Scene}
 use Rattle.dh_expressions.specs.Levels.{levels_inside, spread_level}
-use Rattle.dh_expressions.specs.Shown.{guard_of, guard_or_none}
-use Rattle.dh_commands.specs.LanesRun.{paths_counted}
+use Rattle.dh_expressions.specs.Shown.{guard_or_none}
 use Rattle.dh_commands.specs.ShownVariables.{factors_of}
-use Rattle.dh_laid.specs.LaidQuiet.{StandsIn}
-use Rattle.dh_blocks.specs.BlockMade.{IsTop}
 use Rattle.dh_blocks.specs.PathsOfLevels.{AreSpread}
-use Rattle.dh_gathering.specs.MadeBlocks.{AreWithin, IsRoundBlock, count_inside}
+use Rattle.dh_gathering.specs.MadeBlocks.{AreWithin, count_inside}
 use Rattle.dh_gathering.specs.PlacedPhases.{loops_round}
 use Rattle.dh_phased.specs.TopPaths.{RoundsAreTop}
 

@@ -1,6 +1,5 @@
 -- The loops of a program: each counts with an iterator that no other of them has.
-use Rattle.std.specs.Prelude.{◌≡◌, ℕ, List, [], length}
-use Rattle.dh_tree.specs.PlainTrees.{Program}
+use Rattle.std.specs.Prelude.{◌≡◌, [], length}
 use Rattle.dh_tree.specs.Resolved.{HasEntities}
 use Rattle.dh_tree.specs.Seen.{program_seen}
 use Rattle.dh_meaning.specs.CoreOf.{core_of}

@@ -12,8 +12,8 @@ use Rattle.dh_tree.specs.declared.trees.expressions.Expr.{Expr}
 use Rattle.dh_tree.specs.declared.trees.commands.CommandForm.TheVariants.{If, While, For}
 use Rattle.dh_tree.proofs.SeenActions.{if_is, while_is, for_is}
 use Rattle.dh_tree.specs.PlainTrees.{Action, ActionForm}
-use Rattle.dh_tree.specs.Phases as plain
-use Rattle.dh_tree.specs.Phases.{Phase, straight, turns, repeated, decided, of_list, one_straight, joined, phases, parts_phases, groups_phases, id_of}
+use Rattle.dh_phases.specs.PlainPhases as plain
+use Rattle.dh_phases.specs.PlainPhases.{Phase, straight, turns, repeated, decided, of_list, one_straight, joined, phases, parts_phases, groups_phases, id_of}
 use Rattle.dh_tree.specs.Seen.{term_seen, placed, unrolled, action_form_seen, actions, groups, action_seen, part_seen, maybe_seen}
 use Rattle.dh_phases.specs.NumberedPhases.{Numbered, in_turns, in_loop, by_choice, at_once, numbered_then, all_numbered, phase_numbered, phases_numbered, numbered}
 use Rattle.dh_phases.specs.Phasing.{phases_in, phases_in_groups, phases_in_other, one_phase, are_straight, turn_phases, choice_phases, done_by, current_after, gathered}

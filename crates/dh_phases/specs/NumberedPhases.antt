@@ -3,8 +3,8 @@
 use Rattle.std.specs.Prelude.{◌≡◌, ◌⊎◌, ℕ, List, [], ◌∷◌, ◌++◌, map, Result, IfOk, OnOk, Vec}
 use Rattle.std.specs.Global.{Global}
 use Rattle.dh_tree.specs.PlainTrees.{Action, action, ActionForm, blocks, decides, repeats, counts, MaybeAction, no_action, one_action, Actions, no_actions, action_then, Groups, no_groups, group_then}
-use Rattle.dh_tree.specs.Phases.{straight, turns, repeated, decided, no_phases, phase, id_of}
-use Rattle.dh_tree.specs.Phases as plain
+use Rattle.dh_phases.specs.PlainPhases.{straight, turns, repeated, decided, no_phases, phase, id_of}
+use Rattle.dh_phases.specs.PlainPhases as plain
 use Rattle.dh_phases.specs.declared.phasing.Phase.{Phase}
 use Rattle.dh_phases.specs.declared.phasing.Phase.TheVariants.{Straight, Turns', Loop', Choice'}
 use Rattle.dh_phases.specs.declared.phasing.Phase.TheBlock.{Row_of-Phase, end_of-Phase, more_of-Phase}

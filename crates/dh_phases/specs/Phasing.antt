@@ -7,7 +7,7 @@ use Rattle.std.specs.Option.{is_some}
 use Rattle.dh_tree.specs.PlainTrees.{Action, action, ActionForm, blocks, decides, repeats, counts, MaybeAction, no_action, one_action, Actions, no_actions, action_then, Groups, no_groups, group_then}
 use Rattle.dh_tree.specs.declared.trees.commands.Command.{Command}
 use Rattle.dh_phases.specs.declared.phasing.Phase.{Phase}
-use Rattle.dh_tree.specs.Phases.{phases, groups_phases, other_phases}
+use Rattle.dh_phases.specs.PlainPhases.{phases, groups_phases, other_phases}
 use Rattle.dh_phases.specs.NumberedPhases.{Numbered, at_once, in_turns, in_loop, by_choice, all_numbered, numbered, phase_list}
 use Rattle.dh_tree.specs.Seen.{action_seen}
 

@@ -2,7 +2,7 @@
 //! nodes that say in which order they are done, and which of their accesses may meet; the graph of states, the
 //! schedule and the binding of ports that are made of it.
 //! In `specs/` stand the meaning of a plan, what each pass of the compiler states of its result, and what ties the
-//! levels to the program and to the netlist. Nothing of the program stands on this crate yet.
+//! levels to the program and to the netlist.
 #![tactic(auto)]
 
 mod examples;

@@ -12,7 +12,7 @@ use Rattle.dh_tree.specs.declared.trees.expressions.Ref.{Ref}
 use Rattle.dh_tree.specs.declared.trees.programs.Sort.TheVariants.{Variable, Iterator, Memory}
 use Rattle.dh_tree.specs.Breaches.{unknown, twice, term_breaches, value_breaches, form_breaches, other_breaches, actions_breaches, groups_breaches}
 use Rattle.dh_tree.specs.Excesses.{excess_at, form_copies_excess, other_copies_excess, groups_copies_excess, part_copies_excess}
-use Rattle.dh_tree.specs.Forms.{unbuilt, form_holds}
+use Rattle.dh_tree.specs.Forms.{unbuilt, form_holds, unbuilt_form, unbuilt_other, unbuilt_groups, unbuilt_part}
 use Rattle.dh_tree.specs.Indices.{shape_breaches, term_index_breaches, turns_breaches, action_form_index_breaches, other_index_breaches, actions_index_breaches, groups_index_breaches}
 use Rattle.dh_tree.specs.KindBreaches.{term_kind_breaches, assigned_breaches, truth_breaches, condition_breaches, target_breaches, reducer_breaches, iterator_breaches, low_breaches, high_breaches, action_form_kind_breaches, other_kind_breaches, actions_kind_breaches, groups_kind_breaches}
 use Rattle.dh_tree.specs.Kinds.{of_iterator, of_memory, Facts, fact_of, found, place_of, for_numbers, target_kind, variable_fact, iterator_kind, facts_after_form, facts_after_other, facts_after_actions, facts_after_groups, typed_term, typed_maybe, typed_action_form, typed_other, typed_actions, typed_groups}
@@ -24,10 +24,9 @@ use Rattle.dh_tree.specs.TextNumbers.{FormHasTextNumbers, OtherHasTextNumbers, G
 use Rattle.dh_tree.specs.Widths.{IsSized, AreSized, FormSized, OtherSized, ActionsSized, GroupsSized}
 use Rattle.dh_tree.proofs.ShapeRules.{shape_without}
 use Rattle.dh_runnable.proofs.TypedParts.{for_numbers_sized}
-use Rattle.dh_tree.proofs.UncheckedBuilt.{first_none, second_none, not_none}
+use Rattle.dh_tree.proofs.EmptyLists.{first_none, second_none, not_none}
 use Rattle.dh_meaning.specs.Bindings.{let_kind}
 use Rattle.dh_meaning.specs.CoreOf.{Known}
-use Rattle.dh_tree.specs.UncheckedForms.{unchecked_form, unchecked_other, unchecked_groups, unchecked_part}
 use Rattle.dh_sound.proofs.FactsGrow.{form_grows, InStep, next_in_step, past_in_step, form_in_step, part_in_step}
 use Rattle.dh_runnable.specs.ActionsRun.{FormRuns, OtherRuns, GroupsRun, PartRuns}
 use Rattle.dh_code.specs.Declarations.{factors_inside}
@@ -53,7 +52,7 @@ module _ (known : Known) (counters : List Counter) (p : Placing) where
     pub visible : form_breaches s f ≡ []
     pub kinds : action_form_kind_breaches facts f ≡ []
     pub indices : action_form_index_breaches (indexed known counters) f ≡ []
-    pub forms : unchecked_form place f ≡ []
+    pub forms : unbuilt_form place f ≡ []
     pub sized : FormSized f
     pub copies : form_copies_excess (copies_in loops) f ≡ None
     pub numbers : FormHasTextNumbers f
@@ -66,7 +65,7 @@ module _ (known : Known) (counters : List Counter) (p : Placing) where
     pub visible : other_breaches s m ≡ []
     pub kinds : other_kind_breaches facts m ≡ []
     pub indices : other_index_breaches (indexed known counters) m ≡ []
-    pub forms : unchecked_other m ≡ []
+    pub forms : unbuilt_other m ≡ []
     pub sized : OtherSized m
     pub copies : other_copies_excess (copies_in loops) m ≡ None
     pub numbers : OtherHasTextNumbers m
@@ -79,7 +78,7 @@ module _ (known : Known) (counters : List Counter) (p : Placing) where
     pub visible : actions_breaches s part ≡ []
     pub kinds : actions_kind_breaches facts part ≡ []
     pub indices : actions_index_breaches (indexed known counters) part ≡ []
-    pub forms : unchecked_part stepped part ≡ []
+    pub forms : unbuilt_part stepped part ≡ []
     pub sized : ActionsSized part
     pub copies : part_copies_excess (copies_in loops) part ≡ None
     pub numbers : PartHasTextNumbers part
@@ -92,7 +91,7 @@ module _ (known : Known) (counters : List Counter) (p : Placing) where
     pub visible : groups_breaches s gs ≡ []
     pub kinds : groups_kind_breaches facts gs ≡ []
     pub indices : groups_index_breaches (indexed known counters) gs ≡ []
-    pub forms : unchecked_groups gs ≡ []
+    pub forms : unbuilt_groups gs ≡ []
     pub sized : GroupsSized gs
     pub copies : groups_copies_excess (copies_in loops) gs ≡ None
     pub numbers : GroupsHaveTextNumbers gs
@@ -206,7 +205,7 @@ module _ (known : Known) (counters : List Counter) (p : Placing) where
           visible = first_none (form_breaches s chosen) _ visible;
           kinds = first_none (action_form_kind_breaches facts chosen) _ kinds;
           indices = first_none (action_form_index_breaches (indexed known counters) chosen) _ indices;
-          forms = first_none (unchecked_form chosen_place chosen) _ h.forms;
+          forms = first_none (unbuilt_form chosen_place chosen) _ h.forms;
           sized = h.sized.1.0;
           copies = first_within (form_copies_excess (copies_in loops) chosen) _ h.copies;
           numbers = h.numbers.0;
@@ -220,7 +219,7 @@ module _ (known : Known) (counters : List Counter) (p : Placing) where
           visible = second_none (form_breaches s chosen) _ visible;
           kinds = second_none (action_form_kind_breaches facts chosen) _ kinds;
           indices = second_none (action_form_index_breaches (indexed known counters) chosen) _ indices;
-          forms = second_none (unchecked_form chosen_place chosen) _ h.forms;
+          forms = second_none (unbuilt_form chosen_place chosen) _ h.forms;
           sized = h.sized.1.1;
           copies = second_within (form_copies_excess (copies_in loops) chosen) _ h.copies;
           numbers = h.numbers.1;
@@ -282,7 +281,7 @@ module _ (known : Known) (counters : List Counter) (p : Placing) where
           visible = first_none (form_breaches inside body) _ visible;
           kinds = first_none (action_form_kind_breaches more body) _ kinds;
           indices = first_none (action_form_index_breaches (indexed known counters) body) _ indices;
-          forms = first_none (unchecked_form body_place body) _ h.forms;
+          forms = first_none (unbuilt_form body_place body) _ h.forms;
           sized = h.sized.1.0;
           copies = subst (λ (n : ℕ). form_copies_excess n body ≡ None) (sym turned) (first_within (form_copies_excess (copies_in loops * factor.value) body) _ copies);
           numbers = h.numbers.1.0;
@@ -296,7 +295,7 @@ module _ (known : Known) (counters : List Counter) (p : Placing) where
           visible = second_none (form_breaches inside body) _ visible;
           kinds = second_none (action_form_kind_breaches more body) _ kinds;
           indices = second_none (action_form_index_breaches (indexed known counters) body) _ indices;
-          forms = second_none (unchecked_form body_place body) _ h.forms;
+          forms = second_none (unbuilt_form body_place body) _ h.forms;
           sized = h.sized.1.1;
           copies = subst (λ (n : ℕ). other_copies_excess n combine ≡ None) (sym turned) (second_within (form_copies_excess (copies_in loops * factor.value) body) _ copies);
           numbers = h.numbers.1.1;
@@ -342,7 +341,7 @@ module _ (known : Known) (counters : List Counter) (p : Placing) where
           visible = first_none (form_breaches s form) _ h.visible;
           kinds = first_none (action_form_kind_breaches facts form) _ h.kinds;
           indices = first_none (action_form_index_breaches (indexed known counters) form) _ h.indices;
-          forms = first_none (unchecked_form place form) _ h.forms;
+          forms = first_none (unbuilt_form place form) _ h.forms;
           sized = h.sized.0;
           copies = first_within (form_copies_excess (copies_in loops) form) _ h.copies;
           numbers = h.numbers.0;
@@ -358,7 +357,7 @@ module _ (known : Known) (counters : List Counter) (p : Placing) where
           visible = second_none (form_breaches s form) _ h.visible;
           kinds = second_none (action_form_kind_breaches facts form) _ h.kinds;
           indices = second_none (action_form_index_breaches (indexed known counters) form) _ h.indices;
-          forms = second_none again _ (second_none (unchecked_form place form) _ h.forms);
+          forms = second_none again _ (second_none (unbuilt_form place form) _ h.forms);
           sized = h.sized.1;
           copies = second_within (form_copies_excess (copies_in loops) form) _ h.copies;
           numbers = h.numbers.1;
@@ -381,7 +380,7 @@ module _ (known : Known) (counters : List Counter) (p : Placing) where
           visible = first_none (actions_breaches s part) _ h.visible;
           kinds = first_none (actions_kind_breaches facts part) _ h.kinds;
           indices = first_none (actions_index_breaches (indexed known counters) part) _ h.indices;
-          forms = first_none (unchecked_part false part) _ h.forms;
+          forms = first_none (unbuilt_part false part) _ h.forms;
           sized = h.sized.0;
           copies = first_within (part_copies_excess (copies_in loops) part) _ h.copies;
           numbers = h.numbers.0;
@@ -394,7 +393,7 @@ module _ (known : Known) (counters : List Counter) (p : Placing) where
           visible = second_none (actions_breaches s part) _ h.visible;
           kinds = second_none (actions_kind_breaches facts part) _ h.kinds;
           indices = second_none (actions_index_breaches (indexed known counters) part) _ h.indices;
-          forms = second_none (unchecked_part false part) _ h.forms;
+          forms = second_none (unbuilt_part false part) _ h.forms;
           sized = h.sized.1;
           copies = second_within (part_copies_excess (copies_in loops) part) _ h.copies;
           numbers = h.numbers.1;

@@ -9,14 +9,15 @@ use Rattle.dh_value.specs.declared.kinds.Kind.{Kind}
 use Rattle.dh_tree.specs.declared.breaches.Breach.{Breach}
 use Rattle.dh_tree.specs.declared.tables.Dim.{Dim}
 use Rattle.dh_tree.specs.declared.trees.expressions.Ref.{Ref}
-use Rattle.dh_tree.specs.Effects.{kind_in, entry_kind}
+use Rattle.dh_meaning.specs.Effects.{kind_in, entry_kind}
 use Rattle.dh_tree.specs.Elements.{banks_of, dims_at, entry_dims}
 use Rattle.dh_tree.specs.Indices.{shape_keeps, kept_dims, bank_breaches, physical_breaches}
 use Rattle.dh_tree.specs.Kinds.{when}
-use Rattle.dh_tree.specs.Meaning.{entity_number, memory_of}
+use Rattle.dh_tree.specs.Memories.{memory_of}
+use Rattle.dh_tree.specs.Scopes.{entity_number}
 use Rattle.dh_tree.specs.Memories.{Memory, same_entity, number_in, memory_in, entry_of}
 use Rattle.dh_tree.specs.PlainTrees.{Term}
-use Rattle.dh_tree.proofs.UncheckedBuilt.{first_none, not_none}
+use Rattle.dh_tree.proofs.EmptyLists.{first_none, not_none}
 
 when_none : (b : Bool) (x : Breach) → when b (x ∷ []) ≡ [] → b ≡ false
 when_none true x e = not_none _ _ e

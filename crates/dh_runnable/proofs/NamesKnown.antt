@@ -18,7 +18,7 @@ use Rattle.dh_tree.specs.Resolved.{used}
 use Rattle.dh_tree.specs.Scopes.{Binding, binding, entity_of, is_visible, bind, Scope, declare, past, at_end}
 use Rattle.dh_tree.specs.Widths.{IsSized}
 use Rattle.dh_runnable.proofs.TypedParts.{IsMemory}
-use Rattle.dh_tree.proofs.UncheckedBuilt.{not_none}
+use Rattle.dh_tree.proofs.EmptyLists.{not_none}
 use Rattle.dh_meaning.specs.Bindings.{binding_in, kind_bound, depth_bound}
 use Rattle.dh_meaning.specs.CoreOf.{Known}
 use Rattle.dh_sound.proofs.FactsGrow.{Extends, appended, added_last, groups_grow, InStep}

@@ -12,7 +12,7 @@ use Rattle.dh_value.specs.Operations.{AreIntegers, AreTruths, AreAlike, IsShift}
 use Rattle.dh_value.specs.Words.{IsKind, IsWidth}
 use Rattle.dh_tree.specs.declared.tables.MemEntry.{MemEntry}
 use Rattle.dh_tree.specs.Kinds.{two_numbers, number_and_amount, two_alike, two_truths, takes, operands_breaches, applied_kind}
-use Rattle.dh_tree.specs.Meaning.{wider}
+use Rattle.dh_tree.specs.WiderKinds.{wider}
 use Rattle.dh_meaning.specs.Core.{CoreTerm}
 use Rattle.dh_meaning.specs.CoreOf.{extended, extended_both, operation_of}
 use Rattle.dh_code.specs.Slots.{Placing}

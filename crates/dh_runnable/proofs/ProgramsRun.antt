@@ -13,7 +13,7 @@ use Rattle.dh_tree.specs.Breaches.{breaches, items_breaches, functions_breaches}
 use Rattle.dh_tree.specs.Counters.{counters_of}
 use Rattle.dh_tree.specs.Elements.{banks_of}
 use Rattle.dh_tree.specs.Excesses.{copies_excess, first_above}
-use Rattle.dh_tree.specs.Forms.{unbuilt_functions}
+use Rattle.dh_tree.specs.Forms.{unbuilt_functions, unbuilt_action}
 use Rattle.dh_tree.specs.Indices.{shape_breaches, action_index_breaches, decls_shape_breaches, shape_keeps}
 use Rattle.dh_tree.specs.KindBreaches.{action_kind_breaches, functions_kind_breaches}
 use Rattle.dh_tree.specs.Kinds.{of_memory, Facts, declared_facts, function_fact, first_facts, body_facts, facts_after_functions, typed_functions, typed_action, typed_action_form}
@@ -27,11 +27,10 @@ use Rattle.dh_tree.specs.TextNumbers.{HasTextNumbers}
 use Rattle.dh_tree.specs.Widths.{ActionSized}
 use Rattle.dh_tree.proofs.ShapeRules.{shape_without}
 use Rattle.dh_runnable.proofs.ElementsFound.{Sees, sees_later}
-use Rattle.dh_tree.proofs.UncheckedBuilt.{first_none, second_none, not_none}
+use Rattle.dh_tree.proofs.EmptyLists.{first_none, second_none, not_none}
 use Rattle.dh_meaning.specs.CoreOf.{Known, known_of}
 use Rattle.dh_meaning.specs.Sites.{nothing_around}
 use Rattle.dh_tree.specs.Ready.{IsReady, most_tokens}
-use Rattle.dh_tree.specs.UncheckedForms.{unchecked_action}
 use Rattle.dh_sound.proofs.FactsGrow.{appended, InStep}
 use Rattle.dh_sound.proofs.KindsOfPrograms.{functions_grow, body_in_step, map_long, mapped_at, behind_at, next_number}
 use Rattle.dh_runnable.specs.ActionsRun.{ActionRuns}
@@ -174,7 +173,7 @@ resolved_body q h = ap (λ (x : Program). x.body) h.entities
 
 -- a body of which each walk tells its own
 body_runs : (known : Known) (counters : List Counter) (p : Placing) (a : Action) (facts : Facts) (s : Scope) → InStep s facts → Knows known p [] facts s.visible
-    → typed_action facts a ≡ a → resolved_action s a ≡ a → breaches s a ≡ [] → action_kind_breaches facts a ≡ [] → action_index_breaches (indexed known counters) a ≡ [] → unchecked_action a ≡ []
+    → typed_action facts a ≡ a → resolved_action s a ≡ a → breaches s a ≡ [] → action_kind_breaches facts a ≡ [] → action_index_breaches (indexed known counters) a ≡ [] → unbuilt_action a ≡ []
     → ActionSized a → copies_excess 1 a ≡ None → HasTextNumbers a → ArePlaced known p [] a → Declares known.memories a → ActionRuns known p [] a
 body_runs known counters p (action id place form) facts s l k typed named visible kinds indices forms sized copies numbers places declares =
     let form_typed : typed_action_form facts form ≡ form = cc in

@@ -21,7 +21,7 @@ use Rattle.dh_tree.specs.Scopes.{Binding, entity_number}
 use Rattle.dh_tree.specs.TextNumbers.{Reduces}
 use Rattle.dh_tree.specs.Widths.{IsSized, MaybeSized}
 use Rattle.dh_runnable.proofs.TypedParts.{for_numbers_sized, number_kind_sized}
-use Rattle.dh_tree.proofs.UncheckedBuilt.{second_none, not_none}
+use Rattle.dh_tree.proofs.EmptyLists.{second_none, not_none}
 use Rattle.dh_meaning.specs.Bindings.{binding_in, kind_bound, kind_found, kind_or_first, let_kind}
 use Rattle.dh_meaning.specs.Core.{variable}
 use Rattle.dh_meaning.specs.CoreOf.{Known, depth_of, kind_of, operation_of, core_term, first_value, store_to, assigned, folded_into}

@@ -24,7 +24,7 @@ use Rattle.dh_tree.specs.Scopes.{Binding}
 use Rattle.dh_tree.specs.Widths.{IsSized, AreSized, AreAllSized}
 use Rattle.dh_runnable.proofs.ElementsFound.{IsElement, element_is}
 use Rattle.dh_runnable.proofs.TypedParts.{IsMemory, for_numbers_sized, number_kind_sized, typed_parts}
-use Rattle.dh_tree.proofs.UncheckedBuilt.{first_none, second_none, not_none}
+use Rattle.dh_tree.proofs.EmptyLists.{first_none, second_none, not_none}
 use Rattle.dh_meaning.specs.AccessNumbers.{term_accesses}
 use Rattle.dh_meaning.specs.Bindings.{binding_in, depth_bound, kind_or_first, kind_found}
 use Rattle.dh_meaning.specs.CoreOf.{Known, entity_number, depth_of, operation_of, core_term, core_form, core_terms}

@@ -15,7 +15,7 @@ use Rattle.dh_tree.specs.Indices.{divides, turns_breaches}
 use Rattle.dh_tree.specs.Kinds.{when}
 use Rattle.dh_tree.specs.PlainTrees.{Placed, Unrolled}
 use Rattle.dh_tree.specs.Scopes.{entity_number}
-use Rattle.dh_tree.proofs.UncheckedBuilt.{first_none, second_none, not_none}
+use Rattle.dh_tree.proofs.EmptyLists.{first_none, second_none, not_none}
 use Rattle.dh_meaning.specs.CoreOf.{Known, depth_of}
 use Rattle.dh_meaning.specs.Phases.{turn_count}
 use Rattle.dh_code.specs.Declarations.{factors_inside}

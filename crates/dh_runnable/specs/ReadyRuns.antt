@@ -11,7 +11,7 @@ use Rattle.dh_tree.specs.Ready.{most_tokens}
 use Rattle.dh_tree.specs.Resolved.{HasEntities}
 use Rattle.dh_tree.specs.TextNumbers.{HasTextNumbers}
 use Rattle.dh_tree.specs.Widths.{HasWidths}
-use Rattle.dh_tree.specs.UncheckedForms.{unchecked_forms}
+use Rattle.dh_tree.specs.Forms.{unbuilt_forms}
 
 -- What is needed for a program to be run, each from one pass: the parser tells the widths, the operators of reducers, the
 -- bounds of loops and how many names there are, the pass over forms that no view and no call is there, the pass over names the names and their
@@ -20,7 +20,7 @@ pub record TellsEnough (p : Program) : Type 0 where
   pub widths : HasWidths p
   pub numbers : HasTextNumbers p.body
   pub declared : names_declared p ≤ most_tokens
-  pub built : unchecked_forms p ≡ []
+  pub built : unbuilt_forms p ≡ []
   pub names : KeepsNames p
   pub entities : HasEntities p
   pub kinds : HasKinds p

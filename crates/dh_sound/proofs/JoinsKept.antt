@@ -9,14 +9,13 @@ use Rattle.dh_tree.specs.declared.breaches.Breach.{Breach}
 use Rattle.dh_tree.specs.declared.trees.programs.Entity.{Entity}
 use Rattle.dh_tree.specs.declared.trees.programs.Sort.{Sort}
 use Rattle.dh_tree.specs.declared.trees.programs.Sort.TheVariants as sort
-use Rattle.dh_tree.specs.Forms.{unbuilt, form_holds, has_dashes}
+use Rattle.dh_tree.specs.Forms.{unbuilt, form_holds, has_dashes, unbuilt_action, unbuilt_form, unbuilt_other, unbuilt_groups, unbuilt_part}
 use Rattle.dh_tree.specs.Kinds.{when, place_of}
 use Rattle.dh_tree.specs.LeastBreach.{breach}
 use Rattle.dh_tree.specs.Placements.{is_iterator, entity_iterates, names_iterator}
 use Rattle.dh_tree.specs.PlainTrees.{Term, term, number, truth_value, named, accessed, in_bank, applied, converted, Action, action, ActionForm, lets, lets_memory, views, assigns, stores, reduces, calls, blocks, decides, repeats, counts, MaybeAction, no_action, one_action, Actions, no_actions, action_then, Groups, no_groups, group_then}
-use Rattle.dh_tree.proofs.UncheckedBuilt.{first_none, second_none, not_none}
+use Rattle.dh_tree.proofs.EmptyLists.{first_none, second_none, not_none}
 use Rattle.dh_meaning.specs.CoreOf.{entity_number}
-use Rattle.dh_tree.specs.UncheckedForms.{unchecked_action, unchecked_form, unchecked_other, unchecked_groups, unchecked_part}
 use Rattle.dh_sound.specs.IteratorsKept.{FoldsElsewhere, FormFoldsElsewhere, OtherFoldsElsewhere, GroupsFoldElsewhere, PartFoldsElsewhere}
 use Rattle.dh_sound.specs.Joins.{is_plain_variable, entity_varies, names_variable, varies_outside, is_joined, joined_breaches, joined_part_breaches, joined_groups_breaches, join_form_breaches, join_breaches, fold_breaches, fold_form_breaches, fold_other_breaches, fold_part_breaches, fold_groups_breaches}
 use Rattle.dh_sound.specs.OuterWrites.{is_from_outside}
@@ -140,10 +139,10 @@ module _ (es : List Entity) where
 
   -- Their forms are simple.
   mutual
-    pub simple_kept : (a : Action) → unchecked_action a ≡ [] → fold_breaches es a ≡ [] → IsSimple a
+    pub simple_kept : (a : Action) → unbuilt_action a ≡ [] → fold_breaches es a ≡ [] → IsSimple a
     simple_kept (action id place form) c e = form_simple_kept form place c e
 
-    form_simple_kept : (f : ActionForm) (place : Place) → unchecked_form place f ≡ [] → fold_form_breaches es f ≡ [] → FormSimple f
+    form_simple_kept : (f : ActionForm) (place : Place) → unbuilt_form place f ≡ [] → fold_form_breaches es f ≡ [] → FormSimple f
     form_simple_kept (lets name declared value) place c e = tt
     form_simple_kept (lets_memory name shape shape_places value) place c e = tt
     form_simple_kept (views name parent form) place c e = not_none _ _ c
@@ -153,31 +152,31 @@ module _ (es : List Entity) where
     form_simple_kept (calls function arguments) place c e = not_none _ _ c
     form_simple_kept (blocks body) place c e = groups_simple_kept body c e
     form_simple_kept (decides test chosen other) place c e = (
-      simple_kept chosen (first_none (unchecked_action chosen) _ c) (first_none (fold_breaches es chosen) _ e),
-      other_simple_kept other (second_none (unchecked_action chosen) _ c) (second_none (fold_breaches es chosen) _ e),
+      simple_kept chosen (first_none (unbuilt_action chosen) _ c) (first_none (fold_breaches es chosen) _ e),
+      other_simple_kept other (second_none (unbuilt_action chosen) _ c) (second_none (fold_breaches es chosen) _ e),
     )
     form_simple_kept (repeats test body) place c e = simple_kept body c e
     form_simple_kept (counts iterator declared low high factor body combine combine_place) place c e = (
-      simple_kept body (first_none (unchecked_action body) _ c) (first_none (fold_breaches es body) _ e),
+      simple_kept body (first_none (unbuilt_action body) _ c) (first_none (fold_breaches es body) _ e),
       (join_told (entity_number iterator.entity) combine_place combine (second_none (fold_breaches es body) _ e)).0,
     )
 
-    other_simple_kept : (m : MaybeAction) → unchecked_other m ≡ [] → fold_other_breaches es m ≡ [] → OtherSimple m
+    other_simple_kept : (m : MaybeAction) → unbuilt_other m ≡ [] → fold_other_breaches es m ≡ [] → OtherSimple m
     other_simple_kept no_action c e = tt
     other_simple_kept (one_action a) c e = simple_kept a c e
 
-    groups_simple_kept : (gs : Groups) → unchecked_groups gs ≡ [] → fold_groups_breaches es gs ≡ [] → GroupsSimple gs
+    groups_simple_kept : (gs : Groups) → unbuilt_groups gs ≡ [] → fold_groups_breaches es gs ≡ [] → GroupsSimple gs
     groups_simple_kept no_groups c e = tt
     groups_simple_kept (group_then part rest) c e = (
-      part_simple_kept part false (first_none (unchecked_part false part) _ c) (first_none (fold_part_breaches es part) _ e),
-      groups_simple_kept rest (second_none (unchecked_part false part) _ c) (second_none (fold_part_breaches es part) _ e),
+      part_simple_kept part false (first_none (unbuilt_part false part) _ c) (first_none (fold_part_breaches es part) _ e),
+      groups_simple_kept rest (second_none (unbuilt_part false part) _ c) (second_none (fold_part_breaches es part) _ e),
     )
 
-    part_simple_kept : (part : Actions) (stepped : Bool) → unchecked_part stepped part ≡ [] → fold_part_breaches es part ≡ [] → PartSimple part
+    part_simple_kept : (part : Actions) (stepped : Bool) → unbuilt_part stepped part ≡ [] → fold_part_breaches es part ≡ [] → PartSimple part
     part_simple_kept no_actions stepped c e = tt
     part_simple_kept (action_then (action id place form) rest) stepped c e =
-        let after = second_none (unchecked_form place form) _ c in
+        let after = second_none (unbuilt_form place form) _ c in
         let again : List Breach = (if stepped && form_holds form then unbuilt place else []) in (
-          form_simple_kept form place (first_none (unchecked_form place form) _ c) (first_none (fold_form_breaches es form) _ e),
+          form_simple_kept form place (first_none (unbuilt_form place form) _ c) (first_none (fold_form_breaches es form) _ e),
           part_simple_kept rest (stepped || form_holds form) (second_none again _ after) (second_none (fold_form_breaches es form) _ e),
         )

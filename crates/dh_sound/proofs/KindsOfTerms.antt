@@ -19,7 +19,7 @@ use Rattle.dh_tree.specs.Counters.{counter_in}
 use Rattle.dh_tree.specs.Indices.{all_fit, form_of}
 use Rattle.dh_tree.specs.KindBreaches.{term_kind_breaches, indices_kind_breaches}
 use Rattle.dh_tree.specs.Kinds.{Fact, of_variable, of_iterator, of_memory, of_function, Facts, fact_at, fact_of, mismatch, when, is_value, signed_number, is_integer, for_numbers, number_kind, is_shift, keeps_bare, is_bare, found, place_of, left_want, right_want, two_numbers, takes, operands_breaches, applied_kind, unless, applied_breaches, applied_found, value_kind, value_breaches, number_found, number_breaches, index_breaches, all_found, all_integer, count_of, access_breaches, access_found, bank_breaches, bank_found, cast_breaches, cast_found, form_found, typed_term, typed_form, typed_terms}
-use Rattle.dh_tree.specs.Meaning.{wider}
+use Rattle.dh_tree.specs.WiderKinds.{wider}
 use Rattle.dh_tree.specs.PlainTrees.{Term, term, TermForm, number, truth_value, named, accessed, in_bank, applied, converted, Terms, no_terms, term_then}
 use Rattle.dh_tree.specs.Resolved.{used, resolved_term, resolved_terms}
 use Rattle.dh_tree.specs.Scopes.{Binding, entity_of}

@@ -13,7 +13,7 @@ use Rattle.dh_tree.specs.PlainTrees.{Term, term, TermForm, number, truth_value, 
 use Rattle.dh_tree.specs.Ready.{IsReady}
 use Rattle.dh_tree.specs.Resolved.{resolved_term, resolved_term_form, resolved_terms, resolved_action, resolved_form, resolved_other, resolved_actions, resolved_groups}
 use Rattle.dh_tree.specs.Scopes.{Binding, entity_of, Scope, declare, leave, past, at_end, actions_at_end, first_scope, body_scope, items_of}
-use Rattle.dh_tree.proofs.UncheckedBuilt.{first_none, second_none}
+use Rattle.dh_tree.proofs.EmptyLists.{first_none, second_none}
 use Rattle.dh_tree.specs.Targets.{IsAccess, HasTargets, FormHasTargets, OtherHasTargets, GroupsHaveTargets, PartHasTargets}
 use Rattle.dh_sound.specs.Straight.{Stands, IsNamedTerm, IsNamedTermForm, AreNamedTerms, MaybeNamed, IsTarget, IsNamedAction, IsNamedForm, IsNamedOther, AreNamedGroups, AreNamedActions}
 

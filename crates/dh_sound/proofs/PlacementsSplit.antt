@@ -14,7 +14,7 @@ use Rattle.dh_tree.specs.Placements as placed
 use Rattle.dh_tree.specs.Placements.{Context, nothing_round, branched, in_body, in_combine, is_outer_write, names_iterator, names_variable, is_from_outside, is_folded_into, is_folded, folded_breaches, reducer_breaches, combine_breaches, action_placement_breaches, form_placement_breaches, other_placement_breaches, actions_placement_breaches, groups_placement_breaches, decls_placement_breaches, placement_breaches}
 use Rattle.dh_tree.specs.PlainTrees.{Term, term, number, truth_value, named, accessed, in_bank, applied, converted, Action, action, ActionForm, lets, lets_memory, views, assigns, stores, reduces, calls, blocks, decides, repeats, counts, MaybeAction, no_action, one_action, Actions, no_actions, action_then, Groups, no_groups, group_then, Program}
 use Rattle.dh_tree.specs.Scopes.{entity_number}
-use Rattle.dh_tree.proofs.UncheckedBuilt.{first_none, second_none, both_none, not_none}
+use Rattle.dh_tree.proofs.EmptyLists.{first_none, second_none, both_none, not_none}
 use Rattle.dh_sound.specs.Joins.{varies_outside, varies_inside, is_joined, joined_breaches, joined_part_breaches, joined_groups_breaches, join_form_breaches, join_breaches, fold_breaches, fold_form_breaches, fold_other_breaches, fold_part_breaches, fold_groups_breaches, fold_breaches_of}
 use Rattle.dh_sound.specs.OuterWrites.{outer_breaches, outer_form_breaches, outer_other_breaches, outer_part_breaches, outer_groups_breaches, outer_breaches_of}
 use Rattle.dh_sound.proofs.IteratorsNamed.{none_when}

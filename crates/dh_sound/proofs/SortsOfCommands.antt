@@ -14,7 +14,7 @@ use Rattle.dh_tree.specs.Memories.{Memory, memories_of, locals, form_locals, oth
 use Rattle.dh_tree.specs.PlainTrees.{converted, applied, in_bank, accessed, named, truth_value, number, term, Term, Action, action, ActionForm, lets, lets_memory, views, assigns, stores, reduces, calls, blocks, decides, repeats, counts, MaybeAction, no_action, one_action, Actions, no_actions, action_then, Groups, no_groups, group_then, Program}
 use Rattle.dh_tree.specs.Resolved.{resolved_term, resolved_action, resolved_form, resolved_other, resolved_actions, resolved_groups}
 use Rattle.dh_tree.specs.Scopes.{entity_of, bind, Scope, declare, leave, past, at_end, form_at_end, other_at_end, actions_at_end, groups_at_end}
-use Rattle.dh_tree.proofs.UncheckedBuilt.{first_none, second_none}
+use Rattle.dh_tree.proofs.EmptyLists.{first_none, second_none}
 use Rattle.dh_meaning.specs.Bindings.{depth_inside, bindings_of, binding_in, depth_bound}
 use Rattle.dh_meaning.specs.CoreOf.{known_of, entity_number}
 use Rattle.dh_meaning.specs.Sites.{Around, in_arm, in_loop, loop_of}

@@ -21,7 +21,7 @@ use Rattle.dh_tree.specs.Memories.{Memory, same_entity, memory_in, memories_of}
 use Rattle.dh_tree.specs.PlainTrees.{Term, term, number, truth_value, named, accessed, in_bank, applied, converted, Terms, no_terms, term_then, Action, action, lets, lets_memory, views, assigns, stores, reduces, calls, blocks, decides, repeats, counts, Program}
 use Rattle.dh_tree.specs.Resolved.{resolved_term, resolved_terms}
 use Rattle.dh_tree.specs.Scopes.{Binding, binding, entity_of, is_visible, bind, Scope, declare, past, at_end}
-use Rattle.dh_tree.proofs.UncheckedBuilt.{first_none, second_none, not_none}
+use Rattle.dh_tree.proofs.EmptyLists.{first_none, second_none, not_none}
 use Rattle.dh_meaning.specs.Bindings.{bindings_of, binding_in, depth_bound}
 use Rattle.dh_meaning.specs.CoreOf.{known_of, entity_number, depth_of}
 use Rattle.dh_meets.specs.SourceEvents.{with_indices, in_row, Site, one_access, term_events, terms_events, maybe_events, write_events}

@@ -15,7 +15,7 @@ use Rattle.dh_tree.specs.PlainTrees.{Declared, Defined, Program}
 use Rattle.dh_tree.specs.Ready.{IsReady}
 use Rattle.dh_tree.specs.Resolved.{resolved_decls}
 use Rattle.dh_tree.specs.Scopes.{Binding, bind, Item, memory_items, function_items, merged, items_of, after_items, first_scope, body_scope, at_end}
-use Rattle.dh_tree.proofs.UncheckedBuilt.{second_none}
+use Rattle.dh_tree.proofs.EmptyLists.{second_none}
 use Rattle.dh_meaning.specs.Bindings.{bindings_of}
 use Rattle.dh_meaning.specs.CoreOf.{known_of}
 use Rattle.dh_meaning.specs.Sites.{nothing_around}

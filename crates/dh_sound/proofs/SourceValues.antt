@@ -13,7 +13,7 @@ use Rattle.dh_value.specs.Words.{word_of, with_bits}
 use Rattle.dh_value.specs.Operations.{binary_of}
 use Rattle.dh_base.specs.declared.places.Place.{Place}
 use Rattle.dh_tree.specs.Elements.{Spot}
-use Rattle.dh_tree.specs.Meaning.{wider}
+use Rattle.dh_tree.specs.WiderKinds.{wider}
 use Rattle.dh_tree.specs.Memories.{same_entity, number_in}
 use Rattle.dh_tree.specs.PlainTrees.{Term, term, TermForm, number, truth_value, named, accessed, in_bank, applied, converted, Terms, no_terms, term_then}
 use Rattle.dh_meaning.specs.AccessNumbers.{term_accesses}

@@ -22,7 +22,7 @@ use Rattle.dh_tree.specs.declared.trees.expressions.Ref.{Ref}
 use Rattle.dh_tree.specs.Counters.{counter_in}
 use Rattle.dh_tree.specs.Indices.{iterator, dynamic, fits_kind, all_fit, counted, sum_kind, form_of, index_kind}
 use Rattle.dh_tree.specs.Kinds.{found, place_of, is_value, signed_number}
-use Rattle.dh_tree.specs.Meaning.{wider}
+use Rattle.dh_tree.specs.WiderKinds.{wider}
 use Rattle.dh_tree.specs.PlainTrees.{Term, term, number, truth_value, named, accessed, in_bank, applied, converted}
 use Rattle.dh_meaning.specs.Bindings.{kind_or_first, kind_found}
 use Rattle.dh_meaning.specs.Core.{CoreTerm, binary}

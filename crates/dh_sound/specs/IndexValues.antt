@@ -16,7 +16,7 @@ use Rattle.dh_tree.specs.Elements.{Spot}
 use Rattle.dh_tree.specs.Indices.{IndexKind, constant, iterator, dynamic, all_fit, form_of, indices_breaches}
 use Rattle.dh_tree.specs.KindBreaches.{KeepsKinds}
 use Rattle.dh_tree.specs.Kinds.{found, is_value, signed_number, HasKinds}
-use Rattle.dh_tree.specs.Meaning.{wider}
+use Rattle.dh_tree.specs.WiderKinds.{wider}
 use Rattle.dh_tree.specs.Memories.{Memory, memories_of, memory_in, number_in, table_of}
 use Rattle.dh_tree.specs.PlainTrees.{Term, TermForm, number, truth_value, named, accessed, in_bank, applied, converted, Terms, no_terms, term_then, Program}
 use Rattle.dh_tree.specs.Resolved.{HasEntities}

@@ -17,7 +17,7 @@ use Rattle.dh_tree.specs.Memories.{Memory, outside_memory, locals, form_locals, 
 use Rattle.dh_tree.specs.Placements.{is_no_memory, Context, branched, in_body, in_combine, joined_breaches, action_placement_breaches, form_placement_breaches, other_placement_breaches, actions_placement_breaches, groups_placement_breaches, decls_placement_breaches}
 use Rattle.dh_tree.specs.PlainTrees.{Action, action, ActionForm, lets, lets_memory, views, assigns, stores, reduces, calls, blocks, decides, repeats, counts, MaybeAction, no_action, one_action, Actions, no_actions, action_then, Groups, no_groups, group_then, Declared}
 use Rattle.dh_tree.specs.Widths.{ActionSized, FormSized, OtherSized, ActionsSized, GroupsSized}
-use Rattle.dh_tree.proofs.UncheckedBuilt.{first_none, second_none, not_none}
+use Rattle.dh_tree.proofs.EmptyLists.{first_none, second_none, not_none}
 
 -- shapes that break no rule keep the rules
 none_when : (b : Bool) (x : Breach) → when b (x ∷ []) ≡ [] → b ≡ false

@@ -20,7 +20,7 @@ use Rattle.dh_tree.specs.declared.tables.MemEntry.{MemEntry}
 use Rattle.dh_tree.specs.Breaches.{twice, items_breaches, functions_breaches, breaches, KeepsNames}
 use Rattle.dh_tree.specs.Elements.{banks_of}
 use Rattle.dh_tree.specs.Excesses.{excess_at, or_else, first_above, copies_excess, first_excess}
-use Rattle.dh_tree.specs.Forms.{unbuilt_functions}
+use Rattle.dh_tree.specs.Forms.{unbuilt_functions, unbuilt_forms}
 use Rattle.dh_tree.specs.Indices.{divides, dim_keeps, dims_keep, known_of, decls_shape_breaches, index_breaches_of}
 use Rattle.dh_tree.specs.Kinds.{is_truth}
 use Rattle.dh_tree.specs.Memories.{Memory, outside_memory, locals, memories_of, entry_of, table_of}
@@ -30,10 +30,9 @@ use Rattle.dh_tree.specs.PlainTrees.{Declared, Defined, Program}
 use Rattle.dh_tree.specs.Scopes.{Binding, binding, entity_of, is_visible, bind, Item, memory_items, function_items, merged, items_of, first_scope, body_scope}
 use Rattle.dh_tree.specs.Shapes.{IsDim, IsShape, IsMemory, IsLocal, outside_of, HasLocalsLast, IsProgramTable}
 use Rattle.dh_tree.specs.Tables.{HasNoName, HasDistinctNames, elements_in}
-use Rattle.dh_tree.specs.UncheckedForms.{unchecked_forms}
 use Rattle.dh_tree.specs.Written.{IsDeclared, IsOfText}
 use Rattle.dh_tree.proofs.KeptMemories.{IsKept, IsKeptLocal, decls_kept, locals_kept, all_kept}
-use Rattle.dh_tree.proofs.UncheckedBuilt.{first_none, second_none, not_none}
+use Rattle.dh_tree.proofs.EmptyLists.{first_none, second_none, not_none}
 
 -- the name of a memory that is declared
 abbrev outer_entry : Declared → MemEntry
@@ -210,7 +209,7 @@ outer_are : (ds : List Declared) (ms : List Memory) → AllByRecursion IsLocal (
 outer_are [] ms h = none_outside (map entry_of ms) h
 outer_are (d ∷ ds) ms h = ap (λ l. outer_entry d ∷ l) (outer_are ds ms h)
 
-pub program_table : (p : Program) (tokens : ℕ) → IsOfText tokens p → KeepsNames p → unchecked_forms p ≡ [] → index_breaches_of p ≡ [] → first_excess p ≡ None → placement_breaches p ≡ [] → IsProgramTable (table_of p)
+pub program_table : (p : Program) (tokens : ℕ) → IsOfText tokens p → KeepsNames p → unbuilt_forms p ≡ [] → index_breaches_of p ≡ [] → first_excess p ≡ None → placement_breaches p ≡ [] → IsProgramTable (table_of p)
 program_table p tokens text names forms indices limits places =
     let outer = decls_kept p.decls (first_none (decls_shape_breaches p.decls) _ indices) (first_none (decls_placement_breaches p.decls) _ places) text.widths.decls in
     let inner = locals_kept (known_of p) p.entities nothing_round p.body (second_none (decls_shape_breaches p.decls) _ indices) (second_none (decls_placement_breaches p.decls) _ places) text.widths.body in

@@ -7,11 +7,10 @@ use Rattle.std.specs.List.{AllByRecursion}
 use Rattle.dh_base.specs.declared.places.Place.{Place}
 use Rattle.dh_value.specs.Words.{IsKind}
 use Rattle.dh_tree.specs.declared.trees.programs.Sort.TheVariants.{Iterator}
-use Rattle.dh_tree.specs.Forms.{unbuilt, form_holds, unbuilt_functions}
+use Rattle.dh_tree.specs.Forms.{unbuilt, form_holds, unbuilt_functions, unbuilt_action, unbuilt_form, unbuilt_other, unbuilt_groups, unbuilt_part, unbuilt_forms}
 use Rattle.dh_tree.specs.PlainTrees.{Term, term, TermForm, number, truth_value, named, accessed, in_bank, applied, converted, Terms, no_terms, term_then, Suffixed, ViewPlan, shrinks, splits, suffixes, shifts, Action, action, ActionForm, lets, lets_memory, views, assigns, stores, reduces, calls, blocks, decides, repeats, counts, MaybeAction, no_action, one_action, Actions, no_actions, action_then, Groups, no_groups, group_then, Declared, Formal, Defined, Program}
 use Rattle.dh_tree.specs.Resolved.{resolved_term, resolved_term_form, resolved_terms, resolved_offset, resolved_plan, resolved_action, resolved_form, resolved_other, resolved_actions, resolved_groups, resolved_decls, resolved_formals, resolved_functions, resolved}
 use Rattle.dh_tree.specs.Scopes.{Binding, Scope, declare, leave, past, at_end, actions_at_end, formal_sort, body_start, after_function, first_scope, body_scope}
-use Rattle.dh_tree.specs.UncheckedForms.{unchecked_action, unchecked_form, unchecked_other, unchecked_groups, unchecked_part, unchecked_forms}
 use Rattle.dh_tree.specs.Widths.{AreSized, AreSizedIn, AreAllSized, MaybeSized, PlanSized, ActionSized, FormSized, OtherSized, ActionsSized, GroupsSized, DefinedSized, HasWidths}
 use Rattle.dh_tree.proofs.ResolvedForms.{form_steps_kept, functions_kept}
 
@@ -102,10 +101,10 @@ widths_kept p h = record {
 }
 
 mutual
-  action_kept : (s : Scope) (a : Action) → unchecked_action (resolved_action s a) ≡ unchecked_action a
+  action_kept : (s : Scope) (a : Action) → unbuilt_action (resolved_action s a) ≡ unbuilt_action a
   action_kept s (action id place form) = action_form_kept s place form
 
-  action_form_kept : (s : Scope) (place : Place) (f : ActionForm) → unchecked_form place (resolved_form s f) ≡ unchecked_form place f
+  action_form_kept : (s : Scope) (place : Place) (f : ActionForm) → unbuilt_form place (resolved_form s f) ≡ unbuilt_form place f
   action_form_kept s place (lets name declared value) = refl
   action_form_kept s place (lets_memory name shape shape_places value) = refl
   action_form_kept s place (views name parent form) = refl
@@ -116,32 +115,32 @@ mutual
   action_form_kept s place (blocks body) = groups_kept s body
   action_form_kept s place (decides test chosen other) =
       let inner : Scope = leave s (at_end s chosen) in
-      ap (λ l. l ++ unchecked_other (resolved_other inner other)) (action_kept s chosen) ∙ ap (λ l. unchecked_action chosen ++ l) (other_kept inner other)
+      ap (λ l. l ++ unbuilt_other (resolved_other inner other)) (action_kept s chosen) ∙ ap (λ l. unbuilt_action chosen ++ l) (other_kept inner other)
   action_form_kept s place (repeats test body) = action_kept s body
   action_form_kept s place (counts iterator declared low high factor body combine combine_place) =
       let d : Scope = declare s iterator Iterator in
-      ap (λ l. l ++ unchecked_other (resolved_other (at_end d body) combine)) (action_kept d body)
-      ∙ ap (λ l. unchecked_action body ++ l) (other_kept (at_end d body) combine)
+      ap (λ l. l ++ unbuilt_other (resolved_other (at_end d body) combine)) (action_kept d body)
+      ∙ ap (λ l. unbuilt_action body ++ l) (other_kept (at_end d body) combine)
 
-  other_kept : (s : Scope) (m : MaybeAction) → unchecked_other (resolved_other s m) ≡ unchecked_other m
+  other_kept : (s : Scope) (m : MaybeAction) → unbuilt_other (resolved_other s m) ≡ unbuilt_other m
   other_kept s no_action = refl
   other_kept s (one_action a) = action_kept s a
 
-  groups_kept : (s : Scope) (g : Groups) → unchecked_groups (resolved_groups s g) ≡ unchecked_groups g
+  groups_kept : (s : Scope) (g : Groups) → unbuilt_groups (resolved_groups s g) ≡ unbuilt_groups g
   groups_kept s no_groups = refl
   groups_kept s (group_then part rest) =
-      ap (λ l. l ++ unchecked_groups (resolved_groups (actions_at_end s part) rest)) (part_kept false s part)
-      ∙ ap (λ l. unchecked_part false part ++ l) (groups_kept (actions_at_end s part) rest)
+      ap (λ l. l ++ unbuilt_groups (resolved_groups (actions_at_end s part) rest)) (part_kept false s part)
+      ∙ ap (λ l. unbuilt_part false part ++ l) (groups_kept (actions_at_end s part) rest)
 
-  part_kept : (stepped : Bool) (s : Scope) (p : Actions) → unchecked_part stepped (resolved_actions s p) ≡ unchecked_part stepped p
+  part_kept : (stepped : Bool) (s : Scope) (p : Actions) → unbuilt_part stepped (resolved_actions s p) ≡ unbuilt_part stepped p
   part_kept stepped s no_actions = refl
   part_kept stepped s (action_then (action id place form) rest) =
       let after : Scope = past s (action id place form) (at_end s (action id place form)) in
-      ap (λ l. l ++ ((if stepped && form_holds (resolved_form s form) then unbuilt place else []) ++ unchecked_part (stepped || form_holds (resolved_form s form)) (resolved_actions after rest))) (action_form_kept s place form)
-      ∙ (ap (λ b. unchecked_form place form ++ ((if stepped && b then unbuilt place else []) ++ unchecked_part (stepped || b) (resolved_actions after rest))) (form_steps_kept s form)
-      ∙ ap (λ l. unchecked_form place form ++ ((if stepped && form_holds form then unbuilt place else []) ++ l)) (part_kept (stepped || form_holds form) after rest))
+      ap (λ l. l ++ ((if stepped && form_holds (resolved_form s form) then unbuilt place else []) ++ unbuilt_part (stepped || form_holds (resolved_form s form)) (resolved_actions after rest))) (action_form_kept s place form)
+      ∙ (ap (λ b. unbuilt_form place form ++ ((if stepped && b then unbuilt place else []) ++ unbuilt_part (stepped || b) (resolved_actions after rest))) (form_steps_kept s form)
+      ∙ ap (λ l. unbuilt_form place form ++ ((if stepped && form_holds form then unbuilt place else []) ++ l)) (part_kept (stepped || form_holds form) after rest))
 
-pub unchecked_forms_kept : (p : Program) → unchecked_forms (resolved p) ≡ unchecked_forms p
-unchecked_forms_kept p =
-    ap (λ l. l ++ unchecked_action (resolved_action (body_scope p) p.body)) (functions_kept (length p.decls) (first_scope p) p.functions)
+pub unbuilt_forms_kept : (p : Program) → unbuilt_forms (resolved p) ≡ unbuilt_forms p
+unbuilt_forms_kept p =
+    ap (λ l. l ++ unbuilt_action (resolved_action (body_scope p) p.body)) (functions_kept (length p.decls) (first_scope p) p.functions)
     ∙ ap (λ l. unbuilt_functions p.functions ++ l) (action_kept (body_scope p) p.body)

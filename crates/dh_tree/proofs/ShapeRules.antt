@@ -8,7 +8,7 @@ use Rattle.dh_tree.specs.declared.trees.programs.DimPlaces.{DimPlaces}
 use Rattle.dh_tree.specs.declared.trees.programs.ShapePlaces.{ShapePlaces}
 use Rattle.dh_tree.specs.Indices.{divides, dim_breaches, dims_breaches, shape_breaches, dim_keeps, dims_keep, shape_keeps}
 use Rattle.dh_tree.specs.Kinds.{when}
-use Rattle.dh_tree.proofs.UncheckedBuilt.{first_none, second_none, not_none}
+use Rattle.dh_tree.proofs.EmptyLists.{first_none, second_none, not_none}
 
 when_none : (b : Bool) (x : Breach) → when b (x ∷ []) ≡ [] → b ≡ false
 when_none true x e = not_none _ _ e

@@ -5,10 +5,9 @@ use Rattle.std.proofs.Common.{◌≡◌, ◌&&◌, ◌||◌, Bool, false, if◌t
 use Rattle.std.specs.List.{AllByRecursion}
 use Rattle.dh_base.specs.declared.places.Place.{Place}
 use Rattle.dh_value.specs.declared.kinds.Kind.{Kind}
-use Rattle.dh_tree.specs.Forms.{unbuilt, form_holds, unbuilt_functions}
+use Rattle.dh_tree.specs.Forms.{unbuilt, form_holds, unbuilt_functions, unbuilt_action, unbuilt_form, unbuilt_other, unbuilt_groups, unbuilt_part, unbuilt_forms}
 use Rattle.dh_tree.specs.Kinds.{Facts, fact_of, of_iterator, for_numbers, found, iterator_kind, target_kind, parameters_of, is_bare, left_want, right_want, typed_term, typed_form, typed_terms, typed_maybe, typed_offset, typed_plan, typed_arguments, facts_after, facts_after_actions, facts_after_function, formal_facts, first_facts, typed_action, typed_action_form, typed_other, typed_actions, typed_groups, typed_function, typed_functions, typed}
 use Rattle.dh_tree.specs.PlainTrees.{Term, term, TermForm, number, truth_value, named, accessed, in_bank, applied, converted, Terms, no_terms, term_then, Suffixed, ViewPlan, shrinks, splits, suffixes, shifts, Action, action, ActionForm, lets, lets_memory, views, assigns, stores, reduces, calls, blocks, decides, repeats, counts, MaybeAction, no_action, one_action, Actions, no_actions, action_then, Groups, no_groups, group_then, Defined, Program}
-use Rattle.dh_tree.specs.UncheckedForms.{unchecked_action, unchecked_form, unchecked_other, unchecked_groups, unchecked_part, unchecked_forms}
 use Rattle.dh_tree.specs.Widths.{AreSized, AreSizedIn, AreAllSized, MaybeSized, PlanSized, ActionSized, FormSized, OtherSized, ActionsSized, GroupsSized, DefinedSized, HasWidths}
 use Rattle.dh_tree.proofs.TypedForms.{form_steps_kept, functions_kept, start_of}
 
@@ -102,10 +101,10 @@ widths_kept p h = record {
 }
 
 mutual
-  action_kept : (facts : Facts) (a : Action) → unchecked_action (typed_action facts a) ≡ unchecked_action a
+  action_kept : (facts : Facts) (a : Action) → unbuilt_action (typed_action facts a) ≡ unbuilt_action a
   action_kept facts (action id place form) = action_form_kept facts place form
 
-  action_form_kept : (facts : Facts) (place : Place) (f : ActionForm) → unchecked_form place (typed_action_form facts f) ≡ unchecked_form place f
+  action_form_kept : (facts : Facts) (place : Place) (f : ActionForm) → unbuilt_form place (typed_action_form facts f) ≡ unbuilt_form place f
   action_form_kept facts place (lets name declared value) = refl
   action_form_kept facts place (lets_memory name shape shape_places value) = refl
   action_form_kept facts place (views name parent form) = refl
@@ -116,33 +115,33 @@ mutual
   action_form_kept facts place (blocks body) = groups_kept facts body
   action_form_kept facts place (decides test chosen other) =
       let inner : Facts = facts_after facts (typed_action facts chosen) in
-      ap (λ l. l ++ unchecked_other (typed_other inner other)) (action_kept facts chosen) ∙ ap (λ l. unchecked_action chosen ++ l) (other_kept inner other)
+      ap (λ l. l ++ unbuilt_other (typed_other inner other)) (action_kept facts chosen) ∙ ap (λ l. unbuilt_action chosen ++ l) (other_kept inner other)
   action_form_kept facts place (repeats test body) = action_kept facts body
   action_form_kept facts place (counts iterator declared low high factor body combine combine_place) =
       let inside : Facts = facts ++ of_iterator (iterator_kind declared) ∷ [] in
       let behind : Facts = facts_after inside (typed_action inside body) in
-      ap (λ l. l ++ unchecked_other (typed_other behind combine)) (action_kept inside body)
-      ∙ ap (λ l. unchecked_action body ++ l) (other_kept behind combine)
+      ap (λ l. l ++ unbuilt_other (typed_other behind combine)) (action_kept inside body)
+      ∙ ap (λ l. unbuilt_action body ++ l) (other_kept behind combine)
 
-  other_kept : (facts : Facts) (m : MaybeAction) → unchecked_other (typed_other facts m) ≡ unchecked_other m
+  other_kept : (facts : Facts) (m : MaybeAction) → unbuilt_other (typed_other facts m) ≡ unbuilt_other m
   other_kept facts no_action = refl
   other_kept facts (one_action a) = action_kept facts a
 
-  groups_kept : (facts : Facts) (g : Groups) → unchecked_groups (typed_groups facts g) ≡ unchecked_groups g
+  groups_kept : (facts : Facts) (g : Groups) → unbuilt_groups (typed_groups facts g) ≡ unbuilt_groups g
   groups_kept facts no_groups = refl
   groups_kept facts (group_then part rest) =
-      ap (λ l. l ++ unchecked_groups (typed_groups (facts_after_actions facts (typed_actions facts part)) rest)) (part_kept false facts part)
-      ∙ ap (λ l. unchecked_part false part ++ l) (groups_kept (facts_after_actions facts (typed_actions facts part)) rest)
+      ap (λ l. l ++ unbuilt_groups (typed_groups (facts_after_actions facts (typed_actions facts part)) rest)) (part_kept false facts part)
+      ∙ ap (λ l. unbuilt_part false part ++ l) (groups_kept (facts_after_actions facts (typed_actions facts part)) rest)
 
-  part_kept : (stepped : Bool) (facts : Facts) (p : Actions) → unchecked_part stepped (typed_actions facts p) ≡ unchecked_part stepped p
+  part_kept : (stepped : Bool) (facts : Facts) (p : Actions) → unbuilt_part stepped (typed_actions facts p) ≡ unbuilt_part stepped p
   part_kept stepped facts no_actions = refl
   part_kept stepped facts (action_then (action id place form) rest) =
       let after : Facts = facts_after facts (typed_action facts (action id place form)) in
-      ap (λ l. l ++ ((if stepped && form_holds (typed_action_form facts form) then unbuilt place else []) ++ unchecked_part (stepped || form_holds (typed_action_form facts form)) (typed_actions after rest))) (action_form_kept facts place form)
-      ∙ (ap (λ b. unchecked_form place form ++ ((if stepped && b then unbuilt place else []) ++ unchecked_part (stepped || b) (typed_actions after rest))) (form_steps_kept facts form)
-      ∙ ap (λ l. unchecked_form place form ++ ((if stepped && form_holds form then unbuilt place else []) ++ l)) (part_kept (stepped || form_holds form) after rest))
+      ap (λ l. l ++ ((if stepped && form_holds (typed_action_form facts form) then unbuilt place else []) ++ unbuilt_part (stepped || form_holds (typed_action_form facts form)) (typed_actions after rest))) (action_form_kept facts place form)
+      ∙ (ap (λ b. unbuilt_form place form ++ ((if stepped && b then unbuilt place else []) ++ unbuilt_part (stepped || b) (typed_actions after rest))) (form_steps_kept facts form)
+      ∙ ap (λ l. unbuilt_form place form ++ ((if stepped && form_holds form then unbuilt place else []) ++ l)) (part_kept (stepped || form_holds form) after rest))
 
-pub unchecked_forms_kept : (p : Program) → unchecked_forms (typed p) ≡ unchecked_forms p
-unchecked_forms_kept p =
-    ap (λ l. l ++ unchecked_action (typed p).body) (functions_kept (first_facts p) p.functions)
+pub unbuilt_forms_kept : (p : Program) → unbuilt_forms (typed p) ≡ unbuilt_forms p
+unbuilt_forms_kept p =
+    ap (λ l. l ++ unbuilt_action (typed p).body) (functions_kept (first_facts p) p.functions)
     ∙ ap (λ l. unbuilt_functions p.functions ++ l) (action_kept (start_of p) p.body)

@@ -6,6 +6,7 @@ use Rattle.dh_tree.specs.declared.tables.Shape.{Shape}
 use Rattle.dh_tree.specs.declared.trees.expressions.Ref.{Ref}
 use Rattle.dh_tree.specs.declared.trees.programs.ShapePlaces.{ShapePlaces}
 use Rattle.dh_tree.specs.PlainTrees.{Action, action, ActionForm, lets_memory, blocks, decides, repeats, counts, MaybeAction, no_action, one_action, Actions, no_actions, action_then, Groups, no_groups, group_then, Declared, Program}
+use Rattle.dh_tree.specs.Scopes.{entity_number}
 
 -- a memory, where it is declared
 pub record Memory : Type 0 where
@@ -67,3 +68,7 @@ entry_of m = record { name = m.name.name; shape = m.shape; outside = m.outside }
 -- the table of the memories of a program
 abbrev pub table_of : Program → List MemEntry
 table_of p = map entry_of (memories_of p)
+
+-- the number of the memory that a name stands for; every name of a resolved program stands for something
+abbrev pub memory_of : List Memory → Ref → ℕ
+memory_of ms r = entity_number (number_in ms r.entity)

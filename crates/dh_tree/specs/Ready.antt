@@ -9,7 +9,7 @@ use Rattle.dh_tree.specs.Kinds.{HasKinds}
 use Rattle.dh_tree.specs.Placements.{placement_breaches}
 use Rattle.dh_tree.specs.PlainTrees.{Program}
 use Rattle.dh_tree.specs.Resolved.{HasEntities}
-use Rattle.dh_tree.specs.UncheckedForms.{unchecked_forms}
+use Rattle.dh_tree.specs.Forms.{unbuilt_forms}
 use Rattle.dh_tree.specs.Written.{IsOfText}
 
 -- the most tokens of a text within the limit on its bytes
@@ -18,7 +18,7 @@ most_tokens = 1048577
 
 pub record IsReady (p : Program) : Type 0 where
   pub of_text : IsOfText most_tokens p
-  pub built : unchecked_forms p ≡ []
+  pub built : unbuilt_forms p ≡ []
   pub names : KeepsNames p
   pub entities : HasEntities p
   pub kinds : HasKinds p
@@ -31,5 +31,5 @@ pub record IsReady (p : Program) : Type 0 where
 -- places and the limits on memories
 abbrev pub IfKeepsMemories : (tokens : ℕ) → Program → Type 0 → Type 0
 IfKeepsMemories tokens p fact =
-    IsOfText tokens p → KeepsNames p → unchecked_forms p ≡ [] → index_breaches_of p ≡ []
+    IsOfText tokens p → KeepsNames p → unbuilt_forms p ≡ [] → index_breaches_of p ≡ []
     → first_excess p ≡ None → placement_breaches p ≡ [] → fact

@@ -1,19 +1,17 @@
 -- What holds of the tree of a text, whatever rules it breaks: names of memories are names, what a type
--- does not write is 1, kinds have their widths, stores go to accesses, loops end at numbers of 64 bits and reducers
--- take numbers, commands are numbered in text order, and there are no more names than the text has tokens. Of a text of the built forms also that commands are
--- numbered in text order, and that there are no more accesses than tokens.
-use Rattle.std.specs.Prelude.{◌≡◌, ℕ, ◌≤◌, List, [], ◌∷◌, length, Option, Some, None}
+-- does not write is 1, kinds have their widths, stores go to accesses, loops end at numbers of 64 bits and
+-- reducers take numbers, commands are numbered in text order, and there are no more names than the text has
+-- tokens.
+use Rattle.std.specs.Prelude.{◌≡◌, ℕ, ◌≤◌, List, [], ◌∷◌, Option, Some, None}
 use Rattle.std.specs.List.{AllByRecursion}
 use Rattle.dh_base.specs.declared.places.Place.{Place}
 use Rattle.dh_tree.specs.declared.tables.Dim.{Dim}
 use Rattle.dh_tree.specs.declared.trees.programs.DimPlaces.{DimPlaces}
 use Rattle.dh_tree.specs.Names.{IsName}
 use Rattle.dh_tree.specs.PlainTrees.{Declared, Program}
-use Rattle.dh_tree.specs.FirstForms.{IsCounted}
 use Rattle.dh_tree.specs.Memories.{locals}
 use Rattle.dh_tree.specs.Numbers.{IsNumbered}
 use Rattle.dh_tree.specs.NameCounts.{names_declared}
-use Rattle.dh_tree.specs.Accesses.{accesses}
 use Rattle.dh_tree.specs.Targets.{HasTargets}
 use Rattle.dh_tree.specs.TextNumbers.{HasTextNumbers}
 use Rattle.dh_tree.specs.Widths.{HasWidths}
@@ -44,10 +42,3 @@ pub record IsOfText (tokens : ℕ) (p : Program) : Type 0 where
   pub widths : HasWidths p
   pub targets : HasTargets p.body
   pub numbers : HasTextNumbers p.body
-
--- the tree of a text of the built forms, of at most so many tokens
-pub record IsWritten (tokens : ℕ) (p : Program) : Type 0 where
-  pub of_text : IsOfText tokens p
-  pub first_number : ℕ
-  pub counted : IsCounted first_number p.body
-  pub accesses : length (accesses p.body) ≤ tokens

@@ -12,7 +12,6 @@ ghost use Rattle.dh_tree.specs.ElementPlaces.{OfEachElement, BankAndRowTellPlace
 ghost use Rattle.dh_tree.specs.Tables.{elements_of};
 ghost use Rattle.dh_tree.specs.LeastBreach.{least_of, KeepsLeast, HasAtMostOneLeast};
 ghost use Rattle.dh_tree.specs.Forms.{unbuilt_forms};
-ghost use Rattle.dh_tree.specs.UncheckedForms.{unchecked_forms};
 ghost use Rattle.dh_tree.specs.PlainTrees.{Program, StaysAfter};
 ghost use Rattle.dh_tree.specs.Resolved.{HasEntities, resolved};
 ghost use Rattle.dh_tree.specs.Breaches.{KeepsNames};
@@ -20,7 +19,7 @@ ghost use Rattle.dh_tree.specs.Kinds.{HasKinds, typed};
 ghost use Rattle.dh_tree.specs.Memories.{table_of};
 ghost use Rattle.dh_tree.specs.Ready.{IfKeepsMemories};
 ghost use Rattle.dh_tree.specs.Shapes.{IsProgramTable};
-ghost use Rattle.dh_tree.specs.Written.{IsOfText, IsWritten};
+ghost use Rattle.dh_tree.specs.Written.{IsOfText};
 ghost use Rattle.dh_tree.specs.Seen.{SeesIndices, SeesParts};
 
 /// The plain tree of an access has the plain trees of its indices in order, and that of a block those
@@ -38,31 +37,21 @@ pub fn kept_is_least()
     ensures one { (breaches : List Breach) → HasAtMostOneLeast breaches }
 {}
 
-/// Once names are resolved the same forms are not built, and a tree of a text, or of a text of the built
-/// forms, still is one.
+/// Once names are resolved the same forms are not built, and a tree of a text still is one.
 pub fn resolving_keeps_forms()
     ensures forms { (p : Program) → unbuilt_forms (resolved p) ≡ unbuilt_forms p }
-    ensures unchecked { (p : Program) → unchecked_forms (resolved p) ≡ unchecked_forms p }
     ensures of_text { (tokens : ℕ) → StaysAfter resolved (IsOfText tokens) }
-    ensures written { (tokens : ℕ) → StaysAfter resolved (IsWritten tokens) }
 {}
 
 /// Once the kinds of expressions are filled in, every expression has the kind that it is found to have; a
 /// program that kept the rules on names still does, and one whose names had their entities still has them;
-/// the same forms are not built; and a tree of a text, or of a text of the built forms, still is one.
+/// the same forms are not built; and a tree of a text still is one.
 pub fn typing_keeps_programs()
     ensures kinds { (p : Program) → HasKinds (typed p) }
     ensures names { StaysAfter typed KeepsNames }
     ensures entities { StaysAfter typed HasEntities }
     ensures forms { (p : Program) → unbuilt_forms (typed p) ≡ unbuilt_forms p }
-    ensures unchecked { (p : Program) → unchecked_forms (typed p) ≡ unchecked_forms p }
     ensures of_text { (tokens : ℕ) → StaysAfter typed (IsOfText tokens) }
-    ensures written { (tokens : ℕ) → StaysAfter typed (IsWritten tokens) }
-{}
-
-/// Where no form of a program is one that is not compiled, none is one that is not built for a check or a run.
-pub fn compiled_forms_are_built()
-    ensures { (p : Program) → unbuilt_forms p ≡ [] → unchecked_forms p ≡ [] }
 {}
 
 /// An element within its dimensions lies in one of the banks, in a row of it, and at a place among all
@@ -78,7 +67,7 @@ pub fn elements_lie_in_banks()
     ensures one { (dims : List Dim) → PlacesTellRows dims }
 {}
 
-/// The memories of a program of a text, whose forms are built for a check or a run and that
+/// The memories of a program of a text whose forms are built and that
 /// keeps the rules on names, shapes, indices and places and the limits on memories, are a table: each has a name
 /// and the shape of a memory, those from outside have names that differ, local ones stand behind them, and they
 /// have few enough elements together.

@@ -13,10 +13,10 @@ mod trees;
 pub use breaches::{Breach, is_before, keep_least};
 pub use dh_value::{Kind, Memories};
 pub use laws::{
-    compiled_forms_are_built, elements_lie_in_banks, kept_is_least, kept_programs_have_tables,
-    lists_are_seen_in_order, resolving_keeps_forms, typing_keeps_programs,
+    elements_lie_in_banks, kept_is_least, kept_programs_have_tables, lists_are_seen_in_order,
+    resolving_keeps_forms, typing_keeps_programs,
 };
-pub use loads::{loads_are_largest_sums, ports_are_spent_once};
+pub use loads::loads_are_largest_sums;
 pub use tables::{Dim, MemEntry, MemTable, Name, Shape, copy_table, element_count, is_table};
 pub use trees::{
     Command, CommandForm, Counter, Decl, DimPlaces, Entity, Expr, ExprForm, Function, Named,

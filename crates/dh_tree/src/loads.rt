@@ -1,9 +1,6 @@
 //! The load of a tree of accesses is the largest sum of charges that may come together.
 
-ghost use Rattle.dh_base.specs.declared.places.Place.{Place};
-ghost use Rattle.dh_tree.specs.Accesses.{KeepsPorts, PortsSpent};
-ghost use Rattle.dh_tree.specs.PlainTrees.{Program};
-ghost use Rattle.std.specs.Prelude.{◌≡◌, ℕ};
+ghost use Rattle.std.specs.Prelude.{ℕ};
 ghost use Rattle.dh_tree.specs.Meets.{Meets, LoadIsLargest, EachUptoIsLargest};
 
 /// For any charges, and every tree in which no access stands twice: its load is the largest sum of
@@ -12,10 +9,4 @@ ghost use Rattle.dh_tree.specs.Meets.{Meets, LoadIsLargest, EachUptoIsLargest};
 pub fn loads_are_largest_sums()
     ensures whole { (charge : ℕ → ℕ) (t : Meets) → LoadIsLargest charge t }
     ensures upto_one { (charge : ℕ → ℕ) (t : Meets) → EachUptoIsLargest charge t }
-{}
-
-/// Ports are spent at one place at most, and at none where they are kept.
-pub fn ports_are_spent_once()
-    ensures one { (p : Program) (a b : Place) → PortsSpent p a → PortsSpent p b → a ≡ b }
-    ensures kept { (p : Program) (a : Place) → KeepsPorts p → PortsSpent p a → ⊥ }
 {}

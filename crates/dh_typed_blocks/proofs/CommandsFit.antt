@@ -12,7 +12,7 @@ use Rattle.dh_tree.specs.declared.trees.expressions.Ref.{Ref}
 use Rattle.dh_tree.specs.declared.trees.programs.Sort.TheVariants.{Iterator}
 use Rattle.dh_tree.specs.Breaches.{unknown, twice, term_breaches, form_breaches, actions_breaches}
 use Rattle.dh_tree.specs.Excesses.{excess_at, form_copies_excess, other_copies_excess, part_copies_excess}
-use Rattle.dh_tree.specs.Forms.{unbuilt, form_holds}
+use Rattle.dh_tree.specs.Forms.{unbuilt, form_holds, unbuilt_form, unbuilt_part}
 use Rattle.dh_tree.specs.Indices.{term_index_breaches, turns_breaches, action_form_index_breaches, actions_index_breaches}
 use Rattle.dh_tree.specs.KindBreaches.{term_kind_breaches, assigned_breaches, truth_breaches, condition_breaches, target_breaches, reducer_breaches, iterator_breaches, low_breaches, high_breaches, action_form_kind_breaches, actions_kind_breaches}
 use Rattle.dh_tree.specs.Kinds.{of_iterator, Facts, fact_of, found, place_of, for_numbers, target_kind, iterator_kind, facts_after_form, facts_after_actions, typed_term, typed_action_form, typed_other, typed_actions, typed_groups}
@@ -20,12 +20,11 @@ use Rattle.dh_tree.specs.PlainTrees.{Term, term, accessed, in_bank, number, trut
 use Rattle.dh_tree.specs.Resolved.{used, declares, resolved_term, resolved_form, resolved_other, resolved_actions, resolved_groups}
 use Rattle.dh_tree.specs.Scopes.{Scope, declare, leave, past, at_end, form_at_end, actions_at_end}
 use Rattle.dh_tree.specs.Widths.{IsSized, AreSized}
-use Rattle.dh_tree.proofs.UncheckedBuilt.{first_none, second_none, not_none}
+use Rattle.dh_tree.proofs.EmptyLists.{first_none, second_none, not_none}
 use Rattle.dh_meaning.specs.Bindings.{depth_inside, kind_bound, binding_in, kind_or_first, let_kind}
 use Rattle.dh_meaning.specs.Core.{Turning}
 use Rattle.dh_meaning.specs.CoreOf.{Known, kind_of, depth_of, entity_number, turning_of}
 use Rattle.dh_meaning.specs.Phases.{turn_count}
-use Rattle.dh_tree.specs.UncheckedForms.{unchecked_form, unchecked_part}
 use Rattle.dh_sound.specs.AssignsInside.{FormAssignsInside, OtherAssignsInside, GroupsAssignInside, PartAssignsInside}
 use Rattle.dh_sound.specs.Blocks.{factors}
 use Rattle.dh_sound.specs.NamesInScope.{InScope, FormScoped, OtherScoped, GroupsScoped, PartScoped}
@@ -138,7 +137,7 @@ module _ (known : Known) (counters : List Counter) (p : Placing) (few : AreFew k
         visible = first_none (form_breaches s form) _ h.visible;
         kinds = first_none (action_form_kind_breaches facts form) _ h.kinds;
         indices = first_none (action_form_index_breaches (indexed known counters) form) _ h.indices;
-        forms = first_none (unchecked_form place form) _ h.forms;
+        forms = first_none (unbuilt_form place form) _ h.forms;
         sized = h.sized.0;
         copies = first_within (form_copies_excess (copies_in loops) form) _ h.copies;
         numbers = h.numbers.0;
@@ -156,7 +155,7 @@ module _ (known : Known) (counters : List Counter) (p : Placing) (few : AreFew k
           visible = second_none (form_breaches s form) _ h.visible;
           kinds = second_none (action_form_kind_breaches facts form) _ h.kinds;
           indices = second_none (action_form_index_breaches (indexed known counters) form) _ h.indices;
-          forms = second_none again _ (second_none (unchecked_form place form) _ h.forms);
+          forms = second_none again _ (second_none (unbuilt_form place form) _ h.forms);
           sized = h.sized.1;
           copies = second_within (form_copies_excess (copies_in loops) form) _ h.copies;
           numbers = h.numbers.1;
@@ -184,7 +183,7 @@ module _ (known : Known) (counters : List Counter) (p : Placing) (few : AreFew k
         visible = first_none (actions_breaches s part) _ h.visible;
         kinds = first_none (actions_kind_breaches facts part) _ h.kinds;
         indices = first_none (actions_index_breaches (indexed known counters) part) _ h.indices;
-        forms = first_none (unchecked_part false part) _ h.forms;
+        forms = first_none (unbuilt_part false part) _ h.forms;
         sized = h.sized.0;
         copies = first_within (part_copies_excess (copies_in loops) part) _ h.copies;
         numbers = h.numbers.0;
@@ -201,7 +200,7 @@ module _ (known : Known) (counters : List Counter) (p : Placing) (few : AreFew k
           visible = second_none (actions_breaches s part) _ h.visible;
           kinds = second_none (actions_kind_breaches facts part) _ h.kinds;
           indices = second_none (actions_index_breaches (indexed known counters) part) _ h.indices;
-          forms = second_none (unchecked_part false part) _ h.forms;
+          forms = second_none (unbuilt_part false part) _ h.forms;
           sized = h.sized.1;
           copies = second_within (part_copies_excess (copies_in loops) part) _ h.copies;
           numbers = h.numbers.1;
@@ -314,7 +313,7 @@ module _ (known : Known) (counters : List Counter) (p : Placing) (few : AreFew k
           visible = first_none (form_breaches s chosen) _ visible;
           kinds = first_none (action_form_kind_breaches facts chosen) _ kinds;
           indices = first_none (action_form_index_breaches (indexed known counters) chosen) _ indices;
-          forms = first_none (unchecked_form chosen_place chosen) _ h.forms;
+          forms = first_none (unbuilt_form chosen_place chosen) _ h.forms;
           sized = h.sized.1.0;
           copies = first_within (form_copies_excess (copies_in (factors ts)) chosen) _ h.copies;
           numbers = h.numbers.0;
@@ -328,7 +327,7 @@ module _ (known : Known) (counters : List Counter) (p : Placing) (few : AreFew k
           visible = second_none (form_breaches s chosen) _ visible;
           kinds = second_none (action_form_kind_breaches facts chosen) _ kinds;
           indices = second_none (action_form_index_breaches (indexed known counters) chosen) _ indices;
-          forms = second_none (unchecked_form chosen_place chosen) _ h.forms;
+          forms = second_none (unbuilt_form chosen_place chosen) _ h.forms;
           sized = h.sized.1.1;
           copies = second_within (form_copies_excess (copies_in (factors ts)) chosen) _ h.copies;
           numbers = h.numbers.1;
@@ -384,7 +383,7 @@ module _ (known : Known) (counters : List Counter) (p : Placing) (few : AreFew k
           visible = first_none (form_breaches inside body) _ visible;
           kinds = first_none (action_form_kind_breaches more body) _ kinds;
           indices = first_none (action_form_index_breaches (indexed known counters) body) _ indices;
-          forms = first_none (unchecked_form body_place body) _ h.forms;
+          forms = first_none (unbuilt_form body_place body) _ h.forms;
           sized = h.sized.1.0;
           copies = subst (λ (n : ℕ). form_copies_excess n body ≡ None) (sym turned) (first_within (form_copies_excess (copies_in (factors ts) * factor.value) body) _ copies);
           numbers = h.numbers.1.0;
@@ -397,7 +396,7 @@ module _ (known : Known) (counters : List Counter) (p : Placing) (few : AreFew k
           visible = second_none (form_breaches inside body) _ visible;
           kinds = second_none (action_form_kind_breaches more body) _ kinds;
           indices = second_none (action_form_index_breaches (indexed known counters) body) _ indices;
-          forms = second_none (unchecked_form body_place body) _ h.forms;
+          forms = second_none (unbuilt_form body_place body) _ h.forms;
           sized = h.sized.1.1;
           copies = subst (λ (n : ℕ). other_copies_excess n combine ≡ None) (sym turned) (second_within (form_copies_excess (copies_in (factors ts) * factor.value) body) _ copies);
           numbers = h.numbers.1.1;

@@ -5,7 +5,7 @@ use Rattle.dh_value.specs.declared.kinds.Kind.{Kind}
 use Rattle.dh_value.specs.declared.kinds.Kind.TheVariants.{Bool}
 use Rattle.dh_value.specs.Words.{IsInteger, IsKind}
 use Rattle.dh_tree.specs.declared.trees.expressions.Ref.{Ref}
-use Rattle.dh_tree.specs.Meaning.{wider}
+use Rattle.dh_tree.specs.WiderKinds.{wider}
 use Rattle.dh_tree.specs.PlainTrees.{Term, Action, action, ActionForm, lets, lets_memory, views, assigns, stores, reduces, calls, blocks, decides, repeats, counts, MaybeAction, no_action, one_action, Actions, no_actions, action_then, Groups, no_groups, group_then}
 use Rattle.dh_meaning.specs.Bindings.{binding_in, kind_or_first, kind_bound}
 use Rattle.dh_meaning.specs.Core.{Turning}

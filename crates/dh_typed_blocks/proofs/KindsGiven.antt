@@ -7,10 +7,10 @@ use Rattle.dh_value.specs.declared.operators.Op.{Op}
 use Rattle.dh_value.specs.declared.operators.Op.TheVariants as op
 use Rattle.dh_value.specs.Words.{IsInteger, IsKind, IsWidth}
 use Rattle.dh_tree.specs.Kinds.{two_numbers, takes, operands_breaches, applied_kind, applied_breaches, applied_found, unless, found}
-use Rattle.dh_tree.specs.Meaning.{wider}
+use Rattle.dh_tree.specs.WiderKinds.{wider}
 use Rattle.dh_tree.specs.PlainTrees.{Term, term}
 use Rattle.dh_tree.specs.declared.breaches.Breach.{Breach}
-use Rattle.dh_tree.proofs.UncheckedBuilt.{not_none}
+use Rattle.dh_tree.proofs.EmptyLists.{not_none}
 use Rattle.dh_meaning.specs.Bindings.{kind_or_first}
 use Rattle.dh_expressions.specs.Shown.{kind_written}
 use Rattle.dh_blocks.specs.SoundTerms.{GivesKind}

@@ -5,7 +5,7 @@ use Rattle.dh_tree.specs.declared.trees.counters.Counter.{Counter}
 use Rattle.dh_tree.specs.Breaches.{breaches, items_breaches, functions_breaches}
 use Rattle.dh_tree.specs.Counters.{counters_of}
 use Rattle.dh_tree.specs.Excesses.{copies_excess}
-use Rattle.dh_tree.specs.Forms.{unbuilt_functions}
+use Rattle.dh_tree.specs.Forms.{unbuilt_functions, unbuilt_action}
 use Rattle.dh_tree.specs.Indices.{action_index_breaches, decls_shape_breaches}
 use Rattle.dh_tree.specs.KindBreaches.{action_kind_breaches, functions_kind_breaches}
 use Rattle.dh_tree.specs.Kinds.{Facts, first_facts, body_facts, typed_action, typed_action_form}
@@ -15,10 +15,9 @@ use Rattle.dh_tree.specs.Resolved.{resolved_action, resolved_form}
 use Rattle.dh_tree.specs.Scopes.{Scope, items_of, first_scope, body_scope, last_scope}
 use Rattle.dh_tree.specs.TextNumbers.{HasTextNumbers}
 use Rattle.dh_tree.specs.Widths.{ActionSized}
-use Rattle.dh_tree.proofs.UncheckedBuilt.{second_none}
+use Rattle.dh_tree.proofs.EmptyLists.{second_none}
 use Rattle.dh_meaning.specs.CoreOf.{Known, known_of}
 use Rattle.dh_tree.specs.Ready.{IsReady}
-use Rattle.dh_tree.specs.UncheckedForms.{unchecked_action}
 use Rattle.dh_sound.proofs.FactsGrow.{InStep}
 use Rattle.dh_sound.proofs.KindsOfPrograms.{body_in_step}
 use Rattle.dh_code.specs.Declarations.{declarations, placing_of}
@@ -45,7 +44,7 @@ use Rattle.dh_typed_blocks.proofs.ReducersWhole.{JoinsWhole, ready_whole}
 
 -- a body of which each walk tells its own
 body_fits : (known : Known) (counters : List Counter) (p : Placing) (few : AreFew known) (a : Action) (facts : Facts) (s : Scope) → InStep s facts → Knows known p [] facts s.visible
-    → typed_action facts a ≡ a → resolved_action s a ≡ a → breaches s a ≡ [] → action_kind_breaches facts a ≡ [] → action_index_breaches (indexed known counters) a ≡ [] → unchecked_action a ≡ []
+    → typed_action facts a ≡ a → resolved_action s a ≡ a → breaches s a ≡ [] → action_kind_breaches facts a ≡ [] → action_index_breaches (indexed known counters) a ≡ [] → unbuilt_action a ≡ []
     → ActionSized a → copies_excess 1 a ≡ None → HasTextNumbers a → ArePlaced known p [] a → Declares known.memories a
     → IsScoped known [] a → AssignsInside known 0 a → JoinsWhole known 0 a → IsSimple a → IsNamedAction a → AssignsPlain known a → Fits known p [] a
 body_fits known counters p few (action id place form) facts s l k typed named visible kinds indices forms sized copies numbers places declares sc asg wh si na pl =

@@ -24,7 +24,7 @@ use Rattle.dh_tree.specs.Ready.{IsReady}
 use Rattle.dh_tree.specs.Resolved.{resolved_term, resolved_action, resolved_form, resolved_other, resolved_actions, resolved_groups}
 use Rattle.dh_tree.specs.Scopes as scopes
 use Rattle.dh_tree.specs.Scopes.{entity_of, bind, Scope, declare, leave, past, at_end, form_at_end, other_at_end, actions_at_end, groups_at_end, items_of, first_scope, body_scope}
-use Rattle.dh_tree.proofs.UncheckedBuilt.{first_none, second_none, not_none}
+use Rattle.dh_tree.proofs.EmptyLists.{first_none, second_none, not_none}
 use Rattle.dh_meaning.specs.Bindings.{depth_inside, bindings_of, binding_in, depth_bound}
 use Rattle.dh_meaning.specs.CoreOf.{Known, known_of, depth_of, entity_number}
 use Rattle.dh_meaning.specs.Sites.{nothing_around}

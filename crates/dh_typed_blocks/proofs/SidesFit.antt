@@ -8,9 +8,9 @@ use Rattle.dh_value.specs.Words.{IsInteger, IsKind}
 use Rattle.dh_tree.specs.declared.trees.expressions.Ref.{Ref}
 use Rattle.dh_tree.specs.KindBreaches.{assigned_breaches, truth_breaches, reducer_breaches}
 use Rattle.dh_tree.specs.Kinds.{is_truth, when, mismatch, found, place_of}
-use Rattle.dh_tree.specs.Meaning.{wider}
+use Rattle.dh_tree.specs.WiderKinds.{wider}
 use Rattle.dh_tree.specs.PlainTrees.{Term}
-use Rattle.dh_tree.proofs.UncheckedBuilt.{not_none}
+use Rattle.dh_tree.proofs.EmptyLists.{not_none}
 use Rattle.dh_meaning.specs.Bindings.{Binding, binding_in, kind_bound}
 use Rattle.dh_meaning.specs.Core.{Turning}
 use Rattle.dh_meaning.specs.CoreOf.{Known, entity_number, kind_of}

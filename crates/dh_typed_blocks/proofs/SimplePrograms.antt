@@ -3,7 +3,7 @@ use Rattle.std.proofs.Common.{◌⊎◌, inl, inr}
 use Rattle.dh_tree.specs.Forms.{unbuilt_functions}
 use Rattle.dh_tree.specs.PlainTrees.{Program}
 use Rattle.dh_tree.specs.Ready.{IsReady}
-use Rattle.dh_tree.proofs.UncheckedBuilt.{second_none}
+use Rattle.dh_tree.proofs.EmptyLists.{second_none}
 use Rattle.dh_sound.specs.BlocksOfPhases.{OfTest}
 use Rattle.dh_sound.specs.SimpleForms.{IsSimple}
 use Rattle.dh_sound.proofs.JoinsKept.{simple_kept}

@@ -18,7 +18,7 @@ use Rattle.dh_tree.specs.PlainTrees.{Term, term, TermForm, number, truth_value, 
 use Rattle.dh_tree.specs.Resolved.{used, resolved_term, resolved_terms}
 use Rattle.dh_tree.specs.Scopes.{Binding}
 use Rattle.dh_tree.specs.Widths.{IsSized}
-use Rattle.dh_tree.proofs.UncheckedBuilt.{first_none, second_none}
+use Rattle.dh_tree.proofs.EmptyLists.{first_none, second_none}
 use Rattle.dh_meaning.specs.Bindings.{kind_or_first}
 use Rattle.dh_meaning.specs.CoreOf.{Known, memory_of}
 use Rattle.dh_sound.specs.SameKeys.{EachName, EachNameOf}

@@ -18,13 +18,13 @@ use Rattle.dh_tree.specs.Indices as places
 use Rattle.dh_tree.specs.Indices.{kept_dims, physical_breaches, term_index_breaches}
 use Rattle.dh_tree.specs.KindBreaches.{term_kind_breaches}
 use Rattle.dh_tree.specs.Kinds.{Fact, of_variable, of_iterator, of_memory, of_function, Facts, fact_of, for_numbers, is_bare, is_integer, found, place_of, left_want, right_want, takes, operands_breaches, applied_kind, applied_breaches, all_found, count_of, index_breaches, access_breaches, bank_breaches, cast_breaches, typed_term, typed_terms}
-use Rattle.dh_tree.specs.Meaning.{entity_number}
+use Rattle.dh_tree.specs.Scopes.{entity_number}
 use Rattle.dh_tree.specs.Memories.{Memory, entry_of, memory_in}
 use Rattle.dh_tree.specs.PlainTrees.{Term, term, number, truth_value, named, accessed, in_bank, applied, converted, Terms, no_terms, term_then}
 use Rattle.dh_tree.specs.Resolved.{used, resolved_term, resolved_terms}
 use Rattle.dh_tree.specs.Scopes.{Binding}
 use Rattle.dh_tree.specs.Widths.{IsSized}
-use Rattle.dh_tree.proofs.UncheckedBuilt.{first_none, second_none, not_none}
+use Rattle.dh_tree.proofs.EmptyLists.{first_none, second_none, not_none}
 use Rattle.dh_meaning.specs.Bindings.{kind_or_first}
 use Rattle.dh_meaning.specs.CoreOf.{Known, memory_of}
 use Rattle.dh_runnable.specs.ActionsRun.{table_in}

@@ -2,7 +2,7 @@
 
 ghost use Rattle.std.specs.Prelude.{◌≡◌};
 ghost use Rattle.dh_tree.specs.Kinds as rules;
-ghost use Rattle.dh_tree.specs.Meaning as meaning;
+ghost use Rattle.dh_tree.specs.WiderKinds as kinds;
 
 use dh_tree::Kind;
 use dh_value::{Op, fits};
@@ -62,7 +62,7 @@ pub fn is_wider(kind: Kind, other: Kind) -> bool
 
 /// The wider of two kinds of one sign.
 pub fn wider(left: Kind, right: Kind) -> Kind
-    ensures { result ≡ meaning.wider left right }
+    ensures { result ≡ kinds.wider left right }
 {
     match (left, right) {
         (Kind::Unsigned(left), Kind::Unsigned(right)) => Kind::Unsigned(left.max(right)),

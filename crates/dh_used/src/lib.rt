@@ -1,6 +1,5 @@
 //! How often the operations of a plan read, write and probe each access of its program: with each of its keys once, and
 //! at each of its paths. Laws on what `dh_laid` tells of blocks, joined with what the program tells of its accesses.
-//! Nothing of the program stands on this crate yet.
 #![tactic(auto)]
 
 mod laws;

@@ -3,17 +3,17 @@ use Rattle.dh_tree.specs.Seen.{program_seen}
 use Rattle.dh_sound.specs.Accepted.{IsAccepted}
 use Rattle.dh_check.specs.Ready.{of_pass}
 use Rattle.dh_check.specs.Verdicts.{Checks}
-use Rattle.dh_check.proofs.Checked.{accepted_by, refused_by, compilable_is, sound_still, handed_on}
+use Rattle.dh_check.proofs.Checked.{accepted_by, refused_by, sound_still, handed_on}
 use Rattle.dh_check.proofs.checking.check.Goals as goal
 
 pub check_ports-requires : goal.check_ports-requires
 check_ports-requires c =
     let p = program_seen c.in_ok-typed.typed in
-    let ready = c.in_ok-typed.ensures.0.ready in
+    let ready = c.in_ok-typed.ensures.0 in
     record {
       told = record {
         ready = ready;
-        table = c.ready_programs_have_tables.ensures.tables p ready;
+        table = c.ready_programs_have_tables.ensures p ready;
         banks = c.ready_accesses_are_told.ensures.banks p ready.indices;
         copies = c.ready_accesses_are_told.ensures.copies p ready.indices ready.limits;
       };
@@ -21,25 +21,21 @@ check_ports-requires c =
 
 pub returns-clause-verdict : goal.returns-clause-verdict
 returns-clause-verdict c =
-    accepted_by c.args.forms c.args.text.now (program_seen c.in_ok-typed.typed) (program_seen c.in_ok-accepted.accepted) c.in_ok-accepted.ensures.0 c.in_ok-typed.ensures.1 c.in_ok-accepted.ensures.1
-
-pub returns-clause-compilable : goal.returns-clause-compilable
-returns-clause-compilable c =
-    compilable_is c.args.forms (program_seen c.in_ok-typed.typed) (program_seen c.in_ok-accepted.accepted) c.in_ok-accepted.ensures.0 c.in_ok-typed.ensures.0
+    accepted_by c.args.text.now (program_seen c.in_ok-typed.typed) (program_seen c.in_ok-accepted.accepted) c.in_ok-accepted.ensures.0 c.in_ok-typed.ensures.1 c.in_ok-accepted.ensures.1
 
 pub returns-clause-sound : goal.returns-clause-sound
 returns-clause-sound c =
     let p = program_seen c.in_ok-typed.typed in
-    let accepted : IsAccepted p = record { ready = c.in_ok-typed.ensures.0.ready; ports = c.in_ok-accepted.ensures.1 } in
+    let accepted : IsAccepted p = record { ready = c.in_ok-typed.ensures.0; ports = c.in_ok-accepted.ensures.1 } in
     sound_still p (program_seen c.in_ok-accepted.accepted) c.in_ok-accepted.ensures.0
     (c.accepted_programs_are_never_stuck.ensures.blocks p accepted)
     (c.accepted_programs_are_never_stuck.ensures.stuck p accepted)
 
 pub returns-in_err-accepted-clause-verdict : goal.returns-in_err-accepted-clause-verdict
 returns-in_err-accepted-clause-verdict c =
-    handed_on (Checks c.args.forms c.args.text.now) c.from_residual-in_err-accepted.result (of_pass c.in_err-accepted.field-0.0) c.from_residual-in_err-accepted.ensures.1
-    (refused_by c.args.forms c.args.text.now (program_seen c.in_ok-typed.typed) c.in_err-accepted.field-0.0 c.in_ok-typed.ensures.1 c.in_err-accepted.ensures)
+    handed_on (Checks c.args.text.now) c.from_residual-in_err-accepted.result (of_pass c.in_err-accepted.field-0.0) c.from_residual-in_err-accepted.ensures.1
+    (refused_by c.args.text.now (program_seen c.in_ok-typed.typed) c.in_err-accepted.field-0.0 c.in_ok-typed.ensures.1 c.in_err-accepted.ensures)
 
 pub returns-in_err-typed-clause-verdict : goal.returns-in_err-typed-clause-verdict
 returns-in_err-typed-clause-verdict c =
-    handed_on (Checks c.args.forms c.args.text.now) c.from_residual.result c.in_err-typed.field-0.0 c.from_residual.ensures.1 (c.in_err-typed.ensures true)
+    handed_on (Checks c.args.text.now) c.from_residual.result c.in_err-typed.field-0.0 c.from_residual.ensures.1 (c.in_err-typed.ensures true)

@@ -1,6 +1,6 @@
 use Rattle.std.proofs.Common.{◌≡◌, ◌+◌, ◌||◌}
 use Rattle.dh_check.proofs.StepsHeld.{all_hold}
-use Rattle.dh_check.proofs.KeptForms.{part_left, parts_left, so_far}
+use Rattle.dh_check.proofs.KeptForms.{so_far, part_left, parts_left}
 use Rattle.dh_check.proofs.forms.+unbuilt.Given as goal
 
 abbrev pub invariant-keep_groups-loop-part : goal.invariant-keep_groups-loop-part

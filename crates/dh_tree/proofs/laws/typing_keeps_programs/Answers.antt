@@ -1,24 +1,18 @@
 use Rattle.dh_tree.proofs.TypedAgain.{typed_again}
 use Rattle.dh_tree.proofs.TypedNames.{names_kept}
 use Rattle.dh_tree.proofs.TypedEntities.{entities_kept}
-use Rattle.dh_tree.proofs.TypedForms.{forms_kept, of_text_kept, written_kept}
-use Rattle.dh_tree.proofs.TypedTexts.{widths_kept, unchecked_forms_kept}
+use Rattle.dh_tree.proofs.TypedForms.{of_text_kept}
+use Rattle.dh_tree.proofs.TypedTexts.{widths_kept, unbuilt_forms_kept}
 use Rattle.dh_tree.proofs.laws.typing_keeps_programs.Goals as goal
 
 pub returns-clause-kinds : goal.returns-clause-kinds
 returns-clause-kinds c = typed_again
 
 pub returns-clause-forms : goal.returns-clause-forms
-returns-clause-forms c = forms_kept
-
-pub returns-clause-unchecked : goal.returns-clause-unchecked
-returns-clause-unchecked c = unchecked_forms_kept
+returns-clause-forms c = unbuilt_forms_kept
 
 pub returns-clause-of_text : goal.returns-clause-of_text
 returns-clause-of_text c = λ tokens p h. of_text_kept tokens p (widths_kept p h.widths) h
-
-pub returns-clause-written : goal.returns-clause-written
-returns-clause-written c = λ tokens p h. written_kept tokens p (widths_kept p h.of_text.widths) h
 
 pub returns-clause-names : goal.returns-clause-names
 returns-clause-names c = names_kept
