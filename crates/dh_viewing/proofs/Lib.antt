@@ -7,3 +7,4 @@ pub mod ReachTold
 pub mod MovedViews
 pub mod BitsTold
 pub mod Covered
+pub mod ViewsFound

@@ -4,4 +4,5 @@ pub mod ViewShapes
 pub mod Moved
 pub mod ReachedBanks
 pub mod Views
+pub mod Finding
 pub mod ViewFactors

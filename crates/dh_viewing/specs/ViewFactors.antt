@@ -16,8 +16,8 @@ use Rattle.dh_tree.specs.Kinds.{when}
 use Rattle.dh_tree.specs.LeastBreach.{breach}
 use Rattle.dh_tree.specs.Memories.{Memory, memories_of}
 use Rattle.dh_tree.specs.PlainTrees.{Term, term, TermForm, number, truth_value, named, accessed, in_bank, applied, converted, Terms, no_terms, term_then, Suffixed, ViewPlan, shrinks, splits, suffixes, shifts, Action, action, ActionForm, lets, lets_memory, views, assigns, stores, reduces, calls, blocks, decides, repeats, counts, MaybeAction, no_action, one_action, Actions, no_actions, action_then, Groups, no_groups, group_then, Program}
-use Rattle.dh_viewing.specs.declared.maps.ViewMap.{ViewMap}
-use Rattle.dh_viewing.specs.Views.{Viewing, Viewed, views_of, viewed_in, viewed_of, view_in, shape_in}
+use Rattle.dh_viewing.specs.declared.collecting.Viewed.{Viewed}
+use Rattle.dh_viewing.specs.Views.{Viewing, views_of, viewed_in, viewed_of, view_in, shape_in}
 
 -- Factors.
 

@@ -34,8 +34,8 @@ fn bank_count(dims: &[Dim]) -> u64
     ensures { result ≡ elements.banks_of dims.now }
 {
     let mut count: u64 = 1;
-    for i in (0..dims.len()).rev() {
-        count = dims[i].banks * count;
+    for i in 0..dims.len() {
+        count = count * dims[i].banks;
     }
     count
 }

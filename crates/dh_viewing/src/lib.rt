@@ -4,11 +4,13 @@
 #![tactic(auto)]
 
 mod bank_sets;
+mod collecting;
 mod elements;
 mod maps;
 mod numbers;
 
 pub use bank_sets::{BankSet, banks_of};
+pub use collecting::{Viewed, view_map, views_in};
 
 pub use elements::through;
 pub use maps::{ViewMap, ViewSort};

@@ -1,7 +1,10 @@
 //! Views without their expressions.
 
-use dh_base::Items;
+ghost use Rattle.std.specs.Prelude.{◌≡◌, IfOk};
+
+use dh_base::{Items, NoMemory};
 use dh_tree::Shape;
+use std::alloc::Global;
 
 /// The four sorts of views.
 #[derive(Clone, Copy, Debug, PartialEq, Eq)]
@@ -27,4 +30,18 @@ pub struct ViewMap {
     pub sort: ViewSort,
     /// Its factors, one for each dimension of the parent; none of a shift.
     pub by: Items<u64>,
+}
+
+impl ViewMap {
+    /// An equal one.
+    pub fn try_clone(&self, alloc: Global) -> Result<ViewMap, NoMemory>
+        ensures { IfOk result (λ copy. copy ≡ self.now) }
+    {
+        Ok(ViewMap {
+            shape: self.shape.try_clone(alloc)?,
+            parent: self.parent.try_clone(alloc)?,
+            sort: self.sort,
+            by: Items::from_vec(Vec::from_slice(alloc, self.by.as_slice())?),
+        })
+    }
 }
