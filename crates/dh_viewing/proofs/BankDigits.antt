@@ -37,7 +37,7 @@ banks_fit d h = by (d.size / d.banks) (whole d.size d.banks h.divides)
     by zero e = let s = h.size in absurd (omega (arith, e, s))
     by (suc q) e = omega (arith, e)
 
-both : (a b : Bool) → a ≡ true → b ≡ true → (a && b) ≡ true
+pub both : (a b : Bool) → a ≡ true → b ≡ true → (a && b) ≡ true
 both true b e f = f
 both false b e f = cc
 

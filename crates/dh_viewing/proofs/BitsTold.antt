@@ -3,7 +3,17 @@ use Rattle.std.proofs.Common.{◌≡◌, ℕ, zero, suc, ◌+◌, ◌-◌, ◌*�
 use Rattle.std.proofs.lemmas.Bool.Decides.{nat_tests}
 use Rattle.std.proofs.lemmas.Nat.{pow_pos, div-mul-add, mod-mul-add}
 use Rattle.std.proofs.Math.Nat.{pow-suc}
-use Rattle.dh_viewing.specs.ReachedBanks.{bit_told}
+use Rattle.std.specs.Int.{bit_at}
+use Rattle.std.proofs.Math.Nat.{pow-succ', div-div-eq-div-mul, div-one}
+
+-- the bit of a number, by halves
+abbrev pub bit_told : (bits : ℕ) → ℕ → Bool
+bit_told bits zero = bits % 2 == 1
+bit_told bits (suc n) = bit_told (bits / 2) n
+
+pub bit_is_told : (bits n : ℕ) → (bit_at bits n == 1) ≡ bit_told bits n
+bit_is_told bits zero = ap (λ m. m % 2 == 1) (div-one bits)
+bit_is_told bits (suc n) = ap (λ m. m % 2 == 1) (ap (λ w. bits / w) (pow-succ' 2 n) ∙ sym (div-div-eq-div-mul bits 2 (2 ^ n))) ∙ bit_is_told (bits / 2) n
 
 -- the bits are those of the banks from k to n that can be reached
 pub record Told (can : ℕ → Bool) (n k bits : ℕ) : Type 0 where
@@ -28,7 +38,7 @@ told_none can n = record {
   told = λ j. no_bit j ∙ sym (ap (λ b. b && can (n + j)) (past n j));
 }
 
-bit_of : Bool → ℕ
+abbrev bit_of : Bool → ℕ
 bit_of b = if b then 1 else 0
 
 bit_small : (b : Bool) → bit_of b < 2
@@ -78,8 +88,15 @@ told_room can n k bits few some t =
     omega (arith, s)
   where
     grows : (m d : ℕ) → 2 ^ m ≤ 2 ^ (m + d)
-    grows m zero = omega arith
-    grows m (suc d) = let g = grows m d in let p = pow-suc 2 (m + d) in omega (arith, g, p)
+    grows m zero = subst (λ (x : ℕ). 2 ^ m ≤ 2 ^ x) (plain m) (omega arith)
+      where
+        plain : (k : ℕ) → k ≡ k + 0
+        plain k = omega arith
+    grows m (suc d) =
+        subst (λ (x : ℕ). 2 ^ m ≤ 2 ^ x) (next m d) (let g = grows m d in let p = pow-suc 2 (m + d) in omega (arith, g, p))
+      where
+        next : (k j : ℕ) → suc (k + j) ≡ k + suc j
+        next k j = omega arith
 
     most : (b m : ℕ) → b < 2 ^ m → m ≤ 63 → b < 2 ^ 63
     most b m h l =

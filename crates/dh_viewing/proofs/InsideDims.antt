@@ -14,8 +14,8 @@ inside_from ds is i d below long =
 
 pub not_inside : (ds : List Dim) (is : List ℤ) (i : ℕ) (d : Dim) (b : Bool) → i < length ds → length is ≡ length ds → is_inside (drop i ds) (drop i is) ≡ is_inside ds is
     → b ≡ is_index (get_or ds i d).size (get_or is i (pos 0)) → b ≡ false → false ≡ is_inside ds is
-not_inside ds is i d b below long h one no =
-    ap (λ x. x && is_inside (drop (suc i) ds) (drop (suc i) is)) (sym no ∙ one) ∙ (sym (inside_from ds is i d below long) ∙ h)
+not_inside ds is i d b below long h one false_is =
+    ap (λ x. x && is_inside (drop (suc i) ds) (drop (suc i) is)) (sym false_is ∙ one) ∙ (sym (inside_from ds is i d below long) ∙ h)
 
 pub inside_next : (ds : List Dim) (is : List ℤ) (i : ℕ) (d : Dim) (b : Bool) → i < length ds → length is ≡ length ds → is_inside (drop i ds) (drop i is) ≡ is_inside ds is
     → b ≡ is_index (get_or ds i d).size (get_or is i (pos 0)) → b ≡ true → is_inside (drop (i + 1) ds) (drop (i + 1) is) ≡ is_inside ds is

@@ -6,5 +6,8 @@ pub mod SplitElements
 pub mod ReachTold
 pub mod MovedViews
 pub mod BitsTold
+pub mod BanksTold
 pub mod Covered
-pub mod ViewsFound
+pub mod SplitViews
+pub mod KeptViews
+pub mod KeptPrograms

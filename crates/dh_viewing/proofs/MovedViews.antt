@@ -1,9 +1,10 @@
 -- Views whose indices are moved: suffixes by multiples of their factors, shifts by the offsets themselves.
 use Rattle.std.proofs.Common.{◌≡◌, ℕ, zero, suc, ◌≤◌, true, if◌then◌else◌, List, [], ◌∷◌, length, replicate, Option, Some, None, refl, sym, ap, subst, ◌∙◌, arith}
-use Rattle.std.specs.Prelude.{ℤ, pos}
+use Rattle.std.specs.Prelude.{ℤ, pos, negsuc, neg_ℤ, ◌*ℤ◌}
 use Rattle.std.specs.List.{AllByRecursion}
 use Rattle.std.proofs.lemmas.List.{length-replicate}
-use Rattle.std.proofs.Math.IntN.{*ℤ_comm, *ℤ-one}
+use Rattle.std.proofs.Math.IntN.{pos-*ℤ-pos, pos-*ℤ-negsuc}
+use Rattle.std.proofs.Math.Nat.{one-mul}
 use Rattle.dh_tree.specs.declared.tables.Dim.{Dim}
 use Rattle.dh_viewing.specs.declared.maps.ViewMap.{ViewMap}
 use Rattle.dh_viewing.specs.declared.maps.ViewSort.{ViewSort}
@@ -35,12 +36,16 @@ ones : (n : ℕ) → AllByRecursion (λ k. 1 ≤ k) (replicate n 1)
 ones zero = tt
 ones (suc n) = (omega arith, ones n)
 
+one_times : (x : ℤ) → pos 1 *ℤ x ≡ x
+one_times (pos n) = pos-*ℤ-pos 1 n ∙ ap pos (one-mul n)
+one_times (negsuc n) = pos-*ℤ-negsuc 1 n ∙ ap (λ m. neg_ℤ (pos m)) (one-mul (suc n))
+
 once : (n : ℕ) (es : List ℤ) → length es ≡ n → multiples (replicate n 1) es ≡ es
 once zero [] e = refl
 once zero (x ∷ es) e = absurd (omega (arith, e))
 once (suc n) [] e = absurd (omega (arith, e))
 once (suc n) (x ∷ es) e =
-    ap (λ (y : ℤ). y ∷ multiples (replicate n 1) es) (*ℤ_comm (pos 1) x ∙ *ℤ-one x) ∙ ap (λ (l : List ℤ). x ∷ l) (once n es (less _ _ e))
+    ap (λ (y : ℤ). y ∷ multiples (replicate n 1) es) (one_times x) ∙ ap (λ (l : List ℤ). x ∷ l) (once n es (less _ _ e))
   where
     less : (m k : ℕ) → suc m ≡ suc k → m ≡ k
     less m k e = omega (arith, e)
@@ -88,3 +93,19 @@ shrunk Shift vs ps by es is e h inside = cc
 
 pub shrunk_element : (v : ViewMap) (es is : List ℤ) → IsViewMap v → v.sort ≡ Shrink → is_inside v.shape.dims is ≡ true → Some is ≡ element_through v es is
 shrunk_element v es is m sort inside = shrunk v.sort v.shape.dims v.parent.dims v.by es is sort m.shape inside
+
+shrunk_long : (s : ViewSort) (vs ps : List Dim) (ks : List ℕ) → s ≡ Shrink → IsShapeOf s vs ps ks → length vs ≡ length ps
+shrunk_long Shrink vs ps ks e h = all vs ps ks h
+  where
+    all : (vs ps : List Dim) (ks : List ℕ) → AreDimsOf Shrink vs ps ks → length vs ≡ length ps
+    all [] [] ks h = refl
+    all [] (p ∷ ps) ks h = absurd h
+    all (v ∷ vs) [] ks h = absurd h
+    all (v ∷ vs) (p ∷ ps) [] h = absurd h
+    all (v ∷ vs) (p ∷ ps) (k ∷ ks) h = ap suc (all vs ps ks h.1)
+shrunk_long Split vs ps ks e h = cc
+shrunk_long Suffix vs ps ks e h = cc
+shrunk_long Shift vs ps ks e h = cc
+
+pub view_long : (v : ViewMap) → IsViewMap v → v.sort ≡ Shrink → length v.shape.dims ≡ length v.parent.dims
+view_long v m sort = shrunk_long v.sort v.shape.dims v.parent.dims v.by sort m.shape

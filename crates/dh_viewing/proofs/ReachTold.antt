@@ -57,7 +57,7 @@ equal_told : (m n : ℕ) → m ≡ n → (m == n) ≡ true
 equal_told m n e = eq-eqb m n e
 
 module _ (v : ViewMap) (bank c : ℕ) (m : IsViewMap v) where
-  reach_below : ReachesBank v bank c → c < banks_of v.parent.dims
+  pub reach_below : ReachesBank v bank c → c < banks_of v.parent.dims
   reach_below r =
       let f = found_of v r.offsets r.indices r.element r.named in
       subst (λ (n : ℕ). n < banks_of v.parent.dims) r.to_bank (bank_at_below v.parent.dims r.element m.parent.dims f.there)

@@ -4,5 +4,4 @@ pub mod ViewShapes
 pub mod Moved
 pub mod ReachedBanks
 pub mod Views
-pub mod Finding
 pub mod ViewFactors

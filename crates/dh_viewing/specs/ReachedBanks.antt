@@ -1,5 +1,6 @@
 -- Which banks of its parent a view can reach from one of its own.
-use Rattle.std.specs.Prelude.{◌≡◌, ℕ, zero, suc, ◌+◌, ◌*◌, ◌/◌, ◌%◌, ◌==◌, Bool, true, List, [], ◌∷◌, length, map, Option, Some, ℤ, unsigned_abs}
+use Rattle.std.specs.Prelude.{◌≡◌, ℕ, ◌+◌, ◌*◌, ◌/◌, ◌%◌, ◌==◌, Bool, true, List, [], ◌∷◌, length, map, Option, Some, ℤ, unsigned_abs}
+use Rattle.std.specs.Int.{bit_at}
 use Rattle.dh_tree.specs.declared.tables.Dim.{Dim}
 use Rattle.dh_tree.specs.Elements as elements
 use Rattle.dh_tree.specs.Elements.{bank_of}
@@ -23,13 +24,9 @@ pub record ReachesBank (v : ViewMap) (bank parent_bank : ℕ) : Type 0 where
   pub from_bank : bank_at v.shape.dims indices ≡ bank
   pub to_bank : bank_at v.parent.dims element ≡ parent_bank
 
--- a number is in a set that has one bit for each
-abbrev pub bit_told : (bits : ℕ) → ℕ → Bool
-bit_told bits zero = bits % 2 == 1
-bit_told bits (suc n) = bit_told (bits / 2) n
-
+-- a bank is in a set that has one bit for each
 abbrev pub is_in : BankSet → (bank : ℕ) → Bool
-is_in s bank = bit_told s.bits bank
+is_in s bank = bit_at s.bits bank == 1
 
 -- the bank of a shrunk view that covers a bank of its parent
 abbrev pub covering : (view parent : List Dim) → (parent_bank : ℕ) → ℕ

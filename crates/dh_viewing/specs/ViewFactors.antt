@@ -1,23 +1,18 @@
--- Which factors and brackets of views break the rule on them, `ViewFactor` (K13), and what accesses through views
--- break: the rules on banks and ranges by the view's own shape, and a physical access through a view. (The rules
--- of this profile, after Nigam and others, PLDI 2020.) Numbers are read as they are written; accesses to what
--- has a shape that breaks a rule, or to a view that does, add no breach.
-use Rattle.std.specs.Prelude.{ℕ, ◌+◌, ◌%◌, ◌==◌, ◌&&◌, not, Bool, true, false, if◌then◌else◌, List, [], ◌∷◌, ◌++◌, length, map, Option, Some, None}
+-- Which factors and brackets of views break the rule on them, `ViewFactor` (K13). (The rule of this profile, after
+-- Nigam and others, PLDI 2020.) Numbers are read as they are written.
+use Rattle.std.specs.Prelude.{ℕ, ◌%◌, ◌==◌, ◌&&◌, not, Bool, true, false, List, [], ◌∷◌, ◌++◌, length, map, Option, Some, None}
 use Rattle.dh_base.specs.declared.places.Place.{Place}
 use Rattle.dh_base.specs.declared.rules.Rule.TheVariants.{ViewFactor}
 use Rattle.dh_tree.specs.declared.breaches.Breach.{Breach}
 use Rattle.dh_tree.specs.declared.tables.Dim.{Dim}
 use Rattle.dh_tree.specs.declared.tables.Shape.{Shape}
-use Rattle.dh_tree.specs.declared.trees.counters.Counter.{Counter}
-use Rattle.dh_tree.specs.declared.trees.expressions.Ref.{Ref}
-use Rattle.dh_tree.specs.Counters.{counters_of}
-use Rattle.dh_tree.specs.Indices.{divides, shape_keeps, access_breaches, Known, known_of, term_index_breaches}
+use Rattle.dh_tree.specs.Indices.{divides}
 use Rattle.dh_tree.specs.Kinds.{when}
 use Rattle.dh_tree.specs.LeastBreach.{breach}
 use Rattle.dh_tree.specs.Memories.{Memory, memories_of}
-use Rattle.dh_tree.specs.PlainTrees.{Term, term, TermForm, number, truth_value, named, accessed, in_bank, applied, converted, Terms, no_terms, term_then, Suffixed, ViewPlan, shrinks, splits, suffixes, shifts, Action, action, ActionForm, lets, lets_memory, views, assigns, stores, reduces, calls, blocks, decides, repeats, counts, MaybeAction, no_action, one_action, Actions, no_actions, action_then, Groups, no_groups, group_then, Program}
-use Rattle.dh_viewing.specs.declared.collecting.Viewed.{Viewed}
-use Rattle.dh_viewing.specs.Views.{Viewing, views_of, viewed_in, viewed_of, view_in, shape_in}
+use Rattle.dh_tree.specs.PlainTrees.{ViewPlan, shrinks, splits, suffixes, shifts, Program}
+use Rattle.dh_viewing.specs.declared.maps.Viewed.{Viewed}
+use Rattle.dh_viewing.specs.Views.{Viewing, factors_of, views_of, viewed_of, shape_in}
 
 -- Factors.
 
@@ -29,28 +24,54 @@ is_multiple factor banks = not (factor == 0) && (factor % banks == 0)
 abbrev pub factor_broken : (keeps : Bool) → Place → List Breach
 factor_broken keeps place = when (not keeps) (breach ViewFactor place ∷ [])
 
--- factors of a shrunk view or of a split, each with the banks that it is to divide
-abbrev pub dividing_breaches : (factors : List ℕ) → List Place → List Dim → List Breach
-dividing_breaches (k ∷ ks) (p ∷ ps) (d ∷ ds) = factor_broken (divides k d.banks) p ++ dividing_breaches ks ps ds
-dividing_breaches _ _ _ = []
+-- a factor that divides the banks, as those of shrunk views and of splits do, or is a multiple of them
+abbrev pub factor_keeps : (multiplies : Bool) → (factor banks : ℕ) → Bool
+factor_keeps false factor banks = divides factor banks
+factor_keeps true factor banks = is_multiple factor banks
 
--- those of a suffix
-abbrev pub multiple_breaches : (factors : List ℕ) → List Place → List Dim → List Breach
-multiple_breaches (k ∷ ks) (p ∷ ps) (d ∷ ds) = factor_broken (is_multiple k d.banks) p ++ multiple_breaches ks ps ds
-multiple_breaches _ _ _ = []
+-- factors, each where it stands and with its dimension; at the parent's name where it has no place of its own, as
+-- in no text
+abbrev pub factors_breaches : (multiplies : Bool) → (parent : Place) → (factors : List ℕ) → List Place → List Dim → List Breach
+factors_breaches m at (k ∷ ks) (p ∷ ps) (d ∷ ds) = factor_broken (factor_keeps m k d.banks) p ++ factors_breaches m at ks ps ds
+factors_breaches m at (k ∷ ks) [] (d ∷ ds) = factor_broken (factor_keeps m k d.banks) at ++ factors_breaches m at ks [] ds
+factors_breaches m at (k ∷ ks) ps [] = []
+factors_breaches m at [] ps ds = []
 
 -- at the parent's name, where there is not one bracket for each of its dimensions
 abbrev pub brackets_broken : (fits : Bool) → Place → List Breach
 brackets_broken fits place = when (not fits) (breach ViewFactor place ∷ [])
 
--- a view of what has these dimensions; a split has one dimension to split
+-- how many brackets there are
+abbrev pub brackets_of : ViewPlan → ℕ
+brackets_of (shrinks by by_place) = length by
+brackets_of (splits by by_place) = length by
+brackets_of (suffixes by by_place) = length by
+brackets_of (shifts by) = length by
+
+-- one for each dimension of the parent; of a split there is one dimension
+abbrev pub brackets_fit : ViewPlan → (dims : ℕ) → Bool
+brackets_fit (shrinks by by_place) dims = length by == dims
+brackets_fit (splits by by_place) dims = (length by == 1) && (dims == 1)
+brackets_fit (suffixes by by_place) dims = length by == dims
+brackets_fit (shifts by) dims = length by == dims
+
+-- the factors are multiples of the banks, and do not divide them
+abbrev pub multiplies : ViewPlan → Bool
+multiplies (shrinks by by_place) = false
+multiplies (splits by by_place) = false
+multiplies (suffixes by by_place) = true
+multiplies (shifts by) = false
+
+abbrev pub places_of : ViewPlan → List Place
+places_of (shrinks by by_place) = by_place
+places_of (splits by by_place) = by_place
+places_of (suffixes by by_place) = by_place
+places_of (shifts by) = []
+
+-- a view of what has these dimensions
 abbrev pub plan_breaches : (dims : List Dim) → (parent : Place) → ViewPlan → List Breach
-plan_breaches dims parent (shrinks by by_place) = brackets_broken (length by == length dims) parent ++ dividing_breaches by by_place dims
-plan_breaches dims parent (splits by by_place) =
-    brackets_broken ((length by == 1) && (length dims == 1)) parent ++ dividing_breaches by by_place dims
-plan_breaches dims parent (suffixes by by_place) =
-    brackets_broken (length by == length dims) parent ++ multiple_breaches (map (λ s. s.factor) by) by_place dims
-plan_breaches dims parent (shifts by) = brackets_broken (length by == length dims) parent
+plan_breaches dims parent form =
+    brackets_broken (brackets_fit form (length dims)) parent ++ factors_breaches (multiplies form) parent (factors_of form) (places_of form) dims
 
 -- that of a view whose parent has this shape
 abbrev pub viewing_breaches : Viewing → Option Shape → List Breach

@@ -1,6 +1,6 @@
 //! Sets of banks, and which banks of its parent a view can reach.
 
-ghost use Rattle.std.specs.Prelude.{◌≡◌, ◌<◌, ◌≤◌, ℕ, IsTrue, length};
+ghost use Rattle.std.specs.Prelude.{◌≡◌, ◌↔◌, ◌<◌, ◌≤◌, ◌+◌, ◌*◌, ◌^◌, ℕ, IsTrue, if◌then◌else◌, length};
 ghost use Rattle.std.specs.List.{AllByRecursion};
 ghost use Rattle.dh_tree.specs.Elements as elements;
 ghost use Rattle.dh_tree.specs.Shapes.{IsDim, most_banks};
@@ -76,6 +76,14 @@ fn reaches(v: &ViewMap, bank: u64, parent_bank: u64) -> bool
     }
 }
 
+/// A number with a bit put behind its last one.
+fn with_bit(bits: u64, bit: bool) -> u64
+    requires room { bits * 2 + 1 < 2 ^ 64 }
+    ensures { result ≡ bits * 2 + (if bit then 1 else 0) }
+{
+    if bit { bits * 2 + 1 } else { bits * 2 }
+}
+
 /// The banks of its parent that a bank of a view can reach: exactly those in which there is an element that
 /// some index of the view's bank names, under some offset.
 pub fn banks_of(v: &ViewMap, bank: u32) -> BankSet
@@ -83,10 +91,10 @@ pub fn banks_of(v: &ViewMap, bank: u32) -> BankSet
     requires bank { bank < elements.banks_of v.now.shape.dims }
     ensures { (c : ℕ) → IsTrue (is_in result c) ↔ ReachesBank v.now bank c }
 {
+    let own = u64::from(bank);
     let mut bits: u64 = 0;
     for parent_bank in (0..bank_count(v.parent.dims.as_slice())).rev() {
-        let bit = if reaches(v, u64::from(bank), parent_bank) { 1 } else { 0 };
-        bits = bits * 2 + bit;
+        bits = with_bit(bits, reaches(v, own, parent_bank));
     }
     BankSet { bits }
 }

@@ -114,10 +114,10 @@ fn is_inside(dims: &[Dim], indices: &[i128]) -> bool
 }
 
 /// The element of a dimension of so many banks that is element `element` of copy `copy` of its split, where
-/// each copy has `share` of the banks.
-fn joined(banks: u64, share: u64, copy: u64, element: u64) -> u64
+/// each copy has `share` of the banks. It is below `_size`, so that nothing overflows.
+fn joined(_size: u64, banks: u64, share: u64, copy: u64, element: u64) -> u64
     requires share { 1 ≤ share }
-    requires small { dealt_index banks share copy element < 2 ^ 64 }
+    requires small { dealt_index banks share copy element < _size }
     ensures { result ≡ dealt_index banks share copy element }
 {
     let row = element / share;
@@ -138,8 +138,10 @@ fn split_through(v: &ViewMap, indices: &[i128]) -> Option<Index>
     let Some(element) = natural(indices[1], view[1].size) else {
         return None;
     };
-    let banks = v.parent.dims.as_slice()[0].banks;
-    let place = joined(banks, banks / v.by.as_slice()[0], copy, element);
+    let parent = v.parent.dims.as_slice();
+    let banks = parent[0].banks;
+    let share = banks / v.by.as_slice()[0];
+    let place = joined(parent[0].size, banks, share, copy, element);
     Some(with_number(no_numbers(), i128::from(place)))
 }
 

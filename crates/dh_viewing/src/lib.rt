@@ -1,17 +1,16 @@
 //! Views: which element of its parent an index of a view names, and which banks of its parent a view can
-//! reach from one of its own.
-//! Stands on `dh_tree`, `dh_value` and `dh_base`. docs/LANGUAGE.md tells the four views.
+//! reach from one of its own. In `specs/` stand the views of a program, too, and the rule on their factors.
+//! Stands on `dh_tree`, `dh_value` and `dh_base`. docs/LANGUAGE.md tells the language.
 #![tactic(auto)]
 
 mod bank_sets;
-mod collecting;
 mod elements;
+mod laws;
 mod maps;
 mod numbers;
 
 pub use bank_sets::{BankSet, banks_of};
-pub use collecting::{Viewed, view_map, views_in};
-
 pub use elements::through;
-pub use maps::{ViewMap, ViewSort};
+pub use laws::kept_views_have_shapes;
+pub use maps::{ViewMap, ViewSort, Viewed};
 pub use numbers::Index;

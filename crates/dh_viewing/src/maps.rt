@@ -32,6 +32,15 @@ pub struct ViewMap {
     pub by: Items<u64>,
 }
 
+/// A view of a program, with the number of its entity.
+#[derive(Debug, Drop)]
+pub struct Viewed {
+    /// The number of its entity; every name of a resolved program has one.
+    pub entity: Option<u32>,
+    /// What it is.
+    pub is: ViewMap,
+}
+
 impl ViewMap {
     /// An equal one.
     pub fn try_clone(&self, alloc: Global) -> Result<ViewMap, NoMemory>

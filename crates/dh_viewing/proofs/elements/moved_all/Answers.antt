@@ -1,4 +1,4 @@
-use Rattle.std.proofs.Common.{rules, sym, ap, ◌∙◌, get_or, ◌∷◌, [], ◌++◌, SFits}
+use Rattle.std.proofs.Common.{rules, sym, ap, ◌∙◌, get_or, ◌∷◌, [], ◌++◌, SFits, to_z, of_z}
 use Rattle.std.specs.Prelude.{ℤ, pos}
 use Rattle.std.specs.Int.{w128}
 use Rattle.std.proofs.lemmas.Int.{to_z-of_z}
@@ -18,5 +18,5 @@ loop-i-preserved c =
     let z : SFits w128 c.in-Some.number = search rules in
     moves_on c.args.dims.now c.args.factors.now c.args.offsets.now c.args.indices.now c.loop-i.i (record { size = 0; banks = 0 }) c.loop-i.index c.with_number-index.result c.in-Some.number c.loop-i-test.true
     c.requires.factors_long c.requires.offsets_long c.requires.indices_long c.loop-i.invariant
-    (sym c.in-Some.is ∙ (c.moved.ensures ∙ (ap (λ (y : ℤ). moved_number size factor y _) (to_z-of_z w128 offset o) ∙ ap (λ (y : ℤ). moved_number size factor offset y) (to_z-of_z w128 index n))))
+    (sym c.in-Some.is ∙ (c.moved.ensures ∙ (ap (λ (y : ℤ). moved_number size factor y (to_z w128 (of_z w128 index))) (to_z-of_z w128 offset o) ∙ ap (λ (y : ℤ). moved_number size factor offset y) (to_z-of_z w128 index n))))
     (c.with_number-index.ensures.numbers ∙ ap (λ (y : ℤ). numbers_in c.loop-i.index ++ y ∷ []) (to_z-of_z w128 c.in-Some.number z)) c.with_number-index.ensures.long
