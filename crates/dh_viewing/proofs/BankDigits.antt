@@ -1,14 +1,14 @@
 -- Each bank has an element: the one whose index in each dimension is that dimension's part of the bank's number.
 use Rattle.std.proofs.Common.{◌≡◌, ℕ, zero, suc, ◌+◌, ◌*◌, ◌/◌, ◌%◌, ◌<◌, ◌≤◌, ◌&&◌, Bool, true, false, nat_lt, List, [], ◌∷◌, length, map, refl, sym, ap, subst, ◌∙◌, arith}
-use Rattle.std.specs.Prelude.{ℤ, pos, negsuc, int_le, int_lt, unsigned_abs}
+use Rattle.std.specs.Prelude.{ℤ, pos, negsuc, unsigned_abs}
 use Rattle.std.specs.List.{AllByRecursion}
 use Rattle.std.proofs.lemmas.Bool.Decides.{nat_tests}
 use Rattle.std.proofs.lemmas.Int.{ints}
 use Rattle.std.proofs.lemmas.Nat.{div-add-mod'}
-use Rattle.std.proofs.Math.Nat.{mod-eq_of_lt, mul-one}
+use Rattle.std.proofs.Math.Nat.{mod-eq_of_lt}
 use Rattle.dh_tree.proofs.BankElements.{row_below, column_below, bank_below, whole}
 use Rattle.dh_tree.specs.declared.tables.Dim.{Dim}
-use Rattle.dh_tree.specs.Elements.{banks_of, bank_of, is_within}
+use Rattle.dh_tree.specs.Elements.{banks_of, is_within}
 use Rattle.dh_tree.specs.Shapes.{IsDim}
 use Rattle.dh_viewing.specs.ReachedBanks.{bank_at}
 use Rattle.dh_viewing.specs.ViewElements.{is_index, is_inside}

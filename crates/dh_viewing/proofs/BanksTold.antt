@@ -1,5 +1,5 @@
 -- The bits of a set of banks are those that are reached.
-use Rattle.std.proofs.Common.{◌≡◌, ℕ, ◌+◌, ◌<◌, ◌==◌, ◌&&◌, true, nat_lt, ap, sym, subst, ◌∙◌, arith}
+use Rattle.std.proofs.Common.{◌≡◌, ℕ, ◌+◌, ◌<◌, ◌==◌, ◌&&◌, true, nat_lt, ap, sym, ◌∙◌, arith}
 use Rattle.std.specs.Prelude.{IsTrue}
 use Rattle.std.specs.Int.{bit_at}
 use Rattle.std.proofs.lemmas.Bool.Decides.{nat_tests}
@@ -22,6 +22,7 @@ pub banks_told : (v : ViewMap) (bank bits k : ℕ) → IsViewMap v → bank < ba
     → (c : ℕ) → (IsTrue (is_in (record { bits = bits }) c) → ReachesBank v bank c) × (ReachesBank v bank c → IsTrue (is_in (record { bits = bits }) c))
 banks_told v bank bits k m mine zero_is t c =
     let n = banks_of v.parent.dims in
-    let is : (bit_at bits c == 1) ≡ (nat_lt c n && can_reach v bank c) = bit_is_told bits c ∙ (t.told c ∙ ap (λ x. nat_lt (x + c) n && can_reach v bank (x + c)) zero_is ∙ ap (λ x. nat_lt x n && can_reach v bank x) (zero-add c)) in
-    (λ e. told_reached v bank c m mine (small c n (first_of (nat_lt c n) (can_reach v bank c) (sym is ∙ e))) (rest_of (nat_lt c n) (can_reach v bank c) (sym is ∙ e)),
-    λ r. is ∙ both (nat_lt c n) (can_reach v bank c) (large c n (reach_below v bank c m r)) (reached_told v bank c m r))
+    let is : (bit_at bits c == 1) ≡ (nat_lt c n && can_reach v bank c) = bit_is_told bits c ∙ (t.told c ∙ ap (λ x. nat_lt (x + c) n && can_reach v bank (x + c)) zero_is ∙ ap (λ x. nat_lt x n && can_reach v bank x) (zero-add c)) in (
+      λ e. told_reached v bank c m mine (small c n (first_of (nat_lt c n) (can_reach v bank c) (sym is ∙ e))) (rest_of (nat_lt c n) (can_reach v bank c) (sym is ∙ e)),
+      λ r. is ∙ both (nat_lt c n) (can_reach v bank c) (large c n (reach_below v bank c m r)) (reached_told v bank c m r),
+    )

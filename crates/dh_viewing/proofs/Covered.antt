@@ -1,7 +1,7 @@
 -- The bank of a shrunk view that covers a bank, while dimensions are gone through.
-use Rattle.std.proofs.Common.{◌≡◌, ℕ, zero, suc, ◌+◌, ◌*◌, ◌/◌, ◌%◌, ◌<◌, ◌≤◌, List, [], ◌∷◌, length, drop, get_or, refl, sym, ap, subst, ◌∙◌, add-one, arith}
+use Rattle.std.proofs.Common.{◌≡◌, ℕ, zero, suc, ◌+◌, ◌*◌, ◌/◌, ◌%◌, ◌<◌, ◌≤◌, List, [], ◌∷◌, length, drop, get_or, sym, ap, subst, ◌∙◌, add-one, arith}
 use Rattle.std.specs.List.{AllByRecursion}
-use Rattle.std.proofs.Math.Nat.{mod-lt, mul-one, mul_assoc, mul_comm, add-mul, mul-div_cancel_left, mul-le-mul_left, mul-le-mul_right}
+use Rattle.std.proofs.Math.Nat.{mod-lt, mul-one, mul_assoc, add-mul, mul-div_cancel_left, mul-le-mul_left, mul-le-mul_right}
 use Rattle.std.proofs.Math.Seq.{drop-cons, drop-length}
 use Rattle.dh_tree.specs.declared.tables.Dim.{Dim}
 use Rattle.dh_tree.specs.Elements.{banks_of}
@@ -125,7 +125,7 @@ module _ (vs ps : List Dim) (i : ℕ) (d : Dim) (own : AllByRecursion IsDim vs) 
           inner_is = n;
           leads = next_is bank (get_or vs i d).banks (rest / (inner / (get_or ps i d).banks) % (get_or vs i d).banks) (banks_of (drop (suc i) vs)) (covering (drop (suc i) vs) (drop (suc i) ps) (rest % (inner / (get_or ps i d).banks))) (covering vs ps whole) step;
           few = next_few bank (rest / (inner / (get_or ps i d).banks) % (get_or vs i d).banks) (get_or vs i d).banks (banks_of (drop (suc i) vs)) (mod-lt (rest / (inner / (get_or ps i d).banks)) {m = (get_or vs i d).banks} view_some)
-          (subst (λ (n : ℕ). (bank + 1) * n ≤ 64) (banks_from vs i d below) c.few);
+              (subst (λ (n : ℕ). (bank + 1) * n ≤ 64) (banks_from vs i d below) c.few);
         })
 
     -- what is read so far is small

@@ -1,6 +1,6 @@
 -- A view whose factors and brackets keep the rule, of what has a shape that keeps the rules and limits, has such a
 -- shape, too: that of its sort.
-use Rattle.std.proofs.Common.{◌≡◌, ℕ, zero, suc, ◌+◌, ◌*◌, ◌/◌, ◌%◌, ◌<◌, ◌≤◌, ◌==◌, ◌&&◌, not, Bool, true, false, List, [], ◌∷◌, ◌++◌, length, map, refl, sym, ap, subst, ◌∙◌, arith}
+use Rattle.std.proofs.Common.{◌≡◌, ℕ, zero, suc, ◌*◌, ◌/◌, ◌%◌, ◌≤◌, ◌==◌, ◌&&◌, not, Bool, true, false, List, [], ◌∷◌, ◌++◌, length, map, refl, sym, ap, subst, ◌∙◌, arith}
 use Rattle.std.specs.List.{AllByRecursion}
 use Rattle.std.proofs.lemmas.Bool.{eqb-true}
 use Rattle.std.proofs.lemmas.List.{length-map}
@@ -8,7 +8,6 @@ use Rattle.std.proofs.lemmas.Nat.{div-add-mod'}
 use Rattle.std.proofs.Math.Nat.{mul-le-mul_left, mul-le-mul_right, mul-one, mul_comm, mul_assoc, mul-div_cancel, mul-mod_left, mod_self}
 use Rattle.dh_base.specs.declared.places.Place.{Place}
 use Rattle.dh_base.specs.declared.rules.Rule.TheVariants.{ViewFactor}
-use Rattle.dh_tree.specs.declared.breaches.Breach.{Breach}
 use Rattle.dh_tree.specs.declared.tables.Dim.{Dim}
 use Rattle.dh_tree.specs.declared.tables.Shape.{Shape}
 use Rattle.dh_tree.specs.Elements.{banks_of}
@@ -17,10 +16,10 @@ use Rattle.dh_tree.specs.Kinds.{when}
 use Rattle.dh_tree.specs.LeastBreach.{breach}
 use Rattle.dh_tree.specs.PlainTrees.{ViewPlan, shrinks, splits, suffixes, shifts}
 use Rattle.dh_tree.specs.Shapes.{IsDim, IsShape}
-use Rattle.dh_viewing.specs.declared.maps.ViewSort.TheVariants.{Shrink, Split, Suffix, Shift}
+use Rattle.dh_viewing.specs.declared.maps.ViewSort.TheVariants.{Shrink, Suffix}
 use Rattle.dh_viewing.specs.ViewFactors.{is_multiple, factor_keeps, factor_broken, factors_breaches, brackets_broken, brackets_fit, multiplies, places_of, plan_breaches}
 use Rattle.dh_viewing.specs.Views.{shrunk_dims, split_dims, dims_of, sort_of, factors_of, map_of}
-use Rattle.dh_viewing.specs.ViewShapes.{IsDimOf, AreDimsOf, AreSplitOf, IsShapeOf, IsViewMap}
+use Rattle.dh_viewing.specs.ViewShapes.{AreDimsOf, AreSplitOf, IsShapeOf, IsViewMap}
 
 -- what a list that is empty tells
 pub first_none : {A : Type 0} (xs ys : List A) → xs ++ ys ≡ [] → xs ≡ []
@@ -114,12 +113,14 @@ AllKeep m (k ∷ ks) [] = Unit {0}
 all_keep : (m : Bool) (parent : Place) (ks : List ℕ) (at : List Place) (ds : List Dim) → factors_breaches m parent ks at ds ≡ [] → AllKeep m ks ds
 all_keep m parent [] at ds e = tt
 all_keep m parent (k ∷ ks) at [] e = tt
-all_keep m parent (k ∷ ks) [] (d ∷ ds) e =
-    (kept (factor_keeps m k d.banks) parent (first_none (factor_broken (factor_keeps m k d.banks) parent) (factors_breaches m parent ks [] ds) e),
-    all_keep m parent ks [] ds (second_none (factor_broken (factor_keeps m k d.banks) parent) (factors_breaches m parent ks [] ds) e))
-all_keep m parent (k ∷ ks) (p ∷ at) (d ∷ ds) e =
-    (kept (factor_keeps m k d.banks) p (first_none (factor_broken (factor_keeps m k d.banks) p) (factors_breaches m parent ks at ds) e),
-    all_keep m parent ks at ds (second_none (factor_broken (factor_keeps m k d.banks) p) (factors_breaches m parent ks at ds) e))
+all_keep m parent (k ∷ ks) [] (d ∷ ds) e = (
+  kept (factor_keeps m k d.banks) parent (first_none (factor_broken (factor_keeps m k d.banks) parent) (factors_breaches m parent ks [] ds) e),
+  all_keep m parent ks [] ds (second_none (factor_broken (factor_keeps m k d.banks) parent) (factors_breaches m parent ks [] ds) e),
+)
+all_keep m parent (k ∷ ks) (p ∷ at) (d ∷ ds) e = (
+  kept (factor_keeps m k d.banks) p (first_none (factor_broken (factor_keeps m k d.banks) p) (factors_breaches m parent ks at ds) e),
+  all_keep m parent ks at ds (second_none (factor_broken (factor_keeps m k d.banks) p) (factors_breaches m parent ks at ds) e),
+)
 
 shrunk_all : (ks : List ℕ) (ps : List Dim) → length ks ≡ length ps → AllByRecursion IsDim ps → AllKeep false ks ps → Shrunk (shrunk_dims ks ps) ps ks
 shrunk_all [] [] a h e = record { are = tt; dims = tt; long = refl; few = omega arith }

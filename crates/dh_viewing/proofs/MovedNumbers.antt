@@ -1,10 +1,10 @@
 -- Indices moved one after the other, and what that is as a whole.
-use Rattle.std.proofs.Common.{◌≡◌, ℕ, zero, suc, ◌+◌, ◌*◌, ◌<◌, ◌≤◌, ◌&&◌, Bool, true, false, if◌then◌else◌, List, [], ◌∷◌, ◌++◌, length, drop, get_or, Option, Some, None, refl, sym, ap, subst, ◌∙◌, add-one, arith}
+use Rattle.std.proofs.Common.{◌≡◌, ℕ, suc, ◌+◌, ◌<◌, ◌&&◌, Bool, true, false, if◌then◌else◌, List, [], ◌∷◌, ◌++◌, length, drop, get_or, Option, Some, None, refl, sym, ap, subst, ◌∙◌, add-one, arith}
 use Rattle.std.specs.Prelude.{ℤ, pos, ◌+ℤ◌, ◌*ℤ◌}
-use Rattle.std.proofs.Math.Seq.{drop-cons, append_snoc, drop-length}
+use Rattle.std.proofs.Math.Seq.{drop-cons, append_snoc}
 use Rattle.dh_tree.specs.declared.tables.Dim.{Dim}
 use Rattle.dh_viewing.specs.declared.numbers.Index.{Index}
-use Rattle.dh_viewing.specs.Moved.{kept_number, moved_number, with_first, moved_numbers, behind}
+use Rattle.dh_viewing.specs.Moved.{moved_number, with_first, moved_numbers, behind}
 use Rattle.dh_viewing.specs.Numbers.{numbers_in}
 use Rattle.dh_viewing.specs.ViewElements.{is_index, is_inside, inside_of, sums, multiples}
 

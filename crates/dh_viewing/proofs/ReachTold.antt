@@ -1,8 +1,7 @@
 -- The banks of the parent that are told to be reached are exactly those that are reached.
-use Rattle.std.proofs.Common.{◌≡◌, ℕ, zero, suc, ◌+◌, ◌*◌, ◌/◌, ◌%◌, ◌==◌, ◌<◌, ◌≤◌, ◌&&◌, Bool, true, false, nat_lt, if◌then◌else◌, List, [], ◌∷◌, length, map, replicate, Option, Some, None, refl, sym, ap, subst, ◌∙◌, arith}
-use Rattle.std.specs.Prelude.{ℤ, pos, unsigned_abs, slice_index}
+use Rattle.std.proofs.Common.{◌≡◌, ℕ, suc, ◌+◌, ◌*◌, ◌/◌, ◌%◌, ◌==◌, ◌<◌, ◌&&◌, Bool, true, false, if◌then◌else◌, List, [], ◌∷◌, length, replicate, Option, Some, None, refl, sym, ap, subst, ◌∙◌, arith}
+use Rattle.std.specs.Prelude.{ℤ, pos}
 use Rattle.std.specs.List.{AllByRecursion}
-use Rattle.std.proofs.lemmas.Bool.Decides.{nat_tests}
 use Rattle.std.proofs.lemmas.Bool.{eqb-true, eq-eqb}
 use Rattle.std.proofs.lemmas.List.{length-replicate}
 use Rattle.std.proofs.lemmas.Nat.{div-add-mod'}
@@ -15,7 +14,7 @@ use Rattle.dh_viewing.specs.declared.maps.ViewMap.{ViewMap}
 use Rattle.dh_viewing.specs.declared.maps.ViewSort.{ViewSort}
 use Rattle.dh_viewing.specs.declared.maps.ViewSort.TheVariants.{Shrink, Split, Suffix, Shift}
 use Rattle.dh_viewing.specs.ReachedBanks.{ReachesBank, bank_at, covering, reach_told, can_reach}
-use Rattle.dh_viewing.specs.ViewElements.{is_index, is_inside, inside_of, split_index, dealt_index, element_through, named_by, parent_index, first_banks, sums, multiples}
+use Rattle.dh_viewing.specs.ViewElements.{is_index, is_inside, inside_of, split_index, dealt_index, element_through, named_by, parent_index, first_banks}
 use Rattle.dh_viewing.specs.ViewShapes.{IsShapeOf, AreDimsOf, AreSplitOf, IsViewMap}
 use Rattle.dh_viewing.proofs.BankDigits.{both, first_of, rest_of, index_is, natural_of, banks_fit, indices_of, indices_long, digits_inside, digits_bank, bank_at_below}
 use Rattle.dh_viewing.proofs.SplitElements.{Shared, share_is, dealt_column, first_row}

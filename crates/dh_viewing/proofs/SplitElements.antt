@@ -1,9 +1,9 @@
 -- The elements of a split in the dimension that it splits: of one row of its banks each copy has as many as it has
 -- banks.
-use Rattle.std.proofs.Common.{◌≡◌, ℕ, suc, ◌+◌, ◌*◌, ◌/◌, ◌%◌, ◌<◌, ◌≤◌, refl, sym, ap, subst, ◌∙◌, arith}
+use Rattle.std.proofs.Common.{◌≡◌, ℕ, ◌+◌, ◌*◌, ◌/◌, ◌%◌, ◌<◌, ◌≤◌, sym, ap, subst, ◌∙◌, arith}
 use Rattle.std.proofs.lemmas.Nat.{div-mul-add, mod-mul-add, div-add-mod'}
-use Rattle.std.proofs.Math.Nat.{mul_assoc, mul-one, mod-lt, mod-eq_of_lt, mul-div_cancel, mul_comm, div-lt_iff_lt-mul}
-use Rattle.dh_tree.proofs.BankElements.{place_below, row_below, column_below}
+use Rattle.std.proofs.Math.Nat.{mul_assoc, mod-lt, mod-eq_of_lt, mul-div_cancel, mul_comm}
+use Rattle.dh_tree.proofs.BankElements.{place_below, row_below}
 use Rattle.dh_viewing.specs.ViewElements.{dealt_index}
 
 -- `factor` copies share `banks` banks and `size` elements

@@ -12,7 +12,7 @@ use Rattle.dh_viewing.specs.ViewElements.{is_index, is_inside, inside_of, elemen
 use Rattle.dh_viewing.specs.ViewShapes.{IsShapeOf, AreSplitOf, IsViewMap}
 use Rattle.dh_viewing.proofs.BankDigits.{index_is, natural_of}
 use Rattle.dh_viewing.proofs.ReachTold.{shared_of}
-use Rattle.dh_viewing.proofs.SplitElements.{Shared, share_is, dealt_below}
+use Rattle.dh_viewing.proofs.SplitElements.{share_is, dealt_below}
 
 pub record Parts (s : ViewSort) (vs ps : List Dim) (ks : List ℕ) : Type 0 where
   pub copies : Dim

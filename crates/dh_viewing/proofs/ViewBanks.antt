@@ -1,21 +1,20 @@
 -- Where the elements of a view lie in its parent, sort by sort: from one bank of the view exactly those banks of
 -- the parent are reached that are told.
-use Rattle.std.proofs.Common.{◌≡◌, ℕ, zero, suc, ◌+◌, ◌-◌, ◌*◌, ◌/◌, ◌%◌, ◌<◌, ◌≤◌, ◌&&◌, Bool, true, false, nat_lt, List, [], ◌∷◌, length, map, replicate, refl, sym, ap, subst, ◌∙◌, arith}
+use Rattle.std.proofs.Common.{◌≡◌, ℕ, suc, ◌+◌, ◌*◌, ◌/◌, ◌%◌, ◌&&◌, true, List, [], ◌∷◌, length, replicate, refl, sym, ap, subst, ◌∙◌, arith}
 use Rattle.std.specs.Prelude.{ℤ, pos, negsuc, ◌+ℤ◌, ◌-ℤ◌, ◌*ℤ◌, unsigned_abs}
 use Rattle.std.specs.List.{AllByRecursion}
 use Rattle.std.proofs.lemmas.Int.{ints}
-use Rattle.std.proofs.lemmas.Nat.{div-mul-add, mod-mul-add, div-add-mod'}
+use Rattle.std.proofs.lemmas.Nat.{div-mul-add, mod-mul-add}
 use Rattle.std.proofs.Math.IntN.{pos-*ℤ-pos, pos-*ℤ-negsuc, *ℤ-zero, -ℤ-+ℤ_cancel}
-use Rattle.std.proofs.Math.Nat.{mod-mod_of_dvd, dvd-mul_right, add-mul-mod_self_right, mul_assoc, mul-one}
-use Rattle.dh_tree.proofs.BankElements.{bank_below, column_below, row_below, place_below}
+use Rattle.std.proofs.Math.Nat.{mod-mod_of_dvd, dvd-mul_right, add-mul-mod_self_right}
 use Rattle.dh_tree.specs.declared.tables.Dim.{Dim}
-use Rattle.dh_tree.specs.Elements.{banks_of, bank_of}
+use Rattle.dh_tree.specs.Elements.{banks_of}
 use Rattle.dh_tree.specs.Shapes.{IsDim}
 use Rattle.dh_viewing.specs.declared.maps.ViewSort.TheVariants.{Shrink, Suffix}
 use Rattle.dh_viewing.specs.ReachedBanks.{bank_at, covering}
-use Rattle.dh_viewing.specs.ViewElements.{is_index, is_inside, sums, multiples, dealt_index}
-use Rattle.dh_viewing.specs.ViewShapes.{IsDimOf, AreDimsOf}
-use Rattle.dh_viewing.proofs.BankDigits.{digits, indices_of, first_of, rest_of, natural_of, within_of, bank_at_below}
+use Rattle.dh_viewing.specs.ViewElements.{is_index, is_inside, sums, multiples}
+use Rattle.dh_viewing.specs.ViewShapes.{AreDimsOf}
+use Rattle.dh_viewing.proofs.BankDigits.{indices_of, first_of, rest_of, natural_of, bank_at_below}
 
 -- Shrink: sizes stay, and a bank of the view covers those banks that have its residues.
 

@@ -1,6 +1,6 @@
 -- Which factors and brackets of views break the rule on them, `ViewFactor` (K13). (The rule of this profile, after
 -- Nigam and others, PLDI 2020.) Numbers are read as they are written.
-use Rattle.std.specs.Prelude.{ℕ, ◌%◌, ◌==◌, ◌&&◌, not, Bool, true, false, List, [], ◌∷◌, ◌++◌, length, map, Option, Some, None}
+use Rattle.std.specs.Prelude.{ℕ, ◌%◌, ◌==◌, ◌&&◌, not, Bool, true, false, List, [], ◌∷◌, ◌++◌, length, Option, Some, None}
 use Rattle.dh_base.specs.declared.places.Place.{Place}
 use Rattle.dh_base.specs.declared.rules.Rule.TheVariants.{ViewFactor}
 use Rattle.dh_tree.specs.declared.breaches.Breach.{Breach}

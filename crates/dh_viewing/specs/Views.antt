@@ -1,11 +1,11 @@
 -- The views of a program in text order, and what each is: its shape, that of its parent, and its factors. A
 -- view's parent is a memory or an earlier view. (The table of views of this profile.)
-use Rattle.std.specs.Prelude.{◌≡◌, ℕ, ◌/◌, if◌then◌else◌, List, [], ◌∷◌, ◌++◌, map, Option, Some, None}
+use Rattle.std.specs.Prelude.{ℕ, ◌/◌, if◌then◌else◌, List, [], ◌∷◌, ◌++◌, map, Option, Some, None}
 use Rattle.dh_tree.specs.declared.tables.Dim.{Dim}
 use Rattle.dh_tree.specs.declared.tables.Shape.{Shape}
 use Rattle.dh_tree.specs.declared.trees.expressions.Ref.{Ref}
 use Rattle.dh_tree.specs.Memories.{Memory, memories_of, memory_in, same_entity}
-use Rattle.dh_tree.specs.PlainTrees.{ViewPlan, Suffixed, shrinks, splits, suffixes, shifts, Action, action, ActionForm, lets, lets_memory, views, assigns, stores, reduces, calls, blocks, decides, repeats, counts, MaybeAction, no_action, one_action, Actions, no_actions, action_then, Groups, no_groups, group_then, Program}
+use Rattle.dh_tree.specs.PlainTrees.{ViewPlan, shrinks, splits, suffixes, shifts, Action, action, ActionForm, lets, lets_memory, views, assigns, stores, reduces, calls, blocks, decides, repeats, counts, MaybeAction, no_action, one_action, Actions, no_actions, action_then, Groups, no_groups, group_then, Program}
 use Rattle.dh_viewing.specs.declared.maps.Viewed.{Viewed}
 use Rattle.dh_viewing.specs.declared.maps.ViewMap.{ViewMap}
 use Rattle.dh_viewing.specs.declared.maps.ViewSort.{ViewSort}

@@ -15,5 +15,4 @@ ghost use Rattle.dh_viewing.specs.Views.{viewed_in};
 pub fn kept_views_have_shapes()
     ensures { (p : Program) → factor_breaches_of p ≡ [] → IsProgramTable (table_of p)
         → AllByRecursion (λ v. IsViewMap v.is) (viewed_in p) }
-{
-}
+{}

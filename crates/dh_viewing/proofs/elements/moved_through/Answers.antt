@@ -1,4 +1,4 @@
-use Rattle.std.proofs.Common.{sym, ap, ◌∙◌, length, List, subst, ◌≡◌}
+use Rattle.std.proofs.Common.{sym, ap, ◌∙◌, length, List}
 use Rattle.dh_tree.specs.declared.tables.Dim.{Dim}
 use Rattle.dh_viewing.specs.Moved.{moved_numbers}
 use Rattle.dh_viewing.proofs.MovedViews.{moved_view, moved_element}

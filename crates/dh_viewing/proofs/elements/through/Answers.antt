@@ -1,4 +1,4 @@
-use Rattle.std.proofs.Common.{sym, ap, ◌∙◌, List, subst}
+use Rattle.std.proofs.Common.{sym, ap, ◌∙◌, List}
 use Rattle.std.specs.Prelude.{ℤ}
 use Rattle.dh_tree.specs.declared.tables.Dim.{Dim}
 use Rattle.dh_viewing.specs.Numbers.{numbers_in}
