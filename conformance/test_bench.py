@@ -1,56 +1,31 @@
 """The test bench under which conformance/verilog runs a text: it gives the clock, stands for the banks
 of the outside memories as docs/NETLIST.md has them, and prints how the run ended."""
+import os
 import re
+import sys
 
-HEAD = re.compile(rb'^// memory (\d+) (\w+) (u?bit) (\d+) ports (\d+) dims (\S+) (outside|local)$', re.M)
+sys.path.insert(0, os.path.join(os.path.dirname(os.path.dirname(os.path.abspath(__file__))), 'tools'))
+from lib import lowered
+from lib.lowered import HEAD, faults_of, head_of
 
 
-class Memory:
-    """A memory, as the first lines of a text tell it."""
-
-    def __init__(self, number, name, sign, width, ports, dims, side):
-        self.number, self.name = int(number), name.decode()
-        self.signed, self.width = sign == b'bit', int(width)
-        self.ports, self.outside = int(ports), side == b'outside'
-        self.dims = [tuple(map(int, dim.split(b':'))) for dim in dims.split(b'x')]
-        self.banks, self.rows = 1, 1
-        for size, banks in self.dims:
-            self.banks *= banks
-            self.rows *= size // banks
-        self.row_width = max(1, (self.rows - 1).bit_length())
-
-    def places(self):
-        """The bank and the row of each element, in order of the elements: row-major remainders and quotients."""
-        places = [(0, 0)]
-        for size, banks in self.dims:
-            places = [(b * banks + i % banks, r * (size // banks) + i // banks) for b, r in places for i in range(size)]
-        return places
-
-    def flat(self, value):
-        """The elements of nested lists, in order."""
-        return [x for v in value for x in self.flat(v)] if isinstance(value, list) else [value]
+class Memory(lowered.Memory):
+    """A memory, as the first lines of a text tell it, and its elements as the bench prints them."""
 
     def elements(self, shown):
         """The elements that the bench printed, in order; one that is unknown is printed as a text."""
         seen = {(int(b), int(r)): v for m, b, r, v in re.findall(r'^element (\d+) (\d+) (\d+) (\S+)$', shown, re.M)
                 if int(m) == self.number}
-        return [self.number_of(seen.get(place, 'none')) for place in self.places()]
+        return [self.printed(seen.get(place, 'none')) for place in self.places()]
 
-    def number_of(self, bits):
-        if not bits.isdigit():
-            return bits
-        value = int(bits)
-        return value - 2 ** self.width if self.signed and value >> (self.width - 1) else value
+    def printed(self, bits):
+        """The number that was printed, or what stands there in its place."""
+        return self.number_of(int(bits)) if bits.isdigit() else bits
 
 
 def memories_of(text):
     """The memories of a text."""
-    return [Memory(*found) for found in HEAD.findall(text.encode())]
-
-
-def faults_of(text):
-    """What a text names its faults, in order: the outcomes of reports."""
-    return [f'fault {kind} {place}' for kind, place in re.findall(r'^// fault \d+ (\w+) (\S+)$', text, re.M)]
+    return [Memory(*found) for found in HEAD.findall(head_of(text))]
 
 
 def bank_lines(memory, bank):

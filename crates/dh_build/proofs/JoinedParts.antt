@@ -7,7 +7,7 @@ use Rattle.dh_tree.specs.Shapes.{IsMemory, IsProgramTable}
 use Rattle.dh_tree.specs.Tables.{elements_in, most_elements}
 use Rattle.dh_tree.specs.declared.tables.MemEntry.{MemEntry}
 use Rattle.dh_value.specs.declared.kinds.Kind.{Kind}
-use Rattle.dh_net.specs.Extents.{IsSmallMemory}
+use Rattle.dh_extents.specs.Extents.{IsSmallMemory}
 use Rattle.dh_plan.specs.Ways.{Way, resolve}
 use Rattle.dh_net.specs.declared.nets.Net.{Net}
 use Rattle.dh_net.specs.declared.nets.Register.{Register}

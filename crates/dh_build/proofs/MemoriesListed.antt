@@ -11,9 +11,9 @@ use Rattle.dh_tree.specs.Shapes.{IsMemory, IsProgramTable}
 use Rattle.dh_tree.specs.Tables.{elements_of, elements_in, most_elements}
 use Rattle.dh_tree.specs.declared.tables.MemEntry.{MemEntry}
 use Rattle.dh_net.specs.BankPorts.{port_count, first_port}
-use Rattle.dh_net.specs.Extents.{IsSmallMemory}
+use Rattle.dh_extents.specs.Extents.{IsSmallMemory}
 use Rattle.dh_net.specs.RowWidths.{row_width_of}
-use Rattle.dh_net.proofs.DimSizes.{banks_fit}
+use Rattle.dh_extents.proofs.DimSizes.{banks_fit}
 use Rattle.dh_control.specs.declared.driving.MemoryPorts.{MemoryPorts}
 use Rattle.dh_control.specs.UseWires.{memory_ports_at}
 use Rattle.dh_build.specs.MemoryTables.{AreMemoryPorts, row_bits_of}

@@ -13,7 +13,7 @@ use Rattle.dh_tree.specs.Shapes.{IsMemory, IsProgramTable}
 use Rattle.dh_tree.specs.Tables.{elements_of, elements_in}
 use Rattle.dh_net.specs.BankPorts.{port_count, memory_ports, ports_from, ports_of}
 use Rattle.dh_net.specs.RowWidths.{row_width_of}
-use Rattle.dh_net.proofs.DimSizes.{rows_fit}
+use Rattle.dh_extents.proofs.DimSizes.{rows_fit}
 use Rattle.dh_net.proofs.PortLists.{memory_ports_long}
 use Rattle.dh_net.proofs.RowWidths.{row_width_met}
 use Rattle.dh_plan.specs.declared.operations.Operation.{Operation}

@@ -6,7 +6,8 @@ ghost use Rattle.dh_build.specs.MemoryTables.{AreMemoryPorts};
 
 use dh_base::{Items, NoMemory};
 use dh_control::MemoryPorts;
-use dh_net::{count_ports, measure, row_width};
+use dh_extents::measure;
+use dh_net::{count_ports, row_width};
 use dh_tree::MemEntry;
 use std::alloc::Global;
 

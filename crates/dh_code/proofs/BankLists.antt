@@ -8,7 +8,8 @@ use Rattle.dh_tree.specs.Elements.{banks_of}
 use Rattle.dh_tree.specs.Shapes.{IsMemory}
 use Rattle.dh_tree.specs.Tables.{elements_in, most_elements}
 use Rattle.dh_code.specs.declared.spending.Bank.{Bank}
-use Rattle.dh_code.specs.Banks.{AreDims, AreFirsts, first_bank, all_banks}
+use Rattle.dh_extents.specs.Extents.{AreDims}
+use Rattle.dh_code.specs.Banks.{AreFirsts, first_bank, all_banks}
 use Rattle.dh_code.specs.Spent.{AreUsedBy}
 use Rattle.dh_code.proofs.Entries.{banks_few, dims_of}
 

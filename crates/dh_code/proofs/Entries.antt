@@ -12,14 +12,15 @@ use Rattle.dh_tree.specs.Shapes.{IsMemory, most_banks}
 use Rattle.dh_tree.specs.Tables.{elements_of, elements_in, most_elements}
 use Rattle.dh_tree.specs.Elements.{Spot, dims_at, ports_at, banks_of, entry_dims, entry_ports}
 use Rattle.dh_meaning.specs.Effects.{Event, reads, writes, kind_in, entry_kind}
+use Rattle.dh_extents.specs.Extents.{AreDims}
 use Rattle.dh_code.specs.Banks.{HasBank}
 use Rattle.dh_code.specs.declared.spending.Bank.{Bank}
 use Rattle.dh_code.specs.declared.evaluating.Stop.{Stop}
 use Rattle.dh_code.specs.declared.evaluating.Stop.TheVariants as stop
-use Rattle.dh_code.specs.Banks.{AreDims, AreFirsts, first_bank, all_banks}
+use Rattle.dh_code.specs.Banks.{AreFirsts, first_bank, all_banks}
 use Rattle.dh_code.specs.Scenes.{Spends}
 use Rattle.dh_code.specs.Spent.{rows_now, left_now, ReadsRow, WritesRow, HaveSpent}
-use Rattle.dh_code.proofs.DimSizes.{banks_fit, elements_some}
+use Rattle.dh_extents.proofs.DimSizes.{banks_fit, elements_some}
 use Rattle.dh_tree.specs.Memories.{Memory, number_in, same_entity}
 use Rattle.dh_tree.specs.Memories.{memory_of}
 use Rattle.dh_tree.specs.Scopes.{entity_number}

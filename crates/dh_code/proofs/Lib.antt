@@ -1,4 +1,3 @@
-pub mod DimSizes
 pub mod Located
 pub mod RowsRead
 pub mod BanksSpent

@@ -12,11 +12,12 @@ use Rattle.dh_tree.specs.Shapes.{IsDim}
 use Rattle.dh_tree.specs.Tables.{elements_of, most_elements}
 use Rattle.dh_meaning.specs.Effects.{is_inside}
 use Rattle.dh_code.specs.declared.spots.Spread.{Spread}
-use Rattle.dh_code.specs.Banks.{AreDims, HasRoom, IsSpread, Spreads, index_within, spread_behind}
+use Rattle.dh_extents.specs.Extents.{AreDims}
+use Rattle.dh_code.specs.Banks.{HasRoom, IsSpread, Spreads, index_within, spread_behind}
 use Rattle.dh_value.specs.Words as words
 use Rattle.dh_code.specs.declared.codes.Operand.{Operand}
 use Rattle.dh_code.specs.Operated.{Sight, index_values, operand_word}
-use Rattle.dh_code.proofs.DimSizes.{banks_fit, banks_some, elements_some, quotient_below, rows_fit, rows_some}
+use Rattle.dh_extents.proofs.DimSizes.{banks_fit, banks_some, elements_some, quotient_below, rows_fit, rows_some}
 
 -- a number so far, of which each leads to so many of those that are still to come
 pub record Part (so_far many rest all : ℕ) (whole : ℕ) : Type 0 where

@@ -5,9 +5,7 @@ use Rattle.dh_tree.specs.declared.tables.Dim.{Dim}
 use Rattle.dh_tree.specs.declared.tables.MemEntry.{MemEntry}
 use Rattle.dh_tree.specs.Elements.{banks_of, rows_of, bank_of, row_of, position_of, position_in_bank, dims_at}
 use Rattle.dh_meaning.specs.Effects.{is_inside, is_row}
-use Rattle.dh_tree.specs.Shapes.{IsDim}
 use Rattle.dh_tree.specs.Tables.{elements_of, most_elements}
-use Rattle.dh_code.specs.declared.spots.Extent.{Extent}
 use Rattle.dh_code.specs.declared.spots.Spread.{Spread}
 
 -- the number of the first bank of a memory
@@ -26,17 +24,9 @@ pub record AreFirsts (table : List MemEntry) (firsts : List ℕ) : Type 0 where
   pub long : length firsts ≡ length table
   pub is : (memory : ℕ) → memory < length table → get_or firsts memory 0 ≡ first_bank table memory
 
--- dimensions that a memory can have
-pub record AreDims (ds : List Dim) : Type 0 where
-  pub dims : AllByRecursion IsDim ds
-  pub few : elements_of ds ≤ most_elements
-
 -- the natural number that an index is, where it is one below a size
 abbrev pub index_within : ℕ → ℤ → Option ℕ
 index_within size i = if int_le (pos 0) i && int_lt i (pos size) then Some (unsigned_abs i) else None
-
-abbrev pub IsExtent : List Dim → Extent → Type 0
-IsExtent ds e = (e.banks ≡ banks_of ds) × ((e.rows ≡ rows_of ds) × (e.elements ≡ elements_of ds))
 
 -- where the element of these indices lies in a memory of these dimensions, if there is one
 abbrev pub Spreads : List Dim → List ℤ → Option Spread → Type 0

@@ -19,4 +19,3 @@ pub use operands::slot;
 pub use places::{Held, Places, place_all, place_of};
 pub use running::{Change, State, Write, decide, run, set, undo, write_all};
 pub use spending::{Bank, release, unused};
-pub use spots::measure;

@@ -3,9 +3,8 @@
 ghost use Rattle.std.specs.Prelude.{◌≡◌, ℕ, ◌<◌, ◌≤◌, ◌*◌, ◌/◌, ◌%◌, ◌^◌, Some, pos};
 ghost use Rattle.std.specs.List.{AllByRecursion};
 ghost use Rattle.dh_value.specs.Words.{IsWord, value_of};
-ghost use Rattle.dh_tree.specs.Elements.{banks_of, rows_of, position_in_bank};
-ghost use Rattle.dh_tree.specs.Tables.{elements_of};
-ghost use Rattle.dh_code.specs.Banks.{AreDims, HasRoom, IsExtent, IsSpread, Spreads, index_within, spread_behind};
+ghost use Rattle.dh_extents.specs.Extents.{AreDims};
+ghost use Rattle.dh_code.specs.Banks.{HasRoom, IsSpread, Spreads, index_within, spread_behind};
 ghost use Rattle.dh_code.specs.Operated.{IsOperand, index_values, view_seen};
 
 use crate::codes::Operand;
@@ -25,17 +24,6 @@ pub struct Element {
     pub row: u64,
     /// The place among all elements.
     pub position: u64,
-}
-
-/// How many banks, rows of a bank, and elements dimensions have.
-#[derive(Clone, Copy)]
-pub struct Extent {
-    /// The banks.
-    pub banks: u64,
-    /// The rows of each bank.
-    pub rows: u64,
-    /// The elements.
-    pub elements: u64,
 }
 
 /// Where an element lies within dimensions.
@@ -80,26 +68,6 @@ fn index_of(word: Word, size: u64) -> Option<u64>
         Kind::Bool => number_below(word.bits, size),
         Kind::Unsigned(_) => number_below(word.bits, size),
         Kind::Signed(_) => index_below(number(word), size),
-    }
-}
-
-/// How many banks, rows of a bank, and elements dimensions have.
-pub fn measure(dims: &[Dim]) -> Extent
-    requires dims { AreDims dims.now }
-    ensures { IsExtent dims.now result }
-{
-    let [dim, further @ ..] = dims else {
-        return Extent {
-            banks: 1,
-            rows: 1,
-            elements: 1,
-        };
-    };
-    let inner = measure(further);
-    Extent {
-        banks: dim.banks * inner.banks,
-        rows: (dim.size / dim.banks) * inner.rows,
-        elements: dim.size * inner.elements,
     }
 }
 
@@ -170,20 +138,4 @@ pub fn locate(view: &View<'_>, dims: &[Dim], indices: &[Operand]) -> Option<Spre
         spread = next_spread(spread, dim, index);
     }
     Some(spread)
-}
-
-/// The place among all elements of the one in this row of this bank.
-pub fn place_in_bank(dims: &[Dim], bank: u64, row: u64) -> u64
-    requires dims { AreDims dims.now }
-    requires bank { bank < banks_of dims.now }
-    requires row { row < rows_of dims.now }
-    ensures place { result ≡ position_in_bank dims.now bank row }
-    ensures within { result < elements_of dims.now }
-{
-    let [dim, further @ ..] = dims else {
-        return 0;
-    };
-    let inner = measure(further);
-    let index = (row / inner.rows) * dim.banks + bank / inner.banks;
-    index * inner.elements + place_in_bank(further, bank % inner.banks, row % inner.rows)
 }

@@ -16,6 +16,7 @@ ghost use Rattle.dh_compile.specs.Compiled.{Compiles, IsNetOfProgram};
 use dh_backend::{NetParts, parts_of};
 use dh_base::{Limit, NoMemory};
 use dh_build::build;
+use dh_inline::inline;
 use dh_net::Net;
 use dh_plan::Plan;
 use dh_ports::Accepted;
@@ -71,7 +72,8 @@ fn net_of(alloc: Global, program: &Typed) -> Result<Net, NoMemory>
     requires { IsToCompile (program_seen program.now) }
     ensures { IfOk result (IsNetOfProgram (program_seen program.now)) }
 {
-    let plan = unroll(alloc, program)?;
+    let flat = inline(program);
+    let plan = unroll(alloc, &flat)?;
     net_of_plan(alloc, &plan)
 }
 

@@ -47,6 +47,85 @@ fn straight_commands_join_and_others_do_not(rt: HostRuntime) -> Result<(), Fail>
     Ok(())
 }
 
+/// All copies of a loop are done in one turn.
+#[test]
+fn copies_share_their_turns(rt: HostRuntime) -> Result<(), Fail> {
+    let alloc = rt.alloc();
+    for (text, want) in [
+        (
+            "for (let i = 0..6) unroll 2 { let x = i }",
+            "[Turns { command: 1, count: 3, body: [Straight { commands: [3] }] }]",
+        ),
+        (
+            "for (let i = 0..4) unroll 4 { let x = 1 --- let y = 2 }",
+            "[Turns { command: 1, count: 1, body: [Straight { commands: [3] }, Straight { commands: [4] }] }]",
+        ),
+        (
+            "for (let i = 0..4) unroll 2 { for (let j = 0..9) unroll 3 { let x = 1 } }",
+            "[Turns { command: 1, count: 2, body: [Turns { command: 3, count: 3, body: [Straight { commands: [5] }] }] }]",
+        ),
+        ("for (let i = 3..3) unroll 2 { let x = 1 }", "[]"),
+    ] {
+        let got = format!(in alloc; "{:?}", phases_of(alloc, text)?)?;
+        assert_eq!(rt; got.as_str(), want, "at {text}");
+    }
+    Ok(())
+}
+
+/// The commands of `combine` join the last phase of the body where that is straight, and are a phase of their own
+/// where it is not.
+#[test]
+fn combine_joins_a_straight_end_alone(rt: HostRuntime) -> Result<(), Fail> {
+    let alloc = rt.alloc();
+    for (text, want) in [
+        (
+            "let s = 0; for (let i = 0..8) unroll 2 { let v = 1 } combine { s += v }",
+            "[Straight { commands: [1] }, Turns { command: 2, count: 4, body: [Straight { commands: [4, 6] }] }]",
+        ),
+        (
+            "let s = 0; for (let i = 0..3) { let v = 1 } combine { s += v; s -= v }",
+            "[Straight { commands: [1] }, Turns { command: 2, count: 3, body: [Straight { commands: [4, 6, 7] }] }]",
+        ),
+        (
+            "let s = 0; for (let i = 0..4) unroll 2 { let v = 1 --- v := 2 } combine { s += v }",
+            "[Straight { commands: [1] }, Turns { command: 2, count: 2, body: [Straight { commands: [4] }, Straight { commands: [5, 7] }] }]",
+        ),
+        (
+            "let s = 0; for (let i = 0..4) unroll 2 { let v = 1 --- for (let j = 0..3) { v := 2 } } combine { s += v }",
+            "[Straight { commands: [1] }, Turns { command: 2, count: 2, body: [Straight { commands: [4] }, Turns { command: 5, count: 3, body: [Straight { commands: [7] }] }, Straight { commands: [9] }] }]",
+        ),
+        (
+            "for (let i = 0..4) unroll 2 { let v = 1 } combine { }",
+            "[Turns { command: 1, count: 2, body: [Straight { commands: [3] }] }]",
+        ),
+    ] {
+        let got = format!(in alloc; "{:?}", phases_of(alloc, text)?)?;
+        assert_eq!(rt; got.as_str(), want, "at {text}");
+    }
+    Ok(())
+}
+
+/// A declaration of a memory has no phase: the commands round it are one, and a part of it alone is none.
+#[test]
+fn local_memories_have_no_phase(rt: HostRuntime) -> Result<(), Fail> {
+    let alloc = rt.alloc();
+    for (text, want) in [
+        ("let m: ubit<8>[4]", "[]"),
+        (
+            "let x = 1; let m: ubit<8>[4]; let y = 2",
+            "[Straight { commands: [1, 3] }]",
+        ),
+        (
+            "let x = 1 --- let m: ubit<8>[4] --- m[0] := 3",
+            "[Straight { commands: [1] }, Straight { commands: [3] }]",
+        ),
+    ] {
+        let got = format!(in alloc; "{:?}", phases_of(alloc, text)?)?;
+        assert_eq!(rt; got.as_str(), want, "at {text}");
+    }
+    Ok(())
+}
+
 #[test]
 fn a_long_program_has_a_phase_for_each_part(rt: HostRuntime) -> Result<(), Fail> {
     let alloc = rt.alloc();

@@ -1,6 +1,7 @@
 pub mod Runs
 pub mod Numerals
 pub mod TableLooks
+pub mod WordLengths
 pub mod WordsSpelled
 pub mod SignsSpelled
 pub mod TokensFound

@@ -49,6 +49,15 @@ either None other = other
 unfoldable pub kept_word : List ℕ → Option TokenKind
 kept_word w = look_up words w
 
+-- the entries of a table whose spelling has so many bytes
+abbrev pub of_length : ℕ → List Entry → List Entry
+of_length n [] = []
+of_length n (e ∷ es) = if length e.0 == n then e ∷ of_length n es else of_length n es
+
+-- the same of a word of so many bytes
+unfoldable pub word_of_length : ℕ → List ℕ → Option TokenKind
+word_of_length n w = look_up (of_length n words) w
+
 -- the token of a word
 unfoldable pub word_kind : List ℕ → Option TokenKind
 word_kind w = either (kept_word w) (Some (kind.Name w))

@@ -22,42 +22,108 @@ pub(crate) fn word(alloc: Global, text: &str) -> Result<Option<TokenKind>, NoMem
     Ok(Some(TokenKind::Name(name)))
 }
 
-/// The token of a word that is no name.
-#[tactic(auto, unfolding(crate::specs::FrontPiece::kept_word))]
+/// The token of a word that is no name. The word is compared with those of its length alone, since most
+/// words of a text are names.
 fn kept_word(text: &str) -> Option<TokenKind>
     ensures { result ≡ first.kept_word text.now }
 {
+    match text.len() {
+        2 => word_of_two(text),
+        3 => word_of_three(text),
+        4 => word_of_four(text),
+        5 => word_of_five(text),
+        6 => word_of_six(text),
+        7 => word_of_seven(text),
+        _ => None,
+    }
+}
+
+/// That of a word of two letters.
+#[tactic(auto, unfolding(crate::specs::FrontPiece::word_of_length))]
+fn word_of_two(text: &str) -> Option<TokenKind>
+    ensures { result ≡ first.word_of_length 2 text.now }
+{
     match text {
-        "decl" => Some(TokenKind::Decl),
+        "by" => Some(TokenKind::By),
+        "if" => Some(TokenKind::If),
+        "as" => Some(TokenKind::As),
+        _ => None,
+    }
+}
+
+/// That of a word of three letters.
+#[tactic(auto, unfolding(crate::specs::FrontPiece::word_of_length))]
+fn word_of_three(text: &str) -> Option<TokenKind>
+    ensures { result ≡ first.word_of_length 3 text.now }
+{
+    match text {
         "def" => Some(TokenKind::Def),
         "let" => Some(TokenKind::Let),
-        "view" => Some(TokenKind::View),
-        "shrink" => Some(TokenKind::Shrink),
-        "suffix" => Some(TokenKind::Suffix),
-        "shift" => Some(TokenKind::Shift),
-        "split" => Some(TokenKind::Split),
-        "by" => Some(TokenKind::By),
         "for" => Some(TokenKind::For),
-        "while" => Some(TokenKind::While),
-        "if" => Some(TokenKind::If),
-        "else" => Some(TokenKind::Else),
-        "unroll" => Some(TokenKind::Unroll),
-        "combine" => Some(TokenKind::Combine),
-        "bank" => Some(TokenKind::Bank),
         "bit" => Some(TokenKind::Bit),
+        "fix" => Some(TokenKind::Out(OutWord::Fix)),
+        _ => None,
+    }
+}
+
+/// That of a word of four letters.
+#[tactic(auto, unfolding(crate::specs::FrontPiece::word_of_length))]
+fn word_of_four(text: &str) -> Option<TokenKind>
+    ensures { result ≡ first.word_of_length 4 text.now }
+{
+    match text {
+        "decl" => Some(TokenKind::Decl),
+        "view" => Some(TokenKind::View),
+        "else" => Some(TokenKind::Else),
+        "bank" => Some(TokenKind::Bank),
         "ubit" => Some(TokenKind::Ubit),
         "bool" => Some(TokenKind::Bool),
         "true" => Some(TokenKind::True),
-        "false" => Some(TokenKind::False),
-        "as" => Some(TokenKind::As),
-        "float" => Some(TokenKind::Out(OutWord::Float)),
-        "double" => Some(TokenKind::Out(OutWord::Double)),
-        "fix" => Some(TokenKind::Out(OutWord::Fix)),
         "ufix" => Some(TokenKind::Out(OutWord::Ufix)),
+        _ => None,
+    }
+}
+
+/// That of a word of five letters.
+#[tactic(auto, unfolding(crate::specs::FrontPiece::word_of_length))]
+fn word_of_five(text: &str) -> Option<TokenKind>
+    ensures { result ≡ first.word_of_length 5 text.now }
+{
+    match text {
+        "shift" => Some(TokenKind::Shift),
+        "split" => Some(TokenKind::Split),
+        "while" => Some(TokenKind::While),
+        "false" => Some(TokenKind::False),
+        "float" => Some(TokenKind::Out(OutWord::Float)),
+        "decor" => Some(TokenKind::Out(OutWord::Decor)),
+        _ => None,
+    }
+}
+
+/// That of a word of six letters.
+#[tactic(auto, unfolding(crate::specs::FrontPiece::word_of_length))]
+fn word_of_six(text: &str) -> Option<TokenKind>
+    ensures { result ≡ first.word_of_length 6 text.now }
+{
+    match text {
+        "shrink" => Some(TokenKind::Shrink),
+        "suffix" => Some(TokenKind::Suffix),
+        "unroll" => Some(TokenKind::Unroll),
+        "double" => Some(TokenKind::Out(OutWord::Double)),
         "record" => Some(TokenKind::Out(OutWord::Record)),
         "import" => Some(TokenKind::Out(OutWord::Import)),
-        "decor" => Some(TokenKind::Out(OutWord::Decor)),
         "return" => Some(TokenKind::Out(OutWord::Return)),
+        _ => None,
+    }
+}
+
+/// That of a word of seven letters.
+#[tactic(auto, unfolding(crate::specs::FrontPiece::word_of_length))]
+fn word_of_seven(text: &str) -> Option<TokenKind>
+    ensures { result ≡ first.word_of_length 7 text.now }
+{
+    match text {
+        "combine" => Some(TokenKind::Combine),
         _ => None,
     }
 }

@@ -1,5 +1,4 @@
 pub mod RowWidths
-pub mod DimSizes
 pub mod TableCounts
 pub mod TableWalks
 pub mod PortLists

@@ -9,7 +9,7 @@ use Rattle.dh_tree.specs.Shapes.{IsMemory, IsProgramTable}
 use Rattle.dh_tree.specs.Tables.{elements_of, elements_in, most_elements}
 use Rattle.dh_tree.specs.declared.tables.MemEntry.{MemEntry}
 use Rattle.dh_net.specs.BankPorts.{port_count, port_of, memory_ports, ports_from, ports_of}
-use Rattle.dh_net.specs.Extents.{IsSmallMemory}
+use Rattle.dh_extents.specs.Extents.{IsSmallMemory}
 use Rattle.dh_net.specs.Parts.{DrivePort, DrivePorts, HasPorts}
 use Rattle.dh_net.specs.Valid.{IsDriver, IsValid}
 use Rattle.dh_net.specs.declared.nets.Net.{Net}

@@ -1,4 +1,3 @@
-pub mod Extents
 pub mod RowWidths
 pub mod BankPorts
 pub mod Valid

@@ -3,7 +3,6 @@
 //! Stands on `dh_tree`. docs/NETLIST.md tells the netlist.
 #![tactic(auto)]
 
-mod extents;
 mod laws;
 mod nets;
 mod playing;
@@ -11,7 +10,6 @@ mod ports;
 mod tables;
 mod validity;
 
-pub use extents::{Extent, measure, place_in_bank};
 pub use laws::valuation_is_unique;
 pub use nets::{Cell, CellForm, Driver, Net, Register};
 pub use playing::playing_tells_the_report;

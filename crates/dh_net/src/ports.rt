@@ -4,11 +4,11 @@ ghost use Rattle.std.specs.Prelude.{◌≡◌, ◌<◌, ◌++◌, IfOk, OnOk};
 ghost use Rattle.std.specs.List.{AllByRecursion};
 ghost use Rattle.dh_tree.specs.Shapes.{IsProgramTable};
 ghost use Rattle.dh_net.specs.BankPorts.{port_count, port_of, memory_ports, ports_of};
-ghost use Rattle.dh_net.specs.Extents.{IsSmallMemory};
+ghost use Rattle.dh_extents.specs.Extents.{IsSmallMemory};
 
-use crate::extents::measure;
 use crate::validity::{kind_width, row_width};
 use dh_base::NoMemory;
+use dh_extents::measure;
 use dh_tree::MemEntry;
 use std::alloc::Global;
 

@@ -6,16 +6,16 @@ ghost use Rattle.dh_tree.specs.Shapes.{IsProgramTable};
 ghost use Rattle.dh_value.specs.Words.{width_of};
 ghost use Rattle.dh_net.specs.BankPorts.{port_count, memory_ports, ports_of};
 ghost use Rattle.dh_net.specs.Clock.{wire_width as width_at};
-ghost use Rattle.dh_net.specs.Extents.{IsSmallMemory};
+ghost use Rattle.dh_extents.specs.Extents.{IsSmallMemory};
 ghost use Rattle.dh_net.specs.RowWidths.{IsRowWidth};
 ghost use Rattle.dh_net.specs.Valid.{HasWidth, IsOperand, IsAnyOperand, AreOperands, AreAlike, IsNarrower, IsWider, IsPort, IsRegister, IsDriver, IsValid};
 ghost use Rattle.dh_net.specs.Parts.{HasRegister, FitsIn, IsCellIn, HasCells, HasRegisters, DrivePort, DrivePorts, HasPorts, HasOutputs};
 
-use crate::extents::measure;
 use crate::nets::{Cell, CellForm, Driver, Net, Register};
 use crate::ports::{Port, count_ports, memory_port};
 use crate::tables::is_program_table;
 use dh_base::Items;
+use dh_extents::measure;
 use dh_tree::{Kind, MemEntry};
 
 /// The bits of the numbers of so many rows: the least width of at least 1 that has them all, from 1

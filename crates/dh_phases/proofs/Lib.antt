@@ -1,3 +1,4 @@
 pub mod SeenPhases
 pub mod PhasesNumbered
+pub mod PhasesRead
 pub mod CommandsFound

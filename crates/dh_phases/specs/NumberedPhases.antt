@@ -1,10 +1,12 @@
 -- The phases of a command by the numbers of its commands, what is seen so of phases of the code, and the
--- command that has a number.
+-- command that has a number. The phases are those of `dh_meaning`, of which only the numbers of their commands
+-- are kept: not where each stands, and not the number of its first access.
 use Rattle.std.specs.Prelude.{◌≡◌, ◌⊎◌, ℕ, List, [], ◌∷◌, ◌++◌, map, Result, IfOk, OnOk, Vec}
 use Rattle.std.specs.Global.{Global}
-use Rattle.dh_tree.specs.PlainTrees.{Action, action, ActionForm, blocks, decides, repeats, counts, MaybeAction, no_action, one_action, Actions, no_actions, action_then, Groups, no_groups, group_then}
-use Rattle.dh_phases.specs.PlainPhases.{straight, turns, repeated, decided, no_phases, phase, id_of}
-use Rattle.dh_phases.specs.PlainPhases as plain
+use Rattle.dh_tree.specs.PlainTrees.{Action, action, ActionForm, lets, lets_memory, views, assigns, stores, reduces, calls, blocks, decides, repeats, counts, MaybeAction, no_action, one_action, Actions, no_actions, action_then, Groups, no_groups, group_then}
+use Rattle.dh_meaning.specs.Sites.{Around}
+use Rattle.dh_meaning.specs.Phases.{Located, straight, turns, repeated, decided, no_phases, phase, phases}
+use Rattle.dh_meaning.specs.Phases as source
 use Rattle.dh_phases.specs.declared.phasing.Phase.{Phase}
 use Rattle.dh_phases.specs.declared.phasing.Phase.TheVariants.{Straight, Turns', Loop', Choice'}
 use Rattle.dh_phases.specs.declared.phasing.Phase.TheBlock.{Row_of-Phase, end_of-Phase, more_of-Phase}
@@ -26,19 +28,27 @@ abbrev pub all_numbered : List Numbered → AllNumbered
 all_numbered [] = none_numbered
 all_numbered (p ∷ ps) = numbered_then p (all_numbered ps)
 
-abbrev mutual
-  pub phase_numbered : plain.Phase → Numbered
-  phase_numbered (straight commands) = at_once (map id_of commands)
-  phase_numbered (turns loop count body) = in_turns (id_of loop) count (phases_numbered body)
-  phase_numbered (repeated loop body) = in_loop (id_of loop) (phases_numbered body)
-  phase_numbered (decided choice chosen other) = by_choice (id_of choice) (phases_numbered chosen) (phases_numbered other)
+-- the number of a command
+abbrev pub id_of : Action → ℕ
+id_of (action id place form) = id
 
-  pub phases_numbered : plain.Phases → AllNumbered
+-- that of a command where it stands
+abbrev pub number_of : Located → ℕ
+number_of c = id_of c.command
+
+abbrev mutual
+  pub phase_numbered : source.Phase → Numbered
+  phase_numbered (straight commands) = at_once (map number_of commands)
+  phase_numbered (turns loop count body) = in_turns (number_of loop) count (phases_numbered body)
+  phase_numbered (repeated loop body) = in_loop (number_of loop) (phases_numbered body)
+  phase_numbered (decided choice chosen other) = by_choice (number_of choice) (phases_numbered chosen) (phases_numbered other)
+
+  pub phases_numbered : source.Phases → AllNumbered
   phases_numbered no_phases = none_numbered
   phases_numbered (phase p ps) = numbered_then (phase_numbered p) (phases_numbered ps)
 
 -- phases by the numbers of their commands
-abbrev pub numbered : List plain.Phase → List Numbered
+abbrev pub numbered : List source.Phase → List Numbered
 numbered ps = map phase_numbered ps
 
 unfoldable mutual
@@ -78,7 +88,13 @@ abbrev mutual
   HoldsInside (decides test chosen other) n a = Holds chosen n a ⊎ HoldsOther other n a
   HoldsInside (repeats test body) n a = Holds body n a
   HoldsInside (counts iterator declared low high factor body combine combine_place) n a = Holds body n a ⊎ HoldsOther combine n a
-  HoldsInside form n a = ⊥
+  HoldsInside (lets name declared value) n a = ⊥
+  HoldsInside (lets_memory name shape shape_places value) n a = ⊥
+  HoldsInside (views name parent form) n a = ⊥
+  HoldsInside (assigns target value) n a = ⊥
+  HoldsInside (stores target value) n a = ⊥
+  HoldsInside (reduces target op value) n a = ⊥
+  HoldsInside (calls function arguments) n a = ⊥
 
   pub HoldsOther : MaybeAction → ℕ → Action → Type 0
   HoldsOther no_action n a = ⊥
@@ -96,6 +112,7 @@ abbrev mutual
 abbrev pub HasCommand : Action → ℕ → Type 0
 HasCommand body n = (a : Action) × Holds body n a
 
--- the phases of each command of this number that is this one or one inside it are given, where no memory was refused
+-- The phases of each command of this number that is this one or one inside it are given, whatever stands round
+-- it and whatever the number of its first access is, where no memory was refused.
 abbrev pub GivesPhasesOf : {E : Type 0} → Result (Vec Phase Global) E → Action → ℕ → Type 0
-GivesPhasesOf result body n = IfOk result (λ ps. (a : Action) → Holds body n a → phase_list ps ≡ numbered (plain.phases a))
+GivesPhasesOf result body n = IfOk result (λ ps. (a : Action) → Holds body n a → (r : Around) (first : ℕ) → phase_list ps ≡ numbered (phases r first a))

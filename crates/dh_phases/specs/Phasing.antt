@@ -4,22 +4,24 @@ use Rattle.std.specs.Prelude.{ℕ, ◌==◌, ◌&&◌, Bool, if◌then◌else◌
 use Rattle.std.specs.Global.{Global}
 use denote.Ref.{Bor}
 use Rattle.std.specs.Option.{is_some}
-use Rattle.dh_tree.specs.PlainTrees.{Action, action, ActionForm, blocks, decides, repeats, counts, MaybeAction, no_action, one_action, Actions, no_actions, action_then, Groups, no_groups, group_then}
+use Rattle.dh_tree.specs.PlainTrees.{Action, action, ActionForm, lets, lets_memory, views, assigns, stores, reduces, calls, blocks, decides, repeats, counts, MaybeAction, no_action, one_action, Actions, no_actions, action_then, Groups, no_groups, group_then}
 use Rattle.dh_tree.specs.declared.trees.commands.Command.{Command}
 use Rattle.dh_phases.specs.declared.phasing.Phase.{Phase}
-use Rattle.dh_phases.specs.PlainPhases.{phases, groups_phases, other_phases}
+use Rattle.dh_meaning.specs.Sites.{nothing_around}
+use Rattle.dh_meaning.specs.Phases.{phases, groups_phases, other_phases}
 use Rattle.dh_phases.specs.NumberedPhases.{Numbered, at_once, in_turns, in_loop, by_choice, all_numbered, numbered, phase_list}
 use Rattle.dh_tree.specs.Seen.{action_seen}
 
--- the phases of a command, of those of parts and of a block that may lack
+-- The phases of a command, of those of parts and of a block that may lack. Where it stands does not matter to
+-- numbers: nothing stands round it here, and its accesses are numbered from 0.
 abbrev pub phases_in : Action → List Numbered
-phases_in a = numbered (phases a)
+phases_in a = numbered (phases nothing_around 0 a)
 
 abbrev pub phases_in_groups : Groups → List Numbered
-phases_in_groups gs = numbered (groups_phases gs)
+phases_in_groups gs = numbered (groups_phases nothing_around 0 gs)
 
 abbrev pub phases_in_other : MaybeAction → List Numbered
-phases_in_other other = numbered (other_phases other)
+phases_in_other other = numbered (other_phases nothing_around 0 other)
 
 -- the phase of commands that are done together; none where there is no command
 abbrev pub one_phase : List ℕ → List Numbered
@@ -42,7 +44,7 @@ straight_part (p ∷ q ∷ ps) = None
 abbrev pub are_straight : List Numbered → Bool
 are_straight ps = is_some (straight_part ps)
 
-abbrev pub turn_phases : ℕ → (count : ℕ) → (body : List Numbered) → List Numbered
+abbrev pub turn_phases : ℕ → (count : ℕ) → (turn : List Numbered) → List Numbered
 turn_phases command count [] = []
 turn_phases command count (p ∷ ps) = if count == 0 then [] else in_turns command count (all_numbered (p ∷ ps)) ∷ []
 
@@ -78,6 +80,21 @@ abbrev pub gathered : List ℕ → List (List Numbered) → List Numbered
 gathered current [] = one_phase current
 gathered current (ps ∷ rest) = done_by current ps ++ gathered (current_after current ps) rest
 
+-- The phases of a turn, from those of the body and of `combine`: the last phase of the body is joined by the
+-- commands of `combine` where both are straight.
+abbrev pub folded_last : (last : Numbered) → Option (List ℕ) → (fold : List Numbered) → List Numbered
+folded_last last (Some cs) fold = gathered cs (fold ∷ [])
+folded_last last None fold = last ∷ fold
+
+abbrev pub folded_phases : (body fold : List Numbered) → List Numbered
+folded_phases [] fold = fold
+folded_phases (p ∷ []) fold = folded_last p (straight_commands p) fold
+folded_phases (p ∷ q ∷ ps) fold = p ∷ folded_phases (q ∷ ps) fold
+
+-- the same of lists of the code
+abbrev pub turn_of : (body fold : Vec Phase Global) → List Numbered
+turn_of body fold = folded_phases (phase_list body) (phase_list fold)
+
 -- the command that is found, where one is
 abbrev pub found_seen : Option (Bor Command) → Option Action
 found_seen found = option_map (λ c. action_seen c.now) found
@@ -97,7 +114,13 @@ abbrev mutual
   first_inside n (decides test chosen other) = found_or (first_of n chosen) (first_in_other n other)
   first_inside n (repeats test body) = first_of n body
   first_inside n (counts iterator declared low high factor body combine combine_place) = found_or (first_of n body) (first_in_other n combine)
-  first_inside n form = None
+  first_inside n (lets name declared value) = None
+  first_inside n (lets_memory name shape shape_places value) = None
+  first_inside n (views name parent form) = None
+  first_inside n (assigns target value) = None
+  first_inside n (stores target value) = None
+  first_inside n (reduces target op value) = None
+  first_inside n (calls function arguments) = None
 
   pub first_in_other : ℕ → MaybeAction → Option Action
   first_in_other n no_action = None

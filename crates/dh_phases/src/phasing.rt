@@ -1,11 +1,12 @@
 //! The phases of a command, by the numbers of its commands.
 
-ghost use Rattle.std.specs.Prelude.{◌≡◌, ℕ, [], ◌∷◌, option_map, IfOk, OnOk};
+ghost use Rattle.std.specs.Prelude.{◌≡◌, ℕ, [], ◌∷◌, ◌++◌, option_map, IfOk, OnOk};
 ghost use Rattle.dh_tree.specs.Seen.{action_seen, all_parts_seen, maybe_block_seen, program_seen};
 ghost use Rattle.dh_tree.specs.Numbers.{IsNumbered};
+ghost use Rattle.dh_meaning.specs.Phases as meaning;
 ghost use Rattle.dh_phases.specs.NumberedPhases.{at_once, in_loop, all_numbered, phase_seen, phases_seen, phase_list, GivesPhases, AddsPhases, GivesPhasesOf, HasCommand};
 ghost use Rattle.dh_phases.specs.Phasing as walk;
-ghost use Rattle.dh_phases.specs.Phasing.{phases_in, phases_in_other, phases_in_groups, one_phase, turn_phases, choice_phases, done_behind, open_behind, found_seen, first_of, first_in_other, first_in_groups};
+ghost use Rattle.dh_phases.specs.Phasing.{phases_in, phases_in_other, phases_in_groups, one_phase, turn_phases, choice_phases, done_behind, open_behind, turn_of, found_seen, first_of, first_in_other, first_in_groups};
 
 use dh_base::NoMemory;
 use dh_tree::{Command, CommandForm, Typed};
@@ -24,9 +25,9 @@ pub enum Phase {
     Turns {
         /// Its number.
         command: u32,
-        /// Its turns, at least one.
+        /// Its turns, at least one. In each of them all copies of its body are done side by side.
         count: u64,
-        /// The phases of a turn, at least one.
+        /// The phases of a turn, at least one, those of `combine` among them.
         body: Vec<Phase>,
     },
     /// A `while`: its test takes a logical step before each turn, and one after the last.
@@ -90,12 +91,23 @@ fn straight_part(phases: &[Phase]) -> Option<&[u32]>
     }
 }
 
-/// The phases of a `for`: none where it has no turn, or its body no phase.
-#[tactic(auto, using(crate::proofs::SeenPhases::phases_are))]
-fn turns(alloc: Global, command: u32, count: u64, body: Vec<Phase>) -> Result<Vec<Phase>, NoMemory>
-    ensures { GivesPhases result (turn_phases command count (phase_list body)) }
+/// How many turns a `for` has.
+fn turn_count(low: u64, high: u64, factor: u64) -> u64
+    ensures { result ≡ meaning.turn_count low high factor }
 {
-    if body.is_empty() || count == 0 {
+    if factor == 0 {
+        0
+    } else {
+        high.saturating_sub(low) / factor
+    }
+}
+
+/// The phases of a `for`: none where it has no turn, or a turn no phase.
+#[tactic(auto, using(crate::proofs::SeenPhases::phases_are))]
+fn turns(alloc: Global, command: u32, count: u64, turn: Vec<Phase>) -> Result<Vec<Phase>, NoMemory>
+    ensures { GivesPhases result (turn_phases command count (phase_list turn)) }
+{
+    if turn.is_empty() || count == 0 {
         Ok(Vec::new(alloc))
     } else {
         alone(
@@ -103,7 +115,7 @@ fn turns(alloc: Global, command: u32, count: u64, body: Vec<Phase>) -> Result<Ve
             Phase::Turns {
                 command,
                 count,
-                body,
+                body: turn,
             },
         )
     }
@@ -176,6 +188,39 @@ fn join(
     Ok(())
 }
 
+/// Phases, one behind them, and further ones behind that.
+fn followed(
+    mut phases: Vec<Phase>,
+    next: Phase,
+    mut further: Vec<Phase>,
+) -> Result<Vec<Phase>, NoMemory>
+    ensures { GivesPhases result (phase_list phases ++ phase_seen next ∷ phase_list further) }
+{
+    phases.push(next)?;
+    phases.append(&mut further)?;
+    Ok(phases)
+}
+
+/// The phases of a turn: the commands of `combine` join the last phase of the body where both are straight; else
+/// they are a phase of their own.
+fn fold(alloc: Global, mut body: Vec<Phase>, fold: Vec<Phase>) -> Result<Vec<Phase>, NoMemory>
+    ensures { GivesPhases result (turn_of body fold) }
+{
+    match body.pop() {
+        None => Ok(fold),
+        Some(last) => match straight_commands(&last) {
+            Some(commands) => {
+                let mut current = Vec::new(alloc);
+                current.extend_from_slice(commands)?;
+                join(alloc, &mut body, &mut current, fold)?;
+                end_phase(alloc, &mut body, &mut current)?;
+                Ok(body)
+            }
+            None => followed(body, last, fold),
+        },
+    }
+}
+
 /// The phases of a command.
 #[cycle(phasing)]
 #[tactic(auto, using(dh_tree::proofs::SeenActions::actions_are))]
@@ -186,6 +231,7 @@ fn phases_of(alloc: Global, command: &Command) -> Result<Vec<Phase>, NoMemory>
         CommandForm::Let { .. } => one_command(alloc, command.id),
         CommandForm::Assign { .. } => one_command(alloc, command.id),
         CommandForm::Store { .. } => one_command(alloc, command.id),
+        CommandForm::Reduce { .. } => one_command(alloc, command.id),
         CommandForm::Block { body } => phases_of_parts(alloc, body.as_slice()),
         CommandForm::If { then, other, .. } => {
             let then = phases_of(alloc, then)?;
@@ -199,15 +245,18 @@ fn phases_of(alloc: Global, command: &Command) -> Result<Vec<Phase>, NoMemory>
         CommandForm::For {
             low,
             high,
+            factor,
             body,
+            combine,
             ..
         } => {
             let body = phases_of(alloc, body)?;
-            turns(alloc, command.id, high.saturating_sub(*low), body)
+            let folds = phases_of_other(alloc, combine)?;
+            let turn = fold(alloc, body, folds)?;
+            turns(alloc, command.id, turn_count(*low, *high, *factor), turn)
         }
         CommandForm::LetMemory { .. } => Ok(Vec::new(alloc)),
         CommandForm::View { .. } => Ok(Vec::new(alloc)),
-        CommandForm::Reduce { .. } => Ok(Vec::new(alloc)),
         CommandForm::Call { .. } => Ok(Vec::new(alloc)),
     }
 }
@@ -296,8 +345,9 @@ fn find_in_parts(parts: &[Vec<Command>], number: u32) -> Option<&Command>
     None
 }
 
-/// The phases of the command of a number, their commands by their numbers. Declarations of memories,
-/// views, reducers and calls have no phase.
+/// The phases of the command of a number, their commands by their numbers. Declarations of memories, views and
+/// calls have no phase. The commands of `combine` are done at the end of the last phase of a turn where both are
+/// straight.
 ///
 /// # Errors
 ///

@@ -13,8 +13,8 @@ use Rattle.dh_tree.specs.Shapes.{IsMemory, IsProgramTable}
 use Rattle.dh_tree.specs.Tables.{elements_of, elements_in, most_elements}
 use Rattle.dh_tree.specs.declared.tables.MemEntry.{MemEntry}
 use Rattle.dh_net.specs.BankPorts.{port_count, first_port, port_number}
-use Rattle.dh_net.specs.Extents.{IsSmallMemory}
-use Rattle.dh_net.proofs.DimSizes.{banks_fit}
+use Rattle.dh_extents.specs.Extents.{IsSmallMemory}
+use Rattle.dh_extents.proofs.DimSizes.{banks_fit}
 use Rattle.dh_sim.specs.Layouts.{firsts_from, firsts_of}
 
 pub firsts_long : (n : ℕ) (es : List MemEntry) → length (firsts_from n es) ≡ length es

@@ -12,7 +12,7 @@ use Rattle.dh_tree.specs.Elements.{banks_of}
 use Rattle.dh_tree.specs.declared.tables.MemEntry.{MemEntry}
 use Rattle.dh_net.specs.BankPorts.{port_count, port_of, memory_ports, ports_from, ports_of}
 use Rattle.dh_net.specs.Clock.{served, memory_at, place_of, with_row, held_by, written_by, held_after, memories_after}
-use Rattle.dh_net.specs.Extents.{IsSmallMemory}
+use Rattle.dh_extents.specs.Extents.{IsSmallMemory}
 use Rattle.dh_net.specs.declared.nets.Driver.{Driver}
 use Rattle.dh_net.specs.Valid.{IsValid}
 use Rattle.dh_net.specs.declared.nets.Net.{Net}

@@ -8,7 +8,8 @@ ghost use Rattle.dh_net.specs.Valid.{IsValid};
 ghost use Rattle.dh_sim.specs.Points.{lists_of};
 ghost use Rattle.dh_sim.specs.Rooms.{AreDriversInRooms, IsServedInRooms, IsPlaced};
 
-use dh_net::{Driver, Net, Port, place_in_bank};
+use dh_extents::place_in_bank;
+use dh_net::{Driver, Net, Port};
 use dh_tree::MemEntry;
 
 // The first active driver: the one that the port serves.

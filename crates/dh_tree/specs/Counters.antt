@@ -2,7 +2,7 @@
 use Rattle.std.specs.Prelude.{ℕ, List, [], ◌∷◌, ◌++◌, Option, Some, None, if◌then◌else◌}
 use Rattle.dh_tree.specs.declared.trees.counters.Counter.{Counter}
 use Rattle.dh_tree.specs.Memories.{same_entity}
-use Rattle.dh_tree.specs.PlainTrees.{Action, action, ActionForm, blocks, decides, repeats, counts, MaybeAction, no_action, one_action, Actions, no_actions, action_then, Groups, no_groups, group_then, Program}
+use Rattle.dh_tree.specs.PlainTrees.{Action, action, ActionForm, lets, lets_memory, views, assigns, stores, reduces, calls, blocks, decides, repeats, counts, MaybeAction, no_action, one_action, Actions, no_actions, action_then, Groups, no_groups, group_then, Program}
 
 abbrev mutual
   -- the loops of a command, in text order
@@ -15,7 +15,13 @@ abbrev mutual
   form_counters (repeats test body) = counters body
   form_counters (counts iterator declared low high factor body combine combine_place) =
       record { entity = iterator.entity; low = low.value; high = high.value; factor = factor.value } ∷ (counters body ++ other_counters combine)
-  form_counters form = []
+  form_counters (lets name declared value) = []
+  form_counters (lets_memory name shape shape_places value) = []
+  form_counters (views name parent form) = []
+  form_counters (assigns target value) = []
+  form_counters (stores target value) = []
+  form_counters (reduces target o value) = []
+  form_counters (calls function arguments) = []
 
   pub other_counters : MaybeAction → List Counter
   other_counters no_action = []

@@ -5,7 +5,7 @@ use Rattle.dh_tree.specs.declared.tables.MemEntry.{MemEntry}
 use Rattle.dh_tree.specs.declared.tables.Shape.{Shape}
 use Rattle.dh_tree.specs.declared.trees.expressions.Ref.{Ref}
 use Rattle.dh_tree.specs.declared.trees.programs.ShapePlaces.{ShapePlaces}
-use Rattle.dh_tree.specs.PlainTrees.{Action, action, ActionForm, lets_memory, blocks, decides, repeats, counts, MaybeAction, no_action, one_action, Actions, no_actions, action_then, Groups, no_groups, group_then, Declared, Program}
+use Rattle.dh_tree.specs.PlainTrees.{Action, action, ActionForm, lets, lets_memory, views, assigns, stores, reduces, calls, blocks, decides, repeats, counts, MaybeAction, no_action, one_action, Actions, no_actions, action_then, Groups, no_groups, group_then, Declared, Program}
 use Rattle.dh_tree.specs.Scopes.{entity_number}
 
 -- a memory, where it is declared
@@ -30,7 +30,12 @@ abbrev mutual
   form_locals (decides test chosen other) = locals chosen ++ other_locals other
   form_locals (repeats test body) = locals body
   form_locals (counts iterator declared low high factor body combine combine_place) = locals body ++ other_locals combine
-  form_locals form = []
+  form_locals (lets name declared value) = []
+  form_locals (views name parent form) = []
+  form_locals (assigns target value) = []
+  form_locals (stores target value) = []
+  form_locals (reduces target o value) = []
+  form_locals (calls function arguments) = []
 
   pub other_locals : MaybeAction → List Memory
   other_locals no_action = []

@@ -1,6 +1,6 @@
 -- Commands are numbered in text order, a command before those inside it.
 use Rattle.std.specs.Prelude.{◌≡◌, ℕ, suc, ◌+◌}
-use Rattle.dh_tree.specs.PlainTrees.{Action, action, ActionForm, blocks, decides, repeats, counts, MaybeAction, no_action, one_action, Actions, no_actions, action_then, Groups, no_groups, group_then}
+use Rattle.dh_tree.specs.PlainTrees.{Action, action, ActionForm, lets, lets_memory, views, assigns, stores, reduces, calls, blocks, decides, repeats, counts, MaybeAction, no_action, one_action, Actions, no_actions, action_then, Groups, no_groups, group_then}
 
 abbrev mutual
   -- how many commands a command is, with those inside it
@@ -12,7 +12,13 @@ abbrev mutual
   commands_inside (decides test chosen other) = commands_in chosen + commands_in_other other
   commands_inside (repeats test body) = commands_in body
   commands_inside (counts iterator declared low high factor body combine combine_place) = commands_in body + commands_in_other combine
-  commands_inside form = 0
+  commands_inside (lets name declared value) = 0
+  commands_inside (lets_memory name shape shape_places value) = 0
+  commands_inside (views name parent form) = 0
+  commands_inside (assigns target value) = 0
+  commands_inside (stores target value) = 0
+  commands_inside (reduces target o value) = 0
+  commands_inside (calls function arguments) = 0
 
   pub commands_in_other : MaybeAction → ℕ
   commands_in_other no_action = 0
@@ -36,7 +42,13 @@ abbrev mutual
   IsNumberedInside n (decides test chosen other) = IsNumbered n chosen × IsNumberedOther (n + commands_in chosen) other
   IsNumberedInside n (repeats test body) = IsNumbered n body
   IsNumberedInside n (counts iterator declared low high factor body combine combine_place) = IsNumbered n body × IsNumberedOther (n + commands_in body) combine
-  IsNumberedInside n form = Unit {0}
+  IsNumberedInside n (lets name declared value) = Unit {0}
+  IsNumberedInside n (lets_memory name shape shape_places value) = Unit {0}
+  IsNumberedInside n (views name parent form) = Unit {0}
+  IsNumberedInside n (assigns target value) = Unit {0}
+  IsNumberedInside n (stores target value) = Unit {0}
+  IsNumberedInside n (reduces target o value) = Unit {0}
+  IsNumberedInside n (calls function arguments) = Unit {0}
 
   pub IsNumberedOther : ℕ → MaybeAction → Type 0
   IsNumberedOther n no_action = Unit {0}

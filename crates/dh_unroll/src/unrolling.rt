@@ -14,6 +14,7 @@ use dh_code::place_all;
 use dh_events::scopes_of;
 use dh_expressions::Scene;
 use dh_gathering::{Phased, phases_made};
+use dh_inline::Flat;
 use dh_lengths::shared_reads;
 use dh_plan::Plan;
 use dh_tree::{Typed, copy_table};
@@ -45,10 +46,11 @@ fn phases_of(alloc: Global, program: &Typed) -> Result<Phased, NoMemory>
 /// # Errors
 ///
 /// `NoMemory` where an allocation was refused.
-pub fn unroll(alloc: Global, program: &Typed) -> Result<Plan, NoMemory>
-    requires { IsToCompile (program_seen program.now) }
-    ensures { IfOk result (λ plan. IsUnrolled (program_seen program.now) (plan_seen plan)) }
+pub fn unroll(alloc: Global, flat: &Flat) -> Result<Plan, NoMemory>
+    requires { IsToCompile (program_seen flat.now.program.now) }
+    ensures { IfOk result (λ plan. IsUnrolled (program_seen flat.now.program.now) (plan_seen plan)) }
 {
+    let program = flat.typed();
     let Phased {
         nodes,
         blocks,

@@ -14,7 +14,7 @@ use Rattle.dh_value.specs.declared.kinds.Kind.TheVariants as kind
 use Rattle.dh_tree.specs.declared.tables.Dim.{Dim}
 use Rattle.dh_tree.specs.declared.tables.MemEntry.{MemEntry}
 use Rattle.dh_net.specs.BankPorts.{port_count, port_of, memory_ports, ports_from, ports_of}
-use Rattle.dh_net.specs.Extents.{IsSmallMemory}
+use Rattle.dh_extents.specs.Extents.{IsSmallMemory}
 use Rattle.dh_net.specs.RowWidths.{row_width_of}
 use Rattle.dh_net.specs.Clock.{width_in, wire_width}
 use Rattle.dh_net.specs.declared.nets.Cell.{Cell}
@@ -25,7 +25,7 @@ use Rattle.dh_net.specs.declared.nets.Net.{Net}
 use Rattle.dh_net.specs.declared.nets.Register.{Register}
 use Rattle.dh_net.specs.declared.ports.Port.{Port}
 use Rattle.dh_net.specs.Valid.{HasWidth, IsOperand, AreOperands, IsPort, FormFits, IsRegister, IsDriver, IsValid}
-use Rattle.dh_net.proofs.DimSizes.{banks_below, elements_some, rows_fit}
+use Rattle.dh_extents.proofs.DimSizes.{banks_below, elements_some, rows_fit}
 use Rattle.dh_net.proofs.PortWalks.{small_memories}
 use Rattle.dh_net.proofs.RowWidths.{row_width_met}
 use Rattle.dh_verilog.specs.Ranges.{InRange}

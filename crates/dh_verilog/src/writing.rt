@@ -5,7 +5,7 @@ ghost use Rattle.std.specs.List.{AllByRecursion};
 ghost use Rattle.dh_net.specs.Valid.{IsValid, HasReadsZero};
 ghost use Rattle.dh_verilog.specs.Adding.{Adds};
 ghost use Rattle.dh_net.specs.BankPorts.{ports_of};
-ghost use Rattle.dh_net.specs.Extents.{IsSmallMemory};
+ghost use Rattle.dh_extents.specs.Extents.{IsSmallMemory};
 ghost use Rattle.dh_verilog.specs.Listed.{each, numbered};
 ghost use Rattle.dh_verilog.specs.Locals.{local_served};
 ghost use Rattle.dh_verilog.specs.Driving.{driving_text};

@@ -9,7 +9,7 @@ use Rattle.dh_app.proofs.interpreting.interpret_typed.Goals as goal
 pub read_memories-requires : goal.read_memories-requires
 read_memories-requires g c =
     let T : List MemEntry → Type 0 = IsProgramTable in
-    subst T (sym c.memories.ensures) (c.ready_programs_have_tables.ensures.tables (program_seen c.args.typed.now) c.requires.ready)
+    subst T (sym c.memories.ensures) (c.ready_programs_have_tables.ensures (program_seen c.args.typed.now) c.requires.ready)
 
 pub returns-in-Ok-clause-comes : goal.returns-in-Ok-clause-comes
 returns-in-Ok-clause-comes g c =

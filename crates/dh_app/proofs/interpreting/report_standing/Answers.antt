@@ -17,7 +17,7 @@ report_ending-requires c =
     let P : List MemEntry → Type 0 = λ t. Fits t c.memories-2.result.now in
     let Q : List (List ℕ) → Type 0 = λ ms. Fits (table_of (program_seen c.args.typed.now)) ms in
     record {
-      table = subst T (sym c.memories.ensures) (c.ready_programs_have_tables.ensures.tables p c.requires.ready);
+      table = subst T (sym c.memories.ensures) (c.ready_programs_have_tables.ensures p c.requires.ready);
       fits = subst P (sym c.memories.ensures) (subst Q (sym c.memories-2.ensures) (memories_fit p c.args.memories c.args.steps c.in-Ok.interp c.requires.fits c.in-Ok.ensures));
     }
 

@@ -19,7 +19,7 @@ pub loop-preserved : goal.loop-preserved
 loop-preserved c = stepped (program_seen c.args.typed.now) c.args.memories c.loop.counter c.loop.interp c.step.new.self c.in_ok-step.field-0 c.in_ok-step.ensures c.loop.invariant
 
 pub new-requires-clause-table : goal.new-requires-clause-table
-new-requires-clause-table c = c.ready_programs_have_tables.ensures.tables (program_seen c.args.typed.now) c.requires.ready
+new-requires-clause-table c = c.ready_programs_have_tables.ensures (program_seen c.args.typed.now) c.requires.ready
 
 pub new-requires-clause-runnable : goal.new-requires-clause-runnable
 new-requires-clause-runnable c = c.ready_programs_are_runnable.ensures.ready (program_seen c.args.typed.now) c.requires.ready

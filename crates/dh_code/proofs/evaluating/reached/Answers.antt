@@ -7,7 +7,8 @@ use Rattle.dh_tree.specs.Elements.{banks_of}
 use Rattle.dh_value.specs.Words as words
 use Rattle.dh_code.specs.declared.codes.Target.{Target}
 use Rattle.dh_code.specs.declared.codes.Operand.{Operand}
-use Rattle.dh_code.specs.Banks.{AreDims, Spreads}
+use Rattle.dh_extents.specs.Extents.{AreDims}
+use Rattle.dh_code.specs.Banks.{Spreads}
 use Rattle.dh_code.specs.Operated.{IsTarget, index_values, sight}
 use Rattle.dh_code.proofs.Entries.{dims_is, dims_of}
 use Rattle.dh_code.proofs.FoundSpots.{by_indices_leads, by_row_leads}

@@ -1,6 +1,6 @@
 use Rattle.std.proofs.Common.{refl}
 use Rattle.dh_tree.specs.Tables.{elements_of}
-use Rattle.dh_net.proofs.DimSizes.{elements_some}
+use Rattle.dh_extents.proofs.DimSizes.{elements_some}
 use Rattle.dh_net.proofs.TableCounts.{counting_goes, counting_stops}
 use Rattle.dh_net.proofs.tables.elements_within.Goals as goal
 

@@ -1,7 +1,7 @@
 use Rattle.std.proofs.Common.{◌≡◌, ◌≤◌, refl, arith}
 use Rattle.dh_tree.specs.Elements.{banks_of}
 use Rattle.dh_tree.specs.Tables.{most_elements}
-use Rattle.dh_net.proofs.DimSizes.{banks_some}
+use Rattle.dh_extents.proofs.DimSizes.{banks_some}
 use Rattle.dh_net.proofs.TableCounts.{counting_starts, counting_goes, counting_stops, counted}
 use Rattle.dh_net.proofs.tables.has_few_banks.Goals as goal
 

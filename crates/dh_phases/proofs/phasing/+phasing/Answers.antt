@@ -1,7 +1,7 @@
 -- An `if`, a `while` and a `for`, and the steps through the parts of a block.
 use Rattle.std.proofs.lemmas.Result.{IfOk-weaker}
 use Rattle.dh_phases.specs.NumberedPhases.{phases_seen}
-use Rattle.dh_phases.proofs.PhasesNumbered.{if_read, while_read, for_read, part_begin, part_turn, part_end}
+use Rattle.dh_phases.proofs.PhasesRead.{if_read, while_read, for_read, part_begin, part_turn, part_end}
 use Rattle.dh_phases.proofs.phasing.+phasing.Goals as goal
 
 pub phases_of-returns-in_ok-other-in-If : goal.phases_of-returns-in_ok-other-in-If
@@ -12,9 +12,9 @@ pub phases_of-returns-in_ok-body-in-While : goal.phases_of-returns-in_ok-body-in
 phases_of-returns-in_ok-body-in-While t c =
     IfOk-weaker c.repeated.result _ _ (λ ps is. while_read c.args.command.now c.in-While.test c.in-While.body c.deref-in-While.result.now _ _ c.in-While.is c.deref-in-While.ensures c.in_ok-body-in-While.ensures is) c.repeated.ensures
 
-pub phases_of-returns-in_ok-body-in-For : goal.phases_of-returns-in_ok-body-in-For
-phases_of-returns-in_ok-body-in-For t c =
-    IfOk-weaker c.turns.result _ _ (λ ps is. for_read c.args.command.now _ _ _ _ _ _ _ _ _ _ _ _ c.deref-in-For.result.now c.saturating_sub.result _ _ c.in-For.is c.deref-in-For.ensures c.saturating_sub.ensures c.in_ok-body-in-For.ensures is) c.turns.ensures
+pub phases_of-returns-in_ok-turn-in-For : goal.phases_of-returns-in_ok-turn-in-For
+phases_of-returns-in_ok-turn-in-For t c =
+    IfOk-weaker c.turns.result _ _ (λ ps is. for_read c.args.command.now _ _ _ _ _ _ _ _ _ _ _ _ c.deref-in-For.result.now c.turn_count.result _ _ _ _ c.in-For.is c.deref-in-For.ensures c.turn_count.ensures c.in_ok-body-in-For.ensures c.in_ok-folds-in-For.ensures c.in_ok-turn-in-For.ensures is) c.turns.ensures
 
 pub phases_of_parts-loop-command-init : goal.phases_of_parts-loop-command-init
 phases_of_parts-loop-command-init t c =

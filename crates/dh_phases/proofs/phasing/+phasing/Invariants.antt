@@ -3,7 +3,7 @@ use Rattle.std.proofs.Common.{◌≡◌, ◌+◌, [], ◌++◌, map, drop}
 use Rattle.dh_tree.specs.Seen.{groups, part_seen}
 use Rattle.dh_phases.specs.NumberedPhases.{phases_seen}
 use Rattle.dh_phases.specs.Phasing.{gathered, phases_in_groups}
-use Rattle.dh_phases.proofs.PhasesNumbered.{command_phases}
+use Rattle.dh_phases.proofs.PhasesRead.{command_phases}
 use Rattle.dh_phases.proofs.phasing.+phasing.Given as goal
 
 -- between parts no command stands open

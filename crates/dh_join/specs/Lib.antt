@@ -1,0 +1,4 @@
+pub mod AddedCells
+pub mod JoinedDrivers
+pub mod JoinedPorts
+pub mod JoinedNets
