@@ -1,0 +1,13 @@
+pub mod MovedNumbers
+pub mod InsideDims
+pub mod BankDigits
+pub mod ViewBanks
+pub mod SplitElements
+pub mod ReachTold
+pub mod MovedViews
+pub mod BitsTold
+pub mod BanksTold
+pub mod Covered
+pub mod SplitViews
+pub mod KeptViews
+pub mod KeptPrograms
