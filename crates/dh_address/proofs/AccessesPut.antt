@@ -13,7 +13,7 @@ use Rattle.dh_tree.specs.Shapes.{IsProgramTable}
 use Rattle.dh_plan.specs.declared.operations.Operation.{Operation}
 use Rattle.dh_plan.specs.declared.operations.Reach.{Reach}
 use Rattle.dh_plan.specs.declared.operations.ReachStep.{ReachStep}
-use Rattle.dh_plan.specs.declared.viewing.ViewMap.{ViewMap}
+use Rattle.dh_tree.specs.declared.viewing.ViewMap.{ViewMap}
 use Rattle.dh_plan.specs.Ordered.{one_or_none, offsets_taken, reach_takes}
 use Rattle.dh_plan.specs.PlainPlans.{PlainPlan}
 use Rattle.dh_plan.specs.PlanKinds.{ReachSuits, NamesElement, StepFits, AreSteps}

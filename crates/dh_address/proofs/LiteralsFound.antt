@@ -22,7 +22,7 @@ use Rattle.dh_plan.specs.Ordered.{one_or_none}
 use Rattle.dh_plan.specs.PlainPlans.{PlainPlan, first_in, operations_in}
 use Rattle.dh_plan.specs.PlanKinds.{IsFormedBlock, IsNumber, NamesElement, ReachSuits, kind_of_value, kinds_of}
 use Rattle.dh_plan.specs.PlanRuns.{block_values, start_at}
-use Rattle.dh_plan.specs.ViewElements.{indices_behind}
+use Rattle.dh_plan.specs.Passages.{indices_behind}
 use Rattle.dh_plan.proofs.BlocksSolved.{block_solves}
 use Rattle.dh_plan.proofs.ValuesAlike.{memories_look_back}
 use Rattle.dh_rows.specs.RowsShown.{is_below_size}

@@ -23,7 +23,7 @@ use Rattle.dh_plan.specs.PlanKinds.{ReachSuits, NamesElement}
 use Rattle.dh_plan.specs.PlanRuns.{start_at, block_values}
 use Rattle.dh_plan.specs.SoundPlans.{IsListed}
 use Rattle.dh_plan.specs.SoundRuns.{IsInKind}
-use Rattle.dh_plan.specs.ViewElements.{indices_behind}
+use Rattle.dh_plan.specs.Passages.{indices_behind}
 use Rattle.dh_plan.proofs.ValuesAlike.{memories_look_back}
 use Rattle.dh_rows.specs.Readings.{Readings, Obeys}
 use Rattle.dh_rows.specs.RowsShown.{AreWithin, HoldsOrNone, is_below_size}

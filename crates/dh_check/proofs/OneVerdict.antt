@@ -14,9 +14,9 @@ use Rattle.dh_tree.specs.Breaches.{breaches_of}
 use Rattle.dh_tree.specs.Kinds.{typed}
 use Rattle.dh_tree.specs.KindBreaches.{kind_breaches}
 use Rattle.dh_tree.specs.Excesses.{first_excess}
-use Rattle.dh_tree.specs.Indices.{index_breaches_of}
 use Rattle.dh_tree.specs.Placements.{placement_breaches}
 use Rattle.dh_tree.specs.Resolved.{resolved}
+use Rattle.dh_tree.specs.ViewBreaches.{shapes_breaches_of}
 use Rattle.dh_tree.proofs.FirstBreaches.{least_is_one, least_not_none}
 use Rattle.dh_ports.proofs.PlacesOnce.{one_first, none_first}
 use Rattle.dh_tree.specs.Forms.{unbuilt_forms}
@@ -48,8 +48,8 @@ limits_once ports p None v w e f = passes_once (placement_breaches p) (λ v. Jud
 
 typed_once : (ports : Bool) (p : Program) → OneOf (JudgedTyped ports p)
 typed_once ports p =
-    passes_once (kind_breaches p) (λ v. Passes (index_breaches_of p) v (JudgedLimits ports p (first_excess p) v))
-    (passes_once (index_breaches_of p) (λ v. JudgedLimits ports p (first_excess p) v) (limits_once ports p (first_excess p)))
+    passes_once (kind_breaches p) (λ v. Passes (shapes_breaches_of p) v (JudgedLimits ports p (first_excess p) v))
+    (passes_once (shapes_breaches_of p) (λ v. JudgedLimits ports p (first_excess p) v) (limits_once ports p (first_excess p)))
 
 tree_once : (ports : Bool) (p : Program) → OneOf (JudgedTree ports p)
 tree_once ports p =

@@ -23,11 +23,13 @@ use Rattle.dh_tree.specs.Ready.{most_tokens, IsReady}
 use Rattle.dh_tree.specs.NameCounts.{HasFewNames}
 use Rattle.dh_tree.specs.Resolved.{resolved, HasEntities}
 use Rattle.dh_tree.specs.Seen.{program_seen}
+use Rattle.dh_tree.specs.ViewBreaches.{shapes_breaches_of, view_breaches_of}
 use Rattle.dh_tree.specs.Written.{IsOfText}
 use Rattle.dh_tree.proofs.ResolvedForms as resolving
 use Rattle.dh_tree.proofs.ResolvedTexts as resolving_texts
 use Rattle.dh_tree.proofs.TypedForms as typing
 use Rattle.dh_tree.proofs.TypedTexts as typing_texts
+use Rattle.dh_viewing.proofs.KeptViews.{first_none, second_none}
 use Rattle.dh_check.specs.declared.checking.CheckFault.{CheckFault}
 use Rattle.dh_check.specs.declared.checking.CheckFault.TheVariants as fault
 use Rattle.dh_check.specs.Ready.{of_pass, GoesOn, Stops, TellsShapes, TellsNamed, TellsTree}
@@ -41,36 +43,36 @@ passed : (bs : List Breach) (v : Verdict) (next : Type 0) → bs ≡ [] → next
 passed bs v next none h = inr (none, h)
 
 -- the passes over a program whose expressions have their kinds
-after_kinds : (ports : Bool) (p : Program) (v : Verdict) → KeepsKinds p → Passes (index_breaches_of p) v (JudgedLimits ports p (first_excess p) v) → JudgedTyped ports p v
-after_kinds ports p v keeps h = passed (kind_breaches p) v (Passes (index_breaches_of p) v (JudgedLimits ports p (first_excess p) v)) keeps h
+after_kinds : (ports : Bool) (p : Program) (v : Verdict) → KeepsKinds p → Passes (shapes_breaches_of p) v (JudgedLimits ports p (first_excess p) v) → JudgedTyped ports p v
+after_kinds ports p v keeps h = passed (kind_breaches p) v (Passes (shapes_breaches_of p) v (JudgedLimits ports p (first_excess p) v)) keeps h
 
-after_indices : (ports : Bool) (p : Program) (v : Verdict) → KeepsKinds p → index_breaches_of p ≡ [] → JudgedLimits ports p (first_excess p) v → JudgedTyped ports p v
-after_indices ports p v keeps within h = after_kinds ports p v keeps (passed (index_breaches_of p) v (JudgedLimits ports p (first_excess p) v) within h)
+after_shapes : (ports : Bool) (p : Program) (v : Verdict) → KeepsKinds p → shapes_breaches_of p ≡ [] → JudgedLimits ports p (first_excess p) v → JudgedTyped ports p v
+after_shapes ports p v keeps within h = after_kinds ports p v keeps (passed (shapes_breaches_of p) v (JudgedLimits ports p (first_excess p) v) within h)
 
-after_limits : (ports : Bool) (p : Program) (v : Verdict) (o : Option Excess) → KeepsKinds p → index_breaches_of p ≡ [] → first_excess p ≡ o → JudgedLimits ports p o v → JudgedTyped ports p v
+after_limits : (ports : Bool) (p : Program) (v : Verdict) (o : Option Excess) → KeepsKinds p → shapes_breaches_of p ≡ [] → first_excess p ≡ o → JudgedLimits ports p o v → JudgedTyped ports p v
 after_limits ports p v o keeps within e h =
-    after_indices ports p v keeps within (subst (λ (x : Option Excess). JudgedLimits ports p x v) (sym e) h)
+    after_shapes ports p v keeps within (subst (λ (x : Option Excess). JudgedLimits ports p x v) (sym e) h)
 
 -- a kind is wrong
 pub kinds_stop : (p : Program) (e : PassFault) → kinds.Answers p (Err e) → Stops (λ ports v. JudgedTyped ports (typed p) v) (of_pass e)
 kinds_stop p pass.NoMemory h = λ ports. tt
 kinds_stop p (pass.Refused r place) h =
-    λ ports. refused_at (kind_breaches (typed p)) r place (Passes (index_breaches_of (typed p)) (refuses r place) (JudgedLimits ports (typed p) (first_excess (typed p)) (refuses r place))) h
+    λ ports. refused_at (kind_breaches (typed p)) r place (Passes (shapes_breaches_of (typed p)) (refuses r place) (JudgedLimits ports (typed p) (first_excess (typed p)) (refuses r place))) h
 
 -- where memories stand
-after_places : (ports : Bool) (p : Program) (v : Verdict) → KeepsKinds p → index_breaches_of p ≡ [] → first_excess p ≡ None → Passes (placement_breaches p) v (JudgedLast ports p v) → JudgedTyped ports p v
+after_places : (ports : Bool) (p : Program) (v : Verdict) → KeepsKinds p → shapes_breaches_of p ≡ [] → first_excess p ≡ None → Passes (placement_breaches p) v (JudgedLast ports p v) → JudgedTyped ports p v
 after_places ports p v keeps within few h = after_limits ports p v None keeps within few h
 
--- a rule on shapes, indices, bounds or places is broken, or a limit on memories is exceeded
+-- a rule on shapes, indices, bounds, views or places is broken, or a limit on memories is exceeded
 shapes_stop : (p : Program) (e : CheckFault) → KeepsKinds p → TellsShapes {A = Unit {0}} p (Err e) → Stops (λ ports v. JudgedTyped ports p v) e
 shapes_stop p (fault.Refused r place) keeps (inl h) =
-    λ ports. after_kinds ports p (refuses r place) keeps (refused_at (index_breaches_of p) r place (JudgedLimits ports p (first_excess p) (refuses r place)) h)
+    λ ports. after_kinds ports p (refuses r place) keeps (refused_at (shapes_breaches_of p) r place (JudgedLimits ports p (first_excess p) (refuses r place)) h)
 shapes_stop p (fault.Refused r place) keeps (inr h) =
-    λ ports. after_places ports p (refuses r place) keeps h.indices h.limits (refused_at (placement_breaches p) r place (JudgedLast ports p (refuses r place)) h.least)
+    λ ports. after_places ports p (refuses r place) keeps h.shapes h.limits (refused_at (placement_breaches p) r place (JudgedLast ports p (refuses r place)) h.least)
 shapes_stop p (fault.TooLarge limit count) keeps h =
     let x : Excess = record { limit = limit; count = count } in
     λ ports. after_limits ports p (exceeds x) (Some x) keeps h.0 h.1 refl
-shapes_stop p fault.NoMemory keeps h = absurd h
+shapes_stop p fault.NoMemory keeps h = λ ports. tt
 
 -- the same of the typed program; `t` and `s` are that program as the code holds it
 pub named_stops : (p t s : Program) (e : CheckFault) → t ≡ typed p → s ≡ t → KeepsKinds t → TellsShapes {A = Unit {0}} s (Err e) → Stops (λ ports v. JudgedTyped ports (typed p) v) e
@@ -86,7 +88,8 @@ is_ready p t same of_text built names entities kinds suits shapes = record {
   entities = entities;
   kinds = kinds;
   suits = suits;
-  indices = shapes.0;
+  indices = first_none (index_breaches_of t) (view_breaches_of t) shapes.0;
+  views = second_none (index_breaches_of t) (view_breaches_of t) shapes.0;
   limits = shapes.1.0;
   placements = shapes.1.1;
 }

@@ -1,4 +1,4 @@
--- The passes that take no memory: what they tell of a program that they let through, and of one that they refuse.
+-- The passes over typed programs before that over ports: what they tell of a program that they let through, and of one that they refuse.
 use Rattle.std.proofs.Common.{◌≡◌, inl, inr, List, [], Option, Some, None, Result, Ok, Err, refl, sym, ap}
 use Rattle.dh_base.specs.declared.faults.PassFault.{PassFault}
 use Rattle.dh_base.specs.declared.faults.PassFault.TheVariants as pass
@@ -6,10 +6,10 @@ use Rattle.dh_base.specs.declared.limits.Excess.{Excess}
 use Rattle.dh_shape.specs.Above.{TellsExcess}
 use Rattle.dh_tree.specs.declared.breaches.Breach.{Breach}
 use Rattle.dh_tree.specs.Excesses.{first_excess}
-use Rattle.dh_tree.specs.Indices.{index_breaches_of}
 use Rattle.dh_tree.specs.Placements.{placement_breaches}
 use Rattle.dh_tree.specs.PlainTrees.{Program}
-use Rattle.dh_tree.specs.Told.{TellsLeast}
+use Rattle.dh_tree.specs.Told.{TellsLeast, MayTellLeast}
+use Rattle.dh_tree.specs.ViewBreaches.{shapes_breaches_of}
 use Rattle.dh_check.specs.declared.checking.CheckFault.{CheckFault}
 use Rattle.dh_check.specs.declared.checking.CheckFault.TheVariants as fault
 use Rattle.dh_check.specs.Ready.{of_pass, TellsBreach, TellsShapes}
@@ -24,16 +24,16 @@ no_excess None h = refl
 no_excess (Some first) h = absurd h
 
 -- the first of these passes refuses
-pub indices_refused : (p : Program) (e : PassFault) → TellsLeast {A = Unit {0}} (index_breaches_of p) (Err e) → TellsShapes {A = Unit {0}} p (Err (of_pass e))
-indices_refused p (pass.Refused rule place) h = inl h
-indices_refused p pass.NoMemory h = absurd h
+pub shapes_refused : (p : Program) (e : PassFault) → MayTellLeast {A = Unit {0}} (shapes_breaches_of p) (Err e) → TellsShapes {A = Unit {0}} p (Err (of_pass e))
+shapes_refused p (pass.Refused rule place) h = inl h
+shapes_refused p pass.NoMemory h = tt
 
 -- the second
-pub limits_refused : (p : Program) (x : Excess) → index_breaches_of p ≡ [] → TellsExcess {A = Unit {0}} (first_excess p) (Err x) → TellsShapes {A = Unit {0}} p (Err (fault.TooLarge x.limit x.count))
-limits_refused p x indices h = (indices, excess_told (first_excess p) x h)
+pub limits_refused : (p : Program) (x : Excess) → shapes_breaches_of p ≡ [] → TellsExcess {A = Unit {0}} (first_excess p) (Err x) → TellsShapes {A = Unit {0}} p (Err (fault.TooLarge x.limit x.count))
+limits_refused p x shapes h = (shapes, excess_told (first_excess p) x h)
 
 -- the third
-pub places_refused : (p : Program) (e : PassFault) → index_breaches_of p ≡ [] → TellsExcess {A = Unit {0}} (first_excess p) (Ok tt) → TellsLeast {A = Unit {0}} (placement_breaches p) (Err e)
+pub places_refused : (p : Program) (e : PassFault) → shapes_breaches_of p ≡ [] → TellsExcess {A = Unit {0}} (first_excess p) (Ok tt) → TellsLeast {A = Unit {0}} (placement_breaches p) (Err e)
     → TellsShapes {A = Unit {0}} p (Err (of_pass e))
-places_refused p (pass.Refused rule place) indices limits h = inr (record { indices = indices; limits = no_excess (first_excess p) limits; least = h })
-places_refused p pass.NoMemory indices limits h = absurd h
+places_refused p (pass.Refused rule place) shapes limits h = inr (record { shapes = shapes; limits = no_excess (first_excess p) limits; least = h })
+places_refused p pass.NoMemory shapes limits h = absurd h

@@ -9,10 +9,10 @@ use Rattle.dh_tree.specs.LeastBreach.{IsLeast, breach}
 use Rattle.dh_tree.specs.PlainTrees.{Program}
 use Rattle.dh_tree.specs.Kinds.{typed}
 use Rattle.dh_tree.specs.Excesses.{first_excess}
-use Rattle.dh_tree.specs.Indices.{index_breaches_of}
 use Rattle.dh_tree.specs.Placements.{placement_breaches}
 use Rattle.dh_tree.specs.Ready.{IsReady}
 use Rattle.dh_tree.specs.Seen.{program_seen}
+use Rattle.dh_tree.specs.ViewBreaches.{shapes_breaches_of}
 use Rattle.dh_check.specs.Verdicts.{Verdict, FaultTells, JudgedLast, JudgedTyped, JudgedTree, IsVerdict}
 use Rattle.dh_check.specs.declared.checking.CheckFault.{CheckFault}
 use Rattle.dh_check.specs.declared.checking.CheckFault.TheVariants as fault
@@ -35,20 +35,19 @@ abbrev pub TellsBreach : {A : Type 0} → List Breach → Result A Breach → Ty
 TellsBreach breaches (Ok a) = breaches ≡ []
 TellsBreach breaches (Err b) = IsLeast breaches b
 
--- the rules on places, of a program that keeps those on shapes, indices and bounds, and the limits on
+-- the rules on places, of a program that keeps those on shapes, indices, bounds and views, and the limits on
 -- memories, are broken first here
 pub record BreaksPlaces (p : Program) (b : Breach) : Type 0 where
-  pub indices : index_breaches_of p ≡ []
+  pub shapes : shapes_breaches_of p ≡ []
   pub limits : first_excess p ≡ None
   pub least : IsLeast (placement_breaches p) b
 
--- the rules on shapes, indices and bounds, then the limits on memories, then the rules on places; it takes
--- no memory, so that none is refused
+-- the rules on shapes, indices, bounds and views, then the limits on memories, then the rules on places
 abbrev pub TellsShapes : {A : Type 0} → Program → Result A CheckFault → Type 0
-TellsShapes p (Ok a) = (index_breaches_of p ≡ []) × ((first_excess p ≡ None) × (placement_breaches p ≡ []))
-TellsShapes p (Err (fault.Refused rule place)) = IsLeast (index_breaches_of p) (breach rule place) ⊎ BreaksPlaces p (breach rule place)
-TellsShapes p (Err (fault.TooLarge limit count)) = (index_breaches_of p ≡ []) × (first_excess p ≡ Some (record { limit = limit; count = count }))
-TellsShapes p (Err fault.NoMemory) = ⊥
+TellsShapes p (Ok a) = (shapes_breaches_of p ≡ []) × ((first_excess p ≡ None) × (placement_breaches p ≡ []))
+TellsShapes p (Err (fault.Refused rule place)) = IsLeast (shapes_breaches_of p) (breach rule place) ⊎ BreaksPlaces p (breach rule place)
+TellsShapes p (Err (fault.TooLarge limit count)) = (shapes_breaches_of p ≡ []) × (first_excess p ≡ Some (record { limit = limit; count = count }))
+TellsShapes p (Err fault.NoMemory) = Unit {0}
 
 -- of a program whose names are resolved: kinds, shapes, limits and places
 abbrev pub TellsNamed : Program → Result Typed CheckFault → Type 0

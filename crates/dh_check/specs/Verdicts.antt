@@ -19,12 +19,12 @@ use Rattle.dh_tree.specs.Resolved.{resolved}
 use Rattle.dh_tree.specs.Kinds.{typed}
 use Rattle.dh_tree.specs.KindBreaches.{kind_breaches}
 use Rattle.dh_tree.specs.Excesses.{excess_at, or_else, first_excess}
-use Rattle.dh_tree.specs.Indices.{index_breaches_of}
 use Rattle.dh_tree.specs.Placements.{placement_breaches}
 use Rattle.dh_tree.specs.Ready.{IsReady}
 use Rattle.dh_meets.specs.Ports.{IsFirstPortBreach, KeepsPortRules}
 use Rattle.dh_tree.specs.Seen.{program_seen}
 use Rattle.dh_tree.specs.declared.trees.typed.Typed.{Typed}
+use Rattle.dh_tree.specs.ViewBreaches.{shapes_breaches_of}
 use Rattle.dh_ports.specs.declared.accepted.Accepted.{Accepted}
 use Rattle.dh_check.specs.declared.checking.CheckFault.{CheckFault}
 use Rattle.dh_check.specs.declared.checking.CheckFault.TheVariants as fault
@@ -65,10 +65,10 @@ abbrev pub JudgedLimits : Bool → Program → Option Excess → Verdict → Typ
 JudgedLimits ports p (Some e) v = v ≡ exceeds e
 JudgedLimits ports p None v = JudgedPlaces ports p v
 
--- of a program whose expressions have their kinds: kinds, then shapes, indices and bounds, then the limits
--- on memories, then where memories stand, then ports
+-- of a program whose expressions have their kinds: kinds, then shapes, indices, bounds and views, then the
+-- limits on memories, then where memories stand, then ports
 abbrev pub JudgedTyped : Bool → Program → Verdict → Type 0
-JudgedTyped ports p v = Passes (kind_breaches p) v (Passes (index_breaches_of p) v (JudgedLimits ports p (first_excess p) v))
+JudgedTyped ports p v = Passes (kind_breaches p) v (Passes (shapes_breaches_of p) v (JudgedLimits ports p (first_excess p) v))
 
 -- the forms that are built, then names, then the rest
 abbrev pub JudgedTree : Bool → Program → Verdict → Type 0

@@ -194,16 +194,16 @@ fn ready_named(alloc: Global, named: Named) -> Result<Typed, CheckFault>
     let typed = type_program(alloc, named)?;
     // a typed tree keeps the rules on names and kinds
     typed.tree();
-    shaped(&typed)?;
+    shaped(alloc, &typed)?;
     Ok(typed)
 }
 
-/// The rules on shapes, indices and bounds, then the limits on memories, then the rules on where memories
-/// stand and what is assigned to. Takes no memory.
-fn shaped(typed: &Typed) -> Result<(), CheckFault>
+/// The rules on shapes, indices, bounds and views, then the limits on memories, then the rules on where
+/// memories stand and what is assigned to. Takes memory only where there are views.
+fn shaped(alloc: Global, typed: &Typed) -> Result<(), CheckFault>
     ensures { TellsShapes (program_seen typed.now) result }
 {
-    shapes(typed)?;
+    shapes(alloc, typed)?;
     within(typed)?;
     rules(typed)?;
     Ok(())

@@ -152,7 +152,10 @@ fn least_unknown(
     for (name, _) in members.iter() {
         if !known.contains(name.as_str()) {
             let text = String::from_str(alloc, name.as_str())?;
-            return Ok(Some(Name::new(text)));
+            let Ok(name) = Name::new(alloc, text) else {
+                return Err(AllocError);
+            };
+            return Ok(Some(name));
         }
     }
     Ok(None)

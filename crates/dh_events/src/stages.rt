@@ -1,25 +1,14 @@
 //! How many phases the commands of a program have, by their numbers.
 
 ghost use Rattle.std.specs.Prelude.{◌≡◌, ◌+◌, IfOk, OnOk, map, min, option_map};
-ghost use Rattle.dh_meaning.specs.Phases as phases;
 ghost use Rattle.dh_tree.specs.Seen.{action_form_seen, action_seen, part_seen, groups, maybe_seen};
 ghost use Rattle.dh_events.specs.Stages.{choice_stage, form_stage, form_stages, groups_stage, groups_stages, loop_stage, other_stage, other_stages, stage_of, stages_in};
 ghost use Rattle.dh_events.specs.Tables.{AreNumbers};
 
 use crate::tables::set_at;
 use dh_base::NoMemory;
+use dh_meaning::turn_count;
 use dh_tree::{Command, CommandForm};
-
-/// The turns of a loop.
-fn turn_count(low: u64, high: u64, factor: u64) -> u64
-    ensures { result ≡ phases.turn_count low high factor }
-{
-    if factor == 0 {
-        0
-    } else {
-        high.saturating_sub(low) / factor
-    }
-}
 
 /// How many phases a loop has, by those of its body and of the block that joins its copies: none,
 /// where it has no turn or its turns none; else its turns are one that is not Straight (2).

@@ -4,7 +4,6 @@
 ghost use Rattle.std.specs.Prelude.{◌≡◌, ◌<◌, ◌≤◌, ◌/◌, ◌%◌, ◌^◌, true, false, IfOk};
 ghost use Rattle.dh_expressions.specs.MadeValues.{MadeBit, MadeIterator, MadeMultiple, MadeShifted, MadeSum};
 ghost use Rattle.dh_expressions.specs.Multiples.{AddsBit, IsCounterWidth, Multiplies, Sums, width_told};
-ghost use Rattle.dh_meaning.specs.Phases.{turn_count as turns_counted};
 ghost use Rattle.dh_expressions.specs.Evaluated.{GivesWhere, IsTurning, copy_in_turn, iterator_shown};
 
 use crate::drafts::{Draft, push_compute, push_constant, push_convert, push_old};
@@ -13,19 +12,9 @@ use crate::paths::last_copy;
 use crate::scenes::Lane;
 use dh_base::NoMemory;
 use dh_code::Held;
+use dh_meaning::turn_count;
 use dh_tree::{Counter, Kind};
 use dh_value::Op;
-
-/// How many turns a loop has.
-pub fn turn_count(low: u64, high: u64, factor: u64) -> u64
-    ensures { result ≡ turns_counted low high factor }
-{
-    if factor == 0 {
-        0
-    } else {
-        high.saturating_sub(low) / factor
-    }
-}
 
 /// One bit more than these where a number has it, or else the width so far.
 fn width_with(last: u64, bits: u8, width: u8) -> u8

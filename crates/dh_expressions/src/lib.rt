@@ -25,7 +25,7 @@ pub use drafts::{
     push_set,
 };
 pub use elements::{Aim, push_write};
-pub use iterators::{counter_width, turn_count};
+pub use iterators::counter_width;
 pub use kinds::{entity_of, extension, is_read, is_same, kind_found, literal, narrow, truth};
 pub use paths::{Level, Paths, copy_at, inside, outside, rank_at};
 pub use scenes::{Around, Lane, Scene, guard_at};

@@ -17,4 +17,6 @@ mod phasing;
 #[cfg(test)]
 mod plan_sizes;
 #[cfg(test)]
+mod schedules;
+#[cfg(test)]
 mod texts;

@@ -19,7 +19,7 @@ fn names_and_kinds_of_a_long_text(rt: HostRuntime) -> Result<(), Fail> {
     assert_eq!(rt; typed.memories().len(), 10_000);
     assert_eq!(rt; typed.memory_number(29_997), Some(9_999));
     assert!(rt; typed.counter(29_998).is_some());
-    assert!(rt; shapes(&typed).is_ok());
+    assert!(rt; shapes(alloc, &typed).is_ok());
     assert!(rt; within(&typed).is_ok());
     Ok(())
 }

@@ -8,7 +8,8 @@ ghost use Rattle.dh_gathering.specs.Registers.{AreRegisters, IsRegisterKind};
 
 use dh_base::{Items, NoMemory};
 use dh_code::Held;
-use dh_expressions::{counter_width, narrow, turn_count};
+use dh_expressions::{counter_width, narrow};
+use dh_meaning::turn_count;
 use dh_tree::{Kind, Typed};
 use std::alloc::Global;
 

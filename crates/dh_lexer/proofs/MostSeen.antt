@@ -1,8 +1,8 @@
--- A turn of the loops that look for a greatest number: the greatest so far is raised to the next one,
--- which the greatest of the rest holds already.
-use Rattle.std.proofs.Common.{◌≡◌, ℕ, ◌+◌, ◌<◌, ◌≤◌, List, [], ◌∷◌, length, get_or, drop, max, ap, ◌∙◌, subst, arith}
+-- A turn of the loop over tokens: the greatest numbers so far are raised to the next ones, which the
+-- greatest of the rest hold already; an `else if` goes from the rest to those so far.
+use Rattle.std.proofs.Common.{◌≡◌, ℕ, Bool, ◌&&◌, if◌then◌else◌, ◌+◌, ◌<◌, ◌≤◌, List, [], ◌∷◌, length, get_or, drop, max, ap, ◌∙◌, subst, arith}
 use Rattle.std.proofs.lemmas.Bool.{cond_both}
-use Rattle.dh_lexer.specs.Counted.{open_after, most_open, operators_after, most_operators, is_separator, is_operator}
+use Rattle.dh_lexer.specs.Counted.{open_after, most_open, operators_after, most_operators, is_separator, is_operator, is_else, is_if, else_ifs_after}
 use Rattle.dh_lexer.specs.declared.tokens.Token.{Token}
 use Rattle.dh_lexer.specs.declared.tokens.TokenKind.{TokenKind}
 use Rattle.dh_lexer.specs.declared.tokens.TokenKind.TheVariants as kind
@@ -62,3 +62,16 @@ operators_turn tokens i most now total next raised t early at seen e is =
     let rest = at_item tokens i t early at in
     rw e (seen_turn most now _ (most_operators (operators_after now t.kind) (drop (i + 1) tokens)) total i (operators_after now t.kind) raised seen (ap (most_operators now) rest) (operators_one now t.kind)
     (operators_least (operators_after now t.kind) (drop (i + 1) tokens)) (is ∙ ap (λ x. max x most) e))
+
+else_sum : (count one first before after next total : ℕ) → count + before ≡ total → before ≡ first + after → one ≡ first → next ≡ after → (count + one) + next ≡ total
+else_sum count one first before after next total so at is same = omega (arith, so, at, is, same)
+
+pub else_turn : (tokens : List Token) (i count total one : ℕ) (otherwise next : Bool) (t : Token) → i < length tokens → t ≡ get_or tokens i t
+    → count + else_ifs_after otherwise (drop i tokens) ≡ total → one ≡ (if otherwise && is_if t.kind then 1 else 0) → next ≡ is_else t.kind
+    → (count + one) + else_ifs_after next (drop (i + 1) tokens) ≡ total
+else_turn tokens i count total one otherwise next t early at so is same =
+    else_sum count one (if otherwise && is_if t.kind then 1 else 0) (else_ifs_after otherwise (drop i tokens)) (else_ifs_after (is_else t.kind) (drop (i + 1) tokens)) (else_ifs_after next (drop (i + 1) tokens)) total
+    so (ap (else_ifs_after otherwise) (at_item tokens i t early at)) is (ap (λ b. else_ifs_after b (drop (i + 1) tokens)) same)
+
+pub few_more : (count one index : ℕ) → count ≤ index → one ≤ 1 → count + one ≤ index + 1
+few_more count one index few most = omega (arith, few, most)

@@ -1,36 +1,38 @@
 //! The quantities of a list of tokens that limits bound.
 
-ghost use Rattle.std.specs.Prelude.{◌≡◌, ◌+◌, ◌<◌, ◌^◌, false};
+ghost use Rattle.std.specs.Prelude.{◌≡◌, ◌+◌, ◌<◌, ◌≤◌, ◌^◌, ◌&&◌, false, if◌then◌else◌};
 ghost use Rattle.dh_lexer.specs.Counted as counted;
 ghost use Rattle.dh_lexer.specs.Counted.{most_open, most_operators, else_ifs_after};
 
 use crate::quantities::Counts;
 use crate::tokens::{Token, TokenKind};
 
-/// The three quantities of the tokens. Linear in the tokens, and takes no memory.
+/// The three quantities of the tokens. Linear in the tokens, which are gone through once, and takes no
+/// memory.
 pub fn counts(tokens: &[Token]) -> Counts
     ensures brackets { result.brackets ≡ most_open 0 tokens.now }
     ensures operators { result.operators ≡ most_operators 0 tokens.now }
     ensures else_ifs { result.else_ifs ≡ else_ifs_after false tokens.now }
 {
-    Counts {
-        brackets: brackets(tokens),
-        operators: operators(tokens),
-        else_ifs: else_ifs(tokens),
-    }
-}
-
-/// The greatest number of brackets that are open at one point.
-fn brackets(tokens: &[Token]) -> u64
-    ensures { result ≡ most_open 0 tokens.now }
-{
     let mut depth = 0;
-    let mut most = 0;
+    let mut brackets = 0;
+    let mut seen = 0;
+    let mut operators = 0;
+    let mut after_else = false;
+    let mut else_ifs = 0;
     for token in tokens {
         depth = open_after(depth, &token.kind);
-        most = depth.max(most);
+        brackets = depth.max(brackets);
+        seen = operators_after(seen, &token.kind);
+        operators = seen.max(operators);
+        else_ifs += else_if(after_else, &token.kind);
+        after_else = is_else(&token.kind);
     }
-    most
+    Counts {
+        brackets,
+        operators,
+        else_ifs,
+    }
 }
 
 /// How many brackets are open after a token.
@@ -45,19 +47,6 @@ fn open_after(depth: u64, kind: &TokenKind) -> u64
         }
         _ => depth,
     }
-}
-
-/// The greatest number of operators between two neighbouring separators.
-fn operators(tokens: &[Token]) -> u64
-    ensures { result ≡ most_operators 0 tokens.now }
-{
-    let mut seen = 0;
-    let mut most = 0;
-    for token in tokens {
-        seen = operators_after(seen, &token.kind);
-        most = seen.max(most);
-    }
-    most
 }
 
 /// How many operators there are since the last separator, after a token.
@@ -111,19 +100,12 @@ fn is_operator(kind: &TokenKind) -> bool
     )
 }
 
-/// At how many places `if` follows `else`.
-fn else_ifs(tokens: &[Token]) -> u64
-    ensures { result ≡ else_ifs_after false tokens.now }
+/// One, where the token is the `if` of an `else if`.
+fn else_if(after_else: bool, kind: &TokenKind) -> u64
+    ensures is { result ≡ (if after_else && counted.is_if kind.now then 1 else 0) }
+    ensures few { result ≤ 1 }
 {
-    let mut count = 0;
-    let mut after_else = false;
-    for token in tokens {
-        if after_else && is_if(&token.kind) {
-            count += 1;
-        }
-        after_else = is_else(&token.kind);
-    }
-    count
+    if after_else && is_if(kind) { 1 } else { 0 }
 }
 
 /// Whether the token is `else`.

@@ -7,6 +7,7 @@ ghost use Rattle.dh_lexer.specs.FrontPiece as first;
 ghost use Rattle.dh_lexer.specs.FrontPiece.{run_len, line_len, block_len, run_of, token_of, front_of, comment_of, IsNamed, IsNamedToken, IsNamedFront, AnswersFound};
 
 use crate::numbers::number;
+use crate::sharing::KnownNames;
 use crate::signs::sign;
 use crate::tokens::TokenKind;
 use crate::words::word;
@@ -27,6 +28,7 @@ pub enum Front {
 #[tactic(auto, unfolding(crate::specs::FrontPiece::front_of))]
 pub(crate) fn front_at(
     alloc: Global,
+    names: &mut KnownNames,
     text: &[u8],
     at: usize,
 ) -> Result<Option<(Front, usize)>, NoMemory>
@@ -43,7 +45,7 @@ pub(crate) fn front_at(
     if text[at] == b'/' && next == b'*' {
         return Ok(block_comment(text, at));
     }
-    match token_at(alloc, text, at)? {
+    match token_at(alloc, names, text, at)? {
         Some((kind, length)) => Ok(Some((Front::Token(kind), length))),
         None => Ok(None),
     }
@@ -116,7 +118,12 @@ fn block_end(text: &[u8], at: usize) -> Option<usize>
 /// The token that begins at `at` and its length, or None where there is none. No longer one begins
 /// there.
 #[tactic(auto, unfolding(crate::specs::FrontPiece::token_of))]
-fn token_at(alloc: Global, text: &[u8], at: usize) -> Result<Option<(TokenKind, usize)>, NoMemory>
+fn token_at(
+    alloc: Global,
+    names: &mut KnownNames,
+    text: &[u8],
+    at: usize,
+) -> Result<Option<(TokenKind, usize)>, NoMemory>
     requires { at < length text.now }
     ensures { AnswersFound IsNamedToken (token_of (drop at text.now)) result }
 {
@@ -124,7 +131,7 @@ fn token_at(alloc: Global, text: &[u8], at: usize) -> Result<Option<(TokenKind, 
         return Ok(sign(text[at], byte_at(text, at, 1), byte_at(text, at, 2)));
     }
     let end = run_end(text, at);
-    match run(alloc, &text[at..end])? {
+    match run(alloc, names, &text[at..end])? {
         Some(kind) => Ok(Some((kind, end - at))),
         None => Ok(None),
     }
@@ -146,7 +153,7 @@ fn run_end(text: &[u8], at: usize) -> usize
 
 /// The word, name or number that these letters, digits and `_` make up, or None.
 #[tactic(auto, unfolding(crate::specs::FrontPiece::run_of))]
-fn run(alloc: Global, bytes: &[u8]) -> Result<Option<TokenKind>, NoMemory>
+fn run(alloc: Global, names: &mut KnownNames, bytes: &[u8]) -> Result<Option<TokenKind>, NoMemory>
     requires { (0 < length bytes.now) × AllByRecursion IsNameByte bytes.now }
     ensures { AnswersFound IsNamed (run_of bytes.now) result }
 {
@@ -159,5 +166,5 @@ fn run(alloc: Global, bytes: &[u8]) -> Result<Option<TokenKind>, NoMemory>
     let Ok(text) = str::from_utf8(bytes) else {
         return Ok(None);
     };
-    word(alloc, text)
+    word(alloc, names, text)
 }

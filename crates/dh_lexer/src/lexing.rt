@@ -7,6 +7,7 @@ ghost use Rattle.dh_lexer.specs.LexedText as text;
 ghost use Rattle.dh_lexer.specs.LexedText.{place_from, with_kept, PlaceFits, TokensAreOne, BreachIsOne, TokensExcludeBreach, Lexed, AreReady};
 
 use crate::fronts::{Front, front_at};
+use crate::sharing::KnownNames;
 use crate::tokens::{Token, TokenKind};
 use dh_base::{NoMemory, PassFault, Place, Rule};
 use std::alloc::Global;
@@ -20,10 +21,11 @@ pub fn lex(alloc: Global, text: &[u8]) -> Result<Vec<Token>, PassFault>
     ensures ready { IfOk result (λ v. AreReady text.now v.items) }
 {
     let mut tokens = Vec::new(alloc);
+    let mut names = KnownNames::new(alloc)?;
     let mut place = Place { line: 1, column: 1 };
     let mut at = 0;
     while at < text.len() {
-        let Some((front, length)) = front_at(alloc, text, at)? else {
+        let Some((front, length)) = front_at(alloc, &mut names, text, at)? else {
             return Err(PassFault::Refused {
                 rule: Rule::Lex,
                 place,

@@ -8,6 +8,7 @@ mod fronts;
 mod lexing;
 mod numbers;
 mod quantities;
+mod sharing;
 mod signs;
 mod tokens;
 mod words;

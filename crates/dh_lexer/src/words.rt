@@ -4,21 +4,25 @@ ghost use Rattle.std.specs.Prelude.{◌≡◌};
 ghost use Rattle.dh_lexer.specs.FrontPiece as first;
 ghost use Rattle.dh_lexer.specs.FrontPiece.{word_kind, IsNamed, AnswersFound};
 
+use crate::sharing::KnownNames;
 use crate::tokens::{OutWord, TokenKind};
 use dh_base::NoMemory;
-use dh_tree::Name;
 use std::alloc::Global;
 
 /// The token that is this word: a word of the language, one that it keeps out, or else a name.
 /// Never None. Only a name takes memory.
 #[tactic(auto, unfolding(crate::specs::FrontPiece::word_kind))]
-pub(crate) fn word(alloc: Global, text: &str) -> Result<Option<TokenKind>, NoMemory>
+pub(crate) fn word(
+    alloc: Global,
+    names: &mut KnownNames,
+    text: &str,
+) -> Result<Option<TokenKind>, NoMemory>
     ensures { AnswersFound IsNamed (word_kind text.now) result }
 {
     if let Some(kind) = kept_word(text) {
         return Ok(Some(kind));
     }
-    let name = Name::new(String::from_str(alloc, text)?);
+    let name = names.name(alloc, text)?;
     Ok(Some(TokenKind::Name(name)))
 }
 

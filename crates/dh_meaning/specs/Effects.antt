@@ -20,6 +20,7 @@ use Rattle.dh_value.specs.Operations.{binary_of}
 use Rattle.dh_tree.specs.declared.tables.Dim.{Dim}
 use Rattle.dh_tree.specs.declared.tables.MemEntry.{MemEntry}
 use Rattle.dh_tree.specs.Elements.{Spot, spot_of, spot_in_bank, dims_at, ports_at, rows_of}
+pub use Rattle.dh_tree.specs.ViewElements.{is_inside}
 use Rattle.dh_meaning.specs.Paths.{Path, same_path}
 use Rattle.dh_meaning.specs.Core.{Reach, CoreTerm, literal, truth_literal, variable, read, binary, convert, Target, by_indices, by_row, CoreTerms, no_terms, term_and, CoreCommand, store, assign, choose, CoreCommands, no_commands, command_and}
 
@@ -55,13 +56,6 @@ entry_kind (Some e) = e.shape.kind
 -- the kind of the elements of a memory
 abbrev pub kind_in : List MemEntry → ℕ → Kind
 kind_in table memory = entry_kind (slice_get table memory)
-
--- as many indices as dimensions, each at least 0 and below its size
-abbrev pub is_inside : List Dim → List ℤ → Bool
-is_inside [] [] = true
-is_inside (d ∷ ds) (i ∷ is) = (int_le (pos 0) i && int_lt i (pos d.size)) && is_inside ds is
-is_inside [] (i ∷ is) = false
-is_inside (d ∷ ds) [] = false
 
 -- it is a row of a bank of these dimensions
 abbrev pub is_row : List Dim → ℤ → Bool

@@ -3,12 +3,12 @@
 ghost use Rattle.std.specs.Prelude.{◌≡◌, ℕ, [], ◌∷◌, ◌++◌, option_map, IfOk, OnOk};
 ghost use Rattle.dh_tree.specs.Seen.{action_seen, all_parts_seen, maybe_block_seen, program_seen};
 ghost use Rattle.dh_tree.specs.Numbers.{IsNumbered};
-ghost use Rattle.dh_meaning.specs.Phases as meaning;
 ghost use Rattle.dh_phases.specs.NumberedPhases.{at_once, in_loop, all_numbered, phase_seen, phases_seen, phase_list, GivesPhases, AddsPhases, GivesPhasesOf, HasCommand};
 ghost use Rattle.dh_phases.specs.Phasing as walk;
 ghost use Rattle.dh_phases.specs.Phasing.{phases_in, phases_in_other, phases_in_groups, one_phase, turn_phases, choice_phases, done_behind, open_behind, turn_of, found_seen, first_of, first_in_other, first_in_groups};
 
 use dh_base::NoMemory;
+use dh_meaning::turn_count;
 use dh_tree::{Command, CommandForm, Typed};
 use std::alloc::Global;
 use std::mem;
@@ -88,17 +88,6 @@ fn straight_part(phases: &[Phase]) -> Option<&[u32]>
         [] => Some(&[]),
         [phase] => straight_commands(phase),
         [_, _, ..] => None,
-    }
-}
-
-/// How many turns a `for` has.
-fn turn_count(low: u64, high: u64, factor: u64) -> u64
-    ensures { result ≡ meaning.turn_count low high factor }
-{
-    if factor == 0 {
-        0
-    } else {
-        high.saturating_sub(low) / factor
     }
 }
 

@@ -15,8 +15,8 @@ use Rattle.dh_plan.specs.declared.operations.OperationForm.{OperationForm}
 use Rattle.dh_plan.specs.declared.operations.OperationForm.TheVariants.{Constant, Old, Compute, Convert, Select, Check, Probe, Read, Write, Set}
 use Rattle.dh_plan.specs.declared.operations.Reach.{Reach}
 use Rattle.dh_plan.specs.declared.operations.ReachStep.{ReachStep}
-use Rattle.dh_plan.specs.declared.viewing.ViewMap.{ViewMap}
-use Rattle.dh_plan.specs.ViewElements.{Passage, indices_behind}
+use Rattle.dh_tree.specs.declared.viewing.ViewMap.{ViewMap}
+use Rattle.dh_plan.specs.Passages.{Passage, indices_behind}
 
 -- how a step begins: the memories by their table, the views, and the registers with their kinds
 pub record StepStart : Type 0 where

@@ -33,9 +33,9 @@ use Rattle.dh_plan.specs.declared.operations.OperationForm.{OperationForm}
 use Rattle.dh_plan.specs.declared.operations.OperationForm.TheVariants.{Constant, Old, Check, Probe, Set}
 use Rattle.dh_plan.specs.declared.operations.PlanBlock.{PlanBlock}
 use Rattle.dh_plan.specs.declared.operations.Reach.{Reach}
-use Rattle.dh_plan.specs.declared.viewing.ViewMap.{ViewMap}
-use Rattle.dh_plan.specs.declared.viewing.ViewSort.{ViewSort}
-use Rattle.dh_plan.specs.declared.viewing.ViewSort.TheVariants.{Shrink, Split, Suffix, Shift}
+use Rattle.dh_tree.specs.declared.viewing.ViewMap.{ViewMap}
+use Rattle.dh_tree.specs.declared.viewing.ViewSort.{ViewSort}
+use Rattle.dh_tree.specs.declared.viewing.ViewSort.TheVariants.{Shrink, Split, Suffix, Shift}
 use Rattle.dh_plan.specs.PlainPlans.{PlainPlan, first_in, operations_in}
 use Rattle.dh_plan.specs.Blocks.{first_fault, puts_of, all_set, spot_of_reach}
 use Rattle.dh_plan.specs.Correspondence.{Slots, FitKinds, paths_of_rounds}

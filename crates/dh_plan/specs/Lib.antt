@@ -1,6 +1,6 @@
 pub mod PlainPlans
 pub mod SeenPlans
-pub mod ViewElements
+pub mod Passages
 pub mod Blocks
 pub mod Ordered
 pub mod PlanRuns

@@ -1,6 +1,6 @@
 -- The kinds of a block's values, and what a plan must be formed like: its numbers name what is there, and each
 -- value has the kind that its use needs.
-use Rattle.std.specs.Prelude.{◌≡◌, ℕ, ◌-◌, ◌<◌, ◌≤◌, ◌*◌, List, [], ◌∷◌, ◌++◌, length, slice_get, slice_index_or, Option, Some, None}
+use Rattle.std.specs.Prelude.{◌≡◌, ℕ, ◌-◌, ◌<◌, List, [], ◌∷◌, ◌++◌, length, slice_get, slice_index_or, Option, Some, None}
 use Rattle.std.specs.List.{AllByRecursion}
 use Rattle.dh_value.specs.declared.kinds.Kind.{Kind}
 use Rattle.dh_value.specs.declared.kinds.Kind.TheVariants as kind
@@ -8,17 +8,15 @@ use Rattle.dh_value.specs.Words.{IsInteger, IsWord}
 use Rattle.dh_value.specs.Operations.{Suits, result_of}
 use Rattle.dh_tree.specs.declared.tables.Dim.{Dim}
 use Rattle.dh_tree.specs.declared.tables.MemEntry.{MemEntry}
+use Rattle.dh_tree.specs.declared.viewing.ViewMap.{ViewMap}
 use Rattle.dh_tree.specs.Elements.{banks_of, dims_at}
-use Rattle.dh_tree.specs.Shapes.{IsShape}
+use Rattle.dh_tree.specs.ViewElements.{offsets_needed}
 use Rattle.dh_meaning.specs.Effects.{kind_in}
 use Rattle.dh_plan.specs.declared.operations.Operation.{Operation}
 use Rattle.dh_plan.specs.declared.operations.OperationForm.{OperationForm}
 use Rattle.dh_plan.specs.declared.operations.OperationForm.TheVariants.{Constant, Old, Compute, Convert, Select, Check, Probe, Read, Write, Set}
 use Rattle.dh_plan.specs.declared.operations.Reach.{Reach}
 use Rattle.dh_plan.specs.declared.operations.ReachStep.{ReachStep}
-use Rattle.dh_plan.specs.declared.viewing.ViewMap.{ViewMap}
-use Rattle.dh_plan.specs.declared.viewing.ViewSort.{ViewSort}
-use Rattle.dh_plan.specs.declared.viewing.ViewSort.TheVariants.{Shrink, Split, Suffix, Shift}
 use Rattle.dh_plan.specs.PlainPlans.{PlainPlan, first_in, operations_in}
 use Rattle.dh_plan.specs.Blocks.{kind_at}
 use Rattle.dh_plan.specs.Ordered.{one_or_none, offsets_taken, IsOrdered}
@@ -47,13 +45,6 @@ kinds_behind table registers first before (o ∷ os) = kinds_behind table regist
 
 abbrev pub kinds_of : PlainPlan → (block : ℕ) → List Kind
 kinds_of plan block = kinds_behind plan.table plan.registers (first_in plan block) [] (operations_in plan block)
-
--- offsets of a view: one for each dimension of its parent, or none
-abbrev pub offsets_needed : ViewSort → List Dim → ℕ
-offsets_needed Shrink dims = 0
-offsets_needed Split dims = 0
-offsets_needed Suffix dims = length dims
-offsets_needed Shift dims = length dims
 
 -- a number that names what is there
 abbrev pub Names : {A : Type 0} → List A → (number : ℕ) → Type 0
@@ -129,37 +120,3 @@ module _ (plan : PlainPlan) (first : ℕ) (kinds : List Kind) where
 pub record IsFormedBlock (plan : PlainPlan) (block : ℕ) : Type 0 where
   pub ordered : IsOrdered (first_in plan block) (operations_in plan block)
   pub suits : (i : ℕ) (o : Operation) → slice_get (operations_in plan block) i ≡ Some o → OperationSuits plan (first_in plan block) (kinds_of plan block) o
-
--- Views.
-
--- a dimension of a view, its parent's, and the factor
-abbrev pub IsDimOf : ViewSort → (view parent : Dim) → (factor : ℕ) → Type 0
-IsDimOf Shrink v p k = (v.size ≡ p.size) × ((v.banks * k ≡ p.banks) × (1 ≤ k))
-IsDimOf Suffix v p k = (v ≡ p) × ((m : ℕ) × (k ≡ m * p.banks))
-IsDimOf Shift v p k = ⊥
-IsDimOf Split v p k = ⊥
-
-abbrev pub AreDimsOf : ViewSort → (view parent : List Dim) → (factors : List ℕ) → Type 0
-AreDimsOf sort [] [] [] = Unit {0}
-AreDimsOf sort (v ∷ vs) (p ∷ ps) (k ∷ ks) = IsDimOf sort v p k × AreDimsOf sort vs ps ks
-AreDimsOf sort vs ps ks = ⊥
-
--- of one dimension two: as many copies as the factor, and each copy's share of the elements and banks
-abbrev pub AreSplitOf : (view parent : List Dim) → (factors : List ℕ) → Type 0
-AreSplitOf (v ∷ w ∷ []) (p ∷ []) (k ∷ []) =
-    ((v.size ≡ k) × (v.banks ≡ k)) × ((w.size * k ≡ p.size) × ((w.banks * k ≡ p.banks) × (1 ≤ k)))
-AreSplitOf vs ps ks = ⊥
-
-abbrev pub IsShapeOf : ViewSort → (view parent : List Dim) → (factors : List ℕ) → Type 0
-IsShapeOf Shrink vs ps ks = AreDimsOf Shrink vs ps ks
-IsShapeOf Split vs ps ks = AreSplitOf vs ps ks
-IsShapeOf Suffix vs ps ks = AreDimsOf Suffix vs ps ks
-IsShapeOf Shift vs ps ks = (vs ≡ ps) × (ks ≡ [])
-
--- a view has the kind and the ports of its parent, and the shape of its sort
-pub record IsViewMap (v : ViewMap) : Type 0 where
-  pub kind : v.shape.kind ≡ v.parent.kind
-  pub ports : v.shape.ports ≡ v.parent.ports
-  pub shape : IsShapeOf v.sort v.shape.dims v.parent.dims v.by
-  pub parent : IsShape v.parent
-  pub own : IsShape v.shape

@@ -7,6 +7,7 @@ use Rattle.dh_value.specs.declared.kinds.Kind.TheVariants as kind
 use Rattle.dh_tree.specs.Elements.{Spot}
 use Rattle.dh_tree.specs.Meets.{In, Distinct, Apart, Before, Together, total}
 use Rattle.dh_tree.specs.Shapes.{IsProgramTable}
+use Rattle.dh_tree.specs.ViewShapes.{IsViewMap}
 use Rattle.dh_tree.specs.Elements.{ports_at}
 use Rattle.dh_tree.specs.Tables.{Fits}
 use Rattle.dh_plan.specs.declared.operations.Operation.{Operation}
@@ -18,7 +19,7 @@ use Rattle.dh_plan.specs.PlainPlans.{Node, block_node, turns_node, loop_node, ch
 use Rattle.dh_plan.specs.Blocks.{StepStart, kind_at, is_on, spot_of_reach}
 use Rattle.dh_plan.specs.Correspondence.{FitKinds}
 use Rattle.dh_plan.specs.PlanRuns.{start_at, block_values}
-use Rattle.dh_plan.specs.PlanKinds.{IsFormedBlock, IsViewMap, Names}
+use Rattle.dh_plan.specs.PlanKinds.{IsFormedBlock, Names}
 
 -- Operations and their accesses.
 

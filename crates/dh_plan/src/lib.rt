@@ -11,8 +11,8 @@ mod laws;
 mod operations;
 mod plans;
 mod schedules;
-mod viewing;
 
+pub use dh_tree::{ViewMap, ViewSort};
 pub use examples::{
     choice_plan_chooses, elements_are_reached, endless_plan_goes_on, faulting_plan_faults,
     first_fault_is_reported, first_plan_runs, fold_plan_folds, sizes_are_counted,
@@ -27,4 +27,3 @@ pub use laws::{
 pub use operations::{Operation, OperationForm, PlanBlock, Reach, ReachStep};
 pub use plans::{Meets, Node, Plan};
 pub use schedules::{Binding, Limits, Schedule};
-pub use viewing::{ViewMap, ViewSort};

@@ -1,9 +1,8 @@
 //! Plans: blocks, the nodes that say in which order they are done, and which accesses may meet.
 
 use crate::operations::PlanBlock;
-use crate::viewing::ViewMap;
 use dh_base::{FaultKind, Items, Place};
-use dh_tree::MemTable;
+use dh_tree::{MemTable, ViewMap};
 use dh_value::Kind;
 
 /// A phase of the plan. Blocks and registers go by their numbers.

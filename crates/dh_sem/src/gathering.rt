@@ -6,12 +6,13 @@ ghost use Rattle.dh_tree.specs.Seen.{action_seen};
 ghost use Rattle.dh_sem.specs.Gathered.{FixesForm, GathersGroups, GathersOf, HoldsAll, HoldsList, all_kept, at_once, commands_seen, ended_all, ended_at, folded_with, joined_at, joined_with, kept_of};
 ghost use Rattle.dh_sem.specs.Gathered.{BeginsIf, Chooses, Counts, Repeats, another, done_at_once};
 ghost use Rattle.dh_sem.specs.Lanes.{LanesInside, MoreLanes};
-ghost use Rattle.dh_meaning.specs.Phases.{phases, turn_count};
+ghost use Rattle.dh_meaning.specs.Phases.{phases};
 
 use crate::lanes::{Lanes, inside};
 use crate::phases::{Form, Phase, Turns};
 use dh_base::NoMemory;
 use dh_code::{Code, Names, flat, flatten_commands, place_of};
+use dh_meaning::turn_count;
 use dh_tree::{Command, CommandForm, Expr, Ref};
 use std::alloc::Global;
 use std::mem;
@@ -202,17 +203,6 @@ fn lanes_inside(
     }
 }
 
-/// How many turns a `for` has.
-fn turns_of(low: u64, high: u64, factor: u64) -> u64
-    ensures { result ≡ turn_count low high factor }
-{
-    if factor == 0 {
-        0
-    } else {
-        high.saturating_sub(low) / factor
-    }
-}
-
 /// The phases of a `for` of so many turns, from those of its turn: none where that has no phase.
 fn count<'a>(
     names: &Names<'_>,
@@ -327,7 +317,7 @@ pub fn phases_in<'a>(
             combine,
             ..
         } => {
-            let turns = turns_of(*low, *high, *factor);
+            let turns = turn_count(*low, *high, *factor);
             if turns == 0 {
                 return Ok(Vec::new(names.alloc));
             }

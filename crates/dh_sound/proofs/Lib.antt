@@ -73,6 +73,7 @@ pub mod SortsOfNames
 pub mod SortsOfCommands
 pub mod SortsOfPrograms
 pub mod AcceptedPrograms
+pub mod StepsCovered
 pub mod CopiesFew
 pub mod Folds
 pub mod JoinsKept

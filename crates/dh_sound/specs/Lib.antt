@@ -24,5 +24,6 @@ pub mod SimpleForms
 pub mod AssignsInside
 pub mod Accepted
 pub mod BlocksCovered
+pub mod StepsCovered
 pub mod Joins
 pub mod StraightKinds

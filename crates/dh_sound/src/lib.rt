@@ -16,6 +16,7 @@ ghost use Rattle.dh_meets.specs.FewCopies.{HasFewCopies, NamesBanks};
 ghost use Rattle.dh_sound.specs.KeptPorts.{IsTold, IsNeverStuck, StandsAlways};
 ghost use Rattle.dh_sound.specs.IndexRules.{KeepsIndexRules};
 ghost use Rattle.dh_sound.specs.Standing.{BlocksKeepPorts};
+ghost use Rattle.dh_sound.specs.StepsCovered.{StepsCovered, StepsKept};
 ghost use Rattle.dh_sound.specs.StraightKinds.{TellsStraight};
 ghost use Rattle.dh_sound.specs.Unmet.{StandOpposite, TestsMeet};
 
@@ -55,6 +56,14 @@ pub fn kept_ports_are_never_spent()
 pub fn blocks_spend_what_is_charged()
     ensures covered { (p : Program) → IsReady p → BlocksCovered p }
     ensures kept { (p : Program) → BlocksCovered p → KeepsPorts p → BlocksKept p }
+{}
+
+/// In each step that a run does of a program that breaks no rule but perhaps those on ports, from whatever memories, what
+/// a bank spends is no more than some set of accesses charges of which any two may meet; and so no more than its ports,
+/// if the program keeps them.
+pub fn steps_spend_what_is_charged()
+    ensures covered { (p : Program) → IsReady p → StepsCovered p }
+    ensures kept { (p : Program) → IsReady p → KeepsPorts p → StepsKept p }
 {}
 
 /// Of a program that the passes accept, each block spends of each bank at most the ports of its memory, and no run, from

@@ -14,6 +14,7 @@ use Rattle.dh_tree.specs.Meets.{In}
 use Rattle.dh_tree.specs.Memories.{memories_of, number_in}
 use Rattle.dh_tree.specs.Seen.{program_seen}
 use Rattle.dh_tree.specs.Shapes.{IsProgramTable}
+use Rattle.dh_tree.specs.ViewShapes.{IsViewMap}
 use Rattle.dh_meaning.specs.Core.{CoreCommands, CorePhase, CoreTerm, straightly, turning, looping, choosing, CorePhases, no_core_phases, phase_and, Turning}
 use Rattle.dh_meaning.specs.CoreOf.{core_of, entity_number}
 use Rattle.dh_meaning.specs.Effects.{commands, tests}
@@ -28,10 +29,10 @@ use Rattle.dh_code.specs.Slots.{held_at}
 use Rattle.dh_plan.specs.declared.operations.Operation.{Operation}
 use Rattle.dh_plan.specs.declared.operations.OperationForm.TheVariants.{Set}
 use Rattle.dh_plan.specs.declared.operations.Reach.{Reach}
-use Rattle.dh_plan.specs.declared.viewing.ViewMap.{ViewMap}
+use Rattle.dh_tree.specs.declared.viewing.ViewMap.{ViewMap}
 use Rattle.dh_plan.specs.Correspondence.{Round}
 use Rattle.dh_plan.specs.PlainPlans.{Node, block_node, turns_node, loop_node, choice_node, threads_node, Nodes, no_nodes, node_then, PlainPlan, block_operations, operations_in}
-use Rattle.dh_plan.specs.PlanKinds.{IsFormedBlock, IsViewMap, Names}
+use Rattle.dh_plan.specs.PlanKinds.{IsFormedBlock, Names}
 use Rattle.dh_plan.specs.PlanPhases.{AreNodesOf, IsLoopRegister, IsNodeOf, IsRegisterOf, Touches, block_assigns, does_phases}
 use Rattle.dh_plan.specs.SoundPlans.{Counting, HasAccess, IsFlag, IsFormed, KeepsCounter, NodeThreadsMeet, ThreadsMeet, blocks_of, countings, flags_of, node_blocks, node_countings}
 use Rattle.dh_expressions.specs.declared.scenes.Scene.{Scene}

@@ -1,6 +1,6 @@
 -- What is seen of a command, form by form, where its parts stand in the code's lists and boxes.
 use Rattle.std.proofs.Common.{◌≡◌, ℕ, map, Option, Some, None, option_map, refl, ap, sym, ◌∙◌}
-use Rattle.std.specs.Prelude.{Vec}
+use Rattle.std.specs.Prelude.{Vec, Box}
 use Rattle.std.specs.Global.{Global}
 use Rattle.dh_base.specs.declared.places.Place.{Place}
 use Rattle.dh_value.specs.declared.kinds.Kind.{Kind}
@@ -21,7 +21,7 @@ pub let_is : (name : Ref) (declared : Option Kind) (value : Option Expr) → act
 unfolding action_form_seen
 let_is name declared value = refl
 
-pub let_memory_is : (name : Ref) (shape : Shape) (places : ShapePlaces) (value : Option Expr) → action_form_seen (LetMemory name shape places value) ≡ lets_memory name shape places (option_map term_seen value)
+pub let_memory_is : (name : Ref) (shape : Box Shape Global) (places : Box ShapePlaces Global) (value : Option Expr) → action_form_seen (LetMemory name shape places value) ≡ lets_memory name shape.value places.value (option_map term_seen value)
 unfolding action_form_seen
 let_memory_is name shape places value = refl
 

@@ -5,6 +5,12 @@ pub mod Counters
 pub mod Collected
 pub mod Shapes
 pub mod Indices
+pub mod ViewElements
+pub mod ViewShapes
+pub mod ViewOffsets
+pub mod Views
+pub mod ViewFactors
+pub mod ViewBreaches
 pub mod PhaseKinds
 pub mod Placements
 pub mod Excesses

@@ -10,6 +10,7 @@ use Rattle.dh_tree.specs.Placements.{placement_breaches}
 use Rattle.dh_tree.specs.PlainTrees.{Program}
 use Rattle.dh_tree.specs.Resolved.{HasEntities}
 use Rattle.dh_tree.specs.Forms.{unbuilt_forms}
+use Rattle.dh_tree.specs.ViewBreaches.{view_breaches_of}
 use Rattle.dh_tree.specs.Written.{IsOfText}
 
 -- the most tokens of a text within the limit on its bytes
@@ -24,6 +25,7 @@ pub record IsReady (p : Program) : Type 0 where
   pub kinds : HasKinds p
   pub suits : KeepsKinds p
   pub indices : index_breaches_of p ≡ []
+  pub views : view_breaches_of p ≡ []
   pub limits : first_excess p ≡ None
   pub placements : placement_breaches p ≡ []
 

@@ -71,7 +71,7 @@ unrolled value place word = record { value = value; place = place; word = word }
 unfoldable mutual
   pub action_form_seen : CommandForm → ActionForm
   action_form_seen (Let name declared value) = lets name declared (option_map term_seen value)
-  action_form_seen (LetMemory name shape shape_places value) = lets_memory name shape shape_places (option_map term_seen value)
+  action_form_seen (LetMemory name shape shape_places value) = lets_memory name shape.value shape_places.value (option_map term_seen value)
   action_form_seen (View name parent form) = views name parent (plan_seen form)
   action_form_seen (Assign target value) = assigns target (term_seen value)
   action_form_seen (Store target value) = stores (term_seen target) (term_seen value)

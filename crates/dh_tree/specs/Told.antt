@@ -11,3 +11,9 @@ abbrev pub TellsLeast : {A : Type 0} → List Breach → Result A PassFault → 
 TellsLeast breaches (Ok a) = breaches ≡ []
 TellsLeast breaches (Err (fault.Refused rule place)) = IsLeast breaches (breach rule place)
 TellsLeast breaches (Err fault.NoMemory) = ⊥
+
+-- of a pass that takes memory, which can be refused
+abbrev pub MayTellLeast : {A : Type 0} → List Breach → Result A PassFault → Type 0
+MayTellLeast breaches (Ok a) = breaches ≡ []
+MayTellLeast breaches (Err (fault.Refused rule place)) = IsLeast breaches (breach rule place)
+MayTellLeast breaches (Err fault.NoMemory) = Unit {0}

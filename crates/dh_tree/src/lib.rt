@@ -9,6 +9,7 @@ mod loads;
 mod names;
 mod tables;
 mod trees;
+mod viewing;
 
 pub use breaches::{Breach, is_before, keep_least};
 pub use dh_value::{Kind, Memories};
@@ -22,3 +23,4 @@ pub use trees::{
     Command, CommandForm, Counter, Decl, DimPlaces, Entity, Expr, ExprForm, Function, Named,
     Parameter, Ref, ShapePlaces, Sort, Tree, Typed, ViewForm, has_dashes,
 };
+pub use viewing::{ViewMap, ViewSort, Viewed};

@@ -8,13 +8,14 @@ use dh_base::{Items, NoMemory};
 use dh_value::Kind;
 use std::alloc::Global;
 use std::marker::Model;
+use std::rc::Rc;
 pub use validity::{element_count, is_table};
 
 /// A name of the language: an ASCII letter or `_`, then ASCII letters, digits and `_`. A contract
-/// sees its bytes.
+/// sees its bytes. Its copies share one text, and each takes one word in tokens and trees.
 #[derive(Debug, Drop)]
 pub struct Name {
-    text: String,
+    text: Rc<String>,
 }
 
 impl Model for Name {
@@ -22,15 +23,16 @@ impl Model for Name {
 
     ghost Value = { List ℕ };
 
-    ghost view = { λ n. string_bytes n.text };
+    ghost view = { λ n. string_bytes n.text.value };
 }
 
 impl Name {
     /// The name of this text.
-    pub fn new(text: String) -> Name
-        ensures { result ≡ string_bytes text }
+    pub fn new(alloc: Global, text: String) -> Result<Name, NoMemory>
+        ensures { IfOk result (λ name. name ≡ string_bytes text) }
     {
-        Name { text }
+        let text = Rc::new(alloc, text)?;
+        Ok(Name { text })
     }
 
     /// The name's text.
@@ -40,11 +42,11 @@ impl Name {
         self.text.as_str()
     }
 
-    /// An equal name.
-    pub fn try_clone(&self, alloc: Global) -> Result<Name, NoMemory>
+    /// An equal name, which shares the text.
+    pub fn try_clone(&self, _alloc: Global) -> Result<Name, NoMemory>
         ensures { IfOk result (λ copy. copy ≡ self.now) }
     {
-        let text = String::from_str(alloc, self.text.as_str())?;
+        let text = self.text.clone()?;
         Ok(Name { text })
     }
 }

@@ -44,6 +44,16 @@ memory_done s0 s1 s2 name shape places v v' fact tree one known two = record {
   state = two ∙ ap (λ f. learned s1 f) known ∙ ap (λ s. learned s (parameter_fact shape.kind (Some shape))) one;
 }
 
+-- the same where the shape's box is read twice on the way
+pub memory_read : (s0 s1 s2 : State) (name : Ref) (shape first second : Shape) (places : ShapePlaces) (v v' : Option Term) (fact : Fact)
+    → first ≡ shape → second ≡ shape
+    → v' ≡ typed_maybe s0.facts (Some first.kind) v → s1 ≡ noted s0 (maybe_breaches s0.facts (Some first.kind) v') → fact ≡ parameter_fact second.kind (Some second) → s2 ≡ learned s1 fact
+    → TypesForm s0 s2 (lets_memory name shape places v) (lets_memory name shape places v')
+memory_read s0 s1 s2 name shape first second places v v' fact at_first at_second tree one known two =
+    memory_done s0 s1 s2 name shape places v v' fact
+    (tree ∙ ap (λ (s : Shape). typed_maybe s0.facts (Some s.kind) v) at_first) (one ∙ ap (λ (s : Shape). noted s0 (maybe_breaches s0.facts (Some s.kind) v')) at_first)
+    (known ∙ ap (λ (s : Shape). parameter_fact s.kind (Some s)) at_second) two
+
 pub views_done : (s0 s1 s2 s3 : State) (name parent : Ref) (f f' : ViewPlan) (fact : Fact)
     → s1 ≡ noted s0 (parent_breaches (fact_of s0.facts parent) parent.place)
     → f' ≡ typed_plan s1.facts f → s2 ≡ noted s1 (plan_breaches s1.facts f')

@@ -11,7 +11,7 @@ use Rattle.dh_tree.specs.declared.tables.Dim.{Dim}
 use Rattle.dh_tree.specs.Elements.{banks_of, is_within}
 use Rattle.dh_tree.specs.Shapes.{IsDim}
 use Rattle.dh_viewing.specs.ReachedBanks.{bank_at}
-use Rattle.dh_viewing.specs.ViewElements.{is_index, is_inside}
+use Rattle.dh_tree.specs.ViewElements.{is_index, is_inside}
 
 -- the parts of a bank's number
 abbrev pub digits : List Dim → ℕ → List ℕ

@@ -5,9 +5,9 @@ use Rattle.std.specs.Int.{bit_at}
 use Rattle.std.proofs.lemmas.Bool.Decides.{nat_tests}
 use Rattle.std.proofs.Math.Nat.{zero-add}
 use Rattle.dh_tree.specs.Elements.{banks_of}
-use Rattle.dh_viewing.specs.declared.maps.ViewMap.{ViewMap}
+use Rattle.dh_tree.specs.declared.viewing.ViewMap.{ViewMap}
 use Rattle.dh_viewing.specs.ReachedBanks.{ReachesBank, can_reach, is_in}
-use Rattle.dh_viewing.specs.ViewShapes.{IsViewMap}
+use Rattle.dh_tree.specs.ViewShapes.{IsViewMap}
 use Rattle.dh_viewing.proofs.BankDigits.{both, first_of, rest_of}
 use Rattle.dh_viewing.proofs.BitsTold.{Told, bit_is_told}
 use Rattle.dh_viewing.proofs.ReachTold.{reach_below, reached_told, told_reached}

@@ -3,7 +3,7 @@ use Rattle.std.proofs.Common.{◌≡◌, ℕ, suc, ◌+◌, ◌<◌, ◌&&◌, B
 use Rattle.std.specs.Prelude.{ℤ, pos}
 use Rattle.std.proofs.Math.Seq.{drop-cons}
 use Rattle.dh_tree.specs.declared.tables.Dim.{Dim}
-use Rattle.dh_viewing.specs.ViewElements.{is_index, is_inside}
+use Rattle.dh_tree.specs.ViewElements.{is_index, is_inside}
 
 inside_from : (ds : List Dim) (is : List ℤ) (i : ℕ) (d : Dim) → i < length ds → length is ≡ length ds
     → is_inside (drop i ds) (drop i is) ≡ (is_index (get_or ds i d).size (get_or is i (pos 0)) && is_inside (drop (suc i) ds) (drop (suc i) is))

@@ -5,18 +5,18 @@ use Rattle.dh_tree.specs.declared.tables.Shape.{Shape}
 use Rattle.dh_tree.specs.Memories.{Memory, memory_in, memories_of, entry_of, same_entity, table_of}
 use Rattle.dh_tree.specs.PlainTrees.{Program}
 use Rattle.dh_tree.specs.Shapes.{IsShape, IsMemory, IsProgramTable}
-use Rattle.dh_viewing.specs.declared.maps.Viewed.{Viewed}
-use Rattle.dh_viewing.specs.declared.maps.ViewMap.{ViewMap}
-use Rattle.dh_viewing.specs.ViewFactors.{viewing_breaches, viewings_breaches, factor_breaches_of}
-use Rattle.dh_viewing.specs.Views.{Viewing, view_in, shape_of, shape_in, viewed_of, viewed_behind, viewed_in, views_of}
-use Rattle.dh_viewing.specs.ViewShapes.{IsViewMap}
+use Rattle.dh_tree.specs.declared.viewing.Viewed.{Viewed}
+use Rattle.dh_tree.specs.declared.viewing.ViewMap.{ViewMap}
+use Rattle.dh_tree.specs.ViewFactors.{viewing_breaches, viewings_breaches, factor_breaches_of}
+use Rattle.dh_tree.specs.Views.{Viewing, view_in, shape_of, shape_in, viewed_of, viewed_behind, viewed_in, views_of}
+use Rattle.dh_tree.specs.ViewShapes.{IsViewMap}
 use Rattle.dh_viewing.proofs.KeptViews.{first_none, second_none, kept_view}
 
 abbrev pub AreKept : List Viewed → Type 0
 AreKept vs = AllByRecursion (λ v. IsViewMap v.is) vs
 
 -- what is found keeps what all keep
-memory_kept : (ms : List Memory) (e : Option ℕ) (m : Memory) → AllByRecursion IsMemory (map entry_of ms) → memory_in ms e ≡ Some m → IsShape m.shape
+pub memory_kept : (ms : List Memory) (e : Option ℕ) (m : Memory) → AllByRecursion IsMemory (map entry_of ms) → memory_in ms e ≡ Some m → IsShape m.shape
 memory_kept [] e m h is = cc
 memory_kept (x ∷ ms) e m h is = by (same_entity x.name.entity e) is (λ f. memory_kept ms e m h.1 f)
   where

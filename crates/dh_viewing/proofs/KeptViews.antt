@@ -16,10 +16,10 @@ use Rattle.dh_tree.specs.Kinds.{when}
 use Rattle.dh_tree.specs.LeastBreach.{breach}
 use Rattle.dh_tree.specs.PlainTrees.{ViewPlan, shrinks, splits, suffixes, shifts}
 use Rattle.dh_tree.specs.Shapes.{IsDim, IsShape}
-use Rattle.dh_viewing.specs.declared.maps.ViewSort.TheVariants.{Shrink, Suffix}
-use Rattle.dh_viewing.specs.ViewFactors.{is_multiple, factor_keeps, factor_broken, factors_breaches, brackets_broken, brackets_fit, multiplies, places_of, plan_breaches}
-use Rattle.dh_viewing.specs.Views.{shrunk_dims, split_dims, dims_of, sort_of, factors_of, map_of}
-use Rattle.dh_viewing.specs.ViewShapes.{AreDimsOf, AreSplitOf, IsShapeOf, IsViewMap}
+use Rattle.dh_tree.specs.declared.viewing.ViewSort.TheVariants.{Shrink, Suffix}
+use Rattle.dh_tree.specs.ViewFactors.{is_multiple, factor_keeps, factor_broken, factors_breaches, brackets_broken, brackets_fit, multiplies, places_of, plan_breaches}
+use Rattle.dh_tree.specs.Views.{shrunk_dims, split_dims, dims_of, sort_of, factors_of, map_of}
+use Rattle.dh_tree.specs.ViewShapes.{AreDimsOf, AreSplitOf, IsShapeOf, IsViewMap}
 
 -- what a list that is empty tells
 pub first_none : {A : Type 0} (xs ys : List A) → xs ++ ys ≡ [] → xs ≡ []

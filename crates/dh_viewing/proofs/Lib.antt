@@ -11,3 +11,8 @@ pub mod Covered
 pub mod SplitViews
 pub mod KeptViews
 pub mod KeptPrograms
+pub mod KeptAll
+pub mod NoViews
+pub mod ViewsFound
+pub mod PlacedViews
+pub mod SmallOffsets

@@ -6,7 +6,7 @@ use Rattle.dh_tree.specs.declared.tables.Dim.{Dim}
 use Rattle.dh_viewing.specs.declared.numbers.Index.{Index}
 use Rattle.dh_viewing.specs.Moved.{moved_number, with_first, moved_numbers, behind}
 use Rattle.dh_viewing.specs.Numbers.{numbers_in}
-use Rattle.dh_viewing.specs.ViewElements.{is_index, is_inside, inside_of, sums, multiples}
+use Rattle.dh_tree.specs.ViewElements.{is_index, is_inside, inside_of, sums, multiples}
 
 -- Behind the first i indices.
 pub record Moving (ds : List Dim) (ks : List ℕ) (es is : List ℤ) (i : ℕ) (index : Index) : Type 0 where

@@ -6,12 +6,12 @@ use Rattle.std.proofs.lemmas.List.{length-replicate}
 use Rattle.std.proofs.Math.IntN.{pos-*ℤ-pos, pos-*ℤ-negsuc}
 use Rattle.std.proofs.Math.Nat.{one-mul}
 use Rattle.dh_tree.specs.declared.tables.Dim.{Dim}
-use Rattle.dh_viewing.specs.declared.maps.ViewMap.{ViewMap}
-use Rattle.dh_viewing.specs.declared.maps.ViewSort.{ViewSort}
-use Rattle.dh_viewing.specs.declared.maps.ViewSort.TheVariants.{Shrink, Split, Suffix, Shift}
+use Rattle.dh_tree.specs.declared.viewing.ViewMap.{ViewMap}
+use Rattle.dh_tree.specs.declared.viewing.ViewSort.{ViewSort}
+use Rattle.dh_tree.specs.declared.viewing.ViewSort.TheVariants.{Shrink, Split, Suffix, Shift}
 use Rattle.dh_viewing.specs.Moved.{Moves, moved_numbers}
-use Rattle.dh_viewing.specs.ViewElements.{is_inside, inside_of, element_through, parent_index, first_banks, sums, multiples}
-use Rattle.dh_viewing.specs.ViewShapes.{IsShapeOf, AreDimsOf, IsViewMap}
+use Rattle.dh_tree.specs.ViewElements.{is_inside, inside_of, element_through, parent_index, first_banks, sums, multiples}
+use Rattle.dh_tree.specs.ViewShapes.{IsShapeOf, AreDimsOf, IsViewMap}
 use Rattle.dh_viewing.proofs.MovedNumbers.{moved_is}
 use Rattle.dh_viewing.proofs.ViewBanks.{same_inside}
 

@@ -10,12 +10,12 @@ use Rattle.dh_tree.proofs.BankElements.{whole, row_below}
 use Rattle.dh_tree.specs.declared.tables.Dim.{Dim}
 use Rattle.dh_tree.specs.Elements.{banks_of}
 use Rattle.dh_tree.specs.Shapes.{IsDim}
-use Rattle.dh_viewing.specs.declared.maps.ViewMap.{ViewMap}
-use Rattle.dh_viewing.specs.declared.maps.ViewSort.{ViewSort}
-use Rattle.dh_viewing.specs.declared.maps.ViewSort.TheVariants.{Shrink, Split, Suffix, Shift}
+use Rattle.dh_tree.specs.declared.viewing.ViewMap.{ViewMap}
+use Rattle.dh_tree.specs.declared.viewing.ViewSort.{ViewSort}
+use Rattle.dh_tree.specs.declared.viewing.ViewSort.TheVariants.{Shrink, Split, Suffix, Shift}
 use Rattle.dh_viewing.specs.ReachedBanks.{ReachesBank, bank_at, covering, reach_told, can_reach}
-use Rattle.dh_viewing.specs.ViewElements.{is_index, is_inside, inside_of, split_index, dealt_index, element_through, named_by, parent_index, first_banks}
-use Rattle.dh_viewing.specs.ViewShapes.{IsShapeOf, AreDimsOf, AreSplitOf, IsViewMap}
+use Rattle.dh_tree.specs.ViewElements.{is_index, is_inside, inside_of, split_index, dealt_index, element_through, named_by, parent_index, first_banks}
+use Rattle.dh_tree.specs.ViewShapes.{IsShapeOf, AreDimsOf, AreSplitOf, IsViewMap}
 use Rattle.dh_viewing.proofs.BankDigits.{both, first_of, rest_of, index_is, natural_of, banks_fit, indices_of, indices_long, digits_inside, digits_bank, bank_at_below}
 use Rattle.dh_viewing.proofs.SplitElements.{Shared, share_is, dealt_column, first_row}
 use Rattle.dh_viewing.proofs.ViewBanks.{same_inside, covered_digits, covered_element, suffix_bank, nothing_moved, differences, moved_to, differences_long}
@@ -122,7 +122,7 @@ told_split v w p k (a ∷ b ∷ []) bank c h d e from to =
     in
     equal_told c bank (sym to ∙ (parent ∙ (sym view ∙ from)))
 
-told_all : (s : ViewSort) (vs ps : List Dim) (ks : List ℕ) (es is : List ℤ) (bank c : ℕ) → IsShapeOf s vs ps ks → AllByRecursion IsDim vs → AllByRecursion IsDim ps
+pub told_all : (s : ViewSort) (vs ps : List Dim) (ks : List ℕ) (es is : List ℤ) (bank c : ℕ) → IsShapeOf s vs ps ks → AllByRecursion IsDim vs → AllByRecursion IsDim ps
     → is_inside vs is ≡ true → is_inside ps (parent_index s (first_banks ps) ks es is) ≡ true → bank_at vs is ≡ bank → bank_at ps (parent_index s (first_banks ps) ks es is) ≡ c
     → reach_told s vs ps bank c ≡ true
 told_all Shrink vs ps ks es is bank c h own dims inside there from to = told_shrink vs ps ks is bank c h dims there from to

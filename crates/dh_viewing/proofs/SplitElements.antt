@@ -4,7 +4,7 @@ use Rattle.std.proofs.Common.{◌≡◌, ℕ, ◌+◌, ◌*◌, ◌/◌, ◌%◌
 use Rattle.std.proofs.lemmas.Nat.{div-mul-add, mod-mul-add, div-add-mod'}
 use Rattle.std.proofs.Math.Nat.{mul_assoc, mod-lt, mod-eq_of_lt, mul-div_cancel, mul_comm}
 use Rattle.dh_tree.proofs.BankElements.{place_below, row_below}
-use Rattle.dh_viewing.specs.ViewElements.{dealt_index}
+use Rattle.dh_tree.specs.ViewElements.{dealt_index}
 
 -- `factor` copies share `banks` banks and `size` elements
 pub record Shared (banks factor share size part : ℕ) : Type 0 where

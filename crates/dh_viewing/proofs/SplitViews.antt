@@ -4,12 +4,12 @@ use Rattle.std.specs.Prelude.{ℤ, pos, unsigned_abs}
 use Rattle.std.specs.List.{AllByRecursion}
 use Rattle.dh_tree.specs.declared.tables.Dim.{Dim}
 use Rattle.dh_tree.specs.Shapes.{IsDim}
-use Rattle.dh_viewing.specs.declared.maps.ViewMap.{ViewMap}
-use Rattle.dh_viewing.specs.declared.maps.ViewSort.{ViewSort}
-use Rattle.dh_viewing.specs.declared.maps.ViewSort.TheVariants.{Shrink, Split, Suffix, Shift}
+use Rattle.dh_tree.specs.declared.viewing.ViewMap.{ViewMap}
+use Rattle.dh_tree.specs.declared.viewing.ViewSort.{ViewSort}
+use Rattle.dh_tree.specs.declared.viewing.ViewSort.TheVariants.{Shrink, Split, Suffix, Shift}
 use Rattle.dh_viewing.specs.Moved.{number_within}
-use Rattle.dh_viewing.specs.ViewElements.{is_index, is_inside, inside_of, element_through, dealt_index, split_index, parent_index, first_banks}
-use Rattle.dh_viewing.specs.ViewShapes.{IsShapeOf, AreSplitOf, IsViewMap}
+use Rattle.dh_tree.specs.ViewElements.{is_index, is_inside, inside_of, element_through, dealt_index, split_index, parent_index, first_banks}
+use Rattle.dh_tree.specs.ViewShapes.{IsShapeOf, AreSplitOf, IsViewMap}
 use Rattle.dh_viewing.proofs.BankDigits.{index_is, natural_of}
 use Rattle.dh_viewing.proofs.ReachTold.{shared_of}
 use Rattle.dh_viewing.proofs.SplitElements.{share_is, dealt_below}

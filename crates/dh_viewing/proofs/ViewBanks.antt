@@ -10,10 +10,10 @@ use Rattle.std.proofs.Math.Nat.{mod-mod_of_dvd, dvd-mul_right, add-mul-mod_self_
 use Rattle.dh_tree.specs.declared.tables.Dim.{Dim}
 use Rattle.dh_tree.specs.Elements.{banks_of}
 use Rattle.dh_tree.specs.Shapes.{IsDim}
-use Rattle.dh_viewing.specs.declared.maps.ViewSort.TheVariants.{Shrink, Suffix}
+use Rattle.dh_tree.specs.declared.viewing.ViewSort.TheVariants.{Shrink, Suffix}
 use Rattle.dh_viewing.specs.ReachedBanks.{bank_at, covering}
-use Rattle.dh_viewing.specs.ViewElements.{is_index, is_inside, sums, multiples}
-use Rattle.dh_viewing.specs.ViewShapes.{AreDimsOf}
+use Rattle.dh_tree.specs.ViewElements.{is_index, is_inside, sums, multiples}
+use Rattle.dh_tree.specs.ViewShapes.{AreDimsOf}
 use Rattle.dh_viewing.proofs.BankDigits.{indices_of, first_of, rest_of, natural_of, bank_at_below}
 
 -- Shrink: sizes stay, and a bank of the view covers those banks that have its residues.

@@ -1,7 +1,7 @@
 pub mod Numbers
-pub mod ViewElements
-pub mod ViewShapes
 pub mod Moved
 pub mod ReachedBanks
-pub mod Views
-pub mod ViewFactors
+pub mod Carried
+pub mod Placed
+pub mod Finding
+pub mod Judged

@@ -1,9 +1,9 @@
 -- The index of the parent of a view by suffix or shift, number by number.
 use Rattle.std.specs.Prelude.{◌≡◌, ℕ, if◌then◌else◌, List, [], ◌∷◌, ◌++◌, replicate, Option, Some, None, ℤ, pos, ◌+ℤ◌, ◌*ℤ◌, unsigned_abs}
 use Rattle.dh_tree.specs.declared.tables.Dim.{Dim}
-use Rattle.dh_viewing.specs.declared.maps.ViewSort.{ViewSort}
-use Rattle.dh_viewing.specs.declared.maps.ViewSort.TheVariants.{Shrink, Split, Suffix, Shift}
-use Rattle.dh_viewing.specs.ViewElements.{is_index}
+use Rattle.dh_tree.specs.declared.viewing.ViewSort.{ViewSort}
+use Rattle.dh_tree.specs.declared.viewing.ViewSort.TheVariants.{Shrink, Split, Suffix, Shift}
+use Rattle.dh_tree.specs.ViewElements.{is_index}
 
 -- a whole number as a natural one, where it is an index of a size
 abbrev pub number_within : (size : ℕ) → ℤ → Option ℕ

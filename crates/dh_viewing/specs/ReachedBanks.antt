@@ -5,10 +5,10 @@ use Rattle.dh_tree.specs.declared.tables.Dim.{Dim}
 use Rattle.dh_tree.specs.Elements as elements
 use Rattle.dh_tree.specs.Elements.{bank_of}
 use Rattle.dh_viewing.specs.declared.bank_sets.BankSet.{BankSet}
-use Rattle.dh_viewing.specs.declared.maps.ViewMap.{ViewMap}
-use Rattle.dh_viewing.specs.declared.maps.ViewSort.{ViewSort}
-use Rattle.dh_viewing.specs.declared.maps.ViewSort.TheVariants.{Shrink, Split, Suffix, Shift}
-use Rattle.dh_viewing.specs.ViewElements.{element_through}
+use Rattle.dh_tree.specs.declared.viewing.ViewMap.{ViewMap}
+use Rattle.dh_tree.specs.declared.viewing.ViewSort.{ViewSort}
+use Rattle.dh_tree.specs.declared.viewing.ViewSort.TheVariants.{Shrink, Split, Suffix, Shift}
+use Rattle.dh_tree.specs.ViewElements.{element_through}
 
 -- the bank of an element by indices that are within their dimensions
 abbrev pub bank_at : List Dim → List ℤ → ℕ

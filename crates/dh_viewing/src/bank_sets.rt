@@ -5,10 +5,9 @@ ghost use Rattle.std.specs.List.{AllByRecursion};
 ghost use Rattle.dh_tree.specs.Elements as elements;
 ghost use Rattle.dh_tree.specs.Shapes.{IsDim, most_banks};
 ghost use Rattle.dh_viewing.specs.ReachedBanks.{ReachesBank, can_reach, covering, is_in};
-ghost use Rattle.dh_viewing.specs.ViewShapes.{IsViewMap};
+ghost use Rattle.dh_tree.specs.ViewShapes.{IsViewMap};
 
-use crate::maps::{ViewMap, ViewSort};
-use dh_tree::Dim;
+use dh_tree::{Dim, ViewMap, ViewSort};
 
 /// Banks of a memory or a view, of which there are at most 64: one bit for each.
 #[derive(Clone, Copy, Debug, PartialEq, Eq)]

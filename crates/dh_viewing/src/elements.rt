@@ -2,16 +2,15 @@
 
 ghost use Rattle.std.specs.Prelude.{◌≡◌, ℕ, ◌≤◌, ◌<◌, ◌^◌, List, ℤ, length, option_map, Some, pos, ◌+ℤ◌, ◌*ℤ◌};
 ghost use Rattle.std.specs.List.{AllByRecursion};
-ghost use Rattle.dh_viewing.specs.declared.maps.ViewSort.TheVariants as sorts;
+ghost use Rattle.dh_tree.specs.declared.viewing.ViewSort.TheVariants as sorts;
 ghost use Rattle.dh_viewing.specs.Moved.{Moves, kept_number, moved_number, moved_numbers, number_within};
 ghost use Rattle.dh_viewing.specs.Numbers.{numbers_in};
-ghost use Rattle.dh_viewing.specs.ViewElements as definitions;
-ghost use Rattle.dh_viewing.specs.ViewElements.{dealt_index, element_through};
-ghost use Rattle.dh_viewing.specs.ViewShapes.{IsViewMap};
+ghost use Rattle.dh_tree.specs.ViewElements as definitions;
+ghost use Rattle.dh_tree.specs.ViewElements.{dealt_index, element_through};
+ghost use Rattle.dh_tree.specs.ViewShapes.{IsViewMap};
 
-use crate::maps::{ViewMap, ViewSort};
 use crate::numbers::{Index, MAX_DIMS, listed, no_numbers, with_number};
-use dh_tree::Dim;
+use dh_tree::{Dim, ViewMap, ViewSort};
 
 /// Above every size.
 const SIZE_BOUND: u128 = 1 << 64;

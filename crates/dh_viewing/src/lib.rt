@@ -1,16 +1,30 @@
-//! Views: which element of its parent an index of a view names, and which banks of its parent a view can
-//! reach from one of its own. In `specs/` stand the views of a program, too, and the rule on their factors.
+//! Views: which element of its parent an index of a view names, which banks of its parent a view can reach
+//! from one of its own, what each view of a program is, and the rule on factors and brackets. (What a view
+//! is, its shape and the rules on views stand in `dh_tree`.)
 //! Stands on `dh_tree`, `dh_value` and `dh_base`. docs/LANGUAGE.md tells the language.
 #![tactic(auto)]
 
 mod bank_sets;
+mod collecting;
 mod elements;
+mod factors;
+mod judging;
+mod keeping;
 mod laws;
-mod maps;
 mod numbers;
+mod offsets;
+mod placing;
 
 pub use bank_sets::{BankSet, banks_of};
+pub use collecting::{view_map, views_in};
 pub use elements::through;
-pub use laws::kept_views_have_shapes;
-pub use maps::{ViewMap, ViewSort, Viewed};
+pub use factors::{keep_view_factors, view_factors};
+pub use judging::{JudgedViews, judge_views};
+pub use keeping::{divides, shape_keeps};
+pub use laws::{
+    kept_views_are_all, kept_views_have_shapes, offsets_in_range_are_small,
+    programs_without_views_keep_their_rules,
+};
 pub use numbers::Index;
+pub use offsets::moves;
+pub use placing::ViewTable;

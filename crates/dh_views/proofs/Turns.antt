@@ -1,13 +1,19 @@
--- What a loop adds to the breach that is kept.
-use Rattle.std.proofs.Common.{◌≡◌, ◌++◌, Option, ap, sym, ◌∙◌}
+-- What loops and views add to the breach that is kept.
+use Rattle.std.proofs.Common.{◌≡◌, ◌++◌, List, Option, Some, None, Ok, ap, sym, ◌∙◌, subst}
 use Rattle.dh_base.specs.declared.places.Place.{Place}
 use Rattle.dh_value.specs.declared.kinds.Kind.{Kind}
 use Rattle.dh_tree.specs.declared.breaches.Breach.{Breach}
 use Rattle.dh_tree.specs.declared.trees.expressions.Ref.{Ref}
-use Rattle.dh_tree.specs.Indices.{Known, turns_breaches, action_index_breaches, other_index_breaches, action_form_index_breaches}
+use Rattle.dh_tree.specs.declared.viewing.Viewed.{Viewed}
+use Rattle.dh_tree.specs.Indices.{Known, known_of, turns_breaches, action_index_breaches, other_index_breaches, action_form_index_breaches}
 use Rattle.dh_tree.specs.LeastBreach.{least_of}
-use Rattle.dh_tree.specs.PlainTrees.{Placed, Unrolled, Action, ActionForm, MaybeAction, counts}
+use Rattle.dh_tree.specs.PlainTrees.{Placed, Unrolled, Action, ActionForm, MaybeAction, counts, Program}
+use Rattle.dh_tree.specs.ViewBreaches.{action_view_breaches, known_views, view_breaches_of}
+use Rattle.dh_tree.specs.ViewFactors.{factor_breaches_of}
+use Rattle.dh_tree.specs.Views.{viewed_in}
 use Rattle.dh_tree.proofs.Leasts.{least_append}
+use Rattle.dh_viewing.specs.declared.judging.JudgedViews.{JudgedViews}
+use Rattle.dh_viewing.specs.Judged.{JudgesViews}
 use Rattle.dh_views.specs.Kept.{loop_breaches}
 
 pub loop_kept : (known : Known) (form : ActionForm) (iterator : Ref) (declared : Option Kind) (low high : Placed) (factor : Unrolled) (body : Action) (combine : MaybeAction) (combine_place : Place) (old a b c : Option Breach)
@@ -25,3 +31,18 @@ loop_kept known form iterator declared low high factor body combine combine_plac
     ∙ (ap (λ k. least_of (least_of k inside) joined) (ea ∙ ap (λ f. least_of old (loop_breaches f)) is)
     ∙ (sym (least_append (least_of old turns) inside joined)
     ∙ (sym (least_append old turns (inside ++ joined)) ∙ ap (λ f. least_of old (action_form_index_breaches known f)) (sym is)))))
+
+pub views_kept : (p : Program) (o : Option JudgedViews) (j : JudgedViews) (old mid new : Option Breach) → JudgesViews p (Ok o) old mid → o ≡ Some j
+    → new ≡ least_of mid (action_view_breaches (record { names = known_of p; views = j.all; kept = j.kept }) p.body) → new ≡ least_of old (view_breaches_of p)
+views_kept p o j old mid new h is e =
+    let g : JudgesViews p (Ok (Some j)) old mid = subst (λ (x : Option JudgedViews). JudgesViews p (Ok x) old mid) is h in
+    e
+    ∙ (ap (λ (vs : List Viewed). least_of mid (action_view_breaches (record { names = known_of p; views = vs; kept = j.kept }) p.body)) g.0
+    ∙ (ap (λ (vs : List Viewed). least_of mid (action_view_breaches (record { names = known_of p; views = viewed_in p; kept = vs }) p.body)) g.1.0
+    ∙ (ap (λ k. least_of k (action_view_breaches (known_views p) p.body)) g.1.1
+    ∙ sym (least_append old (factor_breaches_of p) (action_view_breaches (known_views p) p.body)))))
+
+pub none_kept : (p : Program) (o : Option JudgedViews) (old mid : Option Breach) → JudgesViews p (Ok o) old mid → o ≡ None → mid ≡ least_of old (view_breaches_of p)
+none_kept p o old mid h is =
+    let g : JudgesViews p (Ok None) old mid = subst (λ (x : Option JudgedViews). JudgesViews p (Ok x) old mid) is h in
+    g.1 ∙ ap (λ l. least_of old l) (sym g.0)

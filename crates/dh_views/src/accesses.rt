@@ -11,11 +11,11 @@ ghost use Rattle.dh_shape.specs.Classified.{loops_in};
 ghost use Rattle.dh_views.specs.Kept.{number_bound, copies_of, entry_dims};
 ghost use Rattle.dh_views.specs.Walked.{KeepsKind, access_broken, bank_broken, dims_in, index_broken, indices_broken, is_no_row};
 
-use crate::declared::shape_keeps;
 use crate::keeping::keep_if;
 use dh_base::{Place, Rule};
 use dh_shape::{IndexKind, classify};
 use dh_tree::{Breach, Dim, Expr, ExprForm, MemEntry, Typed};
+use dh_viewing::shape_keeps;
 
 /// Above every number that a text has.
 const NUMBER_BOUND: u128 = 1 << 64;
@@ -62,7 +62,7 @@ fn keep_index(typed: &Typed, kept: &mut Option<Breach>, dim: &Dim, index: &Expr)
 }
 
 /// Those of indices, each for its dimension.
-fn keep_indices(typed: &Typed, kept: &mut Option<Breach>, dims: &[Dim], indices: &[Expr])
+pub(crate) fn keep_indices(typed: &Typed, kept: &mut Option<Breach>, dims: &[Dim], indices: &[Expr])
     ensures { kept.new ≡ least_of kept.old (indices_broken typed.now dims.now indices.now) }
 {
     for (dim, index) in dims.iter().zip(indices.iter()) {

@@ -1,15 +1,15 @@
 //! The numbers of types.
 
 ghost use Rattle.std.specs.Prelude.{◌≡◌, map, slice_get};
-ghost use Rattle.dh_tree.specs.Indices as definitions;
 ghost use Rattle.dh_tree.specs.Indices.{dim_breaches, dims_breaches, shape_breaches, decls_shape_breaches};
 ghost use Rattle.dh_tree.specs.LeastBreach.{least_of};
 ghost use Rattle.dh_tree.specs.Seen.{declared_seen};
 ghost use Rattle.dh_views.specs.Kept.{placed_breaches};
 
-use crate::keeping::{divides, keep_if};
+use crate::keeping::keep_if;
 use dh_base::{Place, Rule};
 use dh_tree::{Breach, Decl, Dim, DimPlaces, Shape, ShapePlaces};
+use dh_viewing::divides;
 
 /// The breaches of a dimension whose numbers stand at these places.
 #[tactic(auto, using(dh_tree::proofs::Leasts::least_append))]
@@ -62,23 +62,4 @@ pub(crate) fn keep_decls(kept: &mut Option<Breach>, decls: &[Decl])
     for decl in decls {
         keep_shape(kept, &decl.shape, &decl.shape_places);
     }
-}
-
-/// Whether dimensions break no rule.
-fn dims_keep(dims: &[Dim]) -> bool
-    ensures { result ≡ definitions.dims_keep dims.now }
-{
-    for dim in dims {
-        if dim.size == 0 || !divides(dim.banks, dim.size) {
-            return false;
-        }
-    }
-    true
-}
-
-/// Whether a shape breaks no rule.
-pub(crate) fn shape_keeps(shape: &Shape) -> bool
-    ensures { result ≡ definitions.shape_keeps shape.now }
-{
-    shape.ports != 0 && dims_keep(shape.dims.as_slice())
 }

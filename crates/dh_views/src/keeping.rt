@@ -1,7 +1,6 @@
 //! Breaches that are kept.
 
 ghost use Rattle.std.specs.Prelude.{◌≡◌, [], ◌∷◌};
-ghost use Rattle.dh_tree.specs.Indices as indices;
 ghost use Rattle.dh_tree.specs.Kinds.{when};
 ghost use Rattle.dh_tree.specs.LeastBreach.{least_of, breach};
 
@@ -15,11 +14,4 @@ pub(crate) fn keep_if(kept: &mut Option<Breach>, is_broken: bool, rule: Rule, pl
     if is_broken {
         keep_least(kept, Breach { rule, place });
     }
-}
-
-/// Whether a number of banks or of copies divides a size; 0 divides none.
-pub(crate) fn divides(banks: u64, size: u64) -> bool
-    ensures { result ≡ indices.divides banks size }
-{
-    banks != 0 && size % banks == 0
 }

@@ -1,11 +1,12 @@
-//! The pass over shapes, indices and bounds: it refuses a program whose banks do not divide sizes,
-//! whose copies do not go with banks, or whose numbers are out of range.
-//! Stands on `dh_shape`, `dh_tree`, `dh_value` and `dh_base`. docs/LANGUAGE.md tells the rules.
+//! The pass over shapes, indices, bounds and views: it refuses a program whose banks do not divide sizes,
+//! whose copies do not go with banks, whose numbers are out of range, or whose views do not go with banks.
+//! Stands on `dh_viewing`, `dh_shape`, `dh_tree`, `dh_value` and `dh_base`. docs/LANGUAGE.md tells the rules.
 #![tactic(auto)]
 
 mod accesses;
 mod declared;
 mod keeping;
+mod through;
 mod walks;
 
 pub use walks::shapes;

@@ -1,23 +1,26 @@
 //! The walk over a program.
 
-ghost use Rattle.std.specs.Prelude.{◌≡◌, None};
-ghost use Rattle.dh_tree.specs.Indices.{index_breaches_of};
+ghost use Rattle.std.specs.Prelude.{◌≡◌, None, IfOk, OnOk};
 ghost use Rattle.dh_tree.specs.LeastBreach.{least_of};
 ghost use Rattle.dh_tree.specs.Seen.{action_form_seen, program_seen};
-ghost use Rattle.dh_tree.specs.Told.{TellsLeast};
+ghost use Rattle.dh_tree.specs.Told.{MayTellLeast};
+ghost use Rattle.dh_tree.specs.ViewBreaches.{shapes_breaches_of, view_breaches_of};
 ghost use Rattle.dh_views.specs.Kept.{loop_breaches};
 ghost use Rattle.dh_views.specs.Walked.{term_broken, terms_broken, maybe_broken, command_broken, other_broken, parts_broken};
 
 use crate::accesses::{keep_access, keep_physical};
 use crate::declared::{keep_decls, keep_shape};
-use crate::keeping::{divides, keep_if};
-use dh_base::{PassFault, Rule};
+use crate::keeping::keep_if;
+use crate::through::keep_viewed_command;
+use dh_base::{NoMemory, PassFault, Rule};
 use dh_tree::{Breach, Command, CommandForm, Expr, ExprForm, Typed};
+use dh_viewing::{divides, judge_views};
+use std::alloc::Global;
 
 /// The breaches in an expression.
 #[cycle(terms)]
 #[tactic(auto, using(dh_tree::proofs::SeenTerms::terms_are, dh_tree::proofs::Leasts::least_append))]
-fn keep_term(typed: &Typed, kept: &mut Option<Breach>, term: &Expr)
+pub(crate) fn keep_term(typed: &Typed, kept: &mut Option<Breach>, term: &Expr)
     ensures { kept.new ≡ least_of kept.old (term_broken typed.now term.now) }
 {
     match &term.form {
@@ -165,30 +168,51 @@ fn keep_groups(typed: &Typed, kept: &mut Option<Breach>, parts: &[Vec<Command>])
     }
 }
 
+/// Those of the rules on views.
+fn keep_views(alloc: Global, typed: &Typed, kept: &mut Option<Breach>) -> Result<(), NoMemory>
+    ensures { OnOk result (kept.new ≡ least_of kept.old (view_breaches_of (program_seen typed.now))) }
+{
+    let tree = typed.tree();
+    let Ok(judged) = judge_views(alloc, typed, kept) else {
+        return Err(NoMemory);
+    };
+    match judged {
+        Some(views) => {
+            keep_viewed_command(typed, &views, kept, &tree.body);
+            Ok(())
+        }
+        None => Ok(()),
+    }
+}
+
 /// The first breach of a program, if there is one.
 #[tactic(auto, using(dh_tree::proofs::Leasts::least_append))]
-fn first_breach(typed: &Typed) -> Option<Breach>
-    ensures { result ≡ least_of None (index_breaches_of (program_seen typed.now)) }
+fn first_breach(alloc: Global, typed: &Typed) -> Result<Option<Breach>, NoMemory>
+    ensures { IfOk result (λ b. b ≡ least_of None (shapes_breaches_of (program_seen typed.now))) }
 {
     let tree = typed.tree();
     let mut kept = None;
     keep_decls(&mut kept, tree.decls.as_slice());
     keep_command(typed, &mut kept, &tree.body);
-    kept
+    keep_views(alloc, typed, &mut kept)?;
+    Ok(kept)
 }
 
-/// Tells whether the sizes, banks, indices and bounds of a program keep the rules on shapes. Takes no
-/// memory. Its time is linear in the source, but for accesses to a bank, each of which costs as much as
-/// its memory has dimensions.
+/// Tells whether the sizes, banks, indices, bounds and views of a program keep the rules on shapes. Its time
+/// is linear in the source, but for accesses to a bank, each of which costs as much as its memory has
+/// dimensions. Takes memory only where there are views.
 ///
 /// # Errors
 ///
-/// `Refused` with the breach of `BankDivides`, `UnrollDivides`, `BankUnroll`, `DynamicBank` or
-/// `ConstantRange` that stands first.
-pub fn shapes(typed: &Typed) -> Result<(), PassFault>
-    ensures { TellsLeast (index_breaches_of (program_seen typed.now)) result }
+/// `Refused` with the breach of `BankDivides`, `UnrollDivides`, `BankUnroll`, `DynamicBank`,
+/// `ConstantRange` or `ViewFactor` that stands first; or `NoMemory`, of which no clause tells when it comes.
+pub fn shapes(alloc: Global, typed: &Typed) -> Result<(), PassFault>
+    ensures { MayTellLeast (shapes_breaches_of (program_seen typed.now)) result }
 {
-    match first_breach(typed) {
+    let Ok(first) = first_breach(alloc, typed) else {
+        return Err(PassFault::NoMemory);
+    };
+    match first {
         Some(breach) => Err(PassFault::Refused {
             rule: breach.rule,
             place: breach.place,

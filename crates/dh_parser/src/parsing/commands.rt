@@ -1,6 +1,6 @@
 //! Commands, and the blocks that hold them.
 
-ghost use Rattle.std.specs.Prelude.{◌≡◌, ◌<◌, ◌≤◌, ◌+◌, ◌^◌, length, IfOk};
+ghost use Rattle.std.specs.Prelude.{◌≡◌, ◌<◌, ◌≤◌, ◌+◌, ◌^◌, [], ◌∷◌, ◌++◌, length, IfOk};
 ghost use Rattle.dh_tree.specs.Seen.{action_seen};
 ghost use Rattle.dh_parser.specs.Answers.{Made, SameBlock, SameCompound, SameIf, SameElseIf, SameElse, SamePart, SameParts, SameTerm, begins_as, AnswersAs, NumbersAs, SameBoxedBlock, SameCombineAt, TookTokens, block_around, loop_seen, most_commands};
 ghost use Rattle.dh_parser.specs.Reading.{the_test, the_compound, the_block, whole_if, whole_else, the_while, the_for, beginning};
@@ -36,7 +36,8 @@ pub(crate) fn read_sequence(reader: &mut Reader<'_>) -> Result<Vec<Vec<Command>>
     ensures room { most_commands reader.new ≤ most_commands reader.old }
     ensures shorter { length reader.new.rest.now ≤ length reader.old.rest.now }
 {
-    let mut parts = Vec::new(reader.alloc);
+    // most blocks have one part
+    let mut parts = Vec::with_capacity(reader.alloc, 1)?;
     loop {
         let part = read_part(reader)?;
         parts.push(part)?;
@@ -61,7 +62,7 @@ fn read_part(reader: &mut Reader<'_>) -> Result<Vec<Command>, Stop>
         match what_begins(reader.rest) {
             Beginning::Simple => {
                 let command = read_simple(reader)?;
-                commands.push(command)?;
+                append(&mut commands, command)?;
                 if !reader.take(Mark::Semicolon) {
                     commands.shrink_to_fit();
                     return Ok(commands);
@@ -69,7 +70,7 @@ fn read_part(reader: &mut Reader<'_>) -> Result<Vec<Command>, Stop>
             }
             Beginning::Compound => {
                 let command = read_compound(reader)?;
-                commands.push(command)?;
+                append(&mut commands, command)?;
             }
             Beginning::Semicolon => {
                 reader.skip(Mark::Semicolon)?;
@@ -80,6 +81,17 @@ fn read_part(reader: &mut Reader<'_>) -> Result<Vec<Command>, Stop>
             }
         }
     }
+}
+
+/// Puts a command behind others. There is room for the first alone at first: many lists have one.
+fn append(commands: &mut Vec<Command>, command: Command) -> Result<(), Stop>
+    ensures { Made (λ _. commands.new.items ≡ commands.old.items ++ command ∷ []) result }
+{
+    if commands.is_empty() {
+        commands.reserve_exact(1)?;
+    }
+    commands.push(command)?;
+    Ok(())
 }
 
 /// What begins at the first of these tokens.

@@ -121,7 +121,8 @@ fn read_indices(reader: &mut Reader<'_>) -> Result<Vec<Expr>, Stop>
     ensures commands { reader.new.commands ≡ reader.old.commands }
     ensures shorter { length reader.new.rest.now ≤ length reader.old.rest.now }
 {
-    let mut indices = Vec::new(reader.alloc);
+    // most accesses have one index
+    let mut indices = Vec::with_capacity(reader.alloc, 1)?;
     let first = read_index(reader)?;
     indices.push(first)?;
     while reader.is_next(Mark::OpenBracket) {

@@ -2,7 +2,7 @@
 
 ghost use Rattle.std.specs.Prelude.{◌≡◌, ◌<◌, ◌≤◌, ◌^◌, None, length, IfOk};
 ghost use Rattle.dh_tree.specs.Seen.{action_form_seen};
-ghost use Rattle.dh_parser.specs.Answers.{SameSimple, AnswersAfterWord, AnswersAs, AnswersNamed, AnswersSimple, NumbersAs, SameSimpleCommand, SameValue, TookTokens, most_commands, typed_let_seen};
+ghost use Rattle.dh_parser.specs.Answers.{SameSimple, AnswersAfterWord, AnswersAs, AnswersNamed, AnswersSimple, NumbersAs, SameSimpleCommand, SameValue, TookTokens, most_commands, typed_let_seen, Made};
 ghost use Rattle.dh_parser.specs.Reading.{the_simple, let_from, after_name, store_from, the_value};
 
 use crate::parsing::expressions::{read_access, read_arguments, read_expression};
@@ -12,6 +12,7 @@ use crate::parsing::types::{WrittenType, read_type};
 use crate::parsing::views::read_view;
 use dh_lexer::TokenKind;
 use dh_tree::{Command, CommandForm, Expr, Ref};
+use std::alloc::Global;
 
 /// A command that begins with `let`, `view` or a name.
 pub(crate) fn read_simple(reader: &mut Reader<'_>) -> Result<Command, Stop>
@@ -76,12 +77,18 @@ fn read_let(reader: &mut Reader<'_>) -> Result<CommandForm, Stop>
     reader.skip(Mark::Colon)?;
     let written = read_type(reader)?;
     let value = read_value(reader)?;
-    Ok(typed_let(name, written, value))
+    let form = typed_let(reader.alloc, name, written, value)?;
+    Ok(form)
 }
 
 /// The `let` of this name with a type.
-fn typed_let(name: Ref, written: WrittenType, value: Option<Expr>) -> CommandForm
-    ensures { action_form_seen result ≡ typed_let_seen name written value }
+fn typed_let(
+    alloc: Global,
+    name: Ref,
+    written: WrittenType,
+    value: Option<Expr>,
+) -> Result<CommandForm, Stop>
+    ensures { Made (λ form. action_form_seen form ≡ typed_let_seen name written value) result }
 {
     let WrittenType {
         shape,
@@ -89,18 +96,20 @@ fn typed_let(name: Ref, written: WrittenType, value: Option<Expr>) -> CommandFor
         is_memory,
     } = written;
     if is_memory {
-        return CommandForm::LetMemory {
+        let shape = Box::new(alloc, shape)?;
+        let shape_places = Box::new(alloc, places)?;
+        return Ok(CommandForm::LetMemory {
             name,
             shape,
-            shape_places: places,
+            shape_places,
             value,
-        };
+        });
     }
-    CommandForm::Let {
+    Ok(CommandForm::Let {
         name,
         declared: Some(shape.kind),
         value,
-    }
+    })
 }
 
 /// The expression after `=`, if that sign comes next.

@@ -30,14 +30,15 @@ pub enum CommandForm {
         /// Its first value, where it is written.
         value: Option<Expr>,
     },
-    /// `let name: shape`, of a type with ports or dimensions.
+    /// `let name: shape`, of a type with ports or dimensions. Its large parts are in boxes, so that no other
+    /// command takes the room that this one would.
     LetMemory {
         /// The memory.
         name: Ref,
         /// Its shape.
-        shape: Shape,
+        shape: Box<Shape>,
         /// The places of the shape's numbers.
-        shape_places: ShapePlaces,
+        shape_places: Box<ShapePlaces>,
         /// A right side, where one is written. No rule allows one.
         value: Option<Expr>,
     },

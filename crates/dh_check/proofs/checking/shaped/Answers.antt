@@ -3,13 +3,13 @@ use Rattle.dh_tree.specs.Seen.{program_seen}
 use Rattle.dh_check.specs.declared.checking.CheckFault.TheVariants as fault
 use Rattle.dh_check.specs.Ready.{of_pass, TellsShapes}
 use Rattle.dh_check.proofs.Checked.{handed_on}
-use Rattle.dh_check.proofs.Shaped.{no_excess, indices_refused, limits_refused, places_refused}
+use Rattle.dh_check.proofs.Shaped.{no_excess, shapes_refused, limits_refused, places_refused}
 use Rattle.dh_check.proofs.checking.shaped.Goals as goal
 
 pub returns-in_err-shapes : goal.returns-in_err-shapes
 returns-in_err-shapes c =
     handed_on (TellsShapes (program_seen c.args.typed.now)) c.from_residual.result (of_pass c.in_err-shapes.field-0.0) c.from_residual.ensures.1
-    (indices_refused (program_seen c.args.typed.now) c.in_err-shapes.field-0.0 c.in_err-shapes.ensures)
+    (shapes_refused (program_seen c.args.typed.now) c.in_err-shapes.field-0.0 c.in_err-shapes.ensures)
 
 pub returns-in_err-within : goal.returns-in_err-within
 returns-in_err-within c =

@@ -82,7 +82,7 @@ pub walk_command-returns-in-Reduce : goal.walk_command-returns-in-Reduce
 walk_command-returns-in-Reduce t c = by_form c.args.stages.now c.args.walk.now c.args.walk.now c.args.command.now (reduces c.in-Reduce.target c.in-Reduce.op (term_seen c.in-Reduce.value)) (ap action_form_seen c.in-Reduce.is ∙ reduce_is _ _ _) c.get_at-stage.result c.get_at-stage.ensures c.if-stage-eq0.false c.if-stage-eq1.false (never_more c.args.stages.now c.args.walk.now c.args.command.now (reduces c.in-Reduce.target c.in-Reduce.op (term_seen c.in-Reduce.value)) (λ r. refl))
 
 pub walk_command-returns-in-LetMemory : goal.walk_command-returns-in-LetMemory
-walk_command-returns-in-LetMemory t c = by_form c.args.stages.now c.args.walk.now c.args.walk.now c.args.command.now (lets_memory c.in-LetMemory.name c.in-LetMemory.shape c.in-LetMemory.shape_places (option_map term_seen c.in-LetMemory.value)) (ap action_form_seen c.in-LetMemory.is ∙ let_memory_is _ _ _ _) c.get_at-stage.result c.get_at-stage.ensures c.if-stage-eq0.false c.if-stage-eq1.false (never_more c.args.stages.now c.args.walk.now c.args.command.now (lets_memory c.in-LetMemory.name c.in-LetMemory.shape c.in-LetMemory.shape_places (option_map term_seen c.in-LetMemory.value)) (λ r. refl))
+walk_command-returns-in-LetMemory t c = by_form c.args.stages.now c.args.walk.now c.args.walk.now c.args.command.now (lets_memory c.in-LetMemory.name c.in-LetMemory.shape.value c.in-LetMemory.shape_places.value (option_map term_seen c.in-LetMemory.value)) (ap action_form_seen c.in-LetMemory.is ∙ let_memory_is _ _ _ _) c.get_at-stage.result c.get_at-stage.ensures c.if-stage-eq0.false c.if-stage-eq1.false (never_more c.args.stages.now c.args.walk.now c.args.command.now (lets_memory c.in-LetMemory.name c.in-LetMemory.shape.value c.in-LetMemory.shape_places.value (option_map term_seen c.in-LetMemory.value)) (λ r. refl))
 
 pub walk_command-returns-in-View : goal.walk_command-returns-in-View
 walk_command-returns-in-View t c = by_form c.args.stages.now c.args.walk.now c.args.walk.now c.args.command.now (views c.in-View.name c.in-View.parent (plan_seen c.in-View.form)) (ap action_form_seen c.in-View.is ∙ view_is _ _ _) c.get_at-stage.result c.get_at-stage.ensures c.if-stage-eq0.false c.if-stage-eq1.false (never_more c.args.stages.now c.args.walk.now c.args.command.now (views c.in-View.name c.in-View.parent (plan_seen c.in-View.form)) (λ r. refl))

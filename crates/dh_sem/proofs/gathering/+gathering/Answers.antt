@@ -96,9 +96,9 @@ phases_in_parts-returns t c = λ r n.
 pub phases_in-returns-then-turns-eq0 : goal.phases_in-returns-then-turns-eq0
 phases_in-returns-then-turns-eq0 t c =
     idle_as c.args.names.now c.args.paths c.args.made.now (all_kept c.new.result.items) c.args.command.now c.in-For.body.value c.in-For.iterator c.in-For.declared (placed c.in-For.low c.in-For.low_place) (placed c.in-For.high c.in-For.high_place) (unrolled c.in-For.factor c.in-For.factor_place c.in-For.unroll_place)
-    (maybe_seen (option_map (λ b. action_seen b.value) c.in-For.combine)) c.in-For.combine_place c.turns_of-turns.result
+    (maybe_seen (option_map (λ b. action_seen b.value) c.in-For.combine)) c.in-For.combine_place c.turn_count-turns.result
     (ap action_form_seen c.in-For.is ∙ known.for_is c.in-For.iterator c.in-For.declared c.in-For.low c.in-For.low_place c.in-For.high c.in-For.high_place c.in-For.factor c.in-For.factor_place c.in-For.unroll_place c.in-For.body c.in-For.combine c.in-For.combine_place)
-    c.turns_of-turns.ensures c.if-turns-eq0.true (ap all_kept c.new.ensures.items)
+    c.turn_count-turns.ensures c.if-turns-eq0.true (ap all_kept c.new.ensures.items)
 
 pub phases_in-returns-in_ok-turn-in-For : goal.phases_in-returns-in_ok-turn-in-For
 phases_in-returns-in_ok-turn-in-For t c =
@@ -110,9 +110,9 @@ phases_in-returns-in_ok-turn-in-For t c =
     IfOk-weaker c.count.result _ _
     (λ forms h. turns_as c.args.names.now c.args.paths c.in_ok-within-in-For.within c.args.made.now (record { code = c.args.made.now.code; phases = c.args.made.now.phases; lanes = c.lanes_inside.new.lanes }) c.phases_in-in-For.new.made c.match-combine.made c.count.new.made
     (all_kept c.in_ok-body-in-For.body.items) (all_kept c.match-combine.folds.items) (all_kept c.in_ok-turn-in-For.turn.items) (all_kept forms.items) c.args.command.now c.deref-in-For.result.now c.in-For.iterator c.in-For.declared (placed c.in-For.low c.in-For.low_place) (placed c.in-For.high c.in-For.high_place) (unrolled c.in-For.factor c.in-For.factor_place c.in-For.unroll_place)
-    (maybe_seen (option_map (λ b. action_seen b.value) c.in-For.combine)) c.in-For.combine_place c.turns_of-turns.result
+    (maybe_seen (option_map (λ b. action_seen b.value) c.in-For.combine)) c.in-For.combine_place c.turn_count-turns.result
     (ap action_form_seen c.in-For.is ∙ (known.for_is c.in-For.iterator c.in-For.declared c.in-For.low c.in-For.low_place c.in-For.high c.in-For.high_place c.in-For.factor c.in-For.factor_place c.in-For.unroll_place c.in-For.body c.in-For.combine c.in-For.combine_place
     ∙ ap (λ b. counts c.in-For.iterator c.in-For.declared (placed c.in-For.low c.in-For.low_place) (placed c.in-For.high c.in-For.high_place) (unrolled c.in-For.factor c.in-For.factor_place c.in-For.unroll_place) (action_seen b) (maybe_seen (option_map (λ b. action_seen b.value) c.in-For.combine)) c.in-For.combine_place) (sym c.deref-in-For.ensures)))
-    c.turns_of-turns.ensures c.if-turns-eq0.false refl refl c.in_ok-within-in-For.ensures.more c.in_ok-within-in-For.ensures.lead
+    c.turn_count-turns.ensures c.if-turns-eq0.false refl refl c.in_ok-within-in-For.ensures.more c.in_ok-within-in-For.ensures.lead
     c.in_ok-body-in-For.ensures folds c.in_ok-turn-in-For.ensures h)
     c.count.ensures

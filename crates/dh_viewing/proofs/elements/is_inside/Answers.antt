@@ -2,7 +2,7 @@ use Rattle.std.proofs.Common.{rules, ap, ◌∙◌, get_or, SFits}
 use Rattle.std.specs.Prelude.{ℤ, pos}
 use Rattle.std.specs.Int.{w128}
 use Rattle.std.proofs.lemmas.Int.{to_z-of_z}
-use Rattle.dh_viewing.specs.ViewElements as definitions
+use Rattle.dh_tree.specs.ViewElements as definitions
 use Rattle.dh_viewing.proofs.InsideDims.{not_inside, inside_next}
 use Rattle.dh_viewing.proofs.elements.is_inside.Goals as goal
 

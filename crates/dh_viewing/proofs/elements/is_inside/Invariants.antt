@@ -1,5 +1,5 @@
 use Rattle.std.proofs.Common.{◌≡◌, drop}
-use Rattle.dh_viewing.specs.ViewElements as definitions
+use Rattle.dh_tree.specs.ViewElements as definitions
 use Rattle.dh_viewing.proofs.elements.is_inside.Given as goal
 
 -- what is left leads to what all leads to

@@ -2,7 +2,7 @@ use Rattle.std.proofs.Common.{sym, ap, ◌∙◌, List}
 use Rattle.std.specs.Prelude.{ℤ}
 use Rattle.dh_tree.specs.declared.tables.Dim.{Dim}
 use Rattle.dh_viewing.specs.Numbers.{numbers_in}
-use Rattle.dh_viewing.specs.ViewElements as definitions
+use Rattle.dh_tree.specs.ViewElements as definitions
 use Rattle.dh_viewing.proofs.MovedViews.{shrunk_element}
 use Rattle.dh_viewing.proofs.elements.through.Goals as goal
 

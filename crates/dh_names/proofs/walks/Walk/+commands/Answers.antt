@@ -22,7 +22,7 @@ pub form-returns-in-Ok-known : goal.form-returns-in-Ok-known
 form-returns-in-Ok-known t c =
     form_done _ _ _ _ _ _ (ap action_form_seen c.in-LetMemory.is ∙ let_memory_is c.in-LetMemory.name c.in-LetMemory.shape c.in-LetMemory.shape_places c.in-LetMemory.value)
     (let_memory_is c.declare-known-in-LetMemory.new.name c.in-LetMemory.shape c.in-LetMemory.shape_places c.value-value-in-LetMemory.result)
-    (memory_done (state_of c.args.self.now) (state_of c.value-value-in-LetMemory.new.self) (state_of c.declare-known-in-LetMemory.new.self) c.in-LetMemory.name c.declare-known-in-LetMemory.new.name c.in-LetMemory.shape c.in-LetMemory.shape_places
+    (memory_done (state_of c.args.self.now) (state_of c.value-value-in-LetMemory.new.self) (state_of c.declare-known-in-LetMemory.new.self) c.in-LetMemory.name c.declare-known-in-LetMemory.new.name c.in-LetMemory.shape.value c.in-LetMemory.shape_places.value
     (option_map term_seen c.in-LetMemory.value) (option_map term_seen c.value-value-in-LetMemory.result)
     c.value-value-in-LetMemory.ensures.tree c.value-value-in-LetMemory.ensures.state c.in-Ok-known.ensures.tree c.in-Ok-known.ensures.state)
 

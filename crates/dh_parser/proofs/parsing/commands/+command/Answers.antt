@@ -61,14 +61,14 @@ pub read_part-returns-then-not-take-clause-answer : goal.read_part-returns-then-
 read_part-returns-then-not-take-clause-answer t c =
     let s = known c.in_ok-command-in-Simple.ensures.answer in
     loop_ends c.loop-reader.invariant.loops (λ k. rw (simple_last _ _ s.0 c.in-Simple.ensures s.1.1 c.if-not-take.ensures.took.0 k)
-    (record { holds = ((λ put so. part_last c.shrink_to_fit.new.self _ s.0 s.1.0.0 (c.shrink_to_fit.ensures.items ∙ c.in_ok-push-in-Simple.ensures.items) (c.if-not-take.ensures.commands ∙ s.1.0.1) so), c.if-not-take.ensures.took.1) }))
+    (record { holds = ((λ put so. part_last c.shrink_to_fit.new.self _ s.0 s.1.0.0 (c.shrink_to_fit.ensures.items ∙ c.in_ok-append-in-Simple.ensures) (c.if-not-take.ensures.commands ∙ s.1.0.1) so), c.if-not-take.ensures.took.1) }))
 
 pub read_part-loop-reader-preserved-else-not-take : goal.read_part-loop-reader-preserved-else-not-take
 read_part-loop-reader-preserved-else-not-take t c =
     let s = known c.in_ok-command-in-Simple.ensures.answer in
     let m = c.if-not-take.ensures.took in record {
       loops = loop_turn (simple_then s.0 m.1.0) c.loop-reader.invariant.loops (simple_turn _ _ _ s.0 m.1.0 c.in-Simple.ensures s.1.1 m.0 m.1.1) (search rules)
-          (λ put so. simple_more _ s.0 m.1.0 s.1.0.0 c.in_ok-push-in-Simple.ensures.items (c.if-not-take.ensures.commands ∙ s.1.0.1) so);
+          (λ put so. simple_more _ s.0 m.1.0 s.1.0.0 c.in_ok-append-in-Simple.ensures (c.if-not-take.ensures.commands ∙ s.1.0.1) so);
       room = search rules;
       shorter = search rules;
     }
@@ -82,7 +82,7 @@ pub read_part-loop-reader-preserved-in-Continue-branch-4 : goal.read_part-loop-r
 read_part-loop-reader-preserved-in-Continue-branch-4 t c =
     let s = known c.in_ok-command-in-Compound.ensures.answer in record {
       loops = loop_turn (compound_then s.0) c.loop-reader.invariant.loops (compound_turn _ _ s.0 c.in-Compound.ensures s.1.1) (search rules)
-          (λ put so. compound_more _ s.0 s.1.0 c.in_ok-push-in-Compound.ensures.items so);
+          (λ put so. compound_more _ s.0 s.1.0 c.in_ok-append-in-Compound.ensures so);
       room = search rules;
       shorter = search rules;
     }
@@ -102,14 +102,14 @@ read_part-returns-in-Nothing-clause-answer t c =
 
 pub read_sequence-loop-parts-init : goal.read_sequence-loop-parts-init
 read_sequence-loop-parts-init t c = record {
-  loops = loop_begins (the_parts the_block) c.args.reader.now.rest.now (parts_begin _ _ c.new-parts.ensures.items);
+  loops = loop_begins (the_parts the_block) c.args.reader.now.rest.now (parts_begin _ _ c.in_ok-parts.ensures.items);
   room = search rules;
   shorter = search rules;
 }
 
 pub read_sequence-returns-in_err-part-clause-answer : goal.read_sequence-returns-in_err-part-clause-answer
 read_sequence-returns-in_err-part-clause-answer t c =
-    rw (given c.from_residual.ensures)
+    rw (given c.from_residual-in_err-part.ensures)
     (loop_ends c.loop-parts.invariant.loops (λ k. err_then _ c.in_err-part.ensures.answer))
 
 pub read_sequence-returns-then-not-take-clause-answer : goal.read_sequence-returns-then-not-take-clause-answer

@@ -57,7 +57,7 @@ read_expression-loop-op-preserved t c = record {
 
 pub read_indices-loop-reader-init : goal.read_indices-loop-reader-init
 read_indices-loop-reader-init t c = record {
-  loops = loop_after (more_indices expression) (λ i more. (i, more)) c.in_ok-first.ensures.answer (λ i s more. terms_first _ _ c.in_ok-push.ensures.items c.new-indices.ensures.items s);
+  loops = loop_after (more_indices expression) (λ i more. (i, more)) c.in_ok-first.ensures.answer (λ i s more. terms_first _ _ c.in_ok-push.ensures.items c.in_ok-indices.ensures.items s);
   commands = search rules;
   shorter = search rules;
 }

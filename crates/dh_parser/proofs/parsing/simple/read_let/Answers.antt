@@ -35,7 +35,7 @@ returns-clause-answer c = λ word.
     (ok_then _ c.in_ok-skip-2.ensures.answer λ colon p1.
     ok_then _ c.in_ok-written.ensures.answer λ t p2.
     ok_then _ c.in_ok-value-2.ensures.answer λ v p3.
-    record { holds = ((let_seen _ c.in_ok-written.written _ n t v c.typed_let.ensures p0 p2 p3, refl), refl) })
+    record { holds = ((let_seen _ c.in_ok-written.written _ n t v c.in_ok-form.ensures p0 p2 p3, refl), refl) })
 
 pub returns-in_err-name-clause-answer : goal.returns-in_err-name-clause-answer
 returns-in_err-name-clause-answer c = λ word.

@@ -1,4 +1,5 @@
 use Rattle.std.proofs.Common.{Some, option_map, ap, sym, ◌∙◌}
+use Rattle.dh_tree.specs.PlainTrees.{lets_memory}
 use Rattle.dh_tree.specs.Seen.{term_seen}
 use Rattle.dh_tree.proofs.SeenActions.{let_is, let_memory_is}
 use Rattle.dh_parser.specs.TreesOfTexts.{let_written}
@@ -7,7 +8,10 @@ use Rattle.dh_parser.proofs.parsing.simple.typed_let.Goals as goal
 pub returns-then-is_memory : goal.returns-then-is_memory
 returns-then-is_memory c =
     let w = c.args.written in
-    let_memory_is c.args.name w.shape w.places c.args.value ∙ sym (ap (λ b. let_written b c.args.name w.shape w.places (option_map term_seen c.args.value)) c.if-is_memory.true)
+    let_memory_is c.args.name c.in_ok-shape.shape c.in_ok-shape_places.shape_places c.args.value
+    ∙ (ap (λ s. lets_memory c.args.name s c.in_ok-shape_places.shape_places.value (option_map term_seen c.args.value)) c.in_ok-shape.ensures.ok
+    ∙ (ap (λ p. lets_memory c.args.name w.shape p (option_map term_seen c.args.value)) c.in_ok-shape_places.ensures.ok
+    ∙ sym (ap (λ b. let_written b c.args.name w.shape w.places (option_map term_seen c.args.value)) c.if-is_memory.true)))
 
 pub returns : goal.returns
 returns c =

@@ -9,7 +9,7 @@ use Rattle.dh_tree.proofs.DeclaringParts.{wanting, counted_as, in_left, in_right
 use Rattle.dh_types.specs.Walks.{state_of}
 use Rattle.dh_base.proofs.InPlace.{start, turn}
 use Rattle.dh_types.proofs.ListsDone.{action_step, action_made, part_step, part_made, action_turn, part_turn, part_done, parts_done}
-use Rattle.dh_types.proofs.FormsDone.{form_done, lets_done, memory_done, views_done, assigns_done, stores_done, reduces_done, calls_done, blocks_done, repeats_done, decides_done, counts_done, types_at}
+use Rattle.dh_types.proofs.FormsDone.{form_done, lets_done, memory_read, views_done, assigns_done, stores_done, reduces_done, calls_done, blocks_done, repeats_done, decides_done, counts_done, types_at}
 use Rattle.dh_types.proofs.walks.Walk.+commands.Goals as goal
 
 pub form-returns-in-Ok : goal.form-returns-in-Ok
@@ -22,9 +22,9 @@ pub form-returns-in-Ok-learned : goal.form-returns-in-Ok-learned
 form-returns-in-Ok-learned t c =
     form_done _ _ _ _ _ _ (ap action_form_seen c.in-LetMemory.is ∙ let_memory_is c.in-LetMemory.name c.in-LetMemory.shape c.in-LetMemory.shape_places c.in-LetMemory.value)
     (let_memory_is c.in-LetMemory.name c.in-LetMemory.shape c.in-LetMemory.shape_places c.value-value-in-LetMemory.result)
-    (memory_done (state_of c.args.self.now) (state_of c.value-value-in-LetMemory.new.self) (state_of c.learn-learned-in-LetMemory.new.self) c.in-LetMemory.name c.in-LetMemory.shape c.in-LetMemory.shape_places
+    (memory_read (state_of c.args.self.now) (state_of c.value-value-in-LetMemory.new.self) (state_of c.learn-learned-in-LetMemory.new.self) c.in-LetMemory.name c.in-LetMemory.shape.value c.deref.result.now c.deref-in-LetMemory.result.now c.in-LetMemory.shape_places.value
     (option_map term_seen c.in-LetMemory.value) (option_map term_seen c.value-value-in-LetMemory.result) _
-    c.value-value-in-LetMemory.ensures.tree c.value-value-in-LetMemory.ensures.state c.memory_fact.ensures c.in-Ok-learned.ensures)
+    c.deref.ensures c.deref-in-LetMemory.ensures c.value-value-in-LetMemory.ensures.tree c.value-value-in-LetMemory.ensures.state c.memory_fact.ensures c.in-Ok-learned.ensures)
 
 pub form-returns-in_ok-learn-in-View : goal.form-returns-in_ok-learn-in-View
 form-returns-in_ok-learn-in-View t c =

@@ -1,0 +1,16 @@
+use Rattle.std.proofs.Common.{ap, ◌∙◌, get_or, arith}
+use Rattle.std.specs.Prelude.{slice_get}
+use Rattle.dh_base.specs.declared.places.Place.{Place}
+use Rattle.dh_tree.specs.LeastBreach.{least_of}
+use Rattle.dh_viewing.specs.Finding.{factor_broken_at}
+use Rattle.dh_viewing.proofs.ViewsFound.{factors_next, factors_end}
+use Rattle.dh_viewing.proofs.factors.keep_factors.Goals as goal
+
+pub loop-i-preserved : goal.loop-i-preserved
+loop-i-preserved c =
+    factors_next c.args.multiplies c.args.parent c.args.factors.now c.args.places.now c.args.dims.now c.loop-i.i (record { size = 0; banks = 0 }) c.args.kept.now c.loop-i.kept c.keep_factor.new.kept c.loop-i-test.true
+    (c.keep_factor.ensures ∙ ap (λ (p : Place). least_of c.loop-i.kept (factor_broken_at c.args.multiplies (slice_get c.args.factors.now c.loop-i.i) p (get_or c.args.dims.now c.loop-i.i (record { size = 0; banks = 0 })))) c.place_at-place.ensures) c.loop-i.invariant
+
+pub returns : goal.returns
+returns c =
+    factors_end c.args.multiplies c.args.parent c.args.factors.now c.args.places.now c.args.dims.now c.loop-i.i c.args.kept.now c.loop-i.kept (let l = c.loop-i-test.false in let m = c.loop-i.auto.i-end in omega (arith, l, m)) c.loop-i.invariant

@@ -1,0 +1,14 @@
+use Rattle.std.proofs.Common.{◌≡◌, length, refl, sym, ◌∙◌, arith}
+use Rattle.std.proofs.lemmas.Bool.{eqb-true}
+use Rattle.dh_tree.specs.Seen.{program_seen}
+use Rattle.dh_tree.specs.Views.{views_of}
+use Rattle.dh_viewing.proofs.NoViews.{without_views}
+use Rattle.dh_viewing.proofs.ViewsFound.{none_found}
+use Rattle.dh_viewing.proofs.judging.judge_views.Goals as goal
+
+pub returns-then-is_empty : goal.returns-then-is_empty
+returns-then-is_empty c =
+    let none : length c.in_ok-found.found.items ≡ 0 =
+    (let z = eqb-true c.in_ok-found.found.len 0 (sym c.is_empty.ensures ∙ c.if-is_empty.true) in let o = c.in_ok-found.found.ok.0 in omega (arith, z, o))
+    in
+    (without_views (program_seen c.args.typed.now) (none_found c.in_ok-found.found.items (views_of (program_seen c.args.typed.now)) none c.in_ok-found.ensures), refl)

@@ -1,0 +1,227 @@
+//! The rule on the factors and the brackets of views.
+
+ghost use Rattle.std.specs.Prelude.{◌≡◌, [], ◌∷◌, Some, OnOk, slice_get};
+ghost use Rattle.dh_base.specs.declared.rules.Rule.TheVariants as rules;
+ghost use Rattle.dh_tree.specs.Kinds.{when};
+ghost use Rattle.dh_tree.specs.LeastBreach.{breach, least_of};
+ghost use Rattle.dh_tree.specs.Memories.{memories_of};
+ghost use Rattle.dh_tree.specs.Seen.{plan_seen, program_seen};
+ghost use Rattle.dh_tree.specs.Told.{MayTellLeast};
+ghost use Rattle.dh_tree.specs.ViewFactors as definitions;
+ghost use Rattle.dh_tree.specs.ViewFactors.{factor_breaches_of, factors_breaches, plan_breaches, viewing_breaches, viewings_breaches};
+ghost use Rattle.dh_tree.specs.Views.{factors_of, shape_in, viewed_behind};
+ghost use Rattle.dh_viewing.specs.Finding.{all_found, factor_broken_at, place_or, viewing_found};
+
+use crate::collecting::{Found, factors, found_in, push_view, shape_of};
+use crate::placing::ViewTable;
+use dh_base::{NoMemory, PassFault, Place, Rule};
+use dh_tree::{Breach, Dim, Shape, Typed, ViewForm, keep_least};
+use std::alloc::Global;
+
+/// The rule on views, where it is broken at a place.
+fn keep_if(kept: &mut Option<Breach>, is_broken: bool, place: Place)
+    ensures { kept.new ≡ least_of kept.old (when is_broken (breach rules.ViewFactor place ∷ [])) }
+{
+    if is_broken {
+        keep_least(
+            kept,
+            Breach {
+                rule: Rule::ViewFactor,
+                place,
+            },
+        );
+    }
+}
+
+/// Whether a factor divides a number of banks, or is a multiple of it; 0 does neither.
+fn factor_keeps(multiplies: bool, factor: u64, banks: u64) -> bool
+    ensures { result ≡ definitions.factor_keeps multiplies factor banks }
+{
+    if multiplies {
+        factor != 0 && banks != 0 && factor % banks == 0
+    } else {
+        factor != 0 && banks % factor == 0
+    }
+}
+
+/// The breach of the factor of this number, of a dimension, if there is one.
+fn keep_factor(
+    kept: &mut Option<Breach>,
+    multiplies: bool,
+    factors: &[u64],
+    number: usize,
+    place: Place,
+    dim: &Dim,
+)
+    ensures { kept.new ≡ least_of kept.old
+        (factor_broken_at multiplies (slice_get factors.now number) place dim.now) }
+{
+    match factors.get(number) {
+        Some(factor) => {
+            let is_kept = factor_keeps(multiplies, *factor, dim.banks);
+            keep_if(kept, !is_kept, place);
+        }
+        None => {}
+    }
+}
+
+/// The place of this number, or else another.
+fn place_at(places: &[Place], number: usize, other: Place) -> Place
+    ensures { result ≡ place_or other (slice_get places.now number) }
+{
+    match places.get(number) {
+        Some(place) => *place,
+        None => other,
+    }
+}
+
+/// The breaches of factors, each where it stands and with its dimension.
+fn keep_factors(
+    kept: &mut Option<Breach>,
+    multiplies: bool,
+    parent: Place,
+    factors: &[u64],
+    places: &[Place],
+    dims: &[Dim],
+)
+    ensures { kept.new ≡ least_of kept.old
+        (factors_breaches multiplies parent factors.now places.now dims.now) }
+{
+    for (i, dim) in dims.iter().enumerate() {
+        let place = place_at(places, i, parent);
+        keep_factor(kept, multiplies, factors, i, place, dim);
+    }
+}
+
+/// Whether a view has one bracket for each of so many dimensions of its parent; of a split there is one.
+fn brackets_fit(form: &ViewForm, dims: usize) -> bool
+    ensures { result ≡ definitions.brackets_fit (plan_seen form.now) dims }
+{
+    match form {
+        ViewForm::Shrink { by, .. } => by.len() == dims,
+        ViewForm::Split { by, .. } => by.len() == 1 && dims == 1,
+        ViewForm::Suffix { by, .. } => by.len() == dims,
+        ViewForm::Shift { by, .. } => by.len() == dims,
+    }
+}
+
+/// The breaches of a view of what has these dimensions, by its factors.
+#[tactic(auto, using(dh_tree::proofs::Leasts::least_append))]
+fn keep_view(
+    kept: &mut Option<Breach>,
+    dims: &[Dim],
+    parent: Place,
+    form: &ViewForm,
+    factors: &[u64],
+)
+    requires { factors.now ≡ factors_of (plan_seen form.now) }
+    ensures { kept.new ≡ least_of kept.old (plan_breaches dims.now parent (plan_seen form.now)) }
+{
+    let is_fit = brackets_fit(form, dims.len());
+    keep_if(kept, !is_fit, parent);
+    match form {
+        ViewForm::Shrink { by_place, .. } => {
+            keep_factors(kept, false, parent, factors, by_place.as_slice(), dims);
+        }
+        ViewForm::Split { by_place, .. } => {
+            keep_factors(kept, false, parent, factors, by_place.as_slice(), dims);
+        }
+        ViewForm::Suffix { by_place, .. } => {
+            keep_factors(kept, true, parent, factors, by_place.as_slice(), dims);
+        }
+        ViewForm::Shift { .. } => {}
+    }
+}
+
+/// Those of a view whose parent has this shape.
+pub(crate) fn keep_found(
+    alloc: Global,
+    kept: &mut Option<Breach>,
+    found: &Found<'_>,
+    parent: &Shape,
+) -> Result<(), NoMemory>
+    ensures { OnOk result (kept.new
+        ≡ least_of kept.old (viewing_breaches (viewing_found found.now) (Some parent.now))) }
+{
+    let by = factors(alloc, found.form)?;
+    let dims = parent.dims.as_slice();
+    keep_view(kept, dims, found.parent.place, found.form, by.as_slice());
+    Ok(())
+}
+
+/// Those of a view whose parent is a memory or one of these views.
+fn keep_behind(
+    alloc: Global,
+    typed: &Typed,
+    kept: &mut Option<Breach>,
+    views: &ViewTable,
+    found: &Found<'_>,
+) -> Result<(), NoMemory>
+    ensures { OnOk result (kept.new ≡ least_of kept.old (viewing_breaches (viewing_found found.now)
+        (shape_in (memories_of (program_seen typed.now)) views.now found.now.parent.now.entity))) }
+{
+    match shape_of(typed, views, found.parent.entity) {
+        Some(parent) => keep_found(alloc, kept, found, parent),
+        None => Ok(()),
+    }
+}
+
+/// Those of these views behind others, which are added.
+pub(crate) fn keep_all(
+    alloc: Global,
+    typed: &Typed,
+    kept: &mut Option<Breach>,
+    views: &mut ViewTable,
+    found: &[Found<'_>],
+) -> Result<(), NoMemory>
+    ensures breaches { OnOk result (kept.new ≡ least_of kept.old
+        (viewings_breaches (memories_of (program_seen typed.now)) views.old (all_found found.now))) }
+    ensures views { OnOk result (views.new
+        ≡ viewed_behind (memories_of (program_seen typed.now)) views.old (all_found found.now)) }
+{
+    for view in found {
+        keep_behind(alloc, typed, kept, views, view)?;
+        push_view(alloc, typed, views, view)?;
+    }
+    Ok(())
+}
+
+/// Keeps the breach of the rule on factors and brackets that stands first, beside what was kept before.
+///
+/// # Errors
+///
+/// `NoMemory`, the one error; no clause tells when.
+pub fn keep_view_factors(
+    alloc: Global,
+    typed: &Typed,
+    kept: &mut Option<Breach>,
+) -> Result<(), NoMemory>
+    ensures { OnOk result (kept.new
+        ≡ least_of kept.old (factor_breaches_of (program_seen typed.now))) }
+{
+    let found = found_in(alloc, typed)?;
+    let mut views = ViewTable::new(alloc);
+    keep_all(alloc, typed, kept, &mut views, found.as_slice())
+}
+
+/// Tells whether the factors and brackets of a program's views keep the rule on them.
+///
+/// # Errors
+///
+/// `Refused` with the breach of `ViewFactor` that stands first; or `NoMemory`, of which no clause tells
+/// when it comes.
+pub fn view_factors(alloc: Global, typed: &Typed) -> Result<(), PassFault>
+    ensures { MayTellLeast (factor_breaches_of (program_seen typed.now)) result }
+{
+    let mut kept = None;
+    let Ok(()) = keep_view_factors(alloc, typed, &mut kept) else {
+        return Err(PassFault::NoMemory);
+    };
+    match kept {
+        Some(breach) => Err(PassFault::Refused {
+            rule: breach.rule,
+            place: breach.place,
+        }),
+        None => Ok(()),
+    }
+}
