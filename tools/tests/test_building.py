@@ -27,6 +27,12 @@ def begins(name):
     return f'rt: chose --jobs 2 for {name}'
 
 
+def hear_interrupts():
+    """Of a process that is about to begin: what a script runs in the background begins with interrupts ignored, and so
+    would all that it calls."""
+    signal.signal(signal.SIGINT, signal.SIG_DFL)
+
+
 class Building(unittest.TestCase):
     def setUp(self):
         room = tempfile.TemporaryDirectory()
@@ -191,7 +197,8 @@ class Building(unittest.TestCase):
 
     def test_a_build_that_is_interrupted(self):
         self.play([begins(self.order[0]), 'sleep'])
-        with self.start(stdout=subprocess.PIPE, stderr=subprocess.PIPE, start_new_session=True) as call:
+        pipes = {'stdout': subprocess.PIPE, 'stderr': subprocess.PIPE}
+        with self.start(**pipes, start_new_session=True, preexec_fn=hear_interrupts) as call:
             seen = b''
             while b'proving' not in seen:
                 seen += os.read(call.stderr.fileno(), 4096)
