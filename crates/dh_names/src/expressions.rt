@@ -5,6 +5,7 @@ ghost use Rattle.dh_tree.specs.Seen.{term_seen, form_seen, expressions_seen};
 ghost use Rattle.dh_tree.specs.Breaches.{term_breaches, term_form_breaches, list_breaches};
 ghost use Rattle.dh_tree.specs.Resolved.{resolved_term_form};
 ghost use Rattle.dh_names.specs.Visible.{visible, LeastBy};
+ghost use Rattle.dh_names.specs.InTrees as in_trees;
 ghost use Rattle.dh_names.specs.InTrees.{ResolvesTerm, ResolvesTerms};
 
 use crate::scopes::{Names, resolve_use};
@@ -17,8 +18,28 @@ pub fn resolve_term(names: &Names, least: &mut Option<Breach>, term: &mut Expr)
     ensures tree { ResolvesTerm (visible names.now) term.old term.new }
     ensures least { LeastBy term_breaches names.now least.old least.new (term_seen term.old) }
 {
+    if is_nameless(&term.form) {
+        // the form stays where it is
+        return;
+    }
     let form = mem::replace(&mut term.form, ExprForm::Truth { value: false });
     term.form = resolved_form(names, least, form);
+}
+
+// Whether an expression has no parts and is no name.
+#[tactic(auto, using(dh_tree::proofs::SeenTerms::terms_are))]
+fn is_nameless(form: &ExprForm) -> bool
+    ensures { result ≡ in_trees.is_nameless (form_seen form.now) }
+{
+    match form {
+        ExprForm::Number { .. } => true,
+        ExprForm::Truth { .. } => true,
+        ExprForm::Variable { .. } => false,
+        ExprForm::Access { .. } => false,
+        ExprForm::Physical { .. } => false,
+        ExprForm::Binary { .. } => false,
+        ExprForm::Cast { .. } => false,
+    }
 }
 
 // The form with the numbers of its names.

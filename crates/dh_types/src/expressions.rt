@@ -4,6 +4,7 @@ ghost use Rattle.std.specs.Prelude.{◌≡◌, ◌&&◌};
 ghost use Rattle.dh_tree.specs.Seen.{term_seen, form_seen};
 ghost use Rattle.dh_tree.specs.Kinds as rules;
 ghost use Rattle.dh_types.specs.Facts.{facts_seen};
+ghost use Rattle.dh_types.specs.Bare as forms;
 ghost use Rattle.dh_types.specs.Bare.{settled, settled_form, filled_in, filled_in_form};
 ghost use Rattle.dh_types.specs.InTrees.{TypesTerm, TypesTerms, Fills, wanted_left, wanted_right};
 
@@ -21,6 +22,11 @@ use std::mem;
 pub fn fill(facts: &[Fact], want: Option<Kind>, term: &mut Expr)
     ensures { term_seen term.new ≡ filled_in (facts_seen facts.now) want (term_seen term.old) }
 {
+    if !is_operation(&term.form) {
+        // no part is to be filled, and the form stays where it is
+        term.kind = kind_found(facts, want, &term.form);
+        return;
+    }
     let form = mem::replace(&mut term.form, ExprForm::Truth { value: false });
     term.form = filled_form(facts, want, form);
     term.kind = kind_found(facts, want, &term.form);
@@ -69,6 +75,14 @@ pub fn settle(facts: &[Fact], term: &mut Expr) -> bool
     ensures bare { result ≡ rules.is_bare (term_seen term.old) }
     ensures tree { term_seen term.new ≡ settled (facts_seen facts.now) (term_seen term.old) }
 {
+    // a number and a name have no parts, and stay where they are
+    if is_number_form(&term.form) {
+        return true;
+    }
+    if is_named_form(&term.form) {
+        term.kind = kind_found(facts, None, &term.form);
+        return false;
+    }
     let form = mem::replace(&mut term.form, ExprForm::Truth { value: false });
     let (form, bare) = settle_form(facts, form);
     term.form = form;
@@ -145,6 +159,54 @@ pub fn type_terms(facts: &[Fact], terms: &mut Vec<Expr>)
 {
     for term in terms.iter_mut() {
         type_term(facts, None, term);
+    }
+}
+
+// Whether an expression is a number.
+#[tactic(auto, using(dh_tree::proofs::SeenTerms::terms_are))]
+fn is_number_form(form: &ExprForm) -> bool
+    ensures { result ≡ forms.is_number_form (form_seen form.now) }
+{
+    match form {
+        ExprForm::Number { .. } => true,
+        ExprForm::Truth { .. } => false,
+        ExprForm::Variable { .. } => false,
+        ExprForm::Access { .. } => false,
+        ExprForm::Physical { .. } => false,
+        ExprForm::Binary { .. } => false,
+        ExprForm::Cast { .. } => false,
+    }
+}
+
+// Whether an expression is a name.
+#[tactic(auto, using(dh_tree::proofs::SeenTerms::terms_are))]
+fn is_named_form(form: &ExprForm) -> bool
+    ensures { result ≡ forms.is_named_form (form_seen form.now) }
+{
+    match form {
+        ExprForm::Variable { .. } => true,
+        ExprForm::Number { .. } => false,
+        ExprForm::Truth { .. } => false,
+        ExprForm::Access { .. } => false,
+        ExprForm::Physical { .. } => false,
+        ExprForm::Binary { .. } => false,
+        ExprForm::Cast { .. } => false,
+    }
+}
+
+// Whether an expression is an operation.
+#[tactic(auto, using(dh_tree::proofs::SeenTerms::terms_are))]
+fn is_operation(form: &ExprForm) -> bool
+    ensures { result ≡ forms.is_operation (form_seen form.now) }
+{
+    match form {
+        ExprForm::Binary { .. } => true,
+        ExprForm::Number { .. } => false,
+        ExprForm::Truth { .. } => false,
+        ExprForm::Variable { .. } => false,
+        ExprForm::Access { .. } => false,
+        ExprForm::Physical { .. } => false,
+        ExprForm::Cast { .. } => false,
     }
 }
 

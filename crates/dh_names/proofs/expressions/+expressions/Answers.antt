@@ -1,11 +1,12 @@
 use Rattle.std.proofs.Common.{◌∙◌, ap, sym, map, refl, length, arith}
-use Rattle.dh_tree.specs.Seen.{term_seen}
+use Rattle.dh_tree.specs.Seen.{term_seen, form_seen}
 use Rattle.dh_tree.specs.LeastBreach.{least_of}
 use Rattle.dh_tree.specs.Breaches.{term_breaches, list_breaches}
 use Rattle.dh_tree.specs.Resolved.{resolved_term}
 use Rattle.dh_names.specs.Visible.{visible}
 use Rattle.dh_base.proofs.InPlace.{start, turn, finish, written}
 use Rattle.dh_names.proofs.TermForms.{access_done, access_least, physical_done, binary_done, cast_done, term_step, term_made, terms_made, terms_run}
+use Rattle.dh_names.proofs.NamelessForms.{nameless_same, nameless_least}
 use Rattle.dh_names.proofs.expressions.+expressions.Goals as goal
 
 pub resolve_terms-loop-term-init : goal.resolve_terms-loop-term-init
@@ -60,3 +61,12 @@ pub resolved_form-returns-in-Cast-clause-tree : goal.resolved_form-returns-in-Ca
 resolved_form-returns-in-Cast-clause-tree t c =
     let bs = visible c.args.names.now in
     cast_done bs _ _ _ _ c.in-Cast.is (c.resolve_term-in-Cast.ensures.tree ∙ ap (λ e. resolved_term bs (term_seen e)) c.deref_mut-in-Cast.ensures.value)
+
+pub resolve_term-returns-then-is_nameless-clause-tree : goal.resolve_term-returns-then-is_nameless-clause-tree
+resolve_term-returns-then-is_nameless-clause-tree t c =
+    let e = c.args.term.now in
+    nameless_same (visible c.args.names.now) e.place e.kind (form_seen e.form) (sym c.is_nameless.ensures ∙ c.if-is_nameless.true)
+
+pub resolve_term-returns-then-is_nameless-clause-least : goal.resolve_term-returns-then-is_nameless-clause-least
+resolve_term-returns-then-is_nameless-clause-least t c =
+    nameless_least (visible c.args.names.now) c.args.least.now (form_seen c.args.term.now.form) (sym c.is_nameless.ensures ∙ c.if-is_nameless.true)

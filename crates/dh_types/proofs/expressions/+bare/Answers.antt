@@ -1,7 +1,9 @@
-use Rattle.std.proofs.Common.{refl}
+use Rattle.std.proofs.Common.{refl, sym, ◌∙◌}
 use Rattle.dh_tree.proofs.SeenTerms.{access_is, physical_is, cast_is}
 use Rattle.dh_types.specs.Facts.{facts_seen}
+use Rattle.dh_tree.specs.Seen.{form_seen}
 use Rattle.dh_types.proofs.Forms.{filled_binary, filled_kept}
+use Rattle.dh_types.proofs.FormsKept.{whole_filled}
 use Rattle.dh_types.proofs.expressions.+bare.Goals as goal
 
 pub filled_form-returns-in-Binary : goal.filled_form-returns-in-Binary
@@ -15,3 +17,8 @@ filled_form-returns-in-Physical t c = filled_kept (facts_seen c.args.facts.now) 
 
 pub filled_form-returns-in-Cast : goal.filled_form-returns-in-Cast
 filled_form-returns-in-Cast t c = filled_kept (facts_seen c.args.facts.now) c.args.want c.args.form _ _ c.in-Cast.is (cast_is _ _) refl
+
+pub fill-returns-then-not-is_operation : goal.fill-returns-then-not-is_operation
+fill-returns-then-not-is_operation t c =
+    let e = c.args.term.now in
+    whole_filled (facts_seen c.args.facts.now) c.args.want e.place e.kind _ (form_seen e.form) (sym c.is_operation.ensures ∙ c.if-not-is_operation.true) c.kind_found-term.ensures

@@ -1,10 +1,11 @@
 use Rattle.std.proofs.Common.{◌∙◌, ap, sym, refl, map, length, arith, None}
 use Rattle.dh_types.specs.Facts.{facts_seen}
-use Rattle.dh_tree.specs.Seen.{term_seen}
+use Rattle.dh_tree.specs.Seen.{term_seen, form_seen}
 use Rattle.dh_tree.specs.Kinds.{typed_term}
 use Rattle.dh_base.proofs.InPlace.{start, turn, finish, written}
 use Rattle.dh_types.proofs.Lists.{term_step, term_made, terms_made}
 use Rattle.dh_types.proofs.Forms.{settled_access, settled_physical, settled_cast, bare_binary, settled_binary, settled_typed, settled_filled}
+use Rattle.dh_types.proofs.FormsKept.{number_bare, bare_settled, named_bare, named_settled}
 use Rattle.dh_types.proofs.expressions.+expressions.Goals as goal
 
 pub settle_form-returns-in-Access-clause-tree : goal.settle_form-returns-in-Access-clause-tree
@@ -56,3 +57,18 @@ type_terms-returns t c =
     (omega (arith, c.loop-term-test.false, c.loop-term.auto.term-items)) c.loop-term.invariant.0 c.loop-term.invariant.1).0
     ∙ terms_made fs _
     ∙ ap (λ l. map (typed_term fs None) (map term_seen l)) v
+
+pub settle-returns-then-is_number_form-clause-bare : goal.settle-returns-then-is_number_form-clause-bare
+settle-returns-then-is_number_form-clause-bare t c = number_bare (form_seen c.args.term.now.form) (sym c.is_number_form.ensures ∙ c.if-is_number_form.true)
+
+pub settle-returns-then-is_number_form-clause-tree : goal.settle-returns-then-is_number_form-clause-tree
+settle-returns-then-is_number_form-clause-tree t c =
+    bare_settled (facts_seen c.args.facts.now) (term_seen c.args.term.now) (number_bare (form_seen c.args.term.now.form) (sym c.is_number_form.ensures ∙ c.if-is_number_form.true))
+
+pub settle-returns-then-is_named_form-clause-bare : goal.settle-returns-then-is_named_form-clause-bare
+settle-returns-then-is_named_form-clause-bare t c = named_bare (form_seen c.args.term.now.form) (sym c.is_named_form.ensures ∙ c.if-is_named_form.true)
+
+pub settle-returns-then-is_named_form-clause-tree : goal.settle-returns-then-is_named_form-clause-tree
+settle-returns-then-is_named_form-clause-tree t c =
+    let e = c.args.term.now in
+    named_settled (facts_seen c.args.facts.now) e.place e.kind _ (form_seen e.form) (sym c.is_named_form.ensures ∙ c.if-is_named_form.true) c.kind_found-term.ensures
